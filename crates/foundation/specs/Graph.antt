@@ -1,0 +1,129 @@
+-- Directed graphs over a list of nodes: paths, cycles through a strict edge, and ranks.
+-- `edge` says which node leads to which, `strict` which edges count, `own` which nodes count by themselves.
+-- `reaches-path` and `cyclic-path`: the tests find exactly the paths. What ranks are is shown in GraphFacts.
+use mathlib.Core.Path.{_≡_, ap, _∙_}
+use mathlib.Core.Logic.{_↔_}
+use Prim.Native.Nat.{ℕ, zero, suc, _+_, _*_, max}
+use native.Mathlib.Omega.{arith}
+use mathlib.Core.Bool.{Bool, true, false, _&&_, _||_, false≢true}
+use mathlib.Core.List.{List, [], _∷_}
+use lib.ListN.{length}
+use Rattle.foundation.specs.Tests.{and-true, and-intro, or-true-right, or-intro-left, or-cases}
+use Rattle.foundation.specs.Lists.{anyb, keepIf, Mem, any-mem, mem-any, any-cong-mem}
+use Rattle.foundation.specs.Closure.{iter, settled}
+
+abbrev pub count : Bool → ℕ
+count true = 1
+count false = 0
+
+module _ {K : Type 0} where
+  -- a path from q: its first edge is one of `first`, every further one is of `edge` and leaves a node of the list
+  pub data Path (first edge : K → K → Bool) (nodes : List K) (q : K) : K → Type 0 where
+    direct : {r : K} → first q r ≡ true → Path first edge nodes q r
+    onward : {p r : K} → Path first edge nodes q p → Mem p nodes → edge p r ≡ true → Path first edge nodes q r
+
+  -- q leads to r, or a node of S does. S is asked only of nodes with an edge to r
+  abbrev pub further : (first edge : K → K → Bool) → List K → K → (K → Bool) → K → Bool
+  further first edge nodes q S r =
+      let over = anyb (λ p. let s = S p in edge p r && s) nodes in
+      first q r || over
+
+  -- a path leads from q to r: as many rounds as there are nodes find it (`reaches-path`)
+  unfoldable pub reaches : (first edge : K → K → Bool) → List K → K → K → Bool
+  unfolding iter
+  reaches first edge nodes q r = iter (further first edge nodes q) (length nodes) (λ r. false) r
+
+  abbrev pub strictEdge : (edge strict : K → K → Bool) → K → K → Bool
+  strictEdge edge strict q r = edge q r && strict q r
+
+  -- a strict edge lies on a cycle (`cyclic-path`)
+  unfoldable pub cyclic : (edge strict : K → K → Bool) → List K → Bool
+  unfolding reaches
+  cyclic edge strict nodes = anyb (λ q. reaches (strictEdge edge strict) edge nodes q q) nodes
+
+  -- the largest value of f on the list, 0 on none
+  abbrev pub most : (K → ℕ) → List K → ℕ
+  most f [] = 0
+  most f (r ∷ rs) = max (f r) (most f rs)
+
+  -- the most that a path of at most n edges counts which ends in r: its strict edges, and its first node's own
+  unfoldable pub rankIn : (edge strict : K → K → Bool) (own : K → Bool) → ℕ → List K → K → ℕ
+  rankIn edge strict own zero nodes r = count (own r)
+  rankIn edge strict own (suc n) nodes r = max (count (own r))
+      (most (λ q. count (strict q r) + rankIn edge strict own n nodes q) (keepIf (λ q. edge q r) nodes))
+
+  -- rounds enough that one more adds nothing, if no strict edge lies on a cycle (`rank-settled`)
+  unfoldable pub rank : (edge strict : K → K → Bool) (own : K → Bool) → List K → K → ℕ
+  unfolding rankIn
+  rank edge strict own nodes r = rankIn edge strict own (length nodes * length nodes) nodes r
+
+  -- a path that ends in r, with what it counts
+  pub data Walk (edge strict : K → K → Bool) (own : K → Bool) (nodes : List K) : ℕ → K → Type 0 where
+    alone : {r : K} → Walk edge strict own nodes (count (own r)) r
+    then : {n : ℕ} {q r : K} → Walk edge strict own nodes n q → Mem q nodes → edge q r ≡ true →
+        Walk edge strict own nodes (count (strict q r) + n) r
+
+-- ---- what `reaches` finds
+
+module _ {K : Type 0} (first edge : K → K → Bool) (nodes : List K) (q : K) where
+  abbrev round : (K → Bool) → K → Bool
+  round = further first edge nodes q
+
+  -- a node of S has an edge to r
+  abbrev over : (K → Bool) → K → Bool
+  over S r = anyb (λ p. edge p r && S p) nodes
+
+  over-node : (S : K → Bool) (r : K) → over S r ≡ true → (p : K) × Mem p nodes × (edge p r ≡ true) × (S p ≡ true)
+  over-node S r e =
+      let m = any-mem (λ p. edge p r && S p) nodes e in
+      let w = and-true (edge (m .0) r) (S (m .0)) (m .2) in
+      (m .0, m .1, w .0, w .1)
+
+  node-over : (S : K → Bool) (r p : K) → Mem p nodes → edge p r ≡ true → S p ≡ true → round S r ≡ true
+  node-over S r p m e s = or-true-right (first q r) (over S r)
+      (mem-any (λ p. edge p r && S p) nodes p m (and-intro (edge p r) (S p) e s))
+
+  round-mono : (S Q : K → Bool) → ((r : K) → S r ≡ true → Q r ≡ true) → (r : K) → round S r ≡ true → round Q r ≡ true
+  round-mono S Q h r e = or-cases (first q r) (over S r) e
+      (λ a. or-intro-left (first q r) (over Q r) a)
+      (λ a. let w = over-node S r a in node-over Q r (w .0) (w .1) (w .2) (h (w .0) (w .3)))
+
+  -- one more round finds nothing new
+  reaches-closed : (r : K) → Mem r nodes → reaches first edge nodes q r ≡ round (reaches first edge nodes q) r
+  unfolding reaches
+  reaches-closed r m = settled nodes round
+      (λ S. (r : K) → S r ≡ true → round S r ≡ true)
+      (λ S g. round-mono S (round S) g)
+      (λ S Q g g′ h r m. ap (λ (b : Bool). first q r || b) (any-cong-mem (λ p. edge p r && S p) (λ p. edge p r && Q p)
+      nodes (λ p n. ap (λ (b : Bool). edge p r && b) (h p n))))
+      (λ S g r e. g r e)
+      (λ r. false) (λ r e. absurd (false≢true e)) (length nodes) (omega arith) r m
+
+  found : (n : ℕ) (r : K) → iter round n (λ r. false) r ≡ true → Path first edge nodes q r
+  unfolding iter
+  found zero r e = absurd (false≢true e)
+  found (suc n) r e = or-cases (first q r) (over (iter round n (λ r. false)) r) e
+      (λ a. direct a)
+      (λ a. let w = over-node (iter round n (λ r. false)) r a in onward (found n (w .0) (w .3)) (w .1) (w .2))
+
+  finds : {r : K} → Path first edge nodes q r → Mem r nodes → reaches first edge nodes q r ≡ true
+  finds (direct {r} e) m = reaches-closed r m ∙ or-intro-left (first q r) (over (reaches first edge nodes q) r) e
+  finds (onward {p} {r} c n e) m = reaches-closed r m ∙ node-over (reaches first edge nodes q) r p n e (finds c n)
+
+  pub reaches-path : (r : K) → Mem r nodes → (reaches first edge nodes q r ≡ true) ↔ Path first edge nodes q r
+  unfolding reaches
+  reaches-path r m = (found (length nodes) r, λ c. finds c m)
+
+-- from some node a path that begins with a strict edge leads back to it
+pub cyclic-path : {K : Type 0} (edge strict : K → K → Bool) (nodes : List K) →
+    (cyclic edge strict nodes ≡ true) ↔ ((q : K) × Mem q nodes × Path (strictEdge edge strict) edge nodes q q)
+unfolding cyclic
+cyclic-path {K} edge strict nodes = (
+  (λ e. let w = any-mem back nodes e in
+      (w .0, w .1, reaches-path (strictEdge edge strict) edge nodes (w .0) (w .0) (w .1) .0 (w .2))),
+  (λ c. mem-any back nodes (c .0) (c .1)
+      (reaches-path (strictEdge edge strict) edge nodes (c .0) (c .0) (c .1) .1 (c .2))),
+)
+  where
+    back : K → Bool
+    back q = reaches (strictEdge edge strict) edge nodes q q

@@ -1,0 +1,287 @@
+-- Ranks in a graph where no strict edge lies on a cycle: they rise along the edges, strictly along the strict ones,
+-- none exceeds the number of nodes (`ranked`), and they are the most that a walk counts (`rank-most`, `rank-walk`).
+-- At the end, for code that computes them: rounds until nothing changes, or until a rank exceeds the number of nodes.
+use mathlib.Core.Path.{_≡_, refl, sym, ap, ap₂, _∙_}
+use mathlib.Core.Logic.{_⊎_, inl, inr, _↔_}
+use Prim.Native.Nat.{ℕ, zero, suc, _+_, _*_, _≤_, _<_, max}
+use native.Mathlib.Omega.{arith}
+use mathlib.Core.Bool.{Bool, true, false, false≢true}
+use mathlib.Core.List.{List, [], _∷_}
+use lib.Dec.{leb, eqb}
+use lib.ListN.{length}
+use Rattle.foundation.specs.Tests.{cases, and-true, and-intro, true-le, false-le, true-eq, false-eq}
+use Rattle.foundation.specs.Lists.{keepIf, Mem, keepIf-mem, kept}
+use Rattle.foundation.specs.Closure.{size, size-le, size-mono, size-less}
+use Rattle.foundation.specs.Graph.{count, Path, direct, onward, reaches, strictEdge, cyclic, most, rankIn, rank}
+use Rattle.foundation.specs.Graph.{Walk, alone, then, reaches-path, cyclic-path}
+
+pub count-le : (b : Bool) → count b ≤ 1
+count-le true = omega arith
+count-le false = omega arith
+
+-- ---- the most of a list, and its total
+
+module _ {K : Type 0} where
+  pub most-le : (f : K → ℕ) (l : List K) (b : ℕ) → ((r : K) → Mem r l → f r ≤ b) → most f l ≤ b
+  most-le f [] b h = omega arith
+  most-le f (r ∷ l) b h = omega (arith, h r (inl refl), most-le f l b (λ q m. h q (inr m)))
+
+  pub le-most : (f : K → ℕ) (l : List K) (r : K) → Mem r l → f r ≤ most f l
+  le-most f [] r m = absurd (m .lower)
+  le-most f (q ∷ l) r (inl e) = rw e (omega arith)
+  le-most f (q ∷ l) r (inr m) = omega (arith, le-most f l r m)
+
+  most-cong : (f g : K → ℕ) (l : List K) → ((r : K) → Mem r l → f r ≡ g r) → most f l ≡ most g l
+  most-cong f g [] h = refl
+  most-cong f g (r ∷ l) h = ap₂ max (h r (inl refl)) (most-cong f g l (λ q m. h q (inr m)))
+
+  -- b, or f of a member, is the largest of all these
+  abbrev From : (K → ℕ) → List K → ℕ → Type 0
+  From f l b = (max b (most f l) ≡ b) ⊎ ((q : K) × Mem q l × (max b (most f l) ≡ f q))
+
+  most-from : (f : K → ℕ) (l : List K) (b : ℕ) → From f l b
+  most-from f [] b = inl (omega arith)
+  most-from f (r ∷ l) b = cases (leb (f r) (max b (most f l)))
+      (λ e. rest (true-le (f r) (max b (most f l)) e) (most-from f l b))
+      (λ e. let n = false-le (f r) (max b (most f l)) e in inr (r, inl refl, omega arith))
+    where
+      rest : f r ≤ max b (most f l) → From f l b → From f (r ∷ l) b
+      rest n (inl e) = inl (omega arith)
+      rest n (inr w) = inr (w .0, inr (w .1), omega (arith, w .2))
+
+  abbrev total : (K → ℕ) → List K → ℕ
+  total f [] = 0
+  total f (r ∷ l) = f r + total f l
+
+  total-le : (f : K → ℕ) (b : ℕ) (l : List K) → ((r : K) → Mem r l → f r ≤ b) → total f l ≤ length l * b
+  total-le f b [] h = omega arith
+  total-le f b (r ∷ l) h = omega (arith, h r (inl refl), total-le f b l (λ q m. h q (inr m)))
+
+  -- f is at most g: they agree, or g's total is larger
+  abbrev Gap : (f g : K → ℕ) → List K → Type 0
+  Gap f g l = (((r : K) → Mem r l → f r ≡ g r) × (total f l ≡ total g l)) ⊎ (total f l < total g l)
+
+  total-gap : (f g : K → ℕ) (l : List K) → ((r : K) → Mem r l → f r ≤ g r) → Gap f g l
+  total-gap f g [] h = inl ((λ r m. absurd (m .lower)), refl)
+  total-gap f g (q ∷ l) h = join (total-gap f g l (λ r m. h r (inr m)))
+    where
+      both : f q ≡ g q → ((r : K) → Mem r l → f r ≡ g r) → (r : K) → Mem r (q ∷ l) → f r ≡ g r
+      both e a r (inl p) = rw p e
+      both e a r (inr m) = a r m
+
+      join : Gap f g l → Gap f g (q ∷ l)
+      join (inl a) = cases (eqb (f q) (g q))
+          (λ e. let p = true-eq (f q) (g q) e in inl (both p (a .0), omega (arith, a .1)))
+          (λ e. let n = false-eq (f q) (g q) e in inr (omega (arith, h q (inl refl), a .1)))
+      join (inr b) = inr (omega (arith, h q (inl refl)))
+
+-- ---- rounds
+
+pub record Ranked {K : Type 0} (edge strict : K → K → Bool) (own : K → Bool) (nodes : List K) : Type 0 where
+  pub atmost : (q r : K) → Mem q nodes → Mem r nodes → edge q r ≡ true →
+      rank edge strict own nodes q ≤ rank edge strict own nodes r
+  pub less : (q r : K) → Mem q nodes → Mem r nodes → edge q r ≡ true → strict q r ≡ true →
+      rank edge strict own nodes q < rank edge strict own nodes r
+  pub few : (r : K) → Mem r nodes → rank edge strict own nodes r ≤ length nodes
+
+module _ {K : Type 0} (edge strict : K → K → Bool) (own : K → Bool) (nodes : List K) where
+  -- the rank after n rounds
+  abbrev after : ℕ → K → ℕ
+  after n = rankIn edge strict own n nodes
+
+  -- one more round changes no node's rank
+  abbrev pub Still : ℕ → Type 0
+  Still n = (r : K) → Mem r nodes → rankIn edge strict own n nodes r ≡ rankIn edge strict own (suc n) nodes r
+
+  -- the nodes with an edge to r, and what such a node q contributes
+  abbrev before : K → List K
+  before r = keepIf (λ q. edge q r) nodes
+
+  abbrev by : ℕ → K → K → ℕ
+  by n r q = count (strict q r) + after n q
+
+  rank-zero : (r : K) → after zero r ≡ count (own r)
+  unfolding rankIn
+  rank-zero r = refl
+
+  rank-step : (n : ℕ) (r : K) → after (suc n) r ≡ max (count (own r)) (most (by n r) (before r))
+  unfolding rankIn
+  rank-step n r = refl
+
+  own-le : (n : ℕ) (r : K) → count (own r) ≤ after n r
+  own-le zero r = omega (arith, rank-zero r)
+  own-le (suc n) r = omega (arith, rank-step n r)
+
+  by-le : (n : ℕ) (q r : K) → Mem q nodes → edge q r ≡ true → by n r q ≤ after (suc n) r
+  by-le n q r m e = omega (
+    arith,
+    rank-step n r,
+    le-most (by n r) (before r) q (keepIf-mem (λ q. edge q r) nodes q m e),
+  )
+
+  -- no more than what the node has of its own and what others contribute
+  after-le : (n b : ℕ) (r : K) → count (own r) ≤ b → ((q : K) → Mem q nodes → edge q r ≡ true → by n r q ≤ b) →
+      after (suc n) r ≤ b
+  after-le n b r g h = omega (
+    arith,
+    rank-step n r,
+    most-le (by n r) (before r) b
+        (λ q k. let w = kept (λ q. edge q r) nodes q k in h q (w .0) (w .1)),
+  )
+
+  rises : (n : ℕ) (r : K) → after n r ≤ after (suc n) r
+  rises zero r = omega (arith, rank-zero r, own-le 1 r)
+  rises (suc n) r = after-le n (after (suc (suc n)) r) r (own-le (suc (suc n)) r)
+      (λ q m e. omega (arith, rises n q, by-le (suc n) q r m e))
+
+  -- a round looks at the nodes' ranks only
+  step-cong : (m n : ℕ) → ((q : K) → Mem q nodes → after m q ≡ after n q) →
+      (r : K) → after (suc m) r ≡ after (suc n) r
+  step-cong m n h r = rank-step m r ∙ ap (max (count (own r))) (most-cong (by m r) (by n r) (before r)
+      (λ q k. ap (λ (i : ℕ). count (strict q r) + i) (h q (kept (λ q. edge q r) nodes q k .0)))) ∙ sym (rank-step n r)
+
+  -- some walk counts as much
+  walk-after : (n : ℕ) (r : K) → Walk edge strict own nodes (after n r) r
+  walk-after zero r = rw (rank-zero r) alone
+  walk-after (suc n) r = rw (rank-step n r) (go (walk-after n) (most-from (by n r) (before r) (count (own r))))
+    where
+      go : ((q : K) → Walk edge strict own nodes (after n q) q) → From (by n r) (before r) (count (own r)) →
+          Walk edge strict own nodes (max (count (own r)) (most (by n r) (before r))) r
+      go i (inl e) = rw e alone
+      go i (inr w) =
+          let k = kept (λ q. edge q r) nodes (w .0) (w .1) in
+          rw (w .2) (then (i (w .0)) (k .0) (k .1))
+
+  -- the rank is what some walk counts
+  pub rank-walk : (r : K) → Walk edge strict own nodes (rank edge strict own nodes r) r
+  unfolding rank
+  rank-walk r = walk-after (length nodes * length nodes) r
+
+  -- ---- no strict edge lies on a cycle
+
+  module _ (free : cyclic edge strict nodes ≡ false) where
+    -- a path that begins with a strict edge leads from q to r
+    abbrev above : K → K → Bool
+    above r q = reaches (strictEdge edge strict) edge nodes q r
+
+    above-path : (q r : K) → Mem r nodes → (above r q ≡ true) ↔ Path (strictEdge edge strict) edge nodes q r
+    above-path = reaches-path (strictEdge edge strict) edge nodes
+
+    no-return : (r : K) → Mem r nodes → above r r ≡ false
+    no-return r m = cases (above r r)
+        (λ e. absurd (false≢true (sym free ∙ cyclic-path edge strict nodes .1 (r, m, above-path r r m .0 e))))
+        (λ e. e)
+
+    -- an edge to r: what is above q is above r, and so is q itself, which is not above q, if the edge is strict
+    above-less : (q r : K) → Mem q nodes → Mem r nodes → edge q r ≡ true →
+        count (strict q r) + size (above q) nodes ≤ size (above r) nodes
+    above-less q r m n e = cases (strict q r)
+        (λ s. rw s (omega (
+          arith,
+          size-less (above q) (above r) nodes more q m (no-return q m)
+              (above-path q r n .1 (direct (and-intro (edge q r) (strict q r) e s))),
+        )))
+        (λ s. rw s (omega (arith, size-mono (above q) (above r) nodes more)))
+      where
+        more : (p : K) → Mem p nodes → above q p ≡ true → above r p ≡ true
+        more p k a = above-path p r n .1 (onward (above-path p q m .0 a) m e)
+
+    after-above : (n : ℕ) (r : K) → Mem r nodes → after n r ≤ 1 + size (above r) nodes
+    after-above zero r m = omega (arith, rank-zero r, count-le (own r))
+    after-above (suc n) r m = after-le n (1 + size (above r) nodes) r (omega (arith, count-le (own r)))
+        (λ q k e. omega (arith, after-above n q k, above-less q r k m e))
+
+    -- r itself is not above r
+    after-few : (n : ℕ) (r : K) → Mem r nodes → after n r ≤ length nodes
+    after-few n r m = omega (
+      arith,
+      after-above n r m,
+      size-le (λ p. true) nodes,
+      size-less (above r) (λ p. true) nodes (λ p k a. refl) r m (no-return r m) refl,
+    )
+
+    -- if the total is at least n after n rounds, the next changes nothing, or the total exceeds n then
+    moves : (n : ℕ) → n ≤ total (after n) nodes → Still n ⊎ (n < total (after (suc n)) nodes)
+    moves n b = go (total-gap (after n) (after (suc n)) nodes (λ r m. rises n r))
+      where
+        go : Gap (after n) (after (suc n)) nodes → Still n ⊎ (n < total (after (suc n)) nodes)
+        go (inl a) = inl (a .0)
+        go (inr l) = inr (omega arith)
+
+    near : (n : ℕ) → Still n ⊎ (n < total (after (suc n)) nodes)
+    near zero = moves zero (omega arith)
+    near (suc n) = go (near n)
+      where
+        go : Still n ⊎ (n < total (after (suc n)) nodes) → Still (suc n) ⊎ (suc n < total (after (suc (suc n))) nodes)
+        go (inl a) = inl (λ r m. step-cong n (suc n) a r)
+        go (inr l) = moves (suc n) l
+
+    -- the rank's rounds are enough
+    pub rank-settled : Still (length nodes * length nodes)
+    rank-settled = go (length nodes * length nodes) refl (near (length nodes * length nodes))
+      where
+        go : (n : ℕ) → n ≡ length nodes * length nodes → Still n ⊎ (n < total (after (suc n)) nodes) → Still n
+        go n e (inl a) = a
+        go n e (inr l) = absurd (omega (arith, total-le (after (suc n)) (length nodes) nodes (after-few (suc n))))
+
+    -- what q contributes is in r's rank
+    rank-by : (q r : K) → Mem q nodes → Mem r nodes → edge q r ≡ true →
+        count (strict q r) + rank edge strict own nodes q ≤ rank edge strict own nodes r
+    unfolding rank
+    rank-by q r m n e = omega (arith, by-le (length nodes * length nodes) q r m e, rank-settled r n)
+
+    pub ranked : Ranked edge strict own nodes
+    unfolding rank
+    ranked = record {
+      atmost = λ q r m n e. omega (arith, rank-by q r m n e);
+      less = λ q r m n e s. omega (arith, rank-by q r m n e, ap count s);
+      few = after-few (length nodes * length nodes);
+    }
+
+    walk-le : {n : ℕ} {r : K} → Walk edge strict own nodes n r → Mem r nodes → n ≤ rank edge strict own nodes r
+    unfolding rank
+    walk-le (alone {r}) m = own-le (length nodes * length nodes) r
+    walk-le (then {n} {q} {r} w k e) m = omega (arith, walk-le w k, rank-by q r k m e)
+
+    -- no walk counts more
+    pub rank-most : (r : K) → Mem r nodes → {n : ℕ} → Walk edge strict own nodes n r →
+        n ≤ rank edge strict own nodes r
+    rank-most r m w = walk-le w m
+
+  -- ---- for code: rounds until nothing changes, or until a rank exceeds the number of nodes
+
+  -- nothing changes any more
+  pub still-on : (n j : ℕ) → Still n → n ≤ j → (r : K) → Mem r nodes →
+      rankIn edge strict own j nodes r ≡ rankIn edge strict own n nodes r
+  still-on n zero h l r m = let e : 0 ≡ n = omega arith in ap (λ (k : ℕ). after k r) e
+  still-on n (suc j) h l r m = cases (leb n j)
+      (λ e. step-cong j n (still-on n j h (true-le n j e)) r ∙ sym (h r m))
+      (λ e. let g = false-le n j e in let q : suc j ≡ n = omega arith in ap (λ (k : ℕ). after k r) q)
+
+  -- the ranks rise along a path that begins with a strict edge
+  still-less : (n : ℕ) → Still n → {q r : K} → Path (strictEdge edge strict) edge nodes q r →
+      Mem q nodes → Mem r nodes → after n q < after n r
+  still-less n h {q} (direct {r} e) m k =
+      let w = and-true (edge q r) (strict q r) e in omega (arith, by-le n q r m (w .0), ap count (w .1), h r k)
+  still-less n h (onward {p} {r} c j e) m k = omega (arith, still-less n h c m j, by-le n p r j e, h r k)
+
+  -- then no strict edge lies on a cycle
+  pub still-sound : (n : ℕ) → Still n → cyclic edge strict nodes ≡ false
+  still-sound n h = cases (cyclic edge strict nodes)
+      (λ e. let w = cyclic-path edge strict nodes .0 e in absurd (omega (arith, still-less n h (w .2) (w .1) (w .1))))
+      (λ e. e)
+
+  -- and the ranks are found
+  pub still-rank : (n : ℕ) → Still n → (r : K) → Mem r nodes →
+      rank edge strict own nodes r ≡ rankIn edge strict own n nodes r
+  unfolding rank
+  still-rank n h r m =
+      let j : ℕ = length nodes * length nodes in
+      cases (leb n j)
+      (λ e. still-on n j h (true-le n j e) r m)
+      (λ e. let l = false-le n j e in sym (still-on j n (rank-settled (still-sound n h)) (omega arith) r m))
+
+  -- a rank above the number of nodes: a strict edge lies on a cycle
+  pub large-cycle : (n : ℕ) (r : K) → Mem r nodes → length nodes < rankIn edge strict own n nodes r →
+      cyclic edge strict nodes ≡ true
+  large-cycle n r m l = cases (cyclic edge strict nodes) (λ e. e) (λ e. absurd (omega (arith, after-few e n r m)))

@@ -1,0 +1,9 @@
+pub mod Tests
+pub mod Lists
+pub mod Closure
+pub mod Graph
+pub mod GraphFacts
+pub mod Intervals
+pub mod Marks
+pub mod Counting
+pub mod Bytes

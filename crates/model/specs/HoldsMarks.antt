@@ -1,0 +1,138 @@
+-- Theorem 5: MAY changes at marks only (`may-steady`), so that asking at marks gives the definition's answers
+-- (`may-marks`, `when-marks`) and WHEN writes at most one interval more than there are authorizations and rules
+-- (`when-count`).
+use mathlib.Core.Path.{_≡_, refl, sym, ap, ap₂, _∙_, fun-ext}
+use Prim.Native.Nat.{ℕ, zero, suc, _+_, _*_, _≤_}
+use native.Mathlib.Omega.{arith}
+use mathlib.Core.Bool.{Bool, true, false, not, _&&_}
+use mathlib.Core.List.{List}
+use lib.Dec.{ltb, eqb}
+use lib.ListN.{length, length-append}
+use Rattle.foundation.specs.Tests.{pick}
+use Rattle.foundation.specs.Lists.{Mem}
+use Rattle.foundation.specs.Closure.{iter}
+use Rattle.foundation.specs.Intervals.{inInterval, none?, always}
+use Rattle.foundation.specs.Marks.{Steady, walk, walk-maximal}
+use Rattle.foundation.specs.Counting.{maximal-count}
+use Rattle.model.specs.declared.Authorization.{Authorization}
+use Rattle.model.specs.declared.Rule.{Rule}
+use Rattle.model.specs.declared.Operator.{Operator}
+use Rattle.model.specs.declared.Operator.the-variants.{Whenever, AsLongAs, WheneverNot, Unless}
+use Rattle.model.specs.declared.Access.{Access}
+use Rattle.model.specs.Ranges.{lastInstant}
+use Rattle.model.specs.Base.{Base}
+use Rattle.model.specs.Stratification.{stratum}
+use Rattle.model.specs.Rules.{Pattern, Fact, fact, rightOf, operate, holdsBy, rightBy, round, enough, derivedBelow, holds, asked, may, when}
+use Rattle.model.specs.Means.{marksOf, ruleMarks, allMarks, alwaysAt, mayAtMarks, whenAtMarks}
+use Rattle.model.specs.HoldsFacts.{right-cong, not-steady, marks-length, rule-marks-length, marks, Stead, holds-cong, holds-steady, right-by-steady, rounds, rounds-steady, below-steady}
+
+-- ---- `always` at marks
+
+always-at : (n : ℕ) (ms : List ℕ) (a t : ℕ) (f : ℕ → Bool) → Steady f ms → always a t f ≡ alwaysAt n ms a t f
+unfolding always alwaysAt
+always-at n ms a t f c = ap none? (sym (walk-maximal (λ u. not (f u)) ms (not-steady ms f c) t n a))
+
+operate-at : (n : ℕ) (ms : List ℕ) (o : Operator) (f g : ℕ → Bool) → Steady f ms → Steady g ms → (a t : ℕ) →
+    operate always o f g a t ≡ operate (alwaysAt n ms) o f g a t
+operate-at n ms Whenever f g c d a t = refl
+operate-at n ms AsLongAs f g c d a t = always-at n ms a t f c
+operate-at n ms WheneverNot f g c d a t = refl
+operate-at n ms Unless f g c d a t = always-at n ms a t (λ u. not (g u)) (not-steady ms g d)
+
+-- ---- what holds, at marks
+
+module _ (n : ℕ) (auths : List Authorization) (rules : List Rule) where
+  abbrev at : ℕ → ℕ → (ℕ → Bool) → Bool
+  at = alwaysAt n (marks auths rules)
+
+  -- the definitions for these authorizations and rules, in short: plainly, and at marks
+  abbrev right : (Fact → Bool) → (Fact → Bool) → Pattern → ℕ → Bool
+  right = rightBy always auths rules
+
+  abbrev rightAt : (Fact → Bool) → (Fact → Bool) → Pattern → ℕ → Bool
+  rightAt = rightBy at auths rules
+
+  abbrev below : ℕ → Fact → Bool
+  below = derivedBelow always auths rules
+
+  abbrev belowAt : ℕ → Fact → Bool
+  belowAt = derivedBelow at auths rules
+
+  abbrev roundsAt : ℕ → ℕ → Fact → Bool
+  roundsAt k j = iter (λ S. round at auths rules k (belowAt k) S) j (belowAt k)
+
+  -- the same about the rules at hand
+  abbrev Agree : (Fact → Bool) → (Fact → Bool) → Type 0
+  Agree S Q = (x : Fact) → Mem (x .rule) rules → S x ≡ Q x
+
+  holds-agree : (S Q : Fact → Bool) → Agree S Q → (t : ℕ) (p : Pattern) →
+      holdsBy always auths rules S t p ≡ holdsBy at auths rules Q t p
+  holds-agree S Q h t p = holds-cong auths rules S Q t t p refl (λ r m. h (fact r (p .access) t) m)
+
+  right-agree : (L L′ S S′ : Fact → Bool) → Agree L L′ → Agree S S′ → (p : Pattern) → right L S p ≡ rightAt L′ S′ p
+  right-agree L L′ S S′ h k p = fun-ext (λ u. right-cong
+      (holdsBy always auths rules S u) (holdsBy at auths rules S′ u)
+      (holdsBy always auths rules L u) (holdsBy at auths rules L′ u) p
+      (λ q e. holds-agree S S′ k u q) (λ q e. holds-agree L L′ h u q))
+
+  round-agree : (k : ℕ) (L L′ S S′ : Fact → Bool) → Stead auths rules L → Stead auths rules S →
+      Agree L L′ → Agree S S′ → Agree (round always auths rules k L S) (round at auths rules k L′ S′)
+  round-agree k L L′ S S′ c d g h x m =
+      let r = x .rule in
+      let p = rightOf r (x .access) in
+      let i = stratum rules r in
+      ap₂ (λ (l v : Bool). pick (ltb i k) l (eqb i k && (inInterval (r .interval) (x .at) && v))) (g x m)
+      (operate-at n (marks auths rules) (r .operator) (right L S p) (right L L p)
+      (right-by-steady auths rules L S c d p) (right-by-steady auths rules L L c c p) (r .interval .start) (x .at)
+      ∙ ap₂ (λ (same lower : ℕ → Bool). operate at (r .operator) same lower (r .interval .start) (x .at))
+      (right-agree L L′ S S′ g h p) (right-agree L L′ L L′ g g p))
+
+  rounds-agree : (k : ℕ) → Agree (below k) (belowAt k) → (j : ℕ) → Agree (rounds auths rules k j) (roundsAt k j)
+  unfolding iter
+  rounds-agree k h zero = h
+  rounds-agree k h (suc j) = round-agree k (below k) (belowAt k) (rounds auths rules k j) (roundsAt k j)
+      (below-steady auths rules k) (rounds-steady auths rules k j) h (rounds-agree k h j)
+
+  below-agree : (k : ℕ) → Agree (below k) (belowAt k)
+  unfolding derivedBelow
+  below-agree zero = λ x m. refl
+  below-agree (suc k) = rounds-agree k (below-agree k) (enough always auths rules)
+
+  holds-at : (t : ℕ) (p : Pattern) → holds always auths rules t p ≡ holds at auths rules t p
+  unfolding holds
+  holds-at t p = let k = suc (length rules) in holds-agree (below k) (belowAt k) (below-agree k) t p
+
+-- ---- MAY and WHEN
+
+pub may-steady : (b : Base) (x : Access) → Steady (λ t. may b x t) (allMarks b)
+unfolding may holds
+may-steady b x a t h e = ap₂ (λ (y z : Bool). y && not z) (same false) (same true)
+  where
+    k : ℕ
+    k = suc (length (b .rules))
+
+    same : (negative : Bool) → holds always (b .authorizations) (b .rules) t (asked x negative)
+        ≡ holds always (b .authorizations) (b .rules) a (asked x negative)
+    same negative = holds-steady (b .authorizations) (b .rules) (derivedBelow always (b .authorizations) (b .rules) k)
+        (below-steady (b .authorizations) (b .rules) k) (asked x negative) a t h e
+
+pub may-marks : (n : ℕ) (b : Base) (x : Access) (t : ℕ) → may b x t ≡ mayAtMarks n b x t
+unfolding may mayAtMarks
+may-marks n b x t = ap₂ (λ (y z : Bool). y && not z) (holds-at n (b .authorizations) (b .rules) t (asked x false))
+    (holds-at n (b .authorizations) (b .rules) t (asked x true))
+
+pub when-marks : (n : ℕ) (b : Base) (x : Access) → when b x ≡ whenAtMarks n b x
+unfolding when whenAtMarks
+when-marks n b x = sym (walk-maximal (λ t. may b x t) (allMarks b) (may-steady b x) lastInstant n 0)
+    ∙ ap (λ (f : ℕ → Bool). walk f (allMarks b) lastInstant n 0) (fun-ext (λ t. may-marks n b x t))
+
+pub all-marks-length : (b : Base) → length (allMarks b) ≡ 2 * length (b .authorizations) + 2 * length (b .rules)
+all-marks-length b = length-append (marksOf (b .authorizations)) (ruleMarks (b .rules))
+    ∙ ap₂ (λ (i j : ℕ). i + j) (marks-length (b .authorizations)) (rule-marks-length (b .rules))
+
+-- An interval begins and ends at marks, and no two share one. With 01's 1,024 authorizations and 64 rules there are at
+-- most 1,089
+pub when-count : (b : Base) (x : Access) → length (when b x) ≤ length (b .authorizations) + length (b .rules) + 1
+unfolding when
+when-count b x =
+    omega (arith, maximal-count (λ t. may b x t) (allMarks b) (may-steady b x) lastInstant, all-marks-length b)

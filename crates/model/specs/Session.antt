@@ -1,0 +1,89 @@
+-- A whole session, from bytes to bytes (01, "Text session").
+use Prim.Native.Nat.{ℕ, zero, suc, _*_}
+use mathlib.Core.List.{List, [], _∷_, _++_}
+use lib.ListN.{length, replicate, drop, getD}
+use Rattle.foundation.specs.declared.Interval.{Interval}
+use Rattle.foundation.specs.Intervals.{interval}
+use Rattle.model.specs.declared.Reply.{Reply}
+use Rattle.model.specs.declared.Reply.the-variants.{Done, Refused, Unsupported, Yes, No, Runs}
+use Rattle.model.specs.Base.{Base, emptyBase}
+use Rattle.model.specs.Means.{Means, plainly}
+use Rattle.model.specs.Step.{refusedOr, Outcome, stepBy}
+use Rattle.model.specs.Encoding.{encode}
+use Rattle.model.specs.Answers.{mayTable, whenTable, mayReply, request, mayAnswer, whenAnswer, Answer}
+use Rattle.model.specs.Text.{Line, order, asksMay, asksWhen, unreadable, newline, lines, readLine, printReply}
+
+-- the reply to one line, with the runs of a WHEN, and the base after it
+pub record Turn : Type 0 where
+  pub reply : Reply
+  pub runs : List Interval
+  pub base : Base
+
+-- "WHEN gets a list of 1,100 pairs"
+abbrev pub pairs : ℕ
+pairs = 1100
+
+module _ (M : Means) where
+  -- "A line that cannot be read is answered with 1 and reading goes on"
+  abbrev pub turn : Base → Line → Turn
+  turn b (order q) = let x = stepBy M b q in record { reply = x .reply; runs = []; base = x .base }
+  turn b (asksMay q) =
+      let r = mayReply (M .mayAt b (q .access) (q .instant)) in
+      record { reply = refusedOr (mayTable b q) Refused r; runs = []; base = b }
+  turn b (asksWhen x) =
+      let runs = M .whenIn b x in
+      record { reply = refusedOr (whenTable b x pairs (length runs)) Refused (Runs (length runs)); runs = runs; base = b }
+  turn b unreadable = record { reply = Refused 1; runs = []; base = b }
+
+  -- every reply on a line of its own
+  abbrev pub transcript : List (List ℕ) → Base → List ℕ
+  transcript [] b = []
+  transcript (l ∷ rest) b =
+      let x = turn b (readLine l) in
+      printReply (x .reply) (x .runs) ++ (newline ∷ transcript rest (x .base))
+
+-- "The program starts with an empty base"
+unfoldable pub session : List ℕ → List ℕ
+session input = transcript plainly (lines input) emptyBase
+
+-- ---- the same through the library's answers over lent bytes (`session-bytes` in crate theorems, SessionFacts)
+
+pub record ByteTurn : Type 0 where
+  pub reply : Reply
+  pub runs : List Interval
+  pub lent : List ℕ
+
+-- the first n pairs of a list
+abbrev pub pairsOf : ℕ → List ℕ → List Interval
+pairsOf zero list = []
+pairsOf (suc n) list = interval (getD list 0 0) (getD list 1 0) ∷ pairsOf n (drop 2 list)
+
+-- the runs that a reply says are in the list
+abbrev pub runsOf : Reply → List ℕ → List Interval
+runsOf (Done label count) list = []
+runsOf (Refused n) list = []
+runsOf (Unsupported t) list = []
+runsOf Yes list = []
+runsOf No list = []
+runsOf (Runs n) list = pairsOf n list
+
+-- a list of 1,100 pairs
+unfoldable pub whenList : List ℕ
+whenList = replicate (2 * pairs) 0
+
+abbrev pub byteTurn : List ℕ → Line → ByteTurn
+byteTurn s (order q) = let a = request s q in record { reply = a .reply; runs = []; lent = a .lent }
+byteTurn s (asksMay q) = record { reply = mayAnswer s q; runs = []; lent = s }
+byteTurn s (asksWhen x) =
+    let a = whenAnswer s x whenList in
+    record { reply = a .reply; runs = runsOf (a .reply) (a .lent); lent = s }
+byteTurn s unreadable = record { reply = Refused 1; runs = []; lent = s }
+
+abbrev pub byteTranscript : List (List ℕ) → List ℕ → List ℕ
+byteTranscript [] s = []
+byteTranscript (l ∷ rest) s =
+    let x = byteTurn s (readLine l) in
+    printReply (x .reply) (x .runs) ++ (newline ∷ byteTranscript rest (x .lent))
+
+unfoldable pub byteSession : List ℕ → List ℕ
+byteSession input = byteTranscript (lines input) (encode emptyBase)

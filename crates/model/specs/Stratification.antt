@@ -1,0 +1,62 @@
+-- Which rule feeds which, forbidden circles and ranks (01, "Rules"): a graph with strict edges, and its strata.
+-- Theorem 3: `stratified-path`, `stratum-most`, `stratum-walk`, `strata` in StratificationFacts.
+use Prim.Native.Nat.{ℕ}
+use mathlib.Core.Bool.{Bool, true, false, not, _&&_, _||_, Bool·beq}
+use mathlib.Core.List.{List}
+use lib.Dec.{eqb}
+use Rattle.foundation.specs.Graph.{cyclic, rank}
+use Rattle.model.specs.declared.Rule.{Rule}
+use Rattle.model.specs.declared.Operator.{Operator}
+use Rattle.model.specs.declared.Operator.the-variants.{Whenever, AsLongAs, WheneverNot, Unless}
+use Rattle.model.specs.declared.OptionTerm.{OptionTerm}
+use Rattle.model.specs.declared.OptionTerm.the-variants.{With, Without, Either}
+
+-- 01, The base as bytes: "Zero is the star for subject, mode and right granter"
+abbrev pub star : ℕ
+star = 0
+
+abbrev pub isStar : ℕ → Bool
+isStar n = eqb n star
+
+-- 01: "equal or starred on either side"
+abbrev pub meets : ℕ → ℕ → Bool
+meets a b = isStar a || isStar b || eqb a b
+
+-- the right side's option fits what is, or is not, transferable
+abbrev pub fitsOption : OptionTerm → Bool → Bool
+fitsOption With o = o
+fitsOption Without o = not o
+fitsOption Either o = true
+
+-- 01: "Rule q feeds rule r if q's left side can fit r's right: same sign and object, subject and mode equal or starred on
+-- either side, granter starred or q's author, option starred or not transferable"
+abbrev pub feeds : Rule → Rule → Bool
+feeds q r =
+    Bool·beq (q .left .negative) (r .right .negative)
+    && eqb (q .left .object) (r .right .object)
+    && meets (q .left .subject) (r .right .subject)
+    && meets (q .left .mode) (r .right .mode)
+    && (isStar (r .grantor) || eqb (r .grantor) (q .author))
+    && fitsOption (r .option) false
+
+abbrev pub negating : Operator → Bool
+negating Whenever = false
+negating AsLongAs = false
+negating WheneverNot = true
+negating Unless = true
+
+-- 01: "with a WHENEVERNOT or UNLESS in it"
+abbrev pub negates : Rule → Bool
+negates r = negating (r .operator)
+
+-- the links that count one in a rank: those into a rule with WHENEVERNOT or UNLESS
+abbrev pub strict : Rule → Rule → Bool
+strict q r = negates r
+
+-- 01: "A circle of feeding with a WHENEVERNOT or UNLESS in it is forbidden"
+unfoldable pub stratified : List Rule → Bool
+stratified rules = not (cyclic feeds strict rules)
+
+-- 01: "A rule's rank is the most WHENEVERNOT and UNLESS rules on a feeding path that ends in it, itself included"
+unfoldable pub stratum : List Rule → Rule → ℕ
+stratum rules r = rank feeds strict negates rules r

@@ -1,0 +1,148 @@
+-- What supports what: more roots and heads support more, the supported support one another, and one hop is enough
+-- (theorem 2, second half: `one-hop`). A chain stays on one object and mode (`chain-local`).
+use mathlib.Core.Path.{_≡_, refl, sym, ap, _∙_}
+use mathlib.Core.Logic.{_⊎_, inl, inr}
+use Prim.Native.Nat.{ℕ, zero, suc, _<_}
+use native.Mathlib.Omega.{arith}
+use mathlib.Core.Bool.{Bool, true, _&&_, _||_}
+use mathlib.Core.List.{List, [], _∷_, _++_}
+use Rattle.foundation.specs.Tests.{cases, agree, and-true, or-true-right, or-intro-left, or-cases}
+use Rattle.foundation.specs.Lists.{anyb, allb, keepIf, Mem, any-mem, mem-any, all-mem, mem-all, keepIf-mem}
+use Rattle.foundation.specs.Intervals.{inInterval, inInterval-true, inInterval-in, always, always-all, all-always}
+use Rattle.model.specs.declared.Head.{Head}
+use Rattle.model.specs.declared.Authorization.{Authorization}
+use Rattle.model.specs.Support.{supports, supports-rises, supports-object, supports-mode, supported, supported-chain, supported-step, Chain, first, then, live}
+
+-- ---- the heads that cover an instant
+
+pub mem-live : (t : ℕ) (xs : List Authorization) (a : Authorization) → Mem a xs →
+    inInterval (a .interval) t ≡ true → Mem (a .head) (live t xs)
+mem-live t [] a m e = absurd (m .lower)
+mem-live t (c ∷ xs) a (inl q) e =
+    rw (ap (λ (x : Authorization). inInterval (x .interval) t) (sym q) ∙ e)
+    (inl (ap (λ (x : Authorization). x .head) q))
+mem-live t (c ∷ xs) a (inr m) e = cases (inInterval (c .interval) t)
+    (λ z. rw z (inr (mem-live t xs a m e)))
+    (λ z. rw z (mem-live t xs a m e))
+
+pub live-mem : (t : ℕ) (xs : List Authorization) (h : Head) → Mem h (live t xs) →
+    (a : Authorization) × Mem a xs × (a .head ≡ h) × (inInterval (a .interval) t ≡ true)
+live-mem t [] h m = absurd (m .lower)
+live-mem t (c ∷ xs) h m = cases (inInterval (c .interval) t)
+    (λ z. either z (λ n. live-mem t xs h n) (rw z at m))
+    (λ z. let r = live-mem t xs h (rw z at m) in (r .0, inr (r .1), r .2, r .3))
+  where
+    either : inInterval (c .interval) t ≡ true →
+        (Mem h (live t xs) → (a : Authorization) × Mem a xs × (a .head ≡ h) × (inInterval (a .interval) t ≡ true)) →
+        (h ≡ c .head) ⊎ Mem h (live t xs) →
+        (a : Authorization) × Mem a (c ∷ xs) × (a .head ≡ h) × (inInterval (a .interval) t ≡ true)
+    either z r (inl q) = (c, inl refl, sym q, z)
+    either z r (inr n) = let w = r n in (w .0, inr (w .1), w .2, w .3)
+
+pub live-append : (t : ℕ) (xs ys : List Authorization) → live t (xs ++ ys) ≡ live t xs ++ live t ys
+live-append t [] ys = refl
+live-append t (x ∷ xs) ys = cases (inInterval (x .interval) t)
+    (λ e. rw (e, live-append t xs ys))
+    (λ e. rw (e, live-append t xs ys))
+
+-- ---- chains
+
+-- A chain stays on the object and mode of its end: only the roots and heads there matter
+module _ (root root' : Head → Bool) (heads heads' : List Head) (o m : ℕ)
+    (roots : (k : Head) → k .object ≡ o → k .mode ≡ m → root k ≡ true → root' k ≡ true)
+    (more : (k : Head) → k .object ≡ o → k .mode ≡ m → Mem k heads → Mem k heads') where
+  chain-on : {h : Head} → h .object ≡ o → h .mode ≡ m → Chain root heads h → Chain root' heads' h
+  chain-on p q (first {h} r) = first (roots h p q r)
+  chain-on p q (then {k} {h} c n s) =
+      let p' = supports-object k h s ∙ p in
+      let q' = supports-mode k h s ∙ q in
+      then (chain-on p' q' c) (more k p' q' n) s
+
+pub chain-local : (root root' : Head → Bool) (heads heads' : List Head) (h : Head) → Chain root heads h →
+    ((k : Head) → k .object ≡ h .object → k .mode ≡ h .mode → Mem k heads → Mem k heads') →
+    ((k : Head) → k .object ≡ h .object → k .mode ≡ h .mode → root k ≡ true → root' k ≡ true) →
+    Chain root' heads' h
+chain-local root root' heads heads' h c more roots =
+    chain-on root root' heads heads' (h .object) (h .mode) roots more refl refl c
+
+-- more roots and more heads support more
+pub chain-more : (root root' : Head → Bool) (heads heads' : List Head) →
+    ((k : Head) → root k ≡ true → root' k ≡ true) → ((k : Head) → Mem k heads → Mem k heads') →
+    (h : Head) → Chain root heads h → Chain root' heads' h
+chain-more root root' heads heads' roots more h c =
+    chain-local root root' heads heads' h c (λ k p q n. more k n) (λ k p q r. roots k r)
+
+pub supported-more : (root root' : Head → Bool) (heads heads' : List Head) →
+    ((k : Head) → root k ≡ true → root' k ≡ true) → ((k : Head) → Mem k heads → Mem k heads') →
+    (h : Head) → supported root heads h ≡ true → supported root' heads' h ≡ true
+supported-more root root' heads heads' roots more h e =
+    supported-chain root' heads' h .1
+    (chain-more root root' heads heads' roots more h (supported-chain root heads h .0 e))
+
+-- the supported heads support one another
+pub still : (root : Head → Bool) (heads : List Head) {h : Head} → Chain root heads h →
+    Chain root (keepIf (λ k. supported root heads k) heads) h
+still root heads (first r) = first r
+still root heads (then {k} c m s) =
+    then (still root heads c)
+    (keepIf-mem (λ x. supported root heads x) heads k m (supported-chain root heads k .1 c)) s
+
+-- ---- one hop is enough
+
+-- a root, or a head that covers t and may stand directly before h
+abbrev pub hop : (Head → Bool) → List Authorization → Head → ℕ → Bool
+hop root xs h t = root h || anyb (λ k. supports k h) (live t xs)
+
+module _ (root : Head → Bool) (xs : List Authorization) where
+  pub supported-hop : (h : Head) (t : ℕ) → supported root (live t xs) h ≡ true → hop root xs h t ≡ true
+  supported-hop h t e =
+      or-cases (root h) (anyb (λ k. supports k h && supported root (live t xs) k) (live t xs))
+      (sym (supported-step root (live t xs) h) ∙ e)
+      (λ r. or-intro-left (root h) (anyb (λ k. supports k h) (live t xs)) r)
+      (λ r. let m = any-mem (λ k. supports k h && supported root (live t xs) k) (live t xs) r in
+      or-true-right (root h) (anyb (λ k. supports k h) (live t xs))
+      (mem-any (λ k. supports k h) (live t xs) (m .0) (m .1)
+      (and-true (supports (m .0) h) (supported root (live t xs) (m .0)) (m .2) .0)))
+
+  module _ (t : ℕ) (each-hop : (h : Head) → Mem h (live t xs) → hop root xs h t ≡ true) where
+    hop-chain : (n : ℕ) (h : Head) → Mem h (live t xs) → h .granted < n → Chain root (live t xs) h
+    hop-chain zero h m l = absurd (omega arith)
+    hop-chain (suc n) h m l = or-cases (root h) (anyb (λ k. supports k h) (live t xs)) (each-hop h m)
+        (λ r. first r)
+        (λ r. let w = any-mem (λ k. supports k h) (live t xs) r in
+        then (hop-chain n (w .0) (w .1) (omega (arith, supports-rises (w .0) h (w .2)))) (w .1) (w .2))
+
+    -- where each head of an instant has a root or a head before it, each is supported
+    pub hop-supported : (h : Head) → Mem h (live t xs) → supported root (live t xs) h ≡ true
+    hop-supported h m = supported-chain root (live t xs) h .1 (hop-chain (suc (h .granted)) h m (omega arith))
+
+-- a test of heads passes at every instant of every authorization exactly if, at every instant, it passes of each head
+-- that covers it
+module _ (xs : List Authorization) (f : Head → ℕ → Bool) where
+  pub everywhere-live : allb (λ a. always (a .interval .start) (a .interval .end) (f (a .head))) xs ≡ true →
+      (t : ℕ) (h : Head) → Mem h (live t xs) → f h t ≡ true
+  everywhere-live e t h m =
+      let w = live-mem t xs h m in
+      let s = inInterval-true (w .0 .interval) t (w .3) in
+      ap (λ (k : Head). f k t) (sym (w .2))
+      ∙ always-all (w .0 .interval .start) (w .0 .interval .end) (f (w .0 .head))
+      (all-mem (λ a. always (a .interval .start) (a .interval .end) (f (a .head))) xs e (w .0) (w .1)) t (s .0) (s .1)
+
+  pub live-everywhere : ((t : ℕ) (h : Head) → Mem h (live t xs) → f h t ≡ true) →
+      allb (λ a. always (a .interval .start) (a .interval .end) (f (a .head))) xs ≡ true
+  live-everywhere g = mem-all (λ a. always (a .interval .start) (a .interval .end) (f (a .head))) xs
+      (λ a m. all-always (a .interval .start) (a .interval .end) (f (a .head))
+      (λ t p q. g t (a .head) (mem-live t xs a m (inInterval-in (a .interval) t p q))))
+
+-- THEOREM 2, second half: each authorization is supported at each of its instants exactly if at each of them its head
+-- is a root or one that covers the instant may stand directly before it
+pub one-hop : (root : Head → Bool) (xs : List Authorization) →
+    allb (λ a. always (a .interval .start) (a .interval .end) (λ t. supported root (live t xs) (a .head))) xs
+    ≡ allb (λ a. always (a .interval .start) (a .interval .end) (hop root xs (a .head))) xs
+one-hop root xs = agree
+    (allb (λ a. always (a .interval .start) (a .interval .end) (λ t. supported root (live t xs) (a .head))) xs)
+    (allb (λ a. always (a .interval .start) (a .interval .end) (hop root xs (a .head))) xs)
+    (λ e. live-everywhere xs (hop root xs) (λ t h m. supported-hop root xs h t
+    (everywhere-live xs (λ h t. supported root (live t xs) h) e t h m)))
+    (λ e. live-everywhere xs (λ h t. supported root (live t xs) h) (λ t h m. hop-supported root xs t
+    (λ k n. everywhere-live xs (hop root xs) e t k n) h m))

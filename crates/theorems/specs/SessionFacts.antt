@@ -1,0 +1,112 @@
+-- A session through the library's answers over lent bytes is the session: `session-bytes`. The bytes always encode the base
+-- that the session has, which is sound.
+use mathlib.Core.Path.{_≡_, refl, sym, ap, ap₂, _∙_, subst, subst₂}
+use mathlib.Core.Logic.{_≢_}
+use Prim.Native.Nat.{ℕ, zero, suc, _+_, _*_, _/_, _≤_}
+use native.Mathlib.Omega.{arith}
+use mathlib.Core.Bool.{Bool, true, false, not}
+use mathlib.Core.List.{List, [], _∷_, _++_}
+use lib.Dec.{ltb, eqb}
+use lib.ListN.{length, replicate, drop, getD, length-replicate}
+use Rattle.foundation.specs.Tests.{cases, eq-true, ne-false, true-eq, false-eq}
+use Rattle.foundation.specs.declared.Interval.{Interval}
+use Rattle.model.specs.declared.Request.{Request}
+use Rattle.model.specs.declared.Access.{Access}
+use Rattle.model.specs.declared.Question.{Question}
+use Rattle.model.specs.declared.Reply.{Reply}
+use Rattle.model.specs.declared.Reply.the-variants.{Done, Refused, Unsupported, Yes, No, Runs}
+use Rattle.model.specs.Base.{Base, emptyBase}
+use Rattle.model.specs.Rules.{may, when}
+use Rattle.model.specs.Means.{Means, plainly}
+use Rattle.model.specs.Step.{Row, row, lowest, refusedOr, Outcome, refusal, effect, stepBy, step}
+use Rattle.model.specs.StepFacts.{accepted, answered, turned-away, step-accepted, step-refused}
+use Rattle.model.specs.Encoding.{encode, decode}
+use Rattle.model.specs.EncodingFacts.{decode-encode, encode-sound, empty-sound}
+use Rattle.model.specs.Soundness.{sound, soundBytes}
+use Rattle.model.specs.SoundnessFacts.{sound-tests, tests-sound}
+use Rattle.model.specs.Answers.{Answer, answering, refusing, request, mayTable, whenTable, mayReply, words, mayAnswer, whenAnswer}
+use Rattle.model.specs.Text.{Line, order, asksMay, asksWhen, unreadable, newline, lines, readLine, printRuns, printReply}
+use Rattle.model.specs.Session.{Turn, pairs, turn, transcript, session, ByteTurn, pairsOf, runsOf, whenList, byteTurn, byteTranscript, byteSession}
+use Rattle.theorems.specs.Preservation.{sound-after}
+use Rattle.theorems.specs.RequestFacts.{request-accepted, request-refused}
+
+-- a turn through the bytes and one on the base print the same and leave the same base, a sound one
+record Same (x : ByteTurn) (y : Turn) : Type 0 where
+  text : printReply (x .reply) (x .runs) ≡ printReply (y .reply) (y .runs)
+  bytes : x .lent ≡ encode (y .base)
+  kept : sound (y .base) ≡ true
+
+-- pairs written are read back
+pairs-back : (runs : List Interval) (rest : List ℕ) → pairsOf (length runs) (words runs ++ rest) ≡ runs
+pairs-back [] rest = refl
+pairs-back (i ∷ runs) rest = ap (λ (is : List Interval). i ∷ is) (pairs-back runs rest)
+
+list-pairs : length whenList / 2 ≡ pairs
+unfolding whenList
+list-pairs = ap (λ (n : ℕ). n / 2) (length-replicate {A = ℕ} (2 * pairs) 0)
+
+module _ (b : Base) (s : sound b ≡ true) where
+  abbrev Both : Answer → Outcome → Type 0
+  Both a o = Same (record { reply = a .reply; runs = []; lent = a .lent }) (record { reply = o .reply; runs = []; base = o .base })
+
+  ordered : (q : Request) → Same (byteTurn (encode b) (order q)) (turn plainly b (order q))
+  unfolding step
+  ordered q = cases (eqb (refusal plainly b q) 0)
+      (λ e. let z = true-eq (refusal plainly b q) 0 e in
+      subst₂ Both (sym (request-accepted b q s z)) (sym (step-accepted b q z))
+      (record { text = refl; bytes = refl; kept = tests-sound (effect plainly b q) (sound-after b q (sound-tests b s) (accepted b q z)) }))
+      (λ e. let n = false-eq (refusal plainly b q) 0 e in
+      subst₂ Both (sym (request-refused b q s n)) (sym (step-refused b q n)) (record { text = refl; bytes = refl; kept = s }))
+
+  asked-may : (q : Question) → Same (byteTurn (encode b) (asksMay q)) (turn plainly b (asksMay q))
+  unfolding mayAnswer
+  asked-may q =
+      let e : mayAnswer (encode b) q ≡ refusedOr (mayTable b q) Refused (mayReply (may b (q .access) (q .instant))) =
+      rw (encode-sound b s, decode-encode b s) in
+      record { text = ap (λ (r : Reply). printReply r []) e; bytes = refl; kept = s }
+
+  -- WHEN over the bytes and the list
+  when-answer : (x : Access) → whenAnswer (encode b) x whenList
+      ≡ refusedOr (whenTable b x pairs (length (when b x))) (refusing whenList)
+      (answering (Runs (length (when b x))) (words (when b x) ++ drop (2 * length (when b x)) whenList))
+  unfolding whenAnswer
+  when-answer x = rw (encode-sound b s, decode-encode b s, list-pairs)
+
+  asked-when : (x : Access) → Same (byteTurn (encode b) (asksWhen x)) (turn plainly b (asksWhen x))
+  asked-when x =
+      let rows = whenTable b x pairs (length (when b x)) in
+      let a = answering (Runs (length (when b x))) (words (when b x) ++ drop (2 * length (when b x)) whenList) in
+      record {
+        text = ap shownRuns (when-answer x) ∙ cases (eqb (lowest rows) 0)
+            (λ e. let z = true-eq (lowest rows) 0 e in
+            ap shownRuns (answered rows (refusing whenList) a z)
+            ∙ ap printRuns (pairs-back (when b x) (drop (2 * length (when b x)) whenList))
+            ∙ ap (λ (r : Reply). printReply r (when b x)) (sym (answered rows Refused (Runs (length (when b x))) z)))
+            (λ e. let n = false-eq (lowest rows) 0 e in
+            ap shownRuns (turned-away rows (refusing whenList) a n)
+            ∙ ap (λ (r : Reply). printReply r (when b x)) (sym (turned-away rows Refused (Runs (length (when b x))) n)));
+        bytes = refl;
+        kept = s;
+      }
+    where
+      -- what is printed of a WHEN's answer
+      shownRuns : Answer → List ℕ
+      shownRuns a = printReply (a .reply) (runsOf (a .reply) (a .lent))
+
+  same-turn : (l : Line) → Same (byteTurn (encode b) l) (turn plainly b l)
+  same-turn (order q) = ordered q
+  same-turn (asksMay q) = asked-may q
+  same-turn (asksWhen x) = asked-when x
+  same-turn unreadable = record { text = refl; bytes = refl; kept = s }
+
+same-transcript : (ls : List (List ℕ)) (b : Base) → sound b ≡ true → byteTranscript ls (encode b) ≡ transcript plainly ls b
+same-transcript [] b s = refl
+same-transcript (l ∷ ls) b s =
+    let w = same-turn b s (readLine l) in
+    ap₂ (λ (x y : List ℕ). x ++ (newline ∷ y)) (w .text)
+    (ap (byteTranscript ls) (w .bytes) ∙ same-transcript ls (turn plainly b (readLine l) .base) (w .kept))
+
+-- the program may keep its base as bytes and ask the library
+pub session-bytes : (input : List ℕ) → byteSession input ≡ session input
+unfolding byteSession session
+session-bytes input = same-transcript (lines input) emptyBase empty-sound
