@@ -1,17 +1,18 @@
 -- What supports what: more roots and heads support more, the supported support one another, and one hop is enough
 -- (theorem 2, second half: `one-hop`). A chain stays on one object and mode (`chain-local`).
 use mathlib.Core.Path.{_≡_, refl, sym, ap, _∙_}
-use mathlib.Core.Logic.{_⊎_, inl, inr}
-use Prim.Native.Nat.{ℕ, zero, suc, _<_}
+use mathlib.Core.Logic.{_⊎_, inl, inr, _↔_}
+use Prim.Native.Nat.{ℕ, zero, suc, _≤_, _<_}
 use native.Mathlib.Omega.{arith}
 use mathlib.Core.Bool.{Bool, true, _&&_, _||_}
 use mathlib.Core.List.{List, [], _∷_, _++_}
 use Rattle.foundation.specs.Tests.{cases, agree, and-true, or-true-right, or-intro-left, or-cases}
 use Rattle.foundation.specs.Lists.{anyb, allb, keepIf, Mem, any-mem, mem-any, all-mem, mem-all, keepIf-mem}
-use Rattle.foundation.specs.Intervals.{inInterval, inInterval-true, inInterval-in, always, always-all, all-always}
+use Rattle.foundation.specs.declared.Interval.{Interval}
+use Rattle.foundation.specs.Intervals.{inInterval, inInterval-true, inInterval-in, none?, always, always-all, all-always}
 use Rattle.model.specs.declared.Head.{Head}
 use Rattle.model.specs.declared.Authorization.{Authorization}
-use Rattle.model.specs.Support.{supports, supports-rises, supports-object, supports-mode, supported, supported-chain, supported-step, Chain, first, then, live}
+use Rattle.model.specs.Support.{supports, supports-rises, supports-object, supports-mode, supported, supported-chain, supported-step, Chain, first, then, live, coveredFor, gaps}
 
 -- ---- the heads that cover an instant
 
@@ -146,3 +147,22 @@ one-hop root xs = agree
     (everywhere-live xs (λ h t. supported root (live t xs) h) e t h m)))
     (λ e. live-everywhere xs (λ h t. supported root (live t xs) h) (λ t h m. hop-supported root xs t
     (λ k n. everywhere-live xs (hop root xs) e t k n) h m))
+
+-- ---- the cover that a new authorization needs
+
+gaps-always : (xs : List Authorization) (h : Head) (i : Interval) →
+    none? (gaps xs h i) ≡ always (i .start) (i .end) (λ t. coveredFor xs h t)
+unfolding gaps always
+gaps-always xs h i = refl
+
+-- 01, GRANT: "that together cover every instant": nothing is uncovered exactly if at each instant some authorization that
+-- covers it may stand directly before the new one; they need not be one
+pub covered-together : (xs : List Authorization) (h : Head) (i : Interval) → (none? (gaps xs h i) ≡ true) ↔
+    ((t : ℕ) → i .start ≤ t → t ≤ i .end → (k : Head) × Mem k (live t xs) × (supports k h ≡ true))
+unfolding coveredFor
+covered-together xs h i = (
+  (λ e t p q. any-mem (λ k. supports k h) (live t xs)
+      (always-all (i .start) (i .end) (λ u. coveredFor xs h u) (sym (gaps-always xs h i) ∙ e) t p q)),
+  (λ f. gaps-always xs h i ∙ all-always (i .start) (i .end) (λ u. coveredFor xs h u)
+      (λ t p q. let w = f t p q in mem-any (λ k. supports k h) (live t xs) (w .0) (w .1) (w .2))),
+)

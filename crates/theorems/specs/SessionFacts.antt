@@ -8,7 +8,7 @@ use mathlib.Core.Bool.{Bool, true, false, not}
 use mathlib.Core.List.{List, [], _∷_, _++_}
 use lib.Dec.{ltb, eqb}
 use lib.ListN.{length, replicate, drop, getD, length-replicate}
-use Rattle.foundation.specs.Tests.{cases, eq-true, ne-false, true-eq, false-eq}
+use Rattle.foundation.specs.Tests.{cases, le-false, eq-true, ne-false, true-eq, false-eq}
 use Rattle.foundation.specs.declared.Interval.{Interval}
 use Rattle.model.specs.declared.Request.{Request}
 use Rattle.model.specs.declared.Access.{Access}
@@ -17,11 +17,12 @@ use Rattle.model.specs.declared.Reply.{Reply}
 use Rattle.model.specs.declared.Reply.the-variants.{Done, Refused, Unsupported, Yes, No, Runs}
 use Rattle.model.specs.Base.{Base, emptyBase}
 use Rattle.model.specs.Rules.{may, when}
+use Rattle.model.specs.HoldsMarks.{when-count}
 use Rattle.model.specs.Means.{Means, plainly}
 use Rattle.model.specs.Step.{Row, row, lowest, refusedOr, Outcome, refusal, effect, stepBy, step}
 use Rattle.model.specs.StepFacts.{accepted, answered, turned-away, step-accepted, step-refused}
 use Rattle.model.specs.Encoding.{encode, decode}
-use Rattle.model.specs.EncodingFacts.{decode-encode, encode-sound, empty-sound}
+use Rattle.model.specs.EncodingFacts.{decode-encode, encode-sound, empty-sound, counts-fit}
 use Rattle.model.specs.Soundness.{sound, soundBytes}
 use Rattle.model.specs.SoundnessFacts.{sound-tests, tests-sound}
 use Rattle.model.specs.Answers.{Answer, answering, refusing, request, mayTable, whenTable, mayReply, words, mayAnswer, whenAnswer}
@@ -110,3 +111,15 @@ same-transcript (l ∷ ls) b s =
 pub session-bytes : (input : List ℕ) → byteSession input ≡ session input
 unfolding byteSession session
 session-bytes input = same-transcript (lines input) emptyBase empty-sound
+
+-- ---- "a list of 1,100 pairs, which always suffices" (theorem 5)
+
+-- at most 1,089 runs: as many as there can be authorizations and rules, and one
+pub when-most : (b : Base) → sound b ≡ true → (x : Access) → length (when b x) ≤ 1089
+when-most b s x =
+    let c = counts-fit b (sound-tests b s .counts) in
+    omega (arith, when-count b x, c .authorizations, c .rules)
+
+-- so that a session's WHEN is never refused with 13
+pub list-suffices : (b : Base) → sound b ≡ true → (x : Access) → ltb pairs (length (when b x)) ≡ false
+list-suffices b s x = le-false (suc pairs) (length (when b x)) (let h = when-most b s x in omega arith)
