@@ -134,7 +134,7 @@ field {A} read [] = none
 field {A} read (f ∷ rest) = elim (read f) [ none ↦ none | some a ↦ some (a, rest) ]
 
 -- one after the other
-abbrev pub _>>=_ : {A B : Type 0} → Reader A → (A → Reader B) → Reader B
+abbrev _>>=_ : {A B : Type 0} → Reader A → (A → Reader B) → Reader B
 _>>=_ p next fields = elim (p fields) [ none ↦ none | some r ↦ next (r .0) (r .1) ]
 
 -- what is read
