@@ -1,7 +1,7 @@
 -- Numbers as bytes, the least byte first, and records of any width. The laws are over the width.
-use mathlib.Core.Path.{_≡_, refl, sym, ap, ap₂, _∙_, subst}
-use mathlib.Core.Logic.{_⊎_, inl, inr}
-use Prim.Native.Nat.{ℕ, zero, suc, _+_, _*_, _/_, _%_, _^_, _-_, _≤_, _<_}
+use mathlib.Core.Path.{_≡_, refl, ap, ap₂, _∙_, subst}
+use mathlib.Core.Logic.{inl, inr}
+use Prim.Native.Nat.{ℕ, zero, suc, _+_, _*_, _/_, _%_, _^_, _<_}
 use native.Mathlib.Nat.{mul-comm, pow-succ'}
 use native.Mathlib.Omega.{arith}
 use mathlib.Core.Bool.{Bool, true, false, _&&_, false≢true}
@@ -64,7 +64,8 @@ eqList-refl (x ∷ xs) = and-intro (eqb x x) (eqList xs xs) (eq-true x x refl) (
 
 -- ---- records: `enc` writes one, w bytes wide, and `f` reads it back where P holds
 
-module _ {A : Type 0} (f : List ℕ → A) (enc : A → List ℕ) (w : ℕ) (P : A → Type 0) (wide : (x : A) → length (enc x) ≡ w)
+module _ {A : Type 0} (f : List ℕ → A) (enc : A → List ℕ) (w : ℕ) (P : A → Type 0)
+    (wide : (x : A) → length (enc x) ≡ w)
     (back : (x : A) (rest : List ℕ) → P x → f (enc x ++ rest) ≡ x) where
   behind-one : (x : A) (rest : List ℕ) → drop w (enc x ++ rest) ≡ rest
   behind-one x rest = subst (λ (n : ℕ). drop n (enc x ++ rest) ≡ rest) (wide x) (drop-append-seam (enc x) rest)
@@ -77,6 +78,7 @@ module _ {A : Type 0} (f : List ℕ → A) (enc : A → List ℕ) (w : ℕ) (P :
       (rw (behind-one x (each xs enc ++ rest)) (records-back xs (λ y m. h y (inr m)) rest)))
 
 -- what stands behind a body of records of w bytes
-pub behind : {A : Type 0} (enc : A → List ℕ) (w : ℕ) → ((x : A) → length (enc x) ≡ w) → (xs : List A) (rest : List ℕ) →
+pub behind : {A : Type 0} (enc : A → List ℕ) (w : ℕ) → ((x : A) → length (enc x) ≡ w) →
+    (xs : List A) (rest : List ℕ) →
     drop (w * length xs) (each xs enc ++ rest) ≡ rest
 behind enc w h xs rest = drop-at (each xs enc) rest (w * length xs) (length-each xs enc w h ∙ mul-comm (length xs) w)

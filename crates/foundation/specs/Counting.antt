@@ -2,7 +2,7 @@
 -- of marks and two (`maximal-count`). For each interval's start, and the instant behind its end, is 0, the instant
 -- behind the last, or a mark, and no two of them are the same.
 use mathlib.Core.Path.{_≡_, refl, sym, ap, _∙_, subst}
-use mathlib.Core.Logic.{inl, inr, _≢_}
+use mathlib.Core.Logic.{inl, inr, _≢_, ⊎-elim}
 use Prim.Native.Nat.{ℕ, zero, suc, _+_, _*_, _≤_, _<_}
 use native.Mathlib.Omega.{arith}
 use mathlib.Core.Bool.{Bool, true, false, _&&_, true≢false}
@@ -15,7 +15,7 @@ use Rattle.foundation.specs.Lists.{Mem}
 use Rattle.foundation.specs.Closure.{size, size-le, size-less}
 use Rattle.foundation.specs.Intervals.{interval, inInterval, inInterval-in, inInterval-true, covered, Separate}
 use Rattle.foundation.specs.Intervals.{none-below, head-in, tail-in, maximal, maximal-separate, maximal-covered}
-use Rattle.foundation.specs.Marks.{clear, clear-raise, rep, Steady}
+use Rattle.foundation.specs.Marks.{clear-part, rep, Steady}
 
 -- fewer members of a list are at least b than at least k, if one of them is at least k and below b
 passed : (ys : List ℕ) (k a b : ℕ) → k ≤ a → a < b → Mem a ys → size (leb b) ys < size (leb k) ys
@@ -25,17 +25,14 @@ passed ys k a b h l m = size-less (leb b) (leb k) ys
 module _ (f : ℕ → Bool) (ms : List ℕ) (c : Steady f ms) where
   -- where f changes is a mark
   turn : (t : ℕ) → f (suc t) ≢ f t → Mem (suc t) ms
-  turn t d = go (rep ms (suc t))
-    where
-      mark : Mem (suc t) (0 ∷ ms) → Mem (suc t) ms
-      mark (inl p) = absurd (omega arith)
-      mark (inr m) = m
-
-      go : (a : ℕ) × Mem a (0 ∷ ms) × (a ≤ suc t) × (clear ms a (suc t) ≡ true) → Mem (suc t) ms
-      go r = cases (leb (r .0) t)
-          (λ l. absurd (d (c t (suc t) (omega arith) (clear-raise ms (r .0) t (suc t) (true-le (r .0) t l) (r .3)))))
-          (λ l. let g = false-le (r .0) t l in let q : r .0 ≡ suc t = omega arith in
-          mark (subst (λ (a : ℕ). Mem a (0 ∷ ms)) q (r .1)))
+  turn t d =
+      let r = rep ms (suc t) in
+      cases (leb (r .0) t)
+      (λ l. absurd (d (c t (suc t) (omega arith)
+      (clear-part ms (r .0) t (suc t) (suc t) (true-le (r .0) t l) (omega arith) (r .3)))))
+      (λ l. let g = false-le (r .0) t l in
+      let q : r .0 ≡ suc t = omega (arith, r .2) in
+      ⊎-elim (λ p. absurd (omega arith)) (λ m. m) (subst (λ (a : ℕ). Mem a (0 ∷ ms)) q (r .1)))
 
   module _ (e : ℕ) where
     -- all that an interval's start and the instant behind its end can be

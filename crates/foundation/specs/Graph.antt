@@ -10,11 +10,8 @@ use mathlib.Core.List.{List, [], _∷_}
 use lib.ListN.{length}
 use Rattle.foundation.specs.Tests.{and-true, and-intro, or-true-right, or-intro-left, or-cases}
 use Rattle.foundation.specs.Lists.{anyb, keepIf, Mem, any-mem, mem-any, any-cong-mem}
+use Rattle.foundation.specs.Totals.{count}
 use Rattle.foundation.specs.Closure.{iter, settled}
-
-abbrev pub count : Bool → ℕ
-count true = 1
-count false = 0
 
 module _ {K : Type 0} where
   -- a path from q: its first edge is one of `first`, every further one is of `edge` and leaves a node of the list

@@ -2,24 +2,21 @@
 -- none exceeds the number of nodes (`ranked`), and they are the most that a walk counts (`rank-most`, `rank-walk`).
 -- At the end, for code that computes them: rounds until nothing changes, or until a rank exceeds the number of nodes.
 use mathlib.Core.Path.{_≡_, refl, sym, ap, ap₂, _∙_}
-use mathlib.Core.Logic.{_⊎_, inl, inr, _↔_}
+use mathlib.Core.Logic.{_⊎_, inl, inr, _↔_, ⊎-elim}
 use Prim.Native.Nat.{ℕ, zero, suc, _+_, _*_, _≤_, _<_, max}
 use native.Mathlib.Omega.{arith}
-use mathlib.Core.Bool.{Bool, true, false, false≢true}
+use mathlib.Core.Bool.{Bool, true, false}
 use mathlib.Core.List.{List, [], _∷_}
-use lib.Dec.{leb, eqb}
+use lib.Dec.{leb}
 use lib.ListN.{length}
-use Rattle.foundation.specs.Tests.{cases, and-true, and-intro, true-le, false-le, true-eq, false-eq}
+use Rattle.foundation.specs.Tests.{cases, must-fail, and-true, and-intro, true-le, false-le}
 use Rattle.foundation.specs.Lists.{keepIf, Mem, keepIf-mem, kept}
+use Rattle.foundation.specs.Totals.{count, count-le, total-le, still-after}
 use Rattle.foundation.specs.Closure.{size, size-le, size-mono, size-less}
-use Rattle.foundation.specs.Graph.{count, Path, direct, onward, reaches, strictEdge, cyclic, most, rankIn, rank}
-use Rattle.foundation.specs.Graph.{Walk, alone, then, reaches-path, cyclic-path}
+use Rattle.foundation.specs.Graph.{Path, direct, onward, reaches, strictEdge, cyclic, most, rankIn, rank, Walk}
+use Rattle.foundation.specs.Graph.{alone, then, reaches-path, cyclic-path}
 
-pub count-le : (b : Bool) → count b ≤ 1
-count-le true = omega arith
-count-le false = omega arith
-
--- ---- the most of a list, and its total
+-- ---- the most of a list
 
 module _ {K : Type 0} where
   pub most-le : (f : K → ℕ) (l : List K) (b : ℕ) → ((r : K) → Mem r l → f r ≤ b) → most f l ≤ b
@@ -42,38 +39,11 @@ module _ {K : Type 0} where
   most-from : (f : K → ℕ) (l : List K) (b : ℕ) → From f l b
   most-from f [] b = inl (omega arith)
   most-from f (r ∷ l) b = cases (leb (f r) (max b (most f l)))
-      (λ e. rest (true-le (f r) (max b (most f l)) e) (most-from f l b))
+      (λ e. let n = true-le (f r) (max b (most f l)) e in ⊎-elim
+      (λ q. inl (omega arith))
+      (λ w. inr (w .0, inr (w .1), omega (arith, w .2)))
+      (most-from f l b))
       (λ e. let n = false-le (f r) (max b (most f l)) e in inr (r, inl refl, omega arith))
-    where
-      rest : f r ≤ max b (most f l) → From f l b → From f (r ∷ l) b
-      rest n (inl e) = inl (omega arith)
-      rest n (inr w) = inr (w .0, inr (w .1), omega (arith, w .2))
-
-  abbrev total : (K → ℕ) → List K → ℕ
-  total f [] = 0
-  total f (r ∷ l) = f r + total f l
-
-  total-le : (f : K → ℕ) (b : ℕ) (l : List K) → ((r : K) → Mem r l → f r ≤ b) → total f l ≤ length l * b
-  total-le f b [] h = omega arith
-  total-le f b (r ∷ l) h = omega (arith, h r (inl refl), total-le f b l (λ q m. h q (inr m)))
-
-  -- f is at most g: they agree, or g's total is larger
-  abbrev Gap : (f g : K → ℕ) → List K → Type 0
-  Gap f g l = (((r : K) → Mem r l → f r ≡ g r) × (total f l ≡ total g l)) ⊎ (total f l < total g l)
-
-  total-gap : (f g : K → ℕ) (l : List K) → ((r : K) → Mem r l → f r ≤ g r) → Gap f g l
-  total-gap f g [] h = inl ((λ r m. absurd (m .lower)), refl)
-  total-gap f g (q ∷ l) h = join (total-gap f g l (λ r m. h r (inr m)))
-    where
-      both : f q ≡ g q → ((r : K) → Mem r l → f r ≡ g r) → (r : K) → Mem r (q ∷ l) → f r ≡ g r
-      both e a r (inl p) = rw p e
-      both e a r (inr m) = a r m
-
-      join : Gap f g l → Gap f g (q ∷ l)
-      join (inl a) = cases (eqb (f q) (g q))
-          (λ e. let p = true-eq (f q) (g q) e in inl (both p (a .0), omega (arith, a .1)))
-          (λ e. let n = false-eq (f q) (g q) e in inr (omega (arith, h q (inl refl), a .1)))
-      join (inr b) = inr (omega (arith, h q (inl refl)))
 
 -- ---- rounds
 
@@ -143,14 +113,11 @@ module _ {K : Type 0} (edge strict : K → K → Bool) (own : K → Bool) (nodes
   -- some walk counts as much
   walk-after : (n : ℕ) (r : K) → Walk edge strict own nodes (after n r) r
   walk-after zero r = rw (rank-zero r) alone
-  walk-after (suc n) r = rw (rank-step n r) (go (walk-after n) (most-from (by n r) (before r) (count (own r))))
-    where
-      go : ((q : K) → Walk edge strict own nodes (after n q) q) → From (by n r) (before r) (count (own r)) →
-          Walk edge strict own nodes (max (count (own r)) (most (by n r) (before r))) r
-      go i (inl e) = rw e alone
-      go i (inr w) =
-          let k = kept (λ q. edge q r) nodes (w .0) (w .1) in
-          rw (w .2) (then (i (w .0)) (k .0) (k .1))
+  walk-after (suc n) r = rw (rank-step n r) (⊎-elim
+      (λ e. rw e alone)
+      (λ w. let k = kept (λ q. edge q r) nodes (w .0) (w .1) in
+      rw (w .2) (then (walk-after n (w .0)) (k .0) (k .1)))
+      (most-from (by n r) (before r) (count (own r))))
 
   -- the rank is what some walk counts
   pub rank-walk : (r : K) → Walk edge strict own nodes (rank edge strict own nodes r) r
@@ -168,9 +135,8 @@ module _ {K : Type 0} (edge strict : K → K → Bool) (own : K → Bool) (nodes
     above-path = reaches-path (strictEdge edge strict) edge nodes
 
     no-return : (r : K) → Mem r nodes → above r r ≡ false
-    no-return r m = cases (above r r)
-        (λ e. absurd (false≢true (sym free ∙ cyclic-path edge strict nodes .1 (r, m, above-path r r m .0 e))))
-        (λ e. e)
+    no-return r m = must-fail (cyclic edge strict nodes) (above r r) free
+        (λ e. cyclic-path edge strict nodes .1 (r, m, above-path r r m .0 e))
 
     -- an edge to r: what is above q is above r, and so is q itself, which is not above q, if the edge is strict
     above-less : (q r : K) → Mem q nodes → Mem r nodes → edge q r ≡ true →
@@ -200,29 +166,11 @@ module _ {K : Type 0} (edge strict : K → K → Bool) (own : K → Bool) (nodes
       size-less (above r) (λ p. true) nodes (λ p k a. refl) r m (no-return r m) refl,
     )
 
-    -- if the total is at least n after n rounds, the next changes nothing, or the total exceeds n then
-    moves : (n : ℕ) → n ≤ total (after n) nodes → Still n ⊎ (n < total (after (suc n)) nodes)
-    moves n b = go (total-gap (after n) (after (suc n)) nodes (λ r m. rises n r))
-      where
-        go : Gap (after n) (after (suc n)) nodes → Still n ⊎ (n < total (after (suc n)) nodes)
-        go (inl a) = inl (a .0)
-        go (inr l) = inr (omega arith)
-
-    near : (n : ℕ) → Still n ⊎ (n < total (after (suc n)) nodes)
-    near zero = moves zero (omega arith)
-    near (suc n) = go (near n)
-      where
-        go : Still n ⊎ (n < total (after (suc n)) nodes) → Still (suc n) ⊎ (suc n < total (after (suc (suc n))) nodes)
-        go (inl a) = inl (λ r m. step-cong n (suc n) a r)
-        go (inr l) = moves (suc n) l
-
     -- the rank's rounds are enough
     pub rank-settled : Still (length nodes * length nodes)
-    rank-settled = go (length nodes * length nodes) refl (near (length nodes * length nodes))
-      where
-        go : (n : ℕ) → n ≡ length nodes * length nodes → Still n ⊎ (n < total (after (suc n)) nodes) → Still n
-        go n e (inl a) = a
-        go n e (inr l) = absurd (omega (arith, total-le (after (suc n)) (length nodes) nodes (after-few (suc n))))
+    rank-settled = still-after nodes after (length nodes * length nodes) (λ n r m. rises n r)
+        (λ n h r m. step-cong n (suc n) h r)
+        (λ n. total-le (after n) (length nodes) nodes (after-few n)) (length nodes * length nodes) (omega arith)
 
     -- what q contributes is in r's rank
     rank-by : (q r : K) → Mem q nodes → Mem r nodes → edge q r ≡ true →

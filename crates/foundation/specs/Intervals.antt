@@ -1,13 +1,14 @@
 -- Intervals of instants, and the maximal intervals on which a test holds (01: longest runs).
 -- Theorem 1: `maximal-separate`, `maximal-covered` and `maximal-unique` at the end.
-use mathlib.Core.Path.{_≡_, refl, sym, ap, ap₂, _∙_, subst}
+use mathlib.Core.Path.{_≡_, refl, sym, ap, ap₂, _∙_}
 use Prim.Native.Nat.{ℕ, zero, suc, _+_, _-_, _≤_, _<_}
 use native.Mathlib.Omega.{arith}
 use mathlib.Core.Bool.{Bool, true, false, not, _&&_, _||_, true≢false, false≢true}
-use mathlib.Core.List.{List, [], _∷_, _++_}
+use mathlib.Core.List.{List, [], _∷_}
 use lib.Dec.{leb, ltb, eqb}
 use Rattle.foundation.specs.declared.Interval.{Interval}
-use Rattle.foundation.specs.Tests.{pick, cases, agree, le-true, le-false, true-le, false-le, true-eq, false-eq, or-assoc, or-false, and-true, and-intro}
+use Rattle.foundation.specs.Tests.{pick, cases, agree, le-true, le-false, true-le, false-le, true-eq, false-eq}
+use Rattle.foundation.specs.Tests.{or-assoc, or-false, and-true, and-intro}
 
 abbrev pub interval : ℕ → ℕ → Interval
 interval a b = record { start = a; end = b }
@@ -30,7 +31,8 @@ prepend r (q ∷ qs) = pick (eqb (q .start) (suc (r .end))) (interval (r .start)
 unfoldable pub maximalFrom : (ℕ → Bool) → ℕ → ℕ → List Interval
 unfolding prepend
 maximalFrom f s zero = []
-maximalFrom f s (suc n) = elim (f s) [ true ↦ prepend (interval s s) (maximalFrom f (suc s) n) | false ↦ maximalFrom f (suc s) n ]
+maximalFrom f s (suc n) =
+    elim (f s) [ true ↦ prepend (interval s s) (maximalFrom f (suc s) n) | false ↦ maximalFrom f (suc s) n ]
 
 -- 01, Requests: "the longest runs of instants": the maximal intervals of the instants s to e where f holds
 pub maximal : ℕ → ℕ → (ℕ → Bool) → List Interval
@@ -53,7 +55,9 @@ Separate k [] = Unit {0}
 Separate k (r ∷ rs) = (k ≤ r .start) × (r .start ≤ r .end) × Separate (suc (suc (r .end))) rs
 
 pub inInterval-true : (r : Interval) (t : ℕ) → inInterval r t ≡ true → (r .start ≤ t) × (t ≤ r .end)
-inInterval-true r t e = let p = and-true (leb (r .start) t) (leb t (r .end)) e in (true-le (r .start) t (p .0), true-le t (r .end) (p .1))
+inInterval-true r t e =
+    let p = and-true (leb (r .start) t) (leb t (r .end)) e in
+    (true-le (r .start) t (p .0), true-le t (r .end) (p .1))
 
 pub inInterval-in : (r : Interval) (t : ℕ) → r .start ≤ t → t ≤ r .end → inInterval r t ≡ true
 inInterval-in r t p q = and-intro (leb (r .start) t) (leb t (r .end)) (le-true (r .start) t p) (le-true t (r .end) q)
@@ -71,7 +75,8 @@ separate-weaken (r ∷ rs) j k h a = (omega arith, a .1, a .2)
 -- nothing below k is covered
 pub none-below : (rs : List Interval) (k t : ℕ) → Separate k rs → t < k → covered rs t ≡ false
 none-below [] k t a h = refl
-none-below (r ∷ rs) k t a h = rw (inInterval-below r t (omega arith), none-below rs (suc (suc (r .end))) t (a .2) (omega arith))
+none-below (r ∷ rs) k t a h =
+    rw (inInterval-below r t (omega arith), none-below rs (suc (suc (r .end))) t (a .2) (omega arith))
 
 -- what a interval covers, its list covers
 pub head-in : (r : Interval) (rs : List Interval) (t : ℕ) → r .start ≤ t → t ≤ r .end → covered (r ∷ rs) t ≡ true
@@ -80,23 +85,30 @@ head-in r rs t p q = rw (inInterval-in r t p q)
 pub tail-in : (r : Interval) (rs : List Interval) (t : ℕ) → r .end < t → covered (r ∷ rs) t ≡ covered rs t
 tail-in r rs t h = rw (inInterval-above r t h)
 
-module _ (r : Interval) (rs : List Interval) (q : Interval) (qs : List Interval) (j k : ℕ) (a : Separate j (r ∷ rs)) (b : Separate k (q ∷ qs)) (h : (t : ℕ) → covered (r ∷ rs) t ≡ covered (q ∷ qs) t) where
+module _ (r : Interval) (rs : List Interval) (q : Interval) (qs : List Interval) (j k : ℕ)
+    (a : Separate j (r ∷ rs)) (b : Separate k (q ∷ qs)) (h : (t : ℕ) → covered (r ∷ rs) t ≡ covered (q ∷ qs) t) where
   start-le : q .start ≤ r .start
   start-le = cases (leb (q .start) (r .start)) (λ e. true-le _ _ e)
-      (λ e. absurd (true≢false (sym (head-in r rs (r .start) (omega arith) (a .1)) ∙ h (r .start) ∙ none-below (q ∷ qs) (q .start) (r .start) (omega arith, b .1, b .2) (false-le _ _ e))))
+      (λ e. absurd (true≢false (sym (head-in r rs (r .start) (omega arith) (a .1)) ∙ h (r .start)
+      ∙ none-below (q ∷ qs) (q .start) (r .start) (omega arith, b .1, b .2) (false-le _ _ e))))
 
   end-le : q .start ≤ r .start → q .end ≤ r .end
   end-le f = cases (leb (q .end) (r .end)) (λ e. true-le _ _ e)
       (λ e. let l = false-le (q .end) (r .end) e in
-      absurd (false≢true (sym (tail-in r rs (suc (r .end)) (omega arith) ∙ none-below rs (suc (suc (r .end))) (suc (r .end)) (a .2) (omega arith)) ∙ h (suc (r .end)) ∙ head-in q qs (suc (r .end)) (omega arith) (omega arith))))
+      absurd (false≢true (sym (tail-in r rs (suc (r .end)) (omega arith)
+      ∙ none-below rs (suc (suc (r .end))) (suc (r .end)) (a .2) (omega arith)) ∙ h (suc (r .end))
+      ∙ head-in q qs (suc (r .end)) (omega arith) (omega arith))))
 
   rest : q .end ≡ r .end → (t : ℕ) → covered rs t ≡ covered qs t
   rest e t = cases (leb t (r .end))
-      (λ l. let m = true-le t (r .end) l in none-below rs (suc (suc (r .end))) t (a .2) (omega arith) ∙ sym (none-below qs (suc (suc (q .end))) t (b .2) (omega arith)))
+      (λ l. let m = true-le t (r .end) l in
+      none-below rs (suc (suc (r .end))) t (a .2) (omega arith)
+      ∙ sym (none-below qs (suc (suc (q .end))) t (b .2) (omega arith)))
       (λ l. let m = false-le t (r .end) l in sym (tail-in r rs t m) ∙ h t ∙ tail-in q qs t (omega arith))
 
 -- two lists of separate intervals that cover the same instants are equal
-pub unique : (rs qs : List Interval) (j k : ℕ) → Separate j rs → Separate k qs → ((t : ℕ) → covered rs t ≡ covered qs t) → rs ≡ qs
+pub unique : (rs qs : List Interval) (j k : ℕ) → Separate j rs → Separate k qs →
+    ((t : ℕ) → covered rs t ≡ covered qs t) → rs ≡ qs
 unique [] [] j k a b h = refl
 unique [] (q ∷ qs) j k a b h = absurd (false≢true (h (q .start) ∙ head-in q qs (q .start) (omega arith) (b .1)))
 unique (r ∷ rs) [] j k a b h = absurd (true≢false (sym (head-in r rs (r .start) (omega arith) (a .1)) ∙ h (r .start)))
@@ -107,11 +119,14 @@ unique (r ∷ rs) (q ∷ qs) j k a b h =
     let u₂ = end-le q qs r rs k j b a (λ t. sym (h t)) f₂ in
     let f : r .start ≡ q .start = omega arith in
     let u : r .end ≡ q .end = omega arith in
-    ap₂ {C = List Interval} (λ (x : Interval) (xs : List Interval). x ∷ xs) (λ i. record { start = f i; end = u i }) (unique rs qs (suc (suc (r .end))) (suc (suc (q .end))) (a .2) (b .2) (rest r rs q qs j k a b h (sym u)))
+    ap₂ {C = List Interval} (λ (x : Interval) (xs : List Interval). x ∷ xs)
+    (λ i. record { start = f i; end = u i })
+    (unique rs qs (suc (suc (r .end))) (suc (suc (q .end))) (a .2) (b .2) (rest r rs q qs j k a b h (sym u)))
 
 -- ---- prepend
 
-pub prepend-separate : (r : Interval) (rs : List Interval) → r .start ≤ r .end → Separate (suc (r .end)) rs → Separate (r .start) (prepend r rs)
+pub prepend-separate : (r : Interval) (rs : List Interval) → r .start ≤ r .end → Separate (suc (r .end)) rs →
+    Separate (r .start) (prepend r rs)
 unfolding prepend
 prepend-separate r [] h a = (omega arith, h, tt)
 prepend-separate r (q ∷ qs) h a = cases (eqb (q .start) (suc (r .end)))
@@ -119,21 +134,28 @@ prepend-separate r (q ∷ qs) h a = cases (eqb (q .start) (suc (r .end)))
     (λ e. let m = false-eq (q .start) (suc (r .end)) e in rw e (omega arith, h, (omega arith, a .1, a .2)))
 
 -- two intervals with nothing missing between them are one
-pub join : (r q : Interval) (t : ℕ) → r .start ≤ r .end → q .start ≤ q .end → q .start ≡ suc (r .end) → inInterval (interval (r .start) (q .end)) t ≡ inInterval r t || inInterval q t
+pub join : (r q : Interval) (t : ℕ) → r .start ≤ r .end → q .start ≤ q .end → q .start ≡ suc (r .end) →
+    inInterval (interval (r .start) (q .end)) t ≡ inInterval r t || inInterval q t
 join r q t h k m = cases (leb t (r .end))
-    (λ e. let l = true-le t (r .end) e in rw (e, le-true t (q .end) (omega arith), le-false (q .start) t (omega arith)) (sym (or-false (leb (r .start) t && true))))
-    (λ e. let l = false-le t (r .end) e in rw (e, le-true (r .start) t (omega arith), le-true (q .start) t (omega arith)))
+    (λ e. let l = true-le t (r .end) e in
+    rw (e, le-true t (q .end) (omega arith), le-false (q .start) t (omega arith))
+    (sym (or-false (leb (r .start) t && true))))
+    (λ e. let l = false-le t (r .end) e in
+    rw (e, le-true (r .start) t (omega arith), le-true (q .start) t (omega arith)))
 
-pub prepend-covered : (r : Interval) (rs : List Interval) (t : ℕ) → r .start ≤ r .end → Separate (suc (r .end)) rs → covered (prepend r rs) t ≡ inInterval r t || covered rs t
+pub prepend-covered : (r : Interval) (rs : List Interval) (t : ℕ) → r .start ≤ r .end → Separate (suc (r .end)) rs →
+    covered (prepend r rs) t ≡ inInterval r t || covered rs t
 unfolding prepend
 prepend-covered r [] t h a = refl
 prepend-covered r (q ∷ qs) t h a = cases (eqb (q .start) (suc (r .end)))
-    (λ e. rw (e, join r q t h (a .1) (true-eq (q .start) (suc (r .end)) e)) (or-assoc (inInterval r t) (inInterval q t) (covered qs t)))
+    (λ e. rw (e, join r q t h (a .1) (true-eq (q .start) (suc (r .end)) e))
+    (or-assoc (inInterval r t) (inInterval q t) (covered qs t)))
     (λ e. rw e)
 
 -- ---- maximalFrom
 
-pub maximalFrom-yes : (f : ℕ → Bool) (s n : ℕ) → f s ≡ true → maximalFrom f s (suc n) ≡ prepend (interval s s) (maximalFrom f (suc s) n)
+pub maximalFrom-yes : (f : ℕ → Bool) (s n : ℕ) → f s ≡ true →
+    maximalFrom f s (suc n) ≡ prepend (interval s s) (maximalFrom f (suc s) n)
 unfolding maximalFrom
 maximalFrom-yes f s n e = rw (e, maximalFrom)
 
@@ -145,8 +167,10 @@ pub maximalFrom-separate : (f : ℕ → Bool) (n s : ℕ) → Separate s (maxima
 unfolding maximalFrom
 maximalFrom-separate f zero s = tt
 maximalFrom-separate f (suc n) s = cases (f s)
-    (λ e. rw (maximalFrom-yes f s n e) (prepend-separate (interval s s) (maximalFrom f (suc s) n) (omega arith) (maximalFrom-separate f n (suc s))))
-    (λ e. rw (maximalFrom-no f s n e) (separate-weaken (maximalFrom f (suc s) n) s (suc s) (omega arith) (maximalFrom-separate f n (suc s))))
+    (λ e. rw (maximalFrom-yes f s n e)
+    (prepend-separate (interval s s) (maximalFrom f (suc s) n) (omega arith) (maximalFrom-separate f n (suc s))))
+    (λ e. rw (maximalFrom-no f s n e)
+    (separate-weaken (maximalFrom f (suc s) n) s (suc s) (omega arith) (maximalFrom-separate f n (suc s))))
 
 -- t is one of the n instants from s on
 abbrev pub within : ℕ → ℕ → ℕ → Bool
@@ -163,16 +187,24 @@ within-above s n t p = cases (leb s t) (λ e. rw (e, le-false (suc t) (s + n) (o
 
 pub maximalFrom-covered : (f : ℕ → Bool) (n s t : ℕ) → covered (maximalFrom f s n) t ≡ within s n t && f t
 unfolding maximalFrom
-maximalFrom-covered f zero s t = cases (leb s t) (λ e. let h = true-le s t e in rw (within-above s 0 t (omega arith))) (λ e. let h = false-le s t e in rw (within-below s 0 t h))
+maximalFrom-covered f zero s t = cases (leb s t)
+    (λ e. let h = true-le s t e in rw (within-above s 0 t (omega arith)))
+    (λ e. let h = false-le s t e in rw (within-below s 0 t h))
 maximalFrom-covered f (suc n) s t = cases (f s)
-    (λ e. rw (maximalFrom-yes f s n e, prepend-covered (interval s s) (maximalFrom f (suc s) n) t (omega arith) (maximalFrom-separate f n (suc s)), maximalFrom-covered f n (suc s) t) (here e))
+    (λ e. rw (
+      maximalFrom-yes f s n e,
+      prepend-covered (interval s s) (maximalFrom f (suc s) n) t (omega arith) (maximalFrom-separate f n (suc s)),
+      maximalFrom-covered f n (suc s) t,
+    ) (here e))
     (λ e. rw (maximalFrom-no f s n e, maximalFrom-covered f n (suc s) t) (other e))
   where
     -- behind s the two windows are one
     behind : s < t → within (suc s) n t ≡ within s (suc n) t
     behind h = cases (ltb t (s + suc n))
-        (λ e. let l = true-le (suc t) (s + suc n) e in rw (within-in (suc s) n t h (omega arith), within-in s (suc n) t (omega arith) l))
-        (λ e. let l = false-le (suc t) (s + suc n) e in rw (within-above (suc s) n t (omega arith), within-above s (suc n) t (omega arith)))
+        (λ e. let l = true-le (suc t) (s + suc n) e in
+        rw (within-in (suc s) n t h (omega arith), within-in s (suc n) t (omega arith) l))
+        (λ e. let l = false-le (suc t) (s + suc n) e in
+        rw (within-above (suc s) n t (omega arith), within-above s (suc n) t (omega arith)))
 
     at-s : t ≡ s → f s ≡ true → within s (suc n) t && f t ≡ true
     at-s h e = rw (within-in s (suc n) t (omega arith) (omega arith), h) e
@@ -180,7 +212,8 @@ maximalFrom-covered f (suc n) s t = cases (f s)
     other : f s ≡ false → within (suc s) n t && f t ≡ within s (suc n) t && f t
     other e = cases (leb s t)
         (λ l. let m = true-le s t l in cases (eqb t s)
-        (λ q. let p = true-eq t s q in rw (within-below (suc s) n t (omega arith), within-in s (suc n) t (omega arith) (omega arith), p, e))
+        (λ q. let p = true-eq t s q in
+        rw (within-below (suc s) n t (omega arith), within-in s (suc n) t (omega arith) (omega arith), p, e))
         (λ q. let p = false-eq t s q in rw (behind (omega arith))))
         (λ l. let m = false-le s t l in rw (within-below (suc s) n t (omega arith), within-below s (suc n) t m))
 
@@ -189,7 +222,8 @@ maximalFrom-covered f (suc n) s t = cases (f s)
         (λ l. let m = true-le s t l in cases (eqb t s)
         (λ q. let p = true-eq t s q in rw (inInterval-in (interval s s) t m (omega arith)) (sym (at-s p e)))
         (λ q. let p = false-eq t s q in rw (inInterval-above (interval s s) t (omega arith), behind (omega arith))))
-        (λ l. let m = false-le s t l in rw (inInterval-below (interval s s) t m, within-below (suc s) n t (omega arith), within-below s (suc n) t m))
+        (λ l. let m = false-le s t l in
+        rw (inInterval-below (interval s s) t m, within-below (suc s) n t (omega arith), within-below s (suc n) t m))
 
 -- ---- maximal: what it covers, and that nothing else does so
 
@@ -197,7 +231,8 @@ pub maximal-separate : (s e : ℕ) (f : ℕ → Bool) → Separate s (maximal s 
 unfolding maximal
 maximal-separate s e f = maximalFrom-separate f (suc e - s) s
 
-pub maximal-covered : (s e : ℕ) (f : ℕ → Bool) (t : ℕ) → covered (maximal s e f) t ≡ inInterval (interval s e) t && f t
+pub maximal-covered : (s e : ℕ) (f : ℕ → Bool) (t : ℕ) →
+    covered (maximal s e f) t ≡ inInterval (interval s e) t && f t
 unfolding maximal
 maximal-covered s e f t = maximalFrom-covered f (suc e - s) s t ∙ ap (λ (b : Bool). b && f t) window
   where
@@ -208,8 +243,10 @@ maximal-covered s e f t = maximalFrom-covered f (suc e - s) s t ∙ ap (λ (b : 
         (λ q. let k = false-le t e q in rw (within-above s (suc e - s) t (omega arith), p, q)))
         (λ p. rw p)
 
-pub maximal-unique : (s e : ℕ) (f : ℕ → Bool) (k : ℕ) (rs : List Interval) → Separate k rs → ((t : ℕ) → covered rs t ≡ inInterval (interval s e) t && f t) → rs ≡ maximal s e f
-maximal-unique s e f k rs a h = unique rs (maximal s e f) k s a (maximal-separate s e f) (λ t. h t ∙ sym (maximal-covered s e f t))
+pub maximal-unique : (s e : ℕ) (f : ℕ → Bool) (k : ℕ) (rs : List Interval) → Separate k rs →
+    ((t : ℕ) → covered rs t ≡ inInterval (interval s e) t && f t) → rs ≡ maximal s e f
+maximal-unique s e f k rs a h =
+    unique rs (maximal s e f) k s a (maximal-separate s e f) (λ t. h t ∙ sym (maximal-covered s e f t))
 
 -- ---- always
 
@@ -220,7 +257,8 @@ none-nil (r ∷ rs) e = absurd (false≢true e)
 pub always-all : (a t : ℕ) (f : ℕ → Bool) → always a t f ≡ true → (u : ℕ) → a ≤ u → u ≤ t → f u ≡ true
 unfolding always
 always-all a t f e u h k = cases (f u) (λ p. p) (λ p. absurd (false≢true (
-    ap (λ (rs : List Interval). covered rs u) (sym (none-nil (maximal a t (λ u. not (f u))) e)) ∙ maximal-covered a t (λ u. not (f u)) u ∙ rw (inInterval-in (interval a t) u h k, p))))
+    ap (λ (rs : List Interval). covered rs u) (sym (none-nil (maximal a t (λ u. not (f u))) e))
+    ∙ maximal-covered a t (λ u. not (f u)) u ∙ rw (inInterval-in (interval a t) u h k, p))))
 
 pub all-always : (a t : ℕ) (f : ℕ → Bool) → ((u : ℕ) → a ≤ u → u ≤ t → f u ≡ true) → always a t f ≡ true
 unfolding always
@@ -228,8 +266,11 @@ all-always a t f h = rw (← (maximal-unique a t (λ u. not (f u)) 0 [] tt (λ u
     (λ e. let p = inInterval-true (interval a t) u e in rw (e, h u (p .0) (p .1)))
     (λ e. rw e)))))
 
-pub always-mono : (a t : ℕ) (f g : ℕ → Bool) → ((u : ℕ) → f u ≡ true → g u ≡ true) → always a t f ≡ true → always a t g ≡ true
+pub always-mono : (a t : ℕ) (f g : ℕ → Bool) → ((u : ℕ) → f u ≡ true → g u ≡ true) → always a t f ≡ true →
+    always a t g ≡ true
 always-mono a t f g h e = all-always a t g (λ u p q. h u (always-all a t f e u p q))
 
 pub always-cong : (a t : ℕ) (f g : ℕ → Bool) → ((u : ℕ) → f u ≡ g u) → always a t f ≡ always a t g
-always-cong a t f g h = agree (always a t f) (always a t g) (always-mono a t f g (λ u e. sym (h u) ∙ e)) (always-mono a t g f (λ u e. h u ∙ e))
+always-cong a t f g h = agree (always a t f) (always a t g)
+    (always-mono a t f g (λ u e. sym (h u) ∙ e))
+    (always-mono a t g f (λ u e. h u ∙ e))

@@ -1,5 +1,6 @@
 pub mod Tests
 pub mod Lists
+pub mod Totals
 pub mod Closure
 pub mod Graph
 pub mod GraphFacts

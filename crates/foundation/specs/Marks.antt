@@ -1,15 +1,19 @@
 -- Marks: instants at which a test can change. Asking at marks only gives the same maximal intervals (`walk-maximal`).
-use mathlib.Core.Path.{_≡_, refl, sym, ap, ap₂, _∙_, subst}
-use Prim.Native.Nat.{ℕ, zero, suc, _+_, _-_, _≤_, _<_}
+use mathlib.Core.Path.{_≡_, refl, sym, ap, _∙_}
+use Prim.Native.Nat.{ℕ, zero, suc, _-_, _≤_, _<_}
 use native.Mathlib.Omega.{arith}
-use mathlib.Core.Bool.{Bool, true, false, not, _&&_, _||_, true≢false, false≢true}
+use mathlib.Core.Bool.{Bool, true, false, not, _&&_, _||_, false≢true}
 use mathlib.Core.List.{List, [], _∷_, _++_}
-use mathlib.Core.Logic.{_⊎_, inl, inr}
-use lib.Dec.{leb, ltb, eqb}
+use mathlib.Core.Logic.{inl, inr}
+use lib.Dec.{leb, ltb}
 use Rattle.foundation.specs.declared.Interval.{Interval}
-use Rattle.foundation.specs.Tests.{pick, cases, agree, le-true, le-false, true-le, false-le, and-true, and-intro}
+use Rattle.foundation.specs.Tests.{pick, cases, agree, must-fail, not-true, le-true, le-false, true-le}
+use Rattle.foundation.specs.Tests.{false-le, and-true, and-intro, and-false}
 use Rattle.foundation.specs.Lists.{Mem}
-use Rattle.foundation.specs.Intervals.{interval, inInterval, inInterval-in, inInterval-above, covered, prepend, prepend-separate, prepend-covered, separate-weaken, maximal, maximal-separate, maximal-covered, maximal-unique, always, always-all, all-always}
+use Rattle.foundation.specs.Intervals.{interval, inInterval, inInterval-in, inInterval-above, prepend}
+use Rattle.foundation.specs.Intervals.{prepend-separate, prepend-covered, separate-weaken, maximal}
+use Rattle.foundation.specs.Intervals.{maximal-separate, maximal-covered, maximal-unique, always, always-all}
+use Rattle.foundation.specs.Intervals.{all-always}
 
 -- the least mark above a that is below d, or d
 unfoldable pub next : ℕ → List ℕ → ℕ → ℕ
@@ -25,17 +29,17 @@ clear (m ∷ ms) a t = not (ltb a m && leb m t) && clear ms a t
 abbrev pub Steady : {X : Type 0} → (ℕ → X) → List ℕ → Type 0
 Steady f ms = (a t : ℕ) → a ≤ t → clear ms a t ≡ true → f t ≡ f a
 
--- the maximal intervals of a to e where f holds, f being asked at a and at the marks behind it. With no fuel left, `maximal`
+-- the maximal intervals of a to e where f holds, f being asked at a and at the marks behind it. With no fuel left,
+-- `maximal`
 unfoldable pub walk : (ℕ → Bool) → List ℕ → ℕ → ℕ → ℕ → List Interval
 unfolding prepend next
 walk f ms e zero a = maximal a e f
 walk f ms e (suc k) a =
     let m = next a ms (suc e) in
-    elim (leb a e) [ false ↦ [] | true ↦ elim (f a) [ true ↦ prepend (interval a (m - 1)) (walk f ms e k m) | false ↦ walk f ms e k m ] ]
-
-not-and-false : (b : Bool) → not (b && false) && true ≡ true
-not-and-false true = refl
-not-and-false false = refl
+    elim (leb a e) [
+      | false ↦ []
+      | true ↦ elim (f a) [ true ↦ prepend (interval a (m - 1)) (walk f ms e k m) | false ↦ walk f ms e k m ]
+    ]
 
 next-above : (a : ℕ) (ms : List ℕ) (d : ℕ) → a < d → a < next a ms d
 unfolding next
@@ -48,7 +52,8 @@ next-le : (a : ℕ) (ms : List ℕ) (d : ℕ) → next a ms d ≤ d
 unfolding next
 next-le a [] d = omega arith
 next-le a (m ∷ ms) d = cases (ltb a m && ltb m (next a ms d))
-    (λ e. let l = true-le (suc m) (next a ms d) (and-true (ltb a m) (ltb m (next a ms d)) e .1) in let i = next-le a ms d in rw e (omega arith))
+    (λ e. let l = true-le (suc m) (next a ms d) (and-true (ltb a m) (ltb m (next a ms d)) e .1) in
+    let i = next-le a ms d in rw e (omega arith))
     (λ e. rw e (next-le a ms d))
 
 next-clear : (a : ℕ) (ms : List ℕ) (d t : ℕ) → t < next a ms d → clear ms a t ≡ true
@@ -57,31 +62,32 @@ next-clear a [] d t h = refl
 next-clear a (m ∷ ms) d t h = cases (ltb a m && ltb m (next a ms d))
     (λ e. let l = true-le (suc m) (next a ms d) (and-true (ltb a m) (ltb m (next a ms d)) e .1) in
     let g : t < m = rw e at h in
-    rw (le-false m t g, next-clear a ms d t (omega arith)) (not-and-false (ltb a m)))
+    rw (le-false m t g, next-clear a ms d t (omega arith), and-false (ltb a m)))
     (λ e. let g : t < next a ms d = rw e at h in
     rw (next-clear a ms d t g) (cases (ltb a m)
-    (λ p. let q : ltb m (next a ms d) ≡ false = sym (rw p) ∙ e in let l = false-le (suc m) (next a ms d) q in rw (p, le-false m t (omega arith)))
+    (λ p. let q : ltb m (next a ms d) ≡ false = sym (rw p) ∙ e in let l = false-le (suc m) (next a ms d) q in
+    rw (p, le-false m t (omega arith)))
     (λ p. rw p)))
-
-and-false : (b : Bool) → b && false ≡ false
-and-false true = refl
-and-false false = refl
 
 -- walk's equations
 pub walk-end : (f : ℕ → Bool) (ms : List ℕ) (e k a : ℕ) → leb a e ≡ false → walk f ms e (suc k) a ≡ []
 unfolding walk
 walk-end f ms e k a l = rw (l, walk)
 
-pub walk-yes : (f : ℕ → Bool) (ms : List ℕ) (e k a : ℕ) → leb a e ≡ true → f a ≡ true → walk f ms e (suc k) a ≡ prepend (interval a (next a ms (suc e) - 1)) (walk f ms e k (next a ms (suc e)))
+pub walk-yes : (f : ℕ → Bool) (ms : List ℕ) (e k a : ℕ) → leb a e ≡ true → f a ≡ true →
+    walk f ms e (suc k) a ≡ prepend (interval a (next a ms (suc e) - 1)) (walk f ms e k (next a ms (suc e)))
 unfolding walk
 walk-yes f ms e k a l q = rw (l, walk) (rw q)
 
-pub walk-no : (f : ℕ → Bool) (ms : List ℕ) (e k a : ℕ) → leb a e ≡ true → f a ≡ false → walk f ms e (suc k) a ≡ walk f ms e k (next a ms (suc e))
+pub walk-no : (f : ℕ → Bool) (ms : List ℕ) (e k a : ℕ) → leb a e ≡ true → f a ≡ false →
+    walk f ms e (suc k) a ≡ walk f ms e k (next a ms (suc e))
 unfolding walk
 walk-no f ms e k a l q = rw (l, walk) (rw q)
 
 empty : (f : ℕ → Bool) (a e : ℕ) → e < a → (t : ℕ) → inInterval (interval a e) t && f t ≡ false
-empty f a e h t = cases (leb a t) (λ p. let l = true-le a t p in rw (inInterval-above (interval a e) t (omega arith))) (λ p. rw p)
+empty f a e h t = cases (leb a t)
+    (λ p. let l = true-le a t p in rw (inInterval-above (interval a e) t (omega arith)))
+    (λ p. rw p)
 
 -- the block from a up to the next mark
 module _ (f : ℕ → Bool) (ms : List ℕ) (c : Steady f ms) (e a : ℕ) (h : a ≤ e) where
@@ -89,31 +95,45 @@ module _ (f : ℕ → Bool) (ms : List ℕ) (c : Steady f ms) (e a : ℕ) (h : a
   block t p q = c a t p (next-clear a ms (suc e) t q)
 
   block-no : f a ≡ false → maximal (next a ms (suc e)) e f ≡ maximal a e f
-  block-no q = maximal-unique a e f (next a ms (suc e)) (maximal (next a ms (suc e)) e f) (maximal-separate (next a ms (suc e)) e f) (λ t. maximal-covered (next a ms (suc e)) e f t ∙ go t)
+  block-no q = maximal-unique a e f (next a ms (suc e)) (maximal (next a ms (suc e)) e f)
+      (maximal-separate (next a ms (suc e)) e f) (λ t. maximal-covered (next a ms (suc e)) e f t ∙ go t)
     where
       go : (t : ℕ) → inInterval (interval (next a ms (suc e)) e) t && f t ≡ inInterval (interval a e) t && f t
       go t = cases (leb (next a ms (suc e)) t)
-          (λ l. let m = true-le (next a ms (suc e)) t l in rw (l, le-true a t (omega (arith, next-above a ms (suc e) (omega arith)))))
+          (λ l. let m = true-le (next a ms (suc e)) t l in
+          rw (l, le-true a t (omega (arith, next-above a ms (suc e) (omega arith)))))
           (λ l. let m = false-le (next a ms (suc e)) t l in rw l (cases (leb a t)
           (λ p. rw (block t (true-le a t p) m, q) (sym (and-false (inInterval (interval a e) t))))
           (λ p. rw p)))
 
-  block-yes : f a ≡ true → prepend (interval a (next a ms (suc e) - 1)) (maximal (next a ms (suc e)) e f) ≡ maximal a e f
+  block-yes : f a ≡ true →
+      prepend (interval a (next a ms (suc e) - 1)) (maximal (next a ms (suc e)) e f) ≡ maximal a e f
   block-yes q =
       let n = next-above a ms (suc e) (omega arith) in
-      let ap₁ = separate-weaken (maximal (next a ms (suc e)) e f) (suc (next a ms (suc e) - 1)) (next a ms (suc e)) (omega arith) (maximal-separate (next a ms (suc e)) e f) in
+      let ap₁ = separate-weaken (maximal (next a ms (suc e)) e f) (suc (next a ms (suc e) - 1)) (next a ms (suc e))
+      (omega arith) (maximal-separate (next a ms (suc e)) e f) in
       maximal-unique a e f a (prepend (interval a (next a ms (suc e) - 1)) (maximal (next a ms (suc e)) e f))
       (prepend-separate (interval a (next a ms (suc e) - 1)) (maximal (next a ms (suc e)) e f) (omega arith) ap₁)
-      (λ t. prepend-covered (interval a (next a ms (suc e) - 1)) (maximal (next a ms (suc e)) e f) t (omega arith) ap₁ ∙ rw (maximal-covered (next a ms (suc e)) e f t) (go t))
+      (λ t. prepend-covered (interval a (next a ms (suc e) - 1)) (maximal (next a ms (suc e)) e f) t (omega arith) ap₁
+      ∙ rw (maximal-covered (next a ms (suc e)) e f t) (go t))
     where
-      go : (t : ℕ) → inInterval (interval a (next a ms (suc e) - 1)) t || (inInterval (interval (next a ms (suc e)) e) t && f t) ≡ inInterval (interval a e) t && f t
+      go : (t : ℕ) →
+          inInterval (interval a (next a ms (suc e) - 1)) t || (inInterval (interval (next a ms (suc e)) e) t && f t)
+          ≡ inInterval (interval a e) t && f t
       go t =
           let n = next-above a ms (suc e) (omega arith) in
           let u = next-le a ms (suc e) in
           cases (leb (next a ms (suc e)) t)
-          (λ l. let m = true-le (next a ms (suc e)) t l in rw (inInterval-above (interval a (next a ms (suc e) - 1)) t (omega arith), l, le-true a t (omega arith)))
+          (λ l. let m = true-le (next a ms (suc e)) t l in
+          rw (inInterval-above (interval a (next a ms (suc e) - 1)) t (omega arith), l, le-true a t (omega arith)))
           (λ l. let m = false-le (next a ms (suc e)) t l in cases (leb a t)
-          (λ p. let g = true-le a t p in rw (inInterval-in (interval a (next a ms (suc e) - 1)) t g (omega arith), inInterval-in (interval a e) t g (omega arith), block t g m, q))
+          (λ p. let g = true-le a t p in
+          rw (
+            inInterval-in (interval a (next a ms (suc e) - 1)) t g (omega arith),
+            inInterval-in (interval a e) t g (omega arith),
+            block t g m,
+            q,
+          ))
           (λ p. rw (l, p)))
 
 pub walk-maximal : (f : ℕ → Bool) (ms : List ℕ) → Steady f ms → (e k a : ℕ) → walk f ms e k a ≡ maximal a e f
@@ -123,7 +143,8 @@ walk-maximal f ms c e (suc k) a = cases (leb a e)
     (λ l. let h = true-le a e l in
     let i = walk-maximal f ms c e k (next a ms (suc e)) in
     cases (f a)
-    (λ q. walk-yes f ms e k a l q ∙ ap (λ (r : List Interval). prepend (interval a (next a ms (suc e) - 1)) r) i ∙ block-yes f ms c e a h q)
+    (λ q. walk-yes f ms e k a l q ∙ ap (λ (r : List Interval). prepend (interval a (next a ms (suc e) - 1)) r) i
+    ∙ block-yes f ms c e a h q)
     (λ q. walk-no f ms e k a l q ∙ i ∙ block-no f ms c e a h q))
     (λ l. let h = false-le a e l in walk-end f ms e k a l ∙ maximal-unique a e f a [] tt (λ t. sym (empty f a e h t)))
 
@@ -137,50 +158,49 @@ clear-one m a t h e = cases (leb m a)
     (λ q. q ∙ sym p))
 
 leb-flip : (u t : ℕ) → leb t u ≡ not (leb (suc u) t)
-leb-flip u t = cases (leb t u) (λ p. let l = true-le t u p in p ∙ rw (le-false (suc u) t (omega arith))) (λ p. let l = false-le t u p in p ∙ rw (le-true (suc u) t l))
+leb-flip u t = cases (leb t u)
+    (λ p. let l = true-le t u p in p ∙ rw (le-false (suc u) t (omega arith)))
+    (λ p. let l = false-le t u p in p ∙ rw (le-true (suc u) t l))
 
-pub inInterval-clear : (r : Interval) (a t : ℕ) → a ≤ t → not (ltb a (r .start) && leb (r .start) t) ≡ true → not (ltb a (suc (r .end)) && leb (suc (r .end)) t) ≡ true → inInterval r t ≡ inInterval r a
-inInterval-clear r a t h e₁ e₂ = rw (clear-one (r .start) a t h e₁, leb-flip (r .end) t, leb-flip (r .end) a, clear-one (suc (r .end)) a t h e₂)
+pub inInterval-clear : (r : Interval) (a t : ℕ) → a ≤ t → not (ltb a (r .start) && leb (r .start) t) ≡ true →
+    not (ltb a (suc (r .end)) && leb (suc (r .end)) t) ≡ true → inInterval r t ≡ inInterval r a
+inInterval-clear r a t h e₁ e₂ =
+    rw (clear-one (r .start) a t h e₁, leb-flip (r .end) t, leb-flip (r .end) a, clear-one (suc (r .end)) a t h e₂)
 
-pub clear-shrink : (ms : List ℕ) (a t u : ℕ) → u ≤ t → clear ms a t ≡ true → clear ms a u ≡ true
-clear-shrink [] a t u h e = refl
-clear-shrink (m ∷ ms) a t u h e =
+-- of what is clear, a part is
+pub clear-part : (ms : List ℕ) (a b t u : ℕ) → a ≤ b → u ≤ t → clear ms a t ≡ true → clear ms b u ≡ true
+clear-part [] a b t u h l e = refl
+clear-part (m ∷ ms) a b t u h l e =
     let p = and-true (not (ltb a m && leb m t)) (clear ms a t) e in
-    and-intro (not (ltb a m && leb m u)) (clear ms a u) (one (p .0)) (clear-shrink ms a t u h (p .1))
+    and-intro (not (ltb b m && leb m u)) (clear ms b u)
+    (ap not (must-fail (ltb a m && leb m t) (ltb b m && leb m u) (not-true (ltb a m && leb m t) (p .0)) wider))
+    (clear-part ms a b t u h l (p .1))
   where
-    one : not (ltb a m && leb m t) ≡ true → not (ltb a m && leb m u) ≡ true
-    one q = cases (ltb a m)
-        (λ l. cases (leb m u)
-        (λ k. let n = true-le m u k in absurd (false≢true (sym (rw (l, le-true m t (omega arith))) ∙ q)))
-        (λ k. rw (l, k)))
-        (λ l. rw l)
+    wider : ltb b m && leb m u ≡ true → ltb a m && leb m t ≡ true
+    wider f =
+        let w = and-true (ltb b m) (leb m u) f in
+        and-intro (ltb a m) (leb m t) (le-true (suc a) m (omega (arith, true-le (suc b) m (w .0))))
+        (le-true m t (omega (arith, true-le m u (w .1))))
 
-pub clear-both : (xs ys : List ℕ) (a t : ℕ) → clear (xs ++ ys) a t ≡ true → (clear xs a t ≡ true) × (clear ys a t ≡ true)
+pub clear-both : (xs ys : List ℕ) (a t : ℕ) → clear (xs ++ ys) a t ≡ true →
+    (clear xs a t ≡ true) × (clear ys a t ≡ true)
 clear-both [] ys a t e = (refl, e)
 clear-both (x ∷ xs) ys a t e =
     let p = and-true (not (ltb a x && leb x t)) (clear (xs ++ ys) a t) e in
     let q = clear-both xs ys a t (p .1) in
     (and-intro (not (ltb a x && leb x t)) (clear xs a t) (p .0) (q .0), q .1)
 
-pub always-steady : (ms : List ℕ) (f : ℕ → Bool) → Steady f ms → (s a t : ℕ) → s ≤ a → a ≤ t → clear ms a t ≡ true → always s t f ≡ always s a f
+pub not-steady : (ms : List ℕ) (f : ℕ → Bool) → Steady f ms → Steady (λ u. not (f u)) ms
+not-steady ms f c a t h e = ap not (c a t h e)
+
+pub always-steady : (ms : List ℕ) (f : ℕ → Bool) → Steady f ms → (s a t : ℕ) → s ≤ a → a ≤ t → clear ms a t ≡ true →
+    always s t f ≡ always s a f
 always-steady ms f c s a t h k e = agree (always s t f) (always s a f)
     (λ p. all-always s a f (λ u x y. always-all s t f p u x (omega arith)))
     (λ p. all-always s t f (λ u x y. cases (leb u a)
     (λ l. always-all s a f p u x (true-le u a l))
-    (λ l. let n = false-le u a l in c a u (omega arith) (clear-shrink ms a t u y e) ∙ always-all s a f p a h (omega arith))))
-
-pub clear-raise : (ms : List ℕ) (a b u : ℕ) → a ≤ b → clear ms a u ≡ true → clear ms b u ≡ true
-clear-raise [] a b u h e = refl
-clear-raise (m ∷ ms) a b u h e =
-    let p = and-true (not (ltb a m && leb m u)) (clear ms a u) e in
-    and-intro (not (ltb b m && leb m u)) (clear ms b u) (one (p .0)) (clear-raise ms a b u h (p .1))
-  where
-    one : not (ltb a m && leb m u) ≡ true → not (ltb b m && leb m u) ≡ true
-    one q = cases (ltb b m)
-        (λ l. let n = true-le (suc b) m l in cases (leb m u)
-        (λ k. absurd (false≢true (sym (rw (le-true (suc a) m (omega arith), k)) ∙ q)))
-        (λ k. rw (l, k)))
-        (λ l. rw l)
+    (λ l. let n = false-le u a l in
+    c a u (omega arith) (clear-part ms a a t u (omega arith) y e) ∙ always-all s a f p a h (omega arith))))
 
 -- the last mark that is not behind u, or 0
 pub rep : (ms : List ℕ) (u : ℕ) → (a : ℕ) × Mem a (0 ∷ ms) × (a ≤ u) × (clear ms a u ≡ true)
@@ -191,8 +211,14 @@ rep (m ∷ ms) u = go (rep ms u)
     keepMem a (inl e) = inl e
     keepMem a (inr n) = inr (inr n)
 
-    go : (a : ℕ) × Mem a (0 ∷ ms) × (a ≤ u) × (clear ms a u ≡ true) → (a : ℕ) × Mem a (0 ∷ m ∷ ms) × (a ≤ u) × (clear (m ∷ ms) a u ≡ true)
+    go : (a : ℕ) × Mem a (0 ∷ ms) × (a ≤ u) × (clear ms a u ≡ true) →
+        (a : ℕ) × Mem a (0 ∷ m ∷ ms) × (a ≤ u) × (clear (m ∷ ms) a u ≡ true)
     go r = cases (ltb (r .0) m && leb m u)
-        (λ e. let p = and-true (ltb (r .0) m) (leb m u) e in let l = true-le (suc (r .0)) m (p .0) in
-        (m, inr (inl refl), true-le m u (p .1), rw (le-false (suc m) m (omega arith)) (clear-raise ms (r .0) m u (omega arith) (r .3))))
+        (λ e. let p = and-true (ltb (r .0) m) (leb m u) e in let l = true-le (suc (r .0)) m (p .0) in (
+          m,
+          inr (inl refl),
+          true-le m u (p .1),
+          rw (le-false (suc m) m (omega arith))
+              (clear-part ms (r .0) m u u (omega arith) (omega arith) (r .3)),
+        ))
         (λ e. (r .0, keepMem (r .0) (r .1), r .2, rw e (r .3)))

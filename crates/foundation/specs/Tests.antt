@@ -1,12 +1,14 @@
--- Tests: what a Bool test says, as equations.
-use mathlib.Core.Path.{_≡_, refl, sym, ap, _∙_, subst}
+-- Tests: what a Bool test says, as equations. Tests of numbers, and the laws of not, && and ||.
+use mathlib.Core.Path.{_≡_, refl, sym, _∙_}
 use mathlib.Core.Logic.{_≢_}
-use Prim.Native.Nat.{ℕ, zero, suc, _+_, _*_, _-_, _≤_, _<_}
-use mathlib.Core.Bool.{Bool, true, false, not, _&&_, _||_, true≢false, false≢true}
-use lib.Dec.{T, leb, ltb, eqb, leb→le, le→leb, nleb→lt, eqb→eq, eqb-refl, T-not}
+use Prim.Native.Nat.{ℕ, suc, _≤_, _<_}
+use native.Mathlib.Omega.{arith}
+use mathlib.Core.Bool.{Bool, true, false, not, _&&_, _||_, Bool·beq, true≢false, false≢true}
+use lib.Dec.{T, leb, ltb, eqb, leb→le, le→leb, nleb→lt, eqb→eq}
 use mir.Facts.{no-leb, no-eqb, yes-eqb, eqb-no}
 
--- a test that passed or failed, as an equation
+-- ---- tests of numbers, as equations
+
 pub T→eq : (b : Bool) → T b → b ≡ true
 T→eq true t = refl
 T→eq false t = absurd t
@@ -47,24 +49,10 @@ false-eq m n e = eqb-no (eq→T-not (eqb m n) e)
 pub ne-false : (m n : ℕ) → m ≢ n → eqb m n ≡ false
 ne-false m n e = T→not (eqb m n) (no-eqb e)
 
--- conjunction and disjunction
-pub and-true : (a b : Bool) → a && b ≡ true → (a ≡ true) × (b ≡ true)
-and-true true b e = (refl, e)
-and-true false b e = absurd (false≢true e)
+pub ltb-trans : (l m n : ℕ) → ltb l m ≡ true → ltb m n ≡ true → ltb l n ≡ true
+ltb-trans l m n e f = le-true (suc l) n (omega (arith, true-le (suc l) m e, true-le (suc m) n f))
 
-pub and-intro : (a b : Bool) → a ≡ true → b ≡ true → a && b ≡ true
-and-intro true b p q = q
-and-intro false b p q = absurd (false≢true p)
-
-pub or-true-right : (a b : Bool) → b ≡ true → a || b ≡ true
-or-true-right true b e = refl
-or-true-right false b e = e
-
--- two tests agree if each passes where the other does
-pub agree : (a b : Bool) → (a ≡ true → b ≡ true) → (b ≡ true → a ≡ true) → a ≡ b
-agree true b f g = sym (f refl)
-agree false true f g = g refl
-agree false false f g = refl
+-- ---- by cases
 
 -- a test passes or fails, with the equation
 pub cases {ℓ} : {X : Type ℓ} (b : Bool) → (b ≡ true → X) → (b ≡ false → X) → X
@@ -76,19 +64,107 @@ abbrev pub pick {ℓ} : {X : Type ℓ} → Bool → X → X → X
 pick true x y = x
 pick false x y = y
 
-pub or-assoc : (a b c : Bool) → a || b || c ≡ a || (b || c)
-or-assoc true b c = refl
-or-assoc false b c = refl
+-- two tests agree if each passes where the other does
+pub agree : (a b : Bool) → (a ≡ true → b ≡ true) → (b ≡ true → a ≡ true) → a ≡ b
+agree true b f g = sym (f refl)
+agree false true f g = g refl
+agree false false f g = refl
 
-pub or-false : (a : Bool) → a || false ≡ a
-or-false true = refl
-or-false false = refl
+-- t passes, as c fails and would pass if t failed
+pub must-pass : (c t : Bool) → c ≡ false → (t ≡ false → c ≡ true) → t ≡ true
+must-pass c true e h = refl
+must-pass c false e h = absurd (true≢false (sym (h refl) ∙ e))
+
+-- t fails, as c fails and would pass if t passed
+pub must-fail : (c t : Bool) → c ≡ false → (t ≡ true → c ≡ true) → t ≡ false
+must-fail c true e h = absurd (true≢false (sym (h refl) ∙ e))
+must-fail c false e h = refl
+
+-- ---- not
+
+pub not-true : (a : Bool) → not a ≡ true → a ≡ false
+not-true true e = absurd (false≢true e)
+not-true false e = refl
+
+pub not-false : (a : Bool) → not a ≡ false → a ≡ true
+not-false true e = refl
+not-false false e = absurd (true≢false e)
+
+-- ---- conjunction
+
+pub and-true : (a b : Bool) → a && b ≡ true → (a ≡ true) × (b ≡ true)
+and-true true b e = (refl, e)
+and-true false b e = absurd (false≢true e)
+
+pub and-intro : (a b : Bool) → a ≡ true → b ≡ true → a && b ≡ true
+and-intro true b p q = q
+and-intro false b p q = absurd (false≢true p)
+
+pub and-false : (a : Bool) → a && false ≡ false
+and-false true = refl
+and-false false = refl
+
+pub and-assoc : (a b c : Bool) → a && b && c ≡ a && (b && c)
+and-assoc true b c = refl
+and-assoc false b c = refl
+
+pub and-mono : (a b c : Bool) → (b ≡ true → c ≡ true) → a && b ≡ true → a && c ≡ true
+and-mono a b c h e = let w = and-true a b e in and-intro a c (w .0) (h (w .1))
+
+-- ---- disjunction
 
 pub or-intro-left : (a b : Bool) → a ≡ true → a || b ≡ true
 or-intro-left true b e = refl
 or-intro-left false b e = absurd (false≢true e)
 
+pub or-true-right : (a b : Bool) → b ≡ true → a || b ≡ true
+or-true-right true b e = refl
+or-true-right false b e = e
+
 -- one test or the other passes
 pub or-cases {ℓ} : {X : Type ℓ} (a b : Bool) → a || b ≡ true → (a ≡ true → X) → (b ≡ true → X) → X
 or-cases true b e f g = f refl
 or-cases false b e f g = g e
+
+-- of a disjunction that fails, neither passes
+pub or-none : (a b : Bool) → a || b ≡ false → (a ≡ false) × (b ≡ false)
+or-none true b e = absurd (true≢false e)
+or-none false b e = (refl, e)
+
+-- an implication, written with `not`
+pub implied : (a b : Bool) → a ≡ true → not a || b ≡ true → b ≡ true
+implied true b p e = e
+implied false b p e = absurd (false≢true p)
+
+pub or-true : (a : Bool) → a || true ≡ true
+or-true true = refl
+or-true false = refl
+
+pub or-false : (a : Bool) → a || false ≡ a
+or-false true = refl
+or-false false = refl
+
+pub or-assoc : (a b c : Bool) → a || b || c ≡ a || (b || c)
+or-assoc true b c = refl
+or-assoc false b c = refl
+
+pub or-mono : (a b c : Bool) → (b ≡ true → c ≡ true) → a || b ≡ true → a || c ≡ true
+or-mono a b c h e = or-cases a b e (or-intro-left a c) (λ p. or-true-right a c (h p))
+
+pub or-and : (a b c : Bool) → (a && c) || (b && c) ≡ (a || b) && c
+or-and true b true = refl
+or-and true true false = refl
+or-and true false false = refl
+or-and false b c = refl
+
+-- ---- tests that are compared
+
+pub beq-eq : (a b : Bool) → Bool·beq a b ≡ true → a ≡ b
+beq-eq true true e = refl
+beq-eq true false e = absurd (false≢true e)
+beq-eq false true e = absurd (false≢true e)
+beq-eq false false e = refl
+
+pub beq-self : (a : Bool) → Bool·beq a a ≡ true
+beq-self true = refl
+beq-self false = refl

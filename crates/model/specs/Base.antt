@@ -5,7 +5,6 @@ use mathlib.Core.List.{List, []}
 use lib.Dec.{eqb}
 use Rattle.foundation.specs.Lists.{anyb}
 use Rattle.model.specs.declared.Privilege.{Privilege}
-use Rattle.model.specs.declared.Head.{Head}
 use Rattle.model.specs.declared.Authorization.{Authorization}
 use Rattle.model.specs.declared.Rule.{Rule}
 

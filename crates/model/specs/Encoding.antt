@@ -1,6 +1,6 @@
 -- The base as bytes (01, "The base as bytes"). Theorem 6: EncodingFacts.
-use Prim.Native.Nat.{ℕ, zero, suc, _+_, _-_, _*_, _/_, _%_, _^_}
-use mathlib.Core.Bool.{Bool, true, false, not, _&&_, _||_}
+use Prim.Native.Nat.{ℕ, _+_, _-_, _*_, _/_, _%_, _^_}
+use mathlib.Core.Bool.{Bool, true, false}
 use mathlib.Core.List.{List, [], _∷_, _++_}
 use lib.Dec.{eqb}
 use lib.ListN.{length, replicate, drop, getD}
@@ -95,21 +95,22 @@ ruleBytes r =
 abbrev pub entry : ℕ → ℕ → List ℕ
 entry offset n = bytesOf 2 offset ++ bytesOf 2 n
 
--- 01: "4 to 7: clock ... 8 to 9: last label given. 10 to 11: zero. Bytes 12 to 31: five entries ... objects,
--- administrators, referrers, lines, rules. The first body starts at 32, each next where the one before ends"
-abbrev pub heading : Base → List ℕ
-heading b =
-    let objects = length (b .objects) in
-    let administrators = length (b .administrators) in
-    let referrers = length (b .referrers) in
-    let authorizations = length (b .authorizations) in
+-- 01: "Bytes 12 to 31: five entries ... objects, administrators, referrers, lines, rules. The first body starts at
+-- 32, each next where the one before ends"
+abbrev pub contents : (objects administrators referrers authorizations rules : ℕ) → List ℕ
+contents objects administrators referrers authorizations rules =
     let at₂ = 32 + 4 * objects in
     let at₃ = at₂ + 4 * administrators in
     let at₄ = at₃ + 4 * referrers in
     let at₅ = at₄ + 24 * authorizations in
+    entry 32 objects ++ entry at₂ administrators ++ entry at₃ referrers ++ entry at₄ authorizations ++ entry at₅ rules
+
+-- 01: "4 to 7: clock ... 8 to 9: last label given. 10 to 11: zero"
+abbrev pub heading : Base → List ℕ
+heading b =
     mark ++ bytesOf 4 (b .clock) ++ bytesOf 2 (b .last) ++ (0 ∷ 0 ∷ [])
-    ++ entry 32 objects ++ entry at₂ administrators ++ entry at₃ referrers ++ entry at₄ authorizations
-    ++ entry at₅ (length (b .rules))
+    ++ contents (length (b .objects)) (length (b .administrators)) (length (b .referrers)) (length (b .authorizations))
+    (length (b .rules))
 
 abbrev pub bodies : Base → List ℕ
 bodies b =

@@ -3,265 +3,31 @@
 -- length (`sound-length`); the empty base is sound (`empty-sound`).
 use mathlib.Core.Path.{_≡_, refl, sym, ap, _∙_}
 use mathlib.Core.Logic.{inl, inr}
-use Prim.Native.Nat.{ℕ, zero, suc, _+_, _-_, _*_, _^_, _≤_, _<_}
+use Prim.Native.Nat.{ℕ, zero, suc, _+_, _-_, _*_, _<_}
 use native.Mathlib.Omega.{arith}
-use mathlib.Core.Bool.{Bool, true, false, _&&_}
+use mathlib.Core.Bool.{true}
 use mathlib.Core.List.{List, [], _∷_, _++_, append-assoc}
-use lib.Dec.{leb}
 use lib.ListN.{length, replicate, drop, length-append, length-replicate}
-use Rattle.foundation.specs.Tests.{and-true, and-intro, or-cases, true-le, true-eq}
-use Rattle.foundation.specs.Lists.{allb, Mem, each, all-mem, length-each}
+use Rattle.foundation.specs.Tests.{and-intro}
+use Rattle.foundation.specs.Lists.{Mem, each, length-each}
 use Rattle.foundation.specs.Bytes.{le, bytesOf, records, le-bytes, records-back, behind, eqList, eqList-refl}
 use Rattle.foundation.specs.declared.Interval.{Interval}
 use Rattle.foundation.specs.Intervals.{interval}
 use Rattle.foundation.specs.Graph.{cyclic}
 use Rattle.model.specs.declared.Privilege.{Privilege}
 use Rattle.model.specs.declared.Authorization.{Authorization}
-use Rattle.model.specs.declared.Side.{Side}
 use Rattle.model.specs.declared.Rule.{Rule}
-use Rattle.model.specs.declared.Operator.{Operator}
-use Rattle.model.specs.declared.Operator.the-variants.{Whenever, AsLongAs, WheneverNot, Unless}
-use Rattle.model.specs.declared.OptionTerm.{OptionTerm}
-use Rattle.model.specs.declared.OptionTerm.the-variants.{With, Without, Either}
-use Rattle.model.specs.Ranges.{between, isInstant, isSubject, isObject, isMode, isLabel, lastInstant, lastLabel, mostObjects, mostAdministrators, mostReferrers, mostAuthorizations, mostRules}
 use Rattle.model.specs.Base.{Base, emptyBase}
-use Rattle.model.specs.Stratification.{isStar, stratified}
-use Rattle.model.specs.Requests.{operatorOf}
+use Rattle.model.specs.Stratification.{stratified}
 use Rattle.model.specs.Step.{countsHold}
-use Rattle.model.specs.Encoding.{size, asBit, bit, headFlags, isNegative, hasOption, optionFlags, optionOf, ruleFlags, operatorNumber, privilegeBytes, authorizationBytes, ruleBytes, heading, bodies, encode, privilegeOf, authorizationOf, ruleOf, decode}
-use Rattle.model.specs.Soundness.{privilegeIn, intervalIn, authorizationIn, orStar, sideIn, ruleIn, sound, soundBytes}
+use Rattle.model.specs.Encoding.{size, privilegeBytes, authorizationBytes, ruleBytes, heading, bodies, encode}
+use Rattle.model.specs.Encoding.{privilegeOf, authorizationOf, ruleOf, decode}
+use Rattle.model.specs.Soundness.{sound, soundBytes}
 use Rattle.model.specs.SoundnessFacts.{sound-tests, sound-bytes}
-
--- ---- flags and operators: how they stand in a byte is known to the laws of this part alone
-
-pub head-flags-back : (negative option : Bool) →
-    (isNegative (headFlags negative option) ≡ negative) × (hasOption (headFlags negative option) ≡ option)
-head-flags-back true true = (refl, refl)
-head-flags-back true false = (refl, refl)
-head-flags-back false true = (refl, refl)
-head-flags-back false false = (refl, refl)
-
-pub rule-flags-back : (left right : Bool) (option : OptionTerm) →
-    (bit 0 (ruleFlags left right option) ≡ left) × (bit 1 (ruleFlags left right option) ≡ right)
-    × (optionOf (ruleFlags left right option) ≡ option)
-rule-flags-back true true With = (refl, refl, refl)
-rule-flags-back true true Without = (refl, refl, refl)
-rule-flags-back true true Either = (refl, refl, refl)
-rule-flags-back true false With = (refl, refl, refl)
-rule-flags-back true false Without = (refl, refl, refl)
-rule-flags-back true false Either = (refl, refl, refl)
-rule-flags-back false true With = (refl, refl, refl)
-rule-flags-back false true Without = (refl, refl, refl)
-rule-flags-back false true Either = (refl, refl, refl)
-rule-flags-back false false With = (refl, refl, refl)
-rule-flags-back false false Without = (refl, refl, refl)
-rule-flags-back false false Either = (refl, refl, refl)
-
-pub operator-back : (o : Operator) → operatorOf (operatorNumber o) ≡ o
-operator-back Whenever = refl
-operator-back AsLongAs = refl
-operator-back WheneverNot = refl
-operator-back Unless = refl
-
-as-bit : (b : Bool) → asBit b ≤ 1
-as-bit true = omega arith
-as-bit false = omega arith
-
-option-flags : (o : OptionTerm) → optionFlags o ≤ 8
-option-flags With = omega arith
-option-flags Without = omega arith
-option-flags Either = omega arith
-
-pub head-flags-most : (negative option : Bool) → headFlags negative option ≤ 3
-head-flags-most n o = omega (arith, as-bit n, as-bit o)
-
-pub rule-flags-most : (left right : Bool) (option : OptionTerm) → ruleFlags left right option ≤ 11
-rule-flags-most l r o = omega (arith, as-bit l, as-bit r, option-flags o)
-
-pub operator-most : (o : Operator) → operatorNumber o ≤ 4
-operator-most Whenever = omega arith
-operator-most AsLongAs = omega arith
-operator-most WheneverNot = omega arith
-operator-most Unless = omega arith
-
--- ---- ranges: each field fits its width
-
--- tests joined by &&, which nests to the left
-abbrev conjunction : Bool → List Bool → Bool
-conjunction a [] = a
-conjunction a (b ∷ bs) = conjunction (a && b) bs
-
--- a conjunction that passes passes each of its tests
-conjuncts : (a : Bool) (bs : List Bool) → conjunction a bs ≡ true → (x : Bool) → Mem x (a ∷ bs) → x ≡ true
-conjuncts a [] e x (inl q) = q ∙ e
-conjuncts a [] e x (inr m) = absurd (m .lower)
-conjuncts a (b ∷ bs) e x m = pass m (and-true a b (conjuncts (a && b) bs e (a && b) (inl refl)))
-    (λ n. conjuncts (a && b) bs e x (inr n))
-  where
-    pass : Mem x (a ∷ b ∷ bs) → (a ≡ true) × (b ≡ true) → (Mem x bs → x ≡ true) → x ≡ true
-    pass (inl q) p r = q ∙ p .0
-    pass (inr (inl q)) p r = q ∙ p .1
-    pass (inr (inr n)) p r = r n
-
--- a number of a range that lies below the bound
-below : (lowest most bound n : ℕ) → most < bound → between lowest most n ≡ true → n < bound
-below lowest most bound n h e = omega (arith, true-le n most (and-true (leb lowest n) (leb n most) e .1))
-
-instant-fits : (n : ℕ) → isInstant n ≡ true → n < 256 ^ 4
-instant-fits n e = omega (arith, true-le n lastInstant e)
-
-label-fits : (n : ℕ) → isLabel n ≡ true → n < 256 ^ 2
-label-fits n = below 1 lastLabel (256 ^ 2) n (omega arith)
-
-subject-fits : (n : ℕ) → isSubject n ≡ true → n < 256 ^ 2
-subject-fits n = below 1 1023 (256 ^ 2) n (omega arith)
-
-object-fits : (n : ℕ) → isObject n ≡ true → n < 256 ^ 2
-object-fits n = below 1 128 (256 ^ 2) n (omega arith)
-
--- a mode is written as the byte that it is
-mode-fits : (n : ℕ) → isMode n ≡ true → n < 256
-mode-fits n = below 1 8 256 n (omega arith)
-
--- where the numbers of a range fit, so does the star
-or-star : (range : ℕ → Bool) (bound n : ℕ) → 0 < bound → (range n ≡ true → n < bound) → orStar range n ≡ true →
-    n < bound
-or-star range bound n h f e = or-cases (isStar n) (range n) e (λ z. omega (arith, true-eq n 0 z)) f
-
-subject-or-star-fits : (n : ℕ) → orStar isSubject n ≡ true → n < 256 ^ 2
-subject-or-star-fits n = or-star isSubject (256 ^ 2) n (omega arith) (subject-fits n)
-
-mode-or-star-fits : (n : ℕ) → orStar isMode n ≡ true → n < 256
-mode-or-star-fits n = or-star isMode 256 n (omega arith) (mode-fits n)
-
-pub record PrivilegeFits (p : Privilege) : Type 0 where
-  pub object : p .object < 256 ^ 2
-  pub subject : p .subject < 256 ^ 2
-
-privilege-fits : (p : Privilege) → privilegeIn p ≡ true → PrivilegeFits p
-privilege-fits p e =
-    let t = and-true (isObject (p .object)) (isSubject (p .subject)) e in
-    record { object = object-fits (p .object) (t .0); subject = subject-fits (p .subject) (t .1) }
-
-pub record IntervalFits (i : Interval) : Type 0 where
-  pub start : i .start < 256 ^ 4
-  pub end : i .end < 256 ^ 4
-
-interval-fits : (i : Interval) → intervalIn i ≡ true → IntervalFits i
-interval-fits i e =
-    let t = and-true (isInstant (i .start)) (isInstant (i .end)) e in
-    record { start = instant-fits (i .start) (t .0); end = instant-fits (i .end) (t .1) }
-
-pub record AuthorizationFits (a : Authorization) : Type 0 where
-  pub label : a .head .label < 256 ^ 2
-  pub grantor : a .head .grantor < 256 ^ 2
-  pub subject : a .head .subject < 256 ^ 2
-  pub object : a .head .object < 256 ^ 2
-  pub mode : a .head .mode < 256
-  pub granted : a .head .granted < 256 ^ 4
-  pub interval : IntervalFits (a .interval)
-
-authorization-fits : (a : Authorization) → authorizationIn a ≡ true → AuthorizationFits a
-authorization-fits a e =
-    let h = a .head in
-    let t = conjuncts (isLabel (h .label)) (isSubject (h .grantor) ∷ isSubject (h .subject) ∷ isObject (h .object)
-    ∷ isMode (h .mode) ∷ isInstant (h .granted) ∷ intervalIn (a .interval) ∷ []) e in
-    record {
-      label = label-fits (h .label) (t _ (inl refl));
-      grantor = subject-fits (h .grantor) (t _ (inr (inl refl)));
-      subject = subject-fits (h .subject) (t _ (inr (inr (inl refl))));
-      object = object-fits (h .object) (t _ (inr (inr (inr (inl refl)))));
-      mode = mode-fits (h .mode) (t _ (inr (inr (inr (inr (inl refl))))));
-      granted = instant-fits (h .granted) (t _ (inr (inr (inr (inr (inr (inl refl)))))));
-      interval = interval-fits (a .interval) (t _ (inr (inr (inr (inr (inr (inr (inl refl))))))));
-    }
-
-pub record SideFits (s : Side) : Type 0 where
-  pub subject : s .subject < 256 ^ 2
-  pub mode : s .mode < 256
-  pub object : s .object < 256 ^ 2
-
-side-fits : (s : Side) → sideIn s ≡ true → SideFits s
-side-fits s e =
-    let t = conjuncts (orStar isSubject (s .subject)) (orStar isMode (s .mode) ∷ isObject (s .object) ∷ []) e in
-    record {
-      subject = subject-or-star-fits (s .subject) (t _ (inl refl));
-      mode = mode-or-star-fits (s .mode) (t _ (inr (inl refl)));
-      object = object-fits (s .object) (t _ (inr (inr (inl refl))));
-    }
-
-pub record RuleFits (r : Rule) : Type 0 where
-  pub label : r .label < 256 ^ 2
-  pub author : r .author < 256 ^ 2
-  pub left : SideFits (r .left)
-  pub right : SideFits (r .right)
-  pub grantor : r .grantor < 256 ^ 2
-  pub interval : IntervalFits (r .interval)
-
-rule-fits : (r : Rule) → ruleIn r ≡ true → RuleFits r
-rule-fits r e =
-    let t = conjuncts (isLabel (r .label)) (isSubject (r .author) ∷ sideIn (r .left) ∷ sideIn (r .right)
-    ∷ orStar isSubject (r .grantor) ∷ intervalIn (r .interval) ∷ []) e in
-    record {
-      label = label-fits (r .label) (t _ (inl refl));
-      author = subject-fits (r .author) (t _ (inr (inl refl)));
-      left = side-fits (r .left) (t _ (inr (inr (inl refl))));
-      right = side-fits (r .right) (t _ (inr (inr (inr (inl refl)))));
-      grantor = subject-or-star-fits (r .grantor) (t _ (inr (inr (inr (inr (inl refl))))));
-      interval = interval-fits (r .interval) (t _ (inr (inr (inr (inr (inr (inl refl)))))));
-    }
-
-pub record CountsFit (b : Base) : Type 0 where
-  pub objects : length (b .objects) ≤ mostObjects
-  pub administrators : length (b .administrators) ≤ mostAdministrators
-  pub referrers : length (b .referrers) ≤ mostReferrers
-  pub authorizations : length (b .authorizations) ≤ mostAuthorizations
-  pub rules : length (b .rules) ≤ mostRules
-
-pub counts-fit : (b : Base) → countsHold b ≡ true → CountsFit b
-counts-fit b e =
-    let t = conjuncts (leb (length (b .objects)) mostObjects) (leb (length (b .administrators)) mostAdministrators
-    ∷ leb (length (b .referrers)) mostReferrers ∷ leb (length (b .authorizations)) mostAuthorizations
-    ∷ leb (length (b .rules)) mostRules ∷ []) e in
-    record {
-      objects = true-le (length (b .objects)) mostObjects (t _ (inl refl));
-      administrators = true-le (length (b .administrators)) mostAdministrators (t _ (inr (inl refl)));
-      referrers = true-le (length (b .referrers)) mostReferrers (t _ (inr (inr (inl refl))));
-      authorizations = true-le (length (b .authorizations)) mostAuthorizations (t _ (inr (inr (inr (inl refl)))));
-      rules = true-le (length (b .rules)) mostRules (t _ (inr (inr (inr (inr (inl refl))))));
-    }
-
-pub record BaseFits (b : Base) : Type 0 where
-  pub counts : CountsFit b
-  pub clock : b .clock < 256 ^ 4
-  pub last : b .last < 256 ^ 2
-  pub objects : (p : Privilege) → Mem p (b .objects) → PrivilegeFits p
-  pub administrators : (p : Privilege) → Mem p (b .administrators) → PrivilegeFits p
-  pub referrers : (p : Privilege) → Mem p (b .referrers) → PrivilegeFits p
-  pub authorizations : (a : Authorization) → Mem a (b .authorizations) → AuthorizationFits a
-  pub rules : (r : Rule) → Mem r (b .rules) → RuleFits r
-
-privileges-fit : (ps : List Privilege) → allb privilegeIn ps ≡ true → (p : Privilege) → Mem p ps → PrivilegeFits p
-privileges-fit ps e p m = privilege-fits p (all-mem privilegeIn ps e p m)
-
-pub base-fits : (b : Base) → sound b ≡ true → BaseFits b
-base-fits b e =
-    let s = sound-tests b e in
-    let t = conjuncts (isInstant (b .clock)) (leb (b .last) lastLabel ∷ allb privilegeIn (b .objects)
-    ∷ allb privilegeIn (b .administrators) ∷ allb privilegeIn (b .referrers)
-    ∷ allb authorizationIn (b .authorizations) ∷ allb ruleIn (b .rules) ∷ []) (s .ranges) in
-    record {
-      counts = counts-fit b (s .counts);
-      clock = instant-fits (b .clock) (t _ (inl refl));
-      last = omega (arith, true-le (b .last) lastLabel (t _ (inr (inl refl))));
-      objects = privileges-fit (b .objects) (t _ (inr (inr (inl refl))));
-      administrators = privileges-fit (b .administrators) (t _ (inr (inr (inr (inl refl)))));
-      referrers = privileges-fit (b .referrers) (t _ (inr (inr (inr (inr (inl refl))))));
-      authorizations = λ a m. authorization-fits a
-          (all-mem authorizationIn (b .authorizations) (t _ (inr (inr (inr (inr (inr (inl refl))))))) a m);
-      rules = λ r m. rule-fits r
-          (all-mem ruleIn (b .rules) (t _ (inr (inr (inr (inr (inr (inr (inl refl)))))))) r m);
-    }
+use Rattle.model.specs.FlagFacts.{head-flags-back, rule-flags-back, operator-back, head-flags-most}
+use Rattle.model.specs.FlagFacts.{rule-flags-most, operator-most}
+use Rattle.model.specs.FitsFacts.{PrivilegeFits, IntervalFits, AuthorizationFits, RuleFits, counts-fit}
+use Rattle.model.specs.FitsFacts.{BaseFits, base-fits}
 
 -- ---- what is written is read back. A field's number depends on its own bytes: `[]` serves for what is behind them
 
@@ -412,7 +178,7 @@ encode-sound b e = rw (decode-encode b e)
 privileges-length : (ps : List Privilege) → length (each ps privilegeBytes) ≡ length ps * 4
 privileges-length ps = length-each ps privilegeBytes 4 (λ p. refl)
 
-bodies-length : (b : Base) → length (bodies b) ≡
+pub bodies-length : (b : Base) → length (bodies b) ≡
     length (b .objects) * 4 + length (b .administrators) * 4 + length (b .referrers) * 4
     + length (b .authorizations) * 24 + length (b .rules) * 28
 bodies-length b = simp (

@@ -12,7 +12,7 @@ use Rattle.foundation.specs.Tests.{pick}
 use Rattle.foundation.specs.Lists.{Mem}
 use Rattle.foundation.specs.Closure.{iter}
 use Rattle.foundation.specs.Intervals.{inInterval, none?, always}
-use Rattle.foundation.specs.Marks.{Steady, walk, walk-maximal}
+use Rattle.foundation.specs.Marks.{Steady, not-steady, walk, walk-maximal}
 use Rattle.foundation.specs.Counting.{maximal-count}
 use Rattle.model.specs.declared.Authorization.{Authorization}
 use Rattle.model.specs.declared.Rule.{Rule}
@@ -22,9 +22,13 @@ use Rattle.model.specs.declared.Access.{Access}
 use Rattle.model.specs.Ranges.{lastInstant}
 use Rattle.model.specs.Base.{Base}
 use Rattle.model.specs.Stratification.{stratum}
-use Rattle.model.specs.Rules.{Pattern, Fact, fact, rightOf, operate, holdsBy, rightBy, round, enough, derivedBelow, holds, asked, may, when}
+use Rattle.model.specs.Rules.{Pattern, Fact, fact, rightOf, operate, holdsBy, rightBy, round, enough}
+use Rattle.model.specs.Rules.{derivedBelow, holds, asked, may, when}
 use Rattle.model.specs.Means.{marksOf, ruleMarks, allMarks, alwaysAt, mayAtMarks, whenAtMarks}
-use Rattle.model.specs.HoldsFacts.{right-cong, not-steady, marks-length, rule-marks-length, marks, Stead, holds-cong, holds-steady, right-by-steady, rounds, rounds-steady, below-steady}
+use Rattle.model.specs.RightFacts.{right-cong}
+use Rattle.model.specs.HoldsSteady.{marks-length, rule-marks-length, marks, Stead, holds-cong, holds-steady}
+use Rattle.model.specs.HoldsSteady.{right-by-steady}
+use Rattle.model.specs.HoldsFacts.{rounds, rounds-steady, below-steady}
 
 -- ---- `always` at marks
 
@@ -130,8 +134,8 @@ pub all-marks-length : (b : Base) → length (allMarks b) ≡ 2 * length (b .aut
 all-marks-length b = length-append (marksOf (b .authorizations)) (ruleMarks (b .rules))
     ∙ ap₂ (λ (i j : ℕ). i + j) (marks-length (b .authorizations)) (rule-marks-length (b .rules))
 
--- An interval begins and ends at marks, and no two share one. With 01's 1,024 authorizations and 64 rules there are at
--- most 1,089
+-- An interval begins and ends at marks, and no two share one. With 01's 1,024 authorizations and 64 rules there are
+-- at most 1,089
 pub when-count : (b : Base) (x : Access) → length (when b x) ≤ length (b .authorizations) + length (b .rules) + 1
 unfolding when
 when-count b x =

@@ -1,10 +1,10 @@
 -- The account of demand 3 (01, "Requests", last paragraph), fed the requests alone.
 use Prim.Native.Nat.{ℕ, suc}
-use mathlib.Core.Bool.{Bool, true, false, not, _&&_, _||_}
+use mathlib.Core.Bool.{Bool, true, false, not, _&&_}
 use mathlib.Core.List.{List, [], _∷_, _++_}
 use lib.Dec.{eqb}
-use Rattle.foundation.specs.Tests.{pick, cases, and-true}
-use mathlib.Core.Path.{_≡_, refl}
+use Rattle.foundation.specs.Tests.{pick, and-true}
+use mathlib.Core.Path.{_≡_}
 use Rattle.foundation.specs.Intervals.{inInterval, maximal}
 use Rattle.model.specs.declared.Privilege.{Privilege}
 use Rattle.model.specs.declared.Head.{Head}

@@ -1,7 +1,7 @@
 -- The answers that speak of every instant, in two readings: `plainly`, which is the definition, and `atMarks`, which asks
 -- only where something can change and can therefore be computed. `same-means` (MeansFacts) proves that they agree.
 use Prim.Native.Nat.{ℕ, suc}
-use mathlib.Core.Bool.{Bool, not, _&&_, _||_}
+use mathlib.Core.Bool.{Bool, not, _||_}
 use mathlib.Core.List.{List, [], _∷_, _++_}
 use Rattle.foundation.specs.declared.Interval.{Interval}
 use Rattle.foundation.specs.Intervals.{none?}

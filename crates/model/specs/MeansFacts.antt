@@ -8,7 +8,7 @@ use lib.Dec.{eqb}
 use Rattle.foundation.specs.Tests.{pick}
 use Rattle.foundation.specs.Lists.{anyb}
 use Rattle.foundation.specs.declared.Interval.{Interval}
-use Rattle.foundation.specs.Marks.{Steady, walk-maximal}
+use Rattle.foundation.specs.Marks.{Steady, not-steady, walk-maximal}
 use Rattle.model.specs.declared.Head.{Head}
 use Rattle.model.specs.declared.Authorization.{Authorization}
 use Rattle.model.specs.declared.Request.{Request}
@@ -19,7 +19,6 @@ use Rattle.model.specs.Requests.{REVOKE, REVOKEP, REVOKEN, REVOKEADM, is
 use Rattle.model.specs.Means.{Means, plainly, atMarks, boundaries, marksOf, keepAt, leaveAt, restrictAt, gapsAt}
 use Rattle.model.specs.Step.{stepBy, step}
 use Rattle.model.specs.SupportMarks.{interval-steady, live-steady, supported-steady}
-use Rattle.model.specs.HoldsFacts.{not-steady}
 use Rattle.model.specs.HoldsMarks.{may-marks, when-marks}
 
 -- ---- withdrawals

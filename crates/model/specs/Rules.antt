@@ -2,8 +2,8 @@
 -- Theorem 4: `closed` and `smallest` in HoldsFacts. Theorem 5: HoldsMarks.
 use Prim.Native.Nat.{ℕ, zero, suc, _+_, _*_}
 use mathlib.Core.Bool.{Bool, true, false, not, _&&_, _||_, Bool·beq}
-use mathlib.Core.List.{List, [], _∷_, _++_}
-use lib.Dec.{leb, ltb, eqb}
+use mathlib.Core.List.{List}
+use lib.Dec.{ltb, eqb}
 use lib.ListN.{length}
 use Rattle.foundation.specs.Tests.{pick}
 use Rattle.foundation.specs.Lists.{anyb}
@@ -16,7 +16,7 @@ use Rattle.model.specs.declared.Rule.{Rule}
 use Rattle.model.specs.declared.Operator.{Operator}
 use Rattle.model.specs.declared.Operator.the-variants.{Whenever, AsLongAs, WheneverNot, Unless}
 use Rattle.model.specs.declared.OptionTerm.{OptionTerm}
-use Rattle.model.specs.declared.OptionTerm.the-variants.{With, Without, Either}
+use Rattle.model.specs.declared.OptionTerm.the-variants.{Either}
 use Rattle.model.specs.declared.Access.{Access}
 use Rattle.model.specs.Ranges.{lastInstant}
 use Rattle.model.specs.Base.{Base}

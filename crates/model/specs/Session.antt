@@ -8,9 +8,9 @@ use Rattle.model.specs.declared.Reply.{Reply}
 use Rattle.model.specs.declared.Reply.the-variants.{Done, Refused, Unsupported, Yes, No, Runs}
 use Rattle.model.specs.Base.{Base, emptyBase}
 use Rattle.model.specs.Means.{Means, plainly}
-use Rattle.model.specs.Step.{refusedOr, Outcome, stepBy}
+use Rattle.model.specs.Step.{refusedOr, stepBy}
 use Rattle.model.specs.Encoding.{encode}
-use Rattle.model.specs.Answers.{mayTable, whenTable, mayReply, request, mayAnswer, whenAnswer, Answer}
+use Rattle.model.specs.Answers.{mayTable, whenTable, mayReply, request, mayAnswer, whenAnswer}
 use Rattle.model.specs.Text.{Line, order, asksMay, asksWhen, unreadable, newline, lines, readLine, printReply}
 
 -- the reply to one line, with the runs of a WHEN, and the base after it
@@ -32,7 +32,8 @@ module _ (M : Means) where
       record { reply = refusedOr (mayTable b q) Refused r; runs = []; base = b }
   turn b (asksWhen x) =
       let runs = M .whenIn b x in
-      record { reply = refusedOr (whenTable b x pairs (length runs)) Refused (Runs (length runs)); runs = runs; base = b }
+      let n = length runs in
+      record { reply = refusedOr (whenTable b x pairs n) Refused (Runs n); runs = runs; base = b }
   turn b unreadable = record { reply = Refused 1; runs = []; base = b }
 
   -- every reply on a line of its own

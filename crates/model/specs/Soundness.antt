@@ -1,7 +1,7 @@
 -- When a base is sound (01, "The base as bytes": "A base is sound if all this holds and also: ...").
 use Prim.Native.Nat.{ℕ, suc}
-use mathlib.Core.Bool.{Bool, true, false, not, _&&_, _||_, Bool·beq}
-use mathlib.Core.List.{List, [], _∷_, _++_}
+use mathlib.Core.Bool.{Bool, true, not, _&&_, _||_, Bool·beq}
+use mathlib.Core.List.{List, [], _∷_}
 use lib.Dec.{leb, ltb, eqb}
 use Rattle.foundation.specs.Lists.{anyb, allb}
 use Rattle.foundation.specs.Bytes.{eqList}

@@ -1,17 +1,19 @@
 -- The tests of soundness one by one: `sound-tests` and `tests-sound`.
 use mathlib.Core.Path.{_≡_, refl}
-use mathlib.Core.Logic.{_⊎_, inl, inr}
-use mathlib.Core.Bool.{Bool, true, false, _&&_}
-use mathlib.Core.List.{List, [], _∷_}
+use mathlib.Core.Logic.{inl, inr}
+use mathlib.Core.Bool.{Bool, true}
+use mathlib.Core.List.{List}
 use Prim.Native.Nat.{ℕ}
-use Rattle.foundation.specs.Tests.{and-true, and-intro}
-use Rattle.foundation.specs.Lists.{allb, Mem, all-mem}
+use Rattle.foundation.specs.Tests.{and-true}
+use Rattle.foundation.specs.Lists.{Mem, all-mem}
 use Rattle.foundation.specs.Bytes.{eqList, eqList-eq}
 use Rattle.model.specs.Base.{Base}
 use Rattle.model.specs.Stratification.{stratified}
 use Rattle.model.specs.Step.{countsHold}
 use Rattle.model.specs.Encoding.{encode, decode}
-use Rattle.model.specs.Soundness.{inOrder, rangesHold, intervalsHold, grantedInTime, denialsPlain, objectsExist, ownersApart, labelsApart, labelsAgree, allSupported, authorsMay, starsMatch, rightDenialsPlain, soundTests, sound, soundBytes}
+use Rattle.model.specs.Soundness.{inOrder, rangesHold, intervalsHold, grantedInTime, denialsPlain, objectsExist}
+use Rattle.model.specs.Soundness.{ownersApart, labelsApart, labelsAgree, allSupported, authorsMay, starsMatch}
+use Rattle.model.specs.Soundness.{rightDenialsPlain, soundTests, sound, soundBytes}
 
 -- a field a test
 pub record Sound (b : Base) : Type 0 where

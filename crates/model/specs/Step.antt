@@ -7,7 +7,6 @@ use lib.Dec.{leb, ltb, eqb}
 use lib.ListN.{length}
 use Rattle.foundation.specs.Tests.{pick}
 use Rattle.foundation.specs.Lists.{anyb}
-use Rattle.foundation.specs.declared.Interval.{Interval}
 use Rattle.foundation.specs.Intervals.{inInterval, none?}
 use Rattle.model.specs.declared.Authorization.{Authorization}
 use Rattle.model.specs.declared.OptionTerm.{OptionTerm}
@@ -19,12 +18,15 @@ use Rattle.model.specs.declared.RuleTerms.{RuleTerms}
 use Rattle.model.specs.declared.Request.{Request}
 use Rattle.model.specs.declared.Reply.{Reply}
 use Rattle.model.specs.declared.Reply.the-variants.{Done, Refused}
-use Rattle.model.specs.Ranges.{between, isInstant, isSubject, isObject, isMode, isLabel, lastLabel, mostAdministrators, mostReferrers, mostAuthorizations, mostRules, mostObjects}
+use Rattle.model.specs.Ranges.{between, isInstant, isSubject, isObject, isMode, isLabel, lastLabel}
+use Rattle.model.specs.Ranges.{mostAdministrators, mostReferrers, mostAuthorizations, mostRules, mostObjects}
 use Rattle.model.specs.Base.{Base, exists, owns, administers, refers, controls, mayRule}
 use Rattle.model.specs.Support.{coveredFor}
 use Rattle.model.specs.Withdrawal.{authorization}
 use Rattle.model.specs.Stratification.{stratified}
-use Rattle.model.specs.Requests.{NEW, GRANT, DENY, REVOKE, REVOKEP, REVOKEN, ADDRULE, DROPRULE, GRANTADM, REVOKEADM, GRANTREF, REVOKEREF, is, grants, labels, withdraws, objectsAfter, administratorsAfter, referrersAfter, rootAfter, newHead, newRule, affects, rulesAfter}
+use Rattle.model.specs.Requests.{NEW, GRANT, DENY, REVOKE, REVOKEP, REVOKEN, ADDRULE, DROPRULE, GRANTADM}
+use Rattle.model.specs.Requests.{REVOKEADM, GRANTREF, REVOKEREF, is, grants, labels, withdraws, objectsAfter}
+use Rattle.model.specs.Requests.{administratorsAfter, referrersAfter, rootAfter, newHead, affects, rulesAfter}
 use Rattle.model.specs.Means.{Means, plainly}
 
 -- ---- the table's conditions, one a row
@@ -125,8 +127,10 @@ noLabel b q =
 -- rule's powers (ADDRULE)"
 abbrev pub notPermitted : Base → Request → Bool
 notPermitted b q =
-    (is q (REVOKE ∷ []) && anyb (λ a. eqb (a .head .label) (q .label) && not (eqb (a .head .grantor) (q .requester))) (b .authorizations))
-    || (is q (DROPRULE ∷ []) && anyb (λ r. eqb (r .label) (q .label) && not (eqb (r .author) (q .requester))) (b .rules))
+    (is q (REVOKE ∷ []) && anyb (λ a. eqb (a .head .label) (q .label) && not (eqb (a .head .grantor) (q .requester)))
+    (b .authorizations))
+    || (is q (DROPRULE ∷ []) && anyb (λ r. eqb (r .label) (q .label) && not (eqb (r .author) (q .requester)))
+    (b .rules))
     || (is q (GRANTADM ∷ REVOKEADM ∷ GRANTREF ∷ REVOKEREF ∷ []) && not (owns b (q .object) (q .requester)))
     || (is q (ADDRULE ∷ []) && not (mayRule b (q .requester) (q .rule .left .object) (q .rule .right .object)))
 
@@ -172,7 +176,7 @@ abbrev pub row : ℕ → Bool → Row
 row n g = record { number = n; given = g }
 
 -- 01: "The lowest number that applies is given": the first row of the table whose condition holds, or 0
--- (`refused-by`, `not-refused` and `rows-rise` in StepFacts)
+-- (`lowest-given`, `lowest-least` and `lowest-none` in StepFacts)
 abbrev pub lowest : List Row → ℕ
 lowest [] = 0
 lowest (r ∷ rest) = let n = lowest rest in pick (r .given) (r .number) n
@@ -194,7 +198,8 @@ module _ (M : Means) where
   abbrev pub authorizationsAfter : Base → Request → List Authorization
   authorizationsAfter b q =
       pick (grants q) (b .authorizations ++ (authorization (newHead (suc (b .last)) q) (q .interval) ∷ []))
-      (pick (withdraws q) (M .restricted (rootAfter b q) (affects (b .authorizations) q) (M .left q (b .authorizations)))
+      (pick (withdraws q)
+      (M .restricted (rootAfter b q) (affects (b .authorizations) q) (M .left q (b .authorizations)))
       (b .authorizations))
 
   -- 01: "An accepted request sets the clock to now"; a new label "is the last given plus one"

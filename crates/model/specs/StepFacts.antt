@@ -1,19 +1,19 @@
 -- What the table says: a refusal's number is the lowest that applies, and an accepted request passes every row.
 use mathlib.Core.Path.{_≡_, refl, sym, ap, _∙_}
-use mathlib.Core.Logic.{_⊎_, inl, inr, _≢_}
-use mathlib.Core.Bool.{Bool, true, false, not, _&&_, _||_, true≢false, false≢true}
+use mathlib.Core.Logic.{inl, inr, _≢_, ⊎-elim}
+use mathlib.Core.Bool.{Bool, true, false, false≢true}
 use mathlib.Core.List.{List, [], _∷_}
-use Prim.Native.Nat.{ℕ, zero, suc, _≤_, _<_}
+use Prim.Native.Nat.{ℕ, _≤_, _<_}
 use native.Mathlib.Omega.{arith}
-use lib.Dec.{leb, ltb, eqb}
-use Rattle.foundation.specs.Tests.{pick, cases, true-le, true-eq, and-true, eq-true, ne-false, or-true-right, or-intro-left}
-use Rattle.foundation.specs.Lists.{anyb, allb, Mem, mem-any}
+use Rattle.foundation.specs.Tests.{cases, eq-true, ne-false}
+use Rattle.foundation.specs.Lists.{Mem, any-false}
 use Rattle.model.specs.declared.Request.{Request}
-use Rattle.model.specs.declared.Reply.{Reply}
-use Rattle.model.specs.declared.Reply.the-variants.{Done, Refused}
+use Rattle.model.specs.declared.Reply.the-variants.{Refused}
 use Rattle.model.specs.Base.{Base}
 use Rattle.model.specs.Means.{Means, plainly}
-use Rattle.model.specs.Step.{Row, row, lowest, rangeTests, outOfRange, behindClock, badInterval, noObject, noLabel, notPermitted, notSupported, alreadySo, notHeld, notStratified, full, table, refusal, refusedOr, accepting, effect, Outcome, stepBy, step}
+use Rattle.model.specs.Step.{Row, lowest, rangeTests, outOfRange, behindClock, badInterval, noObject, noLabel}
+use Rattle.model.specs.Step.{notPermitted, notSupported, alreadySo, notHeld, notStratified, full, table}
+use Rattle.model.specs.Step.{refusal, refusedOr, accepting, effect, Outcome, step}
 
 -- ---- the lowest number of rows that rise
 
@@ -23,7 +23,8 @@ Rising n [] = Unit {0}
 Rising n (r ∷ rest) = (n < r .number) × Rising (r .number) rest
 
 -- a number that is given is a row's whose condition holds
-pub lowest-given : (rows : List Row) → lowest rows ≢ 0 → (r : Row) × Mem r rows × (r .given ≡ true) × (r .number ≡ lowest rows)
+pub lowest-given : (rows : List Row) → lowest rows ≢ 0 →
+    (r : Row) × Mem r rows × (r .given ≡ true) × (r .number ≡ lowest rows)
 lowest-given [] n = absurd (n refl)
 lowest-given (r ∷ rest) n = cases (r .given)
     (λ g. (r, inl refl, g, sym (rw g)))
@@ -34,24 +35,19 @@ pub lowest-least : (n : ℕ) (rows : List Row) → Rising n rows → (r : Row) �
     (n < lowest rows) × (lowest rows ≤ r .number)
 lowest-least n [] up r m g = absurd (m .lower)
 lowest-least n (s ∷ rest) up r m g = cases (s .given)
-    (λ h. rw h (up .0, first m))
-    (λ h. let w = lowest-least (s .number) rest (up .1) r (later h m) g in rw h (omega (arith, w .0, up .0), w .1))
+    (λ h. rw h (up .0, ⊎-elim (λ e. rw e (omega arith)) (λ k. omega (arith, past (s .number) rest (up .1) k)) m))
+    (λ h. let k = ⊎-elim (λ e. absurd (false≢true (sym h ∙ sym (ap (λ (x : Row). x .given) e) ∙ g))) (λ k. k) m in
+    let w = lowest-least (s .number) rest (up .1) r k g in
+    rw h (omega (arith, w .0, up .0), w .1))
   where
     past : (m : ℕ) (rows : List Row) → Rising m rows → Mem r rows → m < r .number
     past m [] u k = absurd (k .lower)
     past m (x ∷ xs) u (inl e) = rw e (u .0)
     past m (x ∷ xs) u (inr k) = let i = past (x .number) xs (u .1) k in omega (arith, u .0)
 
-    first : (r ≡ s) ⊎ Mem r rest → s .number ≤ r .number
-    first (inl e) = rw e (omega arith)
-    first (inr k) = let i = past (s .number) rest (up .1) k in omega arith
-
-    later : s .given ≡ false → (r ≡ s) ⊎ Mem r rest → Mem r rest
-    later h (inl e) = absurd (false≢true (sym h ∙ sym (ap (λ (x : Row). x .given) e) ∙ g))
-    later h (inr k) = k
-
 -- where none is given, no row's condition holds
-pub lowest-none : (n : ℕ) (rows : List Row) → Rising n rows → lowest rows ≡ 0 → (r : Row) → Mem r rows → r .given ≡ false
+pub lowest-none : (n : ℕ) (rows : List Row) → Rising n rows → lowest rows ≡ 0 → (r : Row) → Mem r rows →
+    r .given ≡ false
 lowest-none n rows up z r m = cases (r .given) (λ g. absurd (omega (arith, lowest-least n rows up r m g .0))) (λ g. g)
 
 -- ---- the table
@@ -97,7 +93,8 @@ pub record Accepted (b : Base) (q : Request) : Type 0 where
 
 pub accepted : (b : Base) (q : Request) → refusal plainly b q ≡ 0 → Accepted b q
 accepted b q z =
-    let t : (r : Row) → Mem r (table plainly b q) → r .given ≡ false = lowest-none 2 (table plainly b q) (table-rises plainly b q) z in
+    let t : (r : Row) → Mem r (table plainly b q) → r .given ≡ false =
+    lowest-none 2 (table plainly b q) (table-rises plainly b q) z in
     record {
       range = t _ (inl refl);
       clock = t _ (inr (inl refl));
@@ -114,7 +111,7 @@ accepted b q z =
 
 -- one of the tests of row 3
 pub in-range : (q : Request) → outOfRange q ≡ false → (x : Bool) → Mem x (rangeTests q) → x ≡ false
-in-range q e x m = cases x (λ p. absurd (true≢false (sym (mem-any (λ y. y) (rangeTests q) x m p) ∙ e))) (λ p. p)
+in-range q = any-false (λ y. y) (rangeTests q)
 
 -- ---- the outcome
 

@@ -1,13 +1,13 @@
 -- Theorem 3: forbidden circles and ranks in 01's words.
-use mathlib.Core.Path.{_≡_, refl, sym, ap, _∙_, subst}
+use mathlib.Core.Path.{_≡_, ap}
 use mathlib.Core.Logic.{_↔_}
 use Prim.Native.Nat.{ℕ, _≤_, _<_}
-use mathlib.Core.Bool.{Bool, true, false, not, _&&_, true≢false, false≢true}
+use mathlib.Core.Bool.{true, false, not}
 use mathlib.Core.List.{List}
 use lib.ListN.{length}
-use Rattle.foundation.specs.Tests.{cases, and-true, and-intro}
+use Rattle.foundation.specs.Tests.{and-true, and-intro, not-true, not-false}
 use Rattle.foundation.specs.Lists.{Mem}
-use Rattle.foundation.specs.Graph.{Path, direct, onward, Walk, strictEdge, cyclic, cyclic-path, rank}
+use Rattle.foundation.specs.Graph.{Path, direct, onward, Walk, strictEdge, cyclic, cyclic-path}
 use Rattle.foundation.specs.GraphFacts.{Ranked, ranked, rank-most, rank-walk}
 use Rattle.model.specs.declared.Rule.{Rule}
 use Rattle.model.specs.Stratification.{feeds, strict, negates, stratified, stratum}
@@ -24,14 +24,10 @@ module _ (rules : List Rule) where
   abbrev Strictly : Rule → Rule → Type 0
   Strictly q r = Path (strictEdge feeds strict) feeds rules q r
 
-  -- one rule more in front of a path
-  ahead : {p q r : Rule} → feeds p q ≡ true → Mem q rules → FeedingPath rules q r → FeedingPath rules p r
-  ahead e m (direct f) = onward (direct e) m f
-  ahead e m (onward c n f) = onward (ahead e m c) n f
-
   -- from a path that begins with a link into a negating rule of the list: that rule, and the path from it on
   begins : {q r : Rule} → Strictly q r → Mem r rules →
-      (p : Rule) × Mem p rules × (negates p ≡ true) × (feeds q p ≡ true) × ((s : Rule) → feeds r s ≡ true → FeedingPath rules p s)
+      (p : Rule) × Mem p rules × (negates p ≡ true) × (feeds q p ≡ true)
+      × ((s : Rule) → feeds r s ≡ true → FeedingPath rules p s)
   begins {q} (direct {r} e) m =
       let w = and-true (feeds q r) (negates r) e in
       (r, m, w .1, w .0, λ s f. direct f)
@@ -48,7 +44,8 @@ module _ (rules : List Rule) where
       go (onward d k f) = onward (go d) k f
 
   -- 01: "A circle of feeding with a WHENEVERNOT or UNLESS in it": such a rule has a feeding path to itself
-  pub stratified-path : (stratified rules ≡ false) ↔ ((r : Rule) × Mem r rules × (negates r ≡ true) × FeedingPath rules r r)
+  pub stratified-path : (stratified rules ≡ false)
+      ↔ ((r : Rule) × Mem r rules × (negates r ≡ true) × FeedingPath rules r r)
   unfolding stratified
   stratified-path = (
     (λ e. let w = cyclic-path feeds strict rules .0 (not-false (cyclic feeds strict rules) e) in
@@ -57,16 +54,13 @@ module _ (rules : List Rule) where
     (λ c. ap not (circle (c .0) (c .1) (c .2) (c .3))),
   )
     where
-      not-false : (b : Bool) → not b ≡ false → b ≡ true
-      not-false true e = refl
-      not-false false e = absurd (true≢false e)
-
       circle : (r : Rule) → Mem r rules → negates r ≡ true → FeedingPath rules r r → cyclic feeds strict rules ≡ true
-      circle r m n (direct e) = cyclic-path feeds strict rules .1 (r, m, direct (and-intro (feeds r r) (negates r) e n))
+      circle r m n (direct e) =
+          cyclic-path feeds strict rules .1 (r, m, direct (and-intro (feeds r r) (negates r) e n))
       circle r m n (onward {p} c k e) = cyclic-path feeds strict rules .1 (p, k, closes c e n m)
 
-  -- 01: "A rule's rank is the most WHENEVERNOT and UNLESS rules on a feeding path that ends in it, itself included": a path
-  -- has as many,
+  -- 01: "A rule's rank is the most WHENEVERNOT and UNLESS rules on a feeding path that ends in it, itself included":
+  -- a path has as many,
   pub stratum-walk : (r : Rule) → FeedingWalk rules (stratum rules r) r
   unfolding stratum
   stratum-walk r = rank-walk feeds strict negates rules r
@@ -74,7 +68,7 @@ module _ (rules : List Rule) where
   module _ (s : stratified rules ≡ true) where
     free : cyclic feeds strict rules ≡ false
     unfolding stratified
-    free = cases (cyclic feeds strict rules) (λ e. absurd (false≢true (sym (ap not e) ∙ s))) (λ e. e)
+    free = not-true (cyclic feeds strict rules) s
 
     -- and none has more
     pub stratum-most : (r : Rule) → Mem r rules → {n : ℕ} → FeedingWalk rules n r → n ≤ stratum rules r
@@ -85,7 +79,8 @@ module _ (rules : List Rule) where
     laws = ranked feeds strict negates rules free
 
     -- a feeder's rank is not above the rule's,
-    pub feeder-not-above : (q r : Rule) → Mem q rules → Mem r rules → feeds q r ≡ true → stratum rules q ≤ stratum rules r
+    pub feeder-not-above : (q r : Rule) → Mem q rules → Mem r rules → feeds q r ≡ true →
+        stratum rules q ≤ stratum rules r
     unfolding stratum
     feeder-not-above q r m n e = laws .atmost q r m n e
 

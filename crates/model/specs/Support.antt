@@ -1,14 +1,14 @@
 -- Support of an authorization by a chain of others (01, "Backing"; report, section 5).
 -- Theorem 2: `supported-chain`; one hop is enough: `one-hop` in SupportFacts.
-use mathlib.Core.Path.{_≡_, refl, sym, ap, _∙_, subst}
-use mathlib.Core.Logic.{_⊎_, inl, inr, _↔_}
-use Prim.Native.Nat.{ℕ, zero, suc, _+_, _≤_, _<_}
+use mathlib.Core.Path.{_≡_, refl, sym, ap, _∙_}
+use mathlib.Core.Logic.{inl, inr, _↔_}
+use Prim.Native.Nat.{ℕ, zero, suc, _≤_, _<_}
 use native.Mathlib.Omega.{arith}
-use mathlib.Core.Bool.{Bool, true, false, not, _&&_, _||_, true≢false, false≢true}
-use mathlib.Core.List.{List, [], _∷_, _++_}
+use mathlib.Core.Bool.{Bool, true, not, _&&_, _||_}
+use mathlib.Core.List.{List, [], _∷_}
 use lib.Dec.{leb, ltb, eqb}
 use Rattle.foundation.specs.Tests.{pick, cases, agree, true-le, true-eq, and-true, and-intro, or-true-right, or-false}
-use Rattle.foundation.specs.Lists.{anyb, Mem, any-mem, mem-any, any-cong, any-none}
+use Rattle.foundation.specs.Lists.{anyb, Mem, any-mem, mem-any, any-cong, any-none, conjunct}
 use Rattle.foundation.specs.declared.Interval.{Interval}
 use Rattle.foundation.specs.Intervals.{inInterval, maximal}
 use Rattle.model.specs.declared.Privilege.{Privilege}
@@ -21,8 +21,8 @@ abbrev pub sameObjectAndMode : Head → Head → Bool
 sameObjectAndMode h k = eqb (h .object) (k .object) && eqb (h .mode) (k .mode)
 
 -- 01: "every line but the last is positive and transferable; each one's subject is the next one's granter; granted-at
--- rises strictly": `earlier` may stand directly before `later` in a chain. Its laws are `supports-rises` and
--- `supports-same`; nothing else looks into it.
+-- rises strictly": `earlier` may stand directly before `later` in a chain. Its laws are `supports-rises`,
+-- `supports-object` and `supports-mode`; nothing else looks into it.
 unfoldable pub supports : Head → Head → Bool
 supports earlier later =
     sameObjectAndMode earlier later
@@ -81,27 +81,31 @@ pub data Chain (root : Head → Bool) (heads : List Head) : Head → Type 0 wher
 -- ---- the laws of `supports`
 
 module _ (k h : Head) (s : supports k h ≡ true) where
+  abbrev tests : List Bool
+  tests =
+      eqb (k .object) (h .object)
+      ∷ eqb (k .mode) (h .mode)
+      ∷ not (k .negative)
+      ∷ k .option
+      ∷ eqb (k .subject) (h .grantor)
+      ∷ ltb (k .granted) (h .granted)
+      ∷ []
+
+  -- each test passes
+  passes : (x : Bool) → Mem x tests → x ≡ true
+  unfolding supports
+  passes = conjunct tests s
+
   -- time rises
   pub supports-rises : k .granted < h .granted
-  unfolding supports
-  supports-rises = true-le (suc (k .granted)) (h .granted) (and-true (sameObjectAndMode k h && not (k .negative) && k .option && eqb (k .subject) (h .grantor)) (ltb (k .granted) (h .granted)) s .1)
-
-  both-same : (k .object ≡ h .object) × (k .mode ≡ h .mode)
-  unfolding supports
-  both-same =
-      let p = and-true (sameObjectAndMode k h && not (k .negative) && k .option && eqb (k .subject) (h .grantor)) (ltb (k .granted) (h .granted)) s .0 in
-      let q = and-true (sameObjectAndMode k h && not (k .negative) && k .option) (eqb (k .subject) (h .grantor)) p .0 in
-      let r = and-true (sameObjectAndMode k h && not (k .negative)) (k .option) q .0 in
-      let t = and-true (sameObjectAndMode k h) (not (k .negative)) r .0 in
-      let u = and-true (eqb (k .object) (h .object)) (eqb (k .mode) (h .mode)) t in
-      (true-eq (k .object) (h .object) (u .0), true-eq (k .mode) (h .mode) (u .1))
+  supports-rises = true-le (suc (k .granted)) (h .granted) (passes _ (inr (inr (inr (inr (inr (inl refl)))))))
 
   -- object and mode are the same
   pub supports-object : k .object ≡ h .object
-  supports-object = both-same .0
+  supports-object = true-eq (k .object) (h .object) (passes _ (inl refl))
 
   pub supports-mode : k .mode ≡ h .mode
-  supports-mode = both-same .1
+  supports-mode = true-eq (k .mode) (h .mode) (passes _ (inr (inl refl)))
 
 -- ---- supported is the existence of a chain
 
@@ -115,7 +119,8 @@ module _ (root : Head → Bool) (heads : List Head) where
   unfolding supportedIn
   found zero h e = first e
   found (suc n) h e = cases (root h) (λ r. first r)
-      (λ r. let m = any-mem (λ k. supports k h && supportedIn root heads n k) heads (rw r at (sym (supportedIn-step root heads n h) ∙ e)) in
+      (λ r. let m = any-mem (λ k. supports k h && supportedIn root heads n k) heads
+      (rw r at (sym (supportedIn-step root heads n h) ∙ e)) in
       let p = and-true (supports (m .0) h) (supportedIn root heads n (m .0)) (m .2) in
       then (found n (m .0) (p .1)) (m .1) (p .0))
 
@@ -125,7 +130,8 @@ module _ (root : Head → Bool) (heads : List Head) where
   finds (first {h} r) (suc n) l = rw (supportedIn-step root heads n h, r)
   finds (then {k} {h} c m s) zero l = absurd (omega (arith, supports-rises k h s))
   finds (then {k} {h} c m s) (suc n) l =
-      rw (supportedIn-step root heads n h) (or-true-right (root h) _ (mem-any (λ k. supports k h && supportedIn root heads n k) heads k m
+      rw (supportedIn-step root heads n h)
+      (or-true-right (root h) _ (mem-any (λ k. supports k h && supportedIn root heads n k) heads k m
       (and-intro (supports k h) (supportedIn root heads n k) s (finds c n (omega (arith, supports-rises k h s))))))
 
   -- THEOREM 2: supported exactly if a chain exists
@@ -136,22 +142,33 @@ module _ (root : Head → Bool) (heads : List Head) where
   only : (g : Head → Bool) → ((h : Head) → g h ≡ root h || anyb (λ k. supports k h && g k) heads) →
       (n : ℕ) (h : Head) → h .granted ≤ n → g h ≡ supportedIn root heads n h
   unfolding supportedIn
-  only g q zero h l = q h ∙ rw (any-none (λ k. supports k h && g k) heads (λ k. cases (supports k h) (λ s. absurd (omega (arith, supports-rises k h s))) (λ s. rw s))) (or-false (root h))
-  only g q (suc n) h l = q h ∙ ap (λ (b : Bool). root h || b) (any-cong (λ k. supports k h && g k) (λ k. supports k h && supportedIn root heads n k) heads
+  only g q zero h l =
+      q h
+      ∙ rw (any-none (λ k. supports k h && g k) heads
+      (λ k. cases (supports k h) (λ s. absurd (omega (arith, supports-rises k h s))) (λ s. rw s))) (or-false (root h))
+  only g q (suc n) h l =
+      q h
+      ∙ ap (λ (b : Bool). root h || b)
+      (any-cong (λ k. supports k h && g k) (λ k. supports k h && supportedIn root heads n k) heads
       (λ k. cases (supports k h) (λ s. rw (only g q n k (omega (arith, supports-rises k h s)))) (λ s. rw s)))
 
   -- the equation that a reader expects: a root, or a supported head stands directly before
-  pub supported-step : (h : Head) → supported root heads h ≡ root h || anyb (λ k. supports k h && supported root heads k) heads
-  supported-step h = agree (supported root heads h) (root h || anyb (λ k. supports k h && supported root heads k) heads)
+  pub supported-step : (h : Head) →
+      supported root heads h ≡ root h || anyb (λ k. supports k h && supported root heads k) heads
+  supported-step h = agree (supported root heads h)
+      (root h || anyb (λ k. supports k h && supported root heads k) heads)
       (λ e. fold (supported-chain h .0 e))
       (λ e. cases (root h) (λ r. supported-chain h .1 (first r))
       (λ r. let m = any-mem (λ k. supports k h && supported root heads k) heads (rw r at e) in
       let p = and-true (supports (m .0) h) (supported root heads (m .0)) (m .2) in
       supported-chain h .1 (then (supported-chain (m .0) .0 (p .1)) (m .1) (p .0))))
     where
-      fold : {h : Head} → Chain root heads h → root h || anyb (λ k. supports k h && supported root heads k) heads ≡ true
+      fold : {h : Head} → Chain root heads h →
+          root h || anyb (λ k. supports k h && supported root heads k) heads ≡ true
       fold (first r) = rw r
-      fold (then {k} {h} c m s) = or-true-right (root h) _ (mem-any (λ k. supports k h && supported root heads k) heads k m (and-intro (supports k h) (supported root heads k) s (supported-chain k .1 c)))
+      fold (then {k} {h} c m s) = or-true-right (root h) _
+          (mem-any (λ k. supports k h && supported root heads k) heads k m
+          (and-intro (supports k h) (supported root heads k) s (supported-chain k .1 c)))
 
   -- and the only solution of that equation
   pub supported-only : (g : Head → Bool) → ((h : Head) → g h ≡ root h || anyb (λ k. supports k h && g k) heads) →

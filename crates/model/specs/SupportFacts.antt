@@ -1,18 +1,21 @@
 -- What supports what: more roots and heads support more, the supported support one another, and one hop is enough
 -- (theorem 2, second half: `one-hop`). A chain stays on one object and mode (`chain-local`).
 use mathlib.Core.Path.{_≡_, refl, sym, ap, _∙_}
-use mathlib.Core.Logic.{_⊎_, inl, inr, _↔_}
+use mathlib.Core.Logic.{_⊎_, inl, inr, _↔_, ⊎-elim}
 use Prim.Native.Nat.{ℕ, zero, suc, _≤_, _<_}
 use native.Mathlib.Omega.{arith}
 use mathlib.Core.Bool.{Bool, true, _&&_, _||_}
 use mathlib.Core.List.{List, [], _∷_, _++_}
 use Rattle.foundation.specs.Tests.{cases, agree, and-true, or-true-right, or-intro-left, or-cases}
-use Rattle.foundation.specs.Lists.{anyb, allb, keepIf, Mem, any-mem, mem-any, all-mem, mem-all, keepIf-mem}
+use Rattle.foundation.specs.Lists.{anyb, allb, keepIf, Mem, any-mem, mem-any, all-mem, mem-all, mem-left, mem-right}
+use Rattle.foundation.specs.Lists.{last-mem, keepIf-mem}
 use Rattle.foundation.specs.declared.Interval.{Interval}
-use Rattle.foundation.specs.Intervals.{inInterval, inInterval-true, inInterval-in, none?, always, always-all, all-always}
+use Rattle.foundation.specs.Intervals.{inInterval, inInterval-true, inInterval-in, none?, always, always-all}
+use Rattle.foundation.specs.Intervals.{all-always}
 use Rattle.model.specs.declared.Head.{Head}
 use Rattle.model.specs.declared.Authorization.{Authorization}
-use Rattle.model.specs.Support.{supports, supports-rises, supports-object, supports-mode, supported, supported-chain, supported-step, Chain, first, then, live, coveredFor, gaps}
+use Rattle.model.specs.Support.{supports, supports-rises, supports-object, supports-mode, supported}
+use Rattle.model.specs.Support.{supported-chain, supported-step, Chain, first, then, live, coveredFor, gaps}
 
 -- ---- the heads that cover an instant
 
@@ -30,21 +33,37 @@ pub live-mem : (t : ℕ) (xs : List Authorization) (h : Head) → Mem h (live t 
     (a : Authorization) × Mem a xs × (a .head ≡ h) × (inInterval (a .interval) t ≡ true)
 live-mem t [] h m = absurd (m .lower)
 live-mem t (c ∷ xs) h m = cases (inInterval (c .interval) t)
-    (λ z. either z (λ n. live-mem t xs h n) (rw z at m))
+    (λ z. let k : (h ≡ c .head) ⊎ Mem h (live t xs) = rw z at m in ⊎-elim
+    (λ q. (c, inl refl, sym q, z))
+    (λ n. let w = live-mem t xs h n in (w .0, inr (w .1), w .2, w .3))
+    k)
     (λ z. let r = live-mem t xs h (rw z at m) in (r .0, inr (r .1), r .2, r .3))
-  where
-    either : inInterval (c .interval) t ≡ true →
-        (Mem h (live t xs) → (a : Authorization) × Mem a xs × (a .head ≡ h) × (inInterval (a .interval) t ≡ true)) →
-        (h ≡ c .head) ⊎ Mem h (live t xs) →
-        (a : Authorization) × Mem a (c ∷ xs) × (a .head ≡ h) × (inInterval (a .interval) t ≡ true)
-    either z r (inl q) = (c, inl refl, sym q, z)
-    either z r (inr n) = let w = r n in (w .0, inr (w .1), w .2, w .3)
 
 pub live-append : (t : ℕ) (xs ys : List Authorization) → live t (xs ++ ys) ≡ live t xs ++ live t ys
 live-append t [] ys = refl
 live-append t (x ∷ xs) ys = cases (inInterval (x .interval) t)
     (λ e. rw (e, live-append t xs ys))
     (λ e. rw (e, live-append t xs ys))
+
+-- with one more at the end: a head that covered t, or the new one, which does
+pub live-last : (t : ℕ) (xs : List Authorization) (a : Authorization) (h : Head) → Mem h (live t (xs ++ (a ∷ []))) →
+    Mem h (live t xs) ⊎ ((h ≡ a .head) × (inInterval (a .interval) t ≡ true))
+live-last t xs a h m =
+    let w = live-mem t (xs ++ (a ∷ [])) h m in ⊎-elim
+    (λ n. inl (rw (← (w .2)) (mem-live t xs (w .0) n (w .3))))
+    (λ e. inr (
+      sym (w .2) ∙ ap (λ (c : Authorization). c .head) e,
+      ap (λ (c : Authorization). inInterval (c .interval) t) (sym e) ∙ w .3,
+    ))
+    (last-mem (w .0) xs a (w .1))
+
+pub live-old : (t : ℕ) (xs : List Authorization) (a : Authorization) (h : Head) → Mem h (live t xs) →
+    Mem h (live t (xs ++ (a ∷ [])))
+live-old t xs a h m = rw (live-append t xs (a ∷ [])) (mem-left h (live t xs) (live t (a ∷ [])) m)
+
+pub live-new : (t : ℕ) (xs : List Authorization) (a : Authorization) → inInterval (a .interval) t ≡ true →
+    Mem (a .head) (live t (xs ++ (a ∷ [])))
+live-new t xs a e = mem-live t (xs ++ (a ∷ [])) a (mem-right a xs (a ∷ []) (inl refl)) e
 
 -- ---- chains
 
@@ -155,8 +174,8 @@ gaps-always : (xs : List Authorization) (h : Head) (i : Interval) →
 unfolding gaps always
 gaps-always xs h i = refl
 
--- 01, GRANT: "that together cover every instant": nothing is uncovered exactly if at each instant some authorization that
--- covers it may stand directly before the new one; they need not be one
+-- 01, GRANT: "that together cover every instant": nothing is uncovered exactly if at each instant some authorization
+-- that covers it may stand directly before the new one; they need not be one
 pub covered-together : (xs : List Authorization) (h : Head) (i : Interval) → (none? (gaps xs h i) ≡ true) ↔
     ((t : ℕ) → i .start ≤ t → t ≤ i .end → (k : Head) × Mem k (live t xs) × (supports k h ≡ true))
 unfolding coveredFor

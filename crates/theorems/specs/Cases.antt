@@ -1,7 +1,7 @@
--- The twelve cases of 01 ("Session S" and "More pairs to prove") as one table of text in and text out, and one theorem over
--- its rows about the definitions: `twelve`.
+-- The twelve cases of 01 ("Session S" and "More pairs to prove") as one table of text in and text out, and one
+-- theorem over its rows about the definitions: `twelve`.
 use mathlib.Core.Path.{_≡_, refl, sym, ap, _∙_, subst}
-use mathlib.Core.Logic.{_⊎_, inl, inr}
+use mathlib.Core.Logic.{inl, inr}
 use Prim.Native.Nat.{ℕ, zero, suc}
 use Prim.Native.String.{String}
 use mathlib.Core.List.{List, [], _∷_, _++_}
@@ -10,11 +10,11 @@ use Rattle.foundation.specs.Closure.{iter}
 use Rattle.foundation.specs.Graph.{reaches, cyclic, rankIn, rank}
 use Rattle.foundation.specs.Intervals.{prepend}
 use Rattle.foundation.specs.Marks.{next, walk}
-use Rattle.model.specs.Base.{Base, emptyBase}
+use Rattle.model.specs.Base.{emptyBase}
 use Rattle.model.specs.Support.{supports, supportedIn, supported, coveredFor}
 use Rattle.model.specs.Stratification.{stratified, stratum}
 use Rattle.model.specs.Rules.{derivedBelow, holds, mayWith}
-use Rattle.model.specs.Means.{Means, plainly, atMarks, keepAt, leaveAt, restrictAt, gapsAt, alwaysAt, mayAtMarks, whenAtMarks}
+use Rattle.model.specs.Means.{Means, atMarks, keepAt, leaveAt, restrictAt, gapsAt, alwaysAt, mayAtMarks, whenAtMarks}
 use Rattle.model.specs.MeansFacts.{same-means}
 use Rattle.model.specs.Text.{ascii, decimal, lines, readLine}
 use Rattle.model.specs.Session.{transcript, session}
@@ -120,11 +120,12 @@ Passes [] = Unit {0}
 Passes (c ∷ rest) = (transcript (atMarks 64) (lines (c .input)) emptyBase ≡ c .output) × Passes rest
 
 computed : Passes table
-unfolding iter reaches cyclic rankIn rank prepend next walk supports supportedIn supported coveredFor stratified stratum
-    derivedBelow holds mayWith keepAt leaveAt restrictAt gapsAt alwaysAt mayAtMarks whenAtMarks decimal readLine
+unfolding iter reaches cyclic rankIn rank prepend next walk supports supportedIn supported coveredFor stratified holds
+    stratum derivedBelow mayWith keepAt leaveAt restrictAt gapsAt alwaysAt mayAtMarks whenAtMarks decimal readLine
 computed = (refl, (refl, (refl, (refl, (refl, (refl, (refl, (refl, (refl, (refl, (refl, (refl, tt))))))))))))
 
-at : (cs : List Case) → Passes cs → (c : Case) → Mem c cs → transcript (atMarks 64) (lines (c .input)) emptyBase ≡ c .output
+at : (cs : List Case) → Passes cs → (c : Case) → Mem c cs →
+    transcript (atMarks 64) (lines (c .input)) emptyBase ≡ c .output
 at [] p c m = absurd (m .lower)
 at (d ∷ cs) p c (inl e) =
     subst (λ (x : Case). transcript (atMarks 64) (lines (x .input)) emptyBase ≡ x .output) (sym e) (p .0)

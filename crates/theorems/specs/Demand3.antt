@@ -1,15 +1,14 @@
--- DEMAND 3 (theorem 8): after every list of requests from the empty base, wild kinds and numbers included, the bytes are
--- sound and their authorizations are exactly the maximal intervals of the ledger's entries: `demand3` at the end.
-use mathlib.Core.Path.{_≡_, refl, sym, ap, ap₂, _∙_, fun-ext, subst, subst₂}
-use mathlib.Core.Logic.{_⊎_, inl, inr, _≢_}
-use Prim.Native.Nat.{ℕ, zero, suc, _≤_, _<_}
+-- DEMAND 3 (theorem 8): after every list of requests from the empty base, wild kinds and numbers included, the bytes
+-- are sound and their authorizations are exactly the maximal intervals of the ledger's entries: `demand3` at the end.
+use mathlib.Core.Path.{_≡_, refl, sym, ap, ap₂, _∙_, subst, subst₂}
+use mathlib.Core.Logic.{_≢_}
+use Prim.Native.Nat.{ℕ, suc, _≤_}
 use native.Mathlib.Omega.{arith}
-use mathlib.Core.Bool.{Bool, true, false, not, _&&_, _||_, true≢false, false≢true}
+use mathlib.Core.Bool.{Bool, true, false, not}
 use mathlib.Core.List.{List, [], _∷_, _++_, append-nil}
-use lib.Dec.{leb, ltb, eqb}
-use Rattle.foundation.specs.Tests.{pick, cases, eq-true, ne-false, true-eq, false-eq, true-le, false-le, and-true, or-true-right, or-intro-left}
-use Rattle.foundation.specs.Lists.{anyb, allb, Mem}
-use Rattle.foundation.specs.declared.Interval.{Interval}
+use lib.Dec.{eqb}
+use Rattle.foundation.specs.Tests.{pick, cases, eq-true, ne-false, true-eq, false-eq, true-le, and-true}
+use Rattle.foundation.specs.Lists.{Mem}
 use Rattle.foundation.specs.Intervals.{inInterval, inInterval-true}
 use Rattle.model.specs.declared.Privilege.{Privilege}
 use Rattle.model.specs.declared.Head.{Head}
@@ -18,22 +17,27 @@ use Rattle.model.specs.declared.Request.{Request}
 use Rattle.model.specs.Ranges.{lastInstant, isInstant}
 use Rattle.model.specs.Base.{Base, emptyBase}
 use Rattle.model.specs.Support.{supported, live, rootIn, root}
-use Rattle.model.specs.Withdrawal.{authorization, keep, restrict}
-use Rattle.model.specs.Requests.{GRANT, DENY, REVOKE, REVOKEP, REVOKEN, REVOKEADM, ADDRULE, is, grants, labels, withdraws, objectsAfter, administratorsAfter, newHead, takes, leave, affects, rootAfter}
+use Rattle.model.specs.Withdrawal.{authorization, restrict}
+use Rattle.model.specs.Requests.{grants, labels, withdraws, objectsAfter, administratorsAfter, newHead, takes, leave}
+use Rattle.model.specs.Requests.{rootAfter}
 use Rattle.model.specs.Means.{plainly}
-use Rattle.model.specs.Step.{refusal, effect, step, namesInterval, badInterval}
-use Rattle.model.specs.StepFacts.{Accepted, accepted, in-range, step-accepted, step-refused}
+use Rattle.model.specs.Step.{refusal, effect}
+use Rattle.model.specs.StepFacts.{Accepted, accepted}
 use Rattle.model.specs.Encoding.{encode, decode}
 use Rattle.model.specs.EncodingFacts.{decode-encode, encode-sound, empty-sound}
 use Rattle.model.specs.Soundness.{sound, soundBytes}
-use Rattle.model.specs.SoundnessFacts.{Sound, sound-tests, tests-sound}
-use Rattle.model.specs.Answers.{Answer, request, requests}
-use Rattle.model.specs.SupportFacts.{everywhere-live}
-use Rattle.model.specs.Ledger.{Entry, entry, Ledger, emptyLedger, standing, keepEntries, settle, newEntry, enter, follow, ledger, linesOf}
-use Rattle.theorems.specs.LedgerFacts.{Framed, framed-keep, framed-append, live-lines, keep-lines, restrict-settle, keep-all, linesOf-append, linesOf-one}
-use Rattle.theorems.specs.KindsB.{is-kinds, is-apart}
-use Rattle.theorems.specs.Restriction.{restrict-all}
-use Rattle.theorems.specs.Preservation.{sound-after}
+use Rattle.model.specs.SoundnessFacts.{Sound, sound-tests}
+use Rattle.model.specs.Answers.{Answer, requests}
+use Rattle.model.specs.Ledger.{Entry, entry, Ledger, emptyLedger, standing, keepEntries, settle, newEntry, enter}
+use Rattle.model.specs.Ledger.{follow, ledger, linesOf}
+use Rattle.theorems.specs.LedgerFacts.{Framed, framed-keep, framed-append, live-lines, keep-lines}
+use Rattle.theorems.specs.LedgerFacts.{restrict-settle, keep-all, linesOf-append, linesOf-one}
+use Rattle.theorems.specs.Kinds.{grantKinds, intervalKinds, withdrawalKinds, is-kinds, is-apart}
+use Rattle.theorems.specs.SoundFacts.{all-supported}
+use Rattle.theorems.specs.Rows.{starts-first, interval-in}
+use Rattle.theorems.specs.AuthorizationsAfter.{no-takes}
+use Rattle.theorems.specs.Restriction.{withdrawn-all}
+use Rattle.theorems.specs.Preservation.{sound-after, effect-sound}
 use Rattle.theorems.specs.RequestFacts.{request-accepted, request-refused}
 
 -- the base and the ledger say the same
@@ -47,27 +51,14 @@ pub record Agrees (b : Base) (a : Ledger) : Type 0 where
 -- ---- one accepted request
 
 -- entries whose authorizations are all supported lose nothing
-settled : (b : Base) (es : List Entry) → Sound b → Framed es → b .authorizations ≡ linesOf es → settle (root b) es ≡ es
+settled : (b : Base) (es : List Entry) → Sound b → Framed es → b .authorizations ≡ linesOf es →
+    settle (root b) es ≡ es
 settled b es s f e = keep-all (λ h t. supported (root b) (standing t es) h) es
     (λ t h m. subst (λ (hs : List Head). supported (root b) hs h ≡ true) (same t)
-    (everywhere-live (b .authorizations) (λ h t. supported (root b) (live t (b .authorizations)) h) (s .support) t h
-    (subst (λ (hs : List Head). Mem h hs) (sym (same t)) m)))
+    (all-supported b s t h (subst (λ (hs : List Head). Mem h hs) (sym (same t)) m)))
   where
     same : (t : ℕ) → live t (b .authorizations) ≡ standing t es
     same t = ap (live t) e ∙ live-lines es f t
-
-not-no : (b : Bool) → not b ≡ false → b ≡ true
-not-no true e = refl
-not-no false e = absurd (true≢false e)
-
--- a kind that is not in a list is in no part of it
-not-kind : (q : Request) (ks ls : List ℕ) → allb (λ k. anyb (eqb k) ls) ks ≡ true → is q ls ≡ false → is q ks ≡ false
-not-kind q ks ls c n = cases (is q ks) (λ e. absurd (true≢false (sym (is-kinds q ks ls c e) ∙ n))) (λ e. e)
-
-pub no-takes : (q : Request) → withdraws q ≡ false → (h : Head) (t : ℕ) → takes q h t ≡ false
-no-takes q w h t =
-    let all = REVOKE ∷ REVOKEP ∷ REVOKEN ∷ REVOKEADM ∷ [] in
-    rw (not-kind q (REVOKE ∷ []) all refl w, not-kind q (REVOKEP ∷ REVOKEN ∷ []) all refl w, not-kind q (REVOKEADM ∷ []) all refl w)
 
 module _ (b : Base) (a : Ledger) (q : Request) (s : Sound b) (g : Accepted b q) (agrees : Agrees b a) where
   abbrev after : Base
@@ -81,25 +72,20 @@ module _ (b : Base) (a : Ledger) (q : Request) (s : Sound b) (g : Accepted b q) 
   taken-framed = framed-keep (λ h t. not (takes q h t)) (a .entries) (agrees .framed)
 
   roots : rootIn (objectsAfter q (a .owners)) (administratorsAfter q (a .administrators)) ≡ root after
-  roots = ap₂ (λ (x y : List Privilege). rootIn (objectsAfter q x) (administratorsAfter q y)) (sym (agrees .owners)) (sym (agrees .administrators))
+  roots = ap₂ (λ (x y : List Privilege). rootIn (objectsAfter q x) (administratorsAfter q y))
+      (sym (agrees .owners)) (sym (agrees .administrators))
 
   -- what rows 3 and 5 say of a grant's interval
   rising : grants q ≡ true → q .interval .start ≤ q .interval .end
   rising e =
-      let n : namesInterval q ≡ true = is-kinds q (GRANT ∷ DENY ∷ []) (GRANT ∷ DENY ∷ REVOKEP ∷ REVOKEN ∷ ADDRULE ∷ []) refl e in
-      let l = false-le (suc (q .interval .end)) (q .interval .start) (second n (g .interval)) in
-      omega arith
-    where
-      second : namesInterval q ≡ true → badInterval q ≡ false → ltb (q .interval .end) (q .interval .start) ≡ false
-      second n z = cases (ltb (q .interval .end) (q .interval .start)) (λ l. absurd (true≢false (sym (rw (n, l)) ∙ z))) (λ l. l)
+      true-le (q .interval .start) (q .interval .end)
+      (starts-first b q g (is-kinds q grantKinds intervalKinds refl e))
 
   fitting : grants q ≡ true → q .interval .end ≤ lastInstant
   fitting e =
-      let n : namesInterval q ≡ true = is-kinds q (GRANT ∷ DENY ∷ []) (GRANT ∷ DENY ∷ REVOKEP ∷ REVOKEN ∷ ADDRULE ∷ []) refl e in
-      let x = in-range q (g .range) (namesInterval q && not (isInstant (q .interval .start) && isInstant (q .interval .end)))
-      (inr (inr (inr (inr (inr (inr (inl refl))))))) in
-      let y : isInstant (q .interval .start) && isInstant (q .interval .end) ≡ true = not-no _ (rw n at x) in
-      true-le (q .interval .end) lastInstant (and-true (isInstant (q .interval .start)) (isInstant (q .interval .end)) y .1)
+      true-le (q .interval .end) lastInstant
+      (and-true (isInstant (q .interval .start)) (isInstant (q .interval .end))
+      (interval-in b q g (is-kinds q grantKinds intervalKinds refl e)) .1)
 
   new-framed : Framed (newEntry a q)
   new-framed = cases (grants q)
@@ -113,9 +99,12 @@ module _ (b : Base) (a : Ledger) (q : Request) (s : Sound b) (g : Accepted b q) 
   -- then the authorizations are those of the entries with the new one,
   new-lines : withdraws q ≡ false → after .authorizations ≡ linesOf (a .entries ++ newEntry a q)
   new-lines w = cases (grants q)
-      (λ e. rw e (ap₂ (λ (xs : List Authorization) (n : ℕ). xs ++ (authorization (newHead (suc n) q) (q .interval) ∷ [])) (agrees .lines) (agrees .last)
+      (λ e. rw e (
+      ap₂ (λ (xs : List Authorization) (n : ℕ). xs ++ (authorization (newHead (suc n) q) (q .interval) ∷ []))
+      (agrees .lines) (agrees .last)
       ∙ sym (linesOf-append (a .entries) (entry (newHead (suc (a .last)) q) (inInterval (q .interval)) ∷ [])
-      ∙ ap (λ (xs : List Authorization). linesOf (a .entries) ++ xs) (linesOf-one (newHead (suc (a .last)) q) (q .interval) (rising e) (fitting e)))))
+      ∙ ap (λ (xs : List Authorization). linesOf (a .entries) ++ xs)
+      (linesOf-one (newHead (suc (a .last)) q) (q .interval) (rising e) (fitting e)))))
       (λ e. rw (e, w) (agrees .lines ∙ ap linesOf (sym (append-nil (a .entries)))))
 
   -- and all of them are supported
@@ -130,12 +119,13 @@ module _ (b : Base) (a : Ledger) (q : Request) (s : Sound b) (g : Accepted b q) 
   withdrawn : withdraws q ≡ true → after .authorizations ≡ linesOf (settle (root after) (taken ++ newEntry a q))
   unfolding leave
   withdrawn w =
-      let e = is-apart q (REVOKE ∷ REVOKEP ∷ REVOKEN ∷ REVOKEADM ∷ []) (GRANT ∷ DENY ∷ []) refl w in
-      rw (e, w) (restrict-all b q s w
+      let none : newEntry a q ≡ [] = rw (is-apart q withdrawalKinds grantKinds refl w) in
+      withdrawn-all b q s w
       ∙ ap (λ (xs : List Authorization). restrict (rootAfter b q) (λ h. true) xs)
       (ap (leave q) (agrees .lines) ∙ keep-lines (λ h t. not (takes q h t)) (a .entries))
       ∙ restrict-settle (rootAfter b q) taken taken-framed
-      ∙ ap (λ (xs : List Entry). linesOf (settle (rootAfter b q) xs)) (sym (append-nil taken)))
+      ∙ ap (λ (xs : List Entry). linesOf (settle (rootAfter b q) xs))
+      (sym (append-nil taken) ∙ ap (λ (xs : List Entry). taken ++ xs) (sym none))
 
   after-lines : after .authorizations ≡ linesOf (settle (root after) (taken ++ newEntry a q))
   after-lines = cases (withdraws q) withdrawn quiet
@@ -172,12 +162,13 @@ pub demand3-from : (qs : List Request) (b : Base) (a : Ledger) → sound b ≡ t
 demand3-from [] b a s g = record { base = b; encoded = refl; sound-base = s; agrees = g }
 demand3-from (q ∷ qs) b a s g = cases (eqb (refusal plainly b q) 0)
     (λ e. let z = true-eq (refusal plainly b q) 0 e in
-    let k = accepted b q z in
-    let t = sound-tests b s in
-    subst₂ Left (ap (λ (x : Answer). requests qs (x .lent)) (sym (request-accepted b q s z))) (sym (follow-accepted q qs b a z))
-    (demand3-from qs (effect plainly b q) (enter a q) (tests-sound (effect plainly b q) (sound-after b q t k)) (agrees-after b a q t k g)))
+    subst₂ Left (ap (λ (x : Answer). requests qs (x .lent)) (sym (request-accepted b q s z)))
+    (sym (follow-accepted q qs b a z))
+    (demand3-from qs (effect plainly b q) (enter a q) (effect-sound b q s z)
+    (agrees-after b a q (sound-tests b s) (accepted b q z) g)))
     (λ e. let n = false-eq (refusal plainly b q) 0 e in
-    subst₂ Left (ap (λ (x : Answer). requests qs (x .lent)) (sym (request-refused b q s n))) (sym (follow-refused q qs b a n))
+    subst₂ Left (ap (λ (x : Answer). requests qs (x .lent)) (sym (request-refused b q s n)))
+    (sym (follow-refused q qs b a n))
     (demand3-from qs b a s g))
 
 empty-agrees : Agrees emptyBase emptyLedger

@@ -1,23 +1,25 @@
 -- What keeping some instants of authorizations leaves: the heads that still cover an instant (`live-keep`), pieces of
 -- the authorizations that were there (`pieces-of`), in order and apart (`keep-sorted`).
 use mathlib.Core.Path.{_≡_, refl, sym, ap, ap₂, _∙_}
-use mathlib.Core.Logic.{_⊎_, inl, inr}
+use mathlib.Core.Logic.{_⊎_, inl, inr, ⊎-elim}
 use Prim.Native.Nat.{ℕ, suc, _≤_, _<_}
 use native.Mathlib.Omega.{arith}
-use mathlib.Core.Bool.{Bool, true, false, not, _&&_, _||_, false≢true, Bool·beq}
+use mathlib.Core.Bool.{Bool, true, not, _&&_, _||_, Bool·beq}
 use mathlib.Core.List.{List, [], _∷_, _++_}
 use lib.Dec.{ltb, eqb}
-use Rattle.foundation.specs.Tests.{pick, cases, le-true, true-le, true-eq, eq-true, ne-false, and-true, and-intro, or-true-right, or-cases}
-use Rattle.foundation.specs.Lists.{keepIf, Mem, append-mem}
+use Rattle.foundation.specs.Tests.{pick, cases, le-true, true-le, true-eq, eq-true, ne-false, and-true, and-intro}
+use Rattle.foundation.specs.Tests.{or-true-right, or-cases, implied, beq-eq, beq-self}
+use Rattle.foundation.specs.Lists.{keepIf, Mem, append-mem, conjunct}
 use Rattle.foundation.specs.declared.Interval.{Interval}
-use Rattle.foundation.specs.Intervals.{interval, inInterval, inInterval-true, covered, Separate, head-in, none-below, maximal, maximal-separate, maximal-covered, maximal-unique}
+use Rattle.foundation.specs.Intervals.{interval, inInterval, inInterval-true, covered, Separate, head-in, none-below}
+use Rattle.foundation.specs.Intervals.{maximal, maximal-separate, maximal-covered, maximal-unique}
 use Rattle.model.specs.declared.Head.{Head}
 use Rattle.model.specs.declared.Authorization.{Authorization}
 use Rattle.model.specs.Support.{live}
 use Rattle.model.specs.SupportFacts.{live-append}
 use Rattle.model.specs.Withdrawal.{authorization, pieces, keep}
-use Rattle.model.specs.Soundness.{chained, rises, sameHead}
-use Rattle.theorems.specs.KindsB.{joined-each}
+use Rattle.model.specs.Soundness.{rises, sameHead}
+use Rattle.theorems.specs.Chained.{Pairwise, pairwise-append}
 
 -- the intervals of an authorization's instants that p keeps
 abbrev pub intervalsOf : (Head → ℕ → Bool) → Authorization → List Interval
@@ -97,75 +99,12 @@ pub pieces-of : (p : Head → ℕ → Bool) (xs : List Authorization) (x : Autho
     (a : Authorization) × Mem a xs × Piece x a
 unfolding keep
 pieces-of p [] x m = absurd (m .lower)
-pieces-of p (a ∷ xs) x m =
-    either (append-mem x (pieces (a .head) (intervalsOf p a)) (keep p xs) m) (λ n. pieces-of p xs x n)
-  where
-    either : Mem x (pieces (a .head) (intervalsOf p a)) ⊎ Mem x (keep p xs) →
-        (Mem x (keep p xs) → (c : Authorization) × Mem c xs × Piece x c) →
-        (c : Authorization) × Mem c (a ∷ xs) × Piece x c
-    either (inl n) f = (a, inl refl, piece-of p a x n)
-    either (inr n) f = let w = f n in (w .0, inr (w .1), w .2)
-
--- ---- tests of neighbours
-
--- each element stands so to all that follow
-abbrev pub Pairwise : {A : Type 0} → (A → A → Type 0) → List A → Type 0
-Pairwise R [] = Unit {0}
-Pairwise {A = A} R (x ∷ xs) = ((y : A) → Mem y xs → R x y) × Pairwise R xs
-
-pub pairwise-append : {A : Type 0} (R : A → A → Type 0) (xs ys : List A) → Pairwise R xs → Pairwise R ys →
-    ((x y : A) → Mem x xs → Mem y ys → R x y) → Pairwise R (xs ++ ys)
-pairwise-append R [] ys a c h = c
-pairwise-append {A = A} R (x ∷ xs) ys a c h =
-    ((λ y m. either y (append-mem y xs ys m)), pairwise-append R xs ys (a .1) c (λ u v m n. h u v (inr m) n))
-  where
-    either : (y : A) → Mem y xs ⊎ Mem y ys → R x y
-    either y (inl m) = a .0 y m
-    either y (inr m) = h x y (inl refl) m
-
--- neighbours that stand so, by a transitive relation
-pub chained-pairwise : {A : Type 0} (R : A → A → Type 0) (p : A → A → Bool) →
-    ((x y z : A) → R x y → R y z → R x z) → (xs : List A) →
-    ((x y : A) → Mem x xs → Mem y xs → p x y ≡ true → R x y) → chained p xs ≡ true → Pairwise R xs
-chained-pairwise R p tr [] h e = tt
-chained-pairwise R p tr (x ∷ []) h e = ((λ y m. absurd (m .lower)), tt)
-chained-pairwise {A = A} R p tr (x ∷ y ∷ zs) h e =
-    let w = and-true (p x y) (chained p (y ∷ zs)) e in
-    let r = chained-pairwise R p tr (y ∷ zs) (λ u v m n. h u v (inr m) (inr n)) (w .1) in
-    (all (h x y (inl refl) (inr (inl refl)) (w .0)) (r .0), r)
-  where
-    all : R x y → ((z : A) → Mem z zs → R y z) → (z : A) → Mem z (y ∷ zs) → R x z
-    all r k z (inl q) = rw q r
-    all r k z (inr m) = tr x y z r (k z m)
-
-pub pairwise-chained : {A : Type 0} (R : A → A → Type 0) (p : A → A → Bool) →
-    ((x y : A) → R x y → p x y ≡ true) → (xs : List A) → Pairwise R xs → chained p xs ≡ true
-pairwise-chained R p h [] a = refl
-pairwise-chained R p h (x ∷ []) a = refl
-pairwise-chained R p h (x ∷ y ∷ zs) a =
-    and-intro (p x y) (chained p (y ∷ zs)) (h x y (a .0 y (inl refl))) (pairwise-chained R p h (y ∷ zs) (a .1))
-
-pub chained-both : {A : Type 0} (p q : A → A → Bool) (xs : List A) → chained p xs ≡ true → chained q xs ≡ true →
-    chained (λ x y. p x y && q x y) xs ≡ true
-chained-both p q [] e f = refl
-chained-both p q (x ∷ []) e f = refl
-chained-both p q (x ∷ y ∷ zs) e f =
-    let u = and-true (p x y) (chained p (y ∷ zs)) e in
-    let v = and-true (q x y) (chained q (y ∷ zs)) f in
-    and-intro (p x y && q x y) (chained (λ x y. p x y && q x y) (y ∷ zs)) (and-intro (p x y) (q x y) (u .0) (v .0))
-    (chained-both p q (y ∷ zs) (u .1) (v .1))
+pieces-of p (a ∷ xs) x m = ⊎-elim
+    (λ n. (a, inl refl, piece-of p a x n))
+    (λ n. let w = pieces-of p xs x n in (w .0, inr (w .1), w .2))
+    (append-mem x (pieces (a .head) (intervalsOf p a)) (keep p xs) m)
 
 -- ---- heads that are the same
-
-beq-eq : (a b : Bool) → Bool·beq a b ≡ true → a ≡ b
-beq-eq true true e = refl
-beq-eq true false e = absurd (false≢true e)
-beq-eq false true e = absurd (false≢true e)
-beq-eq false false e = refl
-
-beq-self : (a : Bool) → Bool·beq a a ≡ true
-beq-self true = refl
-beq-self false = refl
 
 -- the tests of `sameHead`
 abbrev sameTests : Head → Head → List Bool
@@ -182,7 +121,7 @@ sameTests h k =
 
 pub sameHead-eq : (h k : Head) → sameHead h k ≡ true → h ≡ k
 sameHead-eq h k e =
-    let t = joined-each (sameTests h k) e in
+    let t = conjunct (sameTests h k) e in
     λ i. record {
       label = true-eq (h .label) (k .label) (t _ (inl refl)) i;
       grantor = true-eq (h .grantor) (k .grantor) (t _ (inr (inl refl))) i;
@@ -232,10 +171,6 @@ precedes-trans a c d (inl p) (inl q) = inl (omega arith)
 precedes-trans a c d (inl p) (inr q) = inl (omega (arith, label-eq c d (q .0)))
 precedes-trans a c d (inr p) (inl q) = inl (omega (arith, label-eq a c (p .0)))
 precedes-trans a c d (inr p) (inr q) = inr (p .0 ∙ q .0, p .1, omega (arith, p .2, q .1, q .2))
-
-implied : (a b : Bool) → a ≡ true → not a || b ≡ true → b ≡ true
-implied true b p e = e
-implied false b p e = absurd (false≢true p)
 
 -- the two tests of 01 say that
 pub tests-precedes : (a c : Authorization) → a .interval .start ≤ a .interval .end → rises a c && apart a c ≡ true →

@@ -4,18 +4,36 @@ use mathlib.Core.Bool.{Bool, true, false, not}
 use mathlib.Core.List.{List, [], _∷_}
 use Prim.Native.Nat.{ℕ}
 use lib.Dec.{eqb}
-use Rattle.foundation.specs.Tests.{true-eq, or-false}
+use Rattle.foundation.specs.Tests.{must-fail, true-eq, not-true, or-false}
 use Rattle.foundation.specs.Lists.{anyb, allb, any-mem, all-mem}
 use Rattle.model.specs.declared.Request.{Request}
-use Rattle.model.specs.Requests.{NEW, GRANT, DENY, REVOKEP, REVOKEN, GRANTADM, REVOKEADM, GRANTREF, REVOKEREF, is}
-use Rattle.theorems.specs.ListFacts.{not-true, fails}
+use Rattle.model.specs.Requests.{NEW, GRANT, DENY, REVOKE, REVOKEP, REVOKEN, ADDRULE, GRANTADM, REVOKEADM, GRANTREF}
+use Rattle.model.specs.Requests.{REVOKEREF, is}
 
--- the kinds that name an object and a subject, as in Step
+-- ---- the kinds of `grants`, `labels` and `withdraws` in Requests
+
+abbrev pub grantKinds : List ℕ
+grantKinds = GRANT ∷ DENY ∷ []
+
+abbrev pub labelKinds : List ℕ
+labelKinds = GRANT ∷ DENY ∷ ADDRULE ∷ []
+
+abbrev pub withdrawalKinds : List ℕ
+withdrawalKinds = REVOKE ∷ REVOKEP ∷ REVOKEN ∷ REVOKEADM ∷ []
+
+-- ---- the kinds that name an object, a subject, a mode, an interval, as in Step
+
 abbrev pub objectKinds : List ℕ
 objectKinds = NEW ∷ GRANT ∷ DENY ∷ REVOKEP ∷ REVOKEN ∷ GRANTADM ∷ REVOKEADM ∷ GRANTREF ∷ REVOKEREF ∷ []
 
 abbrev pub subjectKinds : List ℕ
 subjectKinds = GRANT ∷ DENY ∷ REVOKEP ∷ REVOKEN ∷ GRANTADM ∷ REVOKEADM ∷ GRANTREF ∷ REVOKEREF ∷ []
+
+abbrev pub modeKinds : List ℕ
+modeKinds = GRANT ∷ DENY ∷ REVOKEP ∷ REVOKEN ∷ []
+
+abbrev pub intervalKinds : List ℕ
+intervalKinds = GRANT ∷ DENY ∷ REVOKEP ∷ REVOKEN ∷ ADDRULE ∷ []
 
 module _ (q : Request) where
   -- the kind itself: `rw` by it computes every test of the kind
@@ -29,14 +47,13 @@ module _ (q : Request) where
       ap p (true-eq (q .kind) (w .0) (w .2)) ∙ all-mem p ks h (w .0) (w .1)
 
   -- each of the kinds ks is one of ls; on lists of numerals the test is `refl`
-  pub is-kinds : (ks ls : List ℕ) → allb (λ k. anyb (λ l. eqb k l) ls) ks ≡ true → is q ks ≡ true → is q ls ≡ true
-  is-kinds ks ls = kind-all (λ k. anyb (λ l. eqb k l) ls) ks
+  pub is-kinds : (ks ls : List ℕ) → allb (λ k. anyb (eqb k) ls) ks ≡ true → is q ks ≡ true → is q ls ≡ true
+  is-kinds ks ls = kind-all (λ k. anyb (eqb k) ls) ks
 
   -- none of the kinds ks is one of ls
-  pub is-apart : (ks ls : List ℕ) → allb (λ k. not (anyb (λ l. eqb k l) ls)) ks ≡ true → is q ks ≡ true →
-      is q ls ≡ false
-  is-apart ks ls h e = not-true (is q ls) (kind-all (λ k. not (anyb (λ l. eqb k l) ls)) ks h e)
+  pub is-apart : (ks ls : List ℕ) → allb (λ k. not (anyb (eqb k) ls)) ks ≡ true → is q ks ≡ true → is q ls ≡ false
+  is-apart ks ls h e = not-true (is q ls) (kind-all (λ k. not (anyb (eqb k) ls)) ks h e)
 
   -- each of the kinds ks is one of ls, and the request's is not
-  pub is-none : (ks ls : List ℕ) → allb (λ k. anyb (λ l. eqb k l) ls) ks ≡ true → is q ls ≡ false → is q ks ≡ false
-  is-none ks ls h e = fails (is q ls) (is q ks) e (is-kinds ks ls h)
+  pub not-kind : (ks ls : List ℕ) → allb (λ k. anyb (eqb k) ls) ks ≡ true → is q ls ≡ false → is q ks ≡ false
+  not-kind ks ls h e = must-fail (is q ls) (is q ks) e (is-kinds ks ls h)

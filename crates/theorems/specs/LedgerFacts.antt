@@ -1,15 +1,16 @@
 -- The ledger's entries and the authorizations that are their maximal intervals: the same instants, kept alike.
-use mathlib.Core.Path.{_≡_, refl, sym, ap, ap₂, _∙_, fun-ext, subst}
-use mathlib.Core.Logic.{_⊎_, inl, inr}
-use Prim.Native.Nat.{ℕ, zero, suc, _≤_, _<_}
+use mathlib.Core.Path.{_≡_, refl, sym, ap, ap₂, _∙_, fun-ext}
+use mathlib.Core.Logic.{inl, inr}
+use Prim.Native.Nat.{ℕ, suc, _≤_}
 use native.Mathlib.Omega.{arith}
-use mathlib.Core.Bool.{Bool, true, false, not, _&&_, _||_}
-use mathlib.Core.List.{List, [], _∷_, _++_, map, append-assoc}
-use lib.Dec.{leb, ltb, eqb}
-use Rattle.foundation.specs.Tests.{pick, cases, and-true, or-true-right, or-intro-left, or-false}
-use Rattle.foundation.specs.Lists.{Mem, mem-left, append-mem}
+use mathlib.Core.Bool.{Bool, true, _&&_, _||_}
+use mathlib.Core.List.{List, [], _∷_, _++_, append-assoc, map-append}
+use Rattle.foundation.specs.Tests.{cases, and-true, and-false, and-assoc, or-true-right, or-intro-left, or-false}
+use Rattle.foundation.specs.Tests.{or-and}
+use Rattle.foundation.specs.Lists.{Mem}
 use Rattle.foundation.specs.declared.Interval.{Interval}
-use Rattle.foundation.specs.Intervals.{interval, inInterval, inInterval-in, inInterval-true, covered, Separate, separate-weaken, maximal, maximal-separate, maximal-covered, maximal-unique}
+use Rattle.foundation.specs.Intervals.{interval, inInterval, inInterval-in, inInterval-true, covered, Separate}
+use Rattle.foundation.specs.Intervals.{separate-weaken, maximal, maximal-separate, maximal-covered, maximal-unique}
 use Rattle.model.specs.declared.Head.{Head}
 use Rattle.model.specs.declared.Authorization.{Authorization}
 use Rattle.model.specs.Ranges.{lastInstant}
@@ -34,20 +35,12 @@ framed-append (x ∷ xs) ys f g = (f .0, framed-append xs ys (f .1) g)
 
 -- ---- what stands at t, by authorizations and by entries
 
-and-no : (b : Bool) → b && false ≡ false
-and-no true = refl
-and-no false = refl
-
-and-assoc : (a b c : Bool) → a && b && c ≡ a && (b && c)
-and-assoc true b c = refl
-and-assoc false b c = refl
-
 -- within the frame, the frame asks nothing
 pub in-frame : (f : ℕ → Bool) → ((t : ℕ) → f t ≡ true → t ≤ lastInstant) → (t : ℕ) →
     inInterval (interval 0 lastInstant) t && f t ≡ f t
 in-frame f h t = cases (f t)
     (λ e. rw (e, inInterval-in (interval 0 lastInstant) t (omega arith) (h t e)))
-    (λ e. rw e (and-no (inInterval (interval 0 lastInstant) t)))
+    (λ e. rw e (and-false (inInterval (interval 0 lastInstant) t)))
 
 pub live-lines : (es : List Entry) → Framed es → (t : ℕ) → live t (linesOf es) ≡ standing t es
 unfolding linesOf
@@ -70,8 +63,13 @@ separate-append : (xs ys : List Interval) (k b : ℕ) → Separate k xs → ((t 
     k ≤ suc (suc b) → Separate (suc (suc b)) ys → Separate k (xs ++ ys)
 separate-append [] ys k b a h l c = separate-weaken ys k (suc (suc b)) l c
 separate-append (x ∷ xs) ys k b a h l c =
-    let u : x .end ≤ b = h (x .end) (or-intro-left (inInterval x (x .end)) (covered xs (x .end)) (inInterval-in x (x .end) (a .1) (omega arith))) in
-    (a .0, a .1, separate-append xs ys (suc (suc (x .end))) b (a .2) (λ t e. h t (or-true-right (inInterval x t) (covered xs t) e)) (omega arith) c)
+    let u : x .end ≤ b = h (x .end)
+    (or-intro-left (inInterval x (x .end)) (covered xs (x .end)) (inInterval-in x (x .end) (a .1) (omega arith))) in (
+      a .0,
+      a .1,
+      separate-append xs ys (suc (suc (x .end))) b (a .2)
+          (λ t e. h t (or-true-right (inInterval x t) (covered xs t) e)) (omega arith) c,
+    )
 
 covered-append : (xs ys : List Interval) (t : ℕ) → covered (xs ++ ys) t ≡ covered xs t || covered ys t
 covered-append [] ys t = refl
@@ -86,21 +84,18 @@ refine-separate : (p : ℕ → Bool) (is : List Interval) (k : ℕ) → Separate
 refine-separate p [] k a = tt
 refine-separate p (i ∷ is) k a =
     separate-weaken (maximal (i .start) (i .end) p ++ refine p is) k (i .start) (a .0)
-    (separate-append (maximal (i .start) (i .end) p) (refine p is) (i .start) (i .end) (maximal-separate (i .start) (i .end) p)
-    (λ t e. inInterval-true i t (and-true (inInterval i t) (p t) (sym (maximal-covered (i .start) (i .end) p t) ∙ e) .0) .1)
+    (separate-append (maximal (i .start) (i .end) p) (refine p is) (i .start) (i .end)
+    (maximal-separate (i .start) (i .end) p)
+    (λ t e. inInterval-true i t
+    (and-true (inInterval i t) (p t) (sym (maximal-covered (i .start) (i .end) p t) ∙ e) .0) .1)
     (omega (arith, a .1)) (refine-separate p is (suc (suc (i .end))) (a .2)))
 
 refine-covered : (p : ℕ → Bool) (is : List Interval) (t : ℕ) → covered (refine p is) t ≡ covered is t && p t
 refine-covered p [] t = refl
 refine-covered p (i ∷ is) t =
     covered-append (maximal (i .start) (i .end) p) (refine p is) t
-    ∙ rw (maximal-covered (i .start) (i .end) p t, refine-covered p is t) (both (inInterval i t) (covered is t) (p t))
-  where
-    both : (a b c : Bool) → (a && c) || (b && c) ≡ (a || b) && c
-    both true b true = refl
-    both true true false = refl
-    both true false false = refl
-    both false b c = refl
+    ∙ rw (maximal-covered (i .start) (i .end) p t, refine-covered p is t)
+    (or-and (inInterval i t) (covered is t) (p t))
 
 refine-maximal : (f p : ℕ → Bool) → refine p (maximal 0 lastInstant f) ≡ maximal 0 lastInstant (λ t. f t && p t)
 refine-maximal f p =
@@ -109,23 +104,21 @@ refine-maximal f p =
     (λ t. refine-covered p (maximal 0 lastInstant f) t
     ∙ rw (maximal-covered 0 lastInstant f t) (and-assoc (inInterval (interval 0 lastInstant) t) (f t) (p t)))
 
-pieces-append : (h : Head) (xs ys : List Interval) → pieces h (xs ++ ys) ≡ pieces h xs ++ pieces h ys
-pieces-append h [] ys = refl
-pieces-append h (x ∷ xs) ys = ap {B = List Authorization} (λ (l : List Authorization). authorization h x ∷ l) (pieces-append h xs ys)
-
 keep-append : (p : Head → ℕ → Bool) (xs ys : List Authorization) → keep p (xs ++ ys) ≡ keep p xs ++ keep p ys
 unfolding keep
 keep-append p [] ys = refl
 keep-append p (x ∷ xs) ys =
     let front = pieces (x .head) (maximal (x .interval .start) (x .interval .end) (p (x .head))) in
-    ap (λ (l : List Authorization). front ++ l) (keep-append p xs ys) ∙ sym (append-assoc front (keep p xs) (keep p ys))
+    ap (λ (l : List Authorization). front ++ l) (keep-append p xs ys)
+    ∙ sym (append-assoc front (keep p xs) (keep p ys))
 
-keep-pieces : (p : Head → ℕ → Bool) (h : Head) (is : List Interval) → keep p (pieces h is) ≡ pieces h (refine (p h) is)
+keep-pieces : (p : Head → ℕ → Bool) (h : Head) (is : List Interval) →
+    keep p (pieces h is) ≡ pieces h (refine (p h) is)
 unfolding keep
 keep-pieces p h [] = refl
 keep-pieces p h (i ∷ is) =
     ap (λ (l : List Authorization). pieces h (maximal (i .start) (i .end) (p h)) ++ l) (keep-pieces p h is)
-    ∙ sym (pieces-append h (maximal (i .start) (i .end) (p h)) (refine (p h) is))
+    ∙ sym (map-append (authorization h) (maximal (i .start) (i .end) (p h)) (refine (p h) is))
 
 -- what is kept of the authorizations is what is kept of the entries
 pub keep-lines : (p : Head → ℕ → Bool) (es : List Entry) → keep p (linesOf es) ≡ linesOf (keepEntries p es)
@@ -134,7 +127,8 @@ keep-lines p [] = refl
 keep-lines p (e ∷ es) =
     keep-append p (pieces (e .head) (maximal 0 lastInstant (e .at))) (linesOf es)
     ∙ ap₂ (λ (a b : List Authorization). a ++ b)
-    (keep-pieces p (e .head) (maximal 0 lastInstant (e .at)) ∙ ap (λ (is : List Interval). pieces (e .head) is) (refine-maximal (e .at) (p (e .head))))
+    (keep-pieces p (e .head) (maximal 0 lastInstant (e .at))
+    ∙ ap (λ (is : List Interval). pieces (e .head) is) (refine-maximal (e .at) (p (e .head))))
     (keep-lines p es)
 
 -- restricting the authorizations is settling the entries
@@ -142,7 +136,8 @@ pub restrict-settle : (root : Head → Bool) (es : List Entry) → Framed es →
     restrict root (λ h. true) (linesOf es) ≡ linesOf (settle root es)
 unfolding restrict
 restrict-settle root es f =
-    ap (λ (p : Head → ℕ → Bool). keep p (linesOf es)) (fun-ext (λ h. fun-ext (λ t. ap (λ (hs : List Head). supported root hs h) (live-lines es f t))))
+    ap (λ (p : Head → ℕ → Bool). keep p (linesOf es))
+    (fun-ext (λ h. fun-ext (λ t. ap (λ (hs : List Head). supported root hs h) (live-lines es f t))))
     ∙ keep-lines (λ h t. supported root (standing t es) h) es
 
 -- ---- nothing is lost where all is kept
@@ -171,12 +166,15 @@ unfolding linesOf
 linesOf-append [] ys = refl
 linesOf-append (x ∷ xs) ys =
     let front = pieces (x .head) (maximal 0 lastInstant (x .at)) in
-    ap (λ (l : List Authorization). front ++ l) (linesOf-append xs ys) ∙ sym (append-assoc front (linesOf xs) (linesOf ys))
+    ap (λ (l : List Authorization). front ++ l) (linesOf-append xs ys)
+    ∙ sym (append-assoc front (linesOf xs) (linesOf ys))
 
 -- an interval's entry is one authorization
 pub linesOf-one : (h : Head) (i : Interval) → i .start ≤ i .end → i .end ≤ lastInstant →
     linesOf (entry h (inInterval i) ∷ []) ≡ authorization h i ∷ []
 unfolding linesOf
 linesOf-one h i up fit =
-    ap (λ (is : List Interval). pieces h is ++ []) (sym (maximal-unique 0 lastInstant (inInterval i) 0 (i ∷ []) (omega arith, up, tt)
-    (λ t. or-false (inInterval i t) ∙ sym (in-frame (inInterval i) (λ u e. let w = inInterval-true i u e in omega arith) t))))
+    ap (λ (is : List Interval). pieces h is ++ [])
+    (sym (maximal-unique 0 lastInstant (inInterval i) 0 (i ∷ []) (omega arith, up, tt)
+    (λ t. or-false (inInterval i t)
+    ∙ sym (in-frame (inInterval i) (λ u e. let w = inInterval-true i u e in omega arith) t))))

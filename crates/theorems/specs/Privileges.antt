@@ -1,39 +1,19 @@
 -- Lists of privileges: one put in its place or left out, what becomes of the others, and their order.
 use mathlib.Core.Path.{_≡_, refl, sym, ap, ap₂, _∙_}
-use mathlib.Core.Logic.{_⊎_, inl, inr}
+use mathlib.Core.Logic.{_⊎_, inl, inr, ⊎-elim}
 use mathlib.Core.Bool.{Bool, true, false, not, _&&_}
 use mathlib.Core.List.{List, [], _∷_}
 use Prim.Native.Nat.{ℕ, suc, _≤_, _<_}
 use native.Mathlib.Omega.{arith}
 use lib.Dec.{ltb, eqb}
-use Rattle.foundation.specs.Tests.{
-  pick,
-  cases,
-  and-true,
-  and-intro,
-  or-cases,
-  or-intro-left,
-  or-true-right,
-  true-le,
-  le-true,
-  false-le,
-  true-eq,
-  eq-true,
-  false-eq,
-}
-use Rattle.foundation.specs.Lists.{allb, Mem, any-mem, mem-any, mem-all, kept, keepIf-mem}
+use Rattle.foundation.specs.Tests.{pick, cases, and-true, and-intro, or-cases, or-intro-left, or-true-right, or-none}
+use Rattle.foundation.specs.Tests.{true-le, le-true, false-le, true-eq, eq-true, false-eq}
+use Rattle.foundation.specs.Lists.{allb, Mem, any-mem, mem-any, any-false, mem-all, kept, keepIf-mem}
 use Rattle.model.specs.declared.Privilege.{Privilege}
 use Rattle.model.specs.Base.{privilege, isPrivilege, listed}
 use Rattle.model.specs.Requests.{before, insert, without}
 use Rattle.model.specs.Soundness.{chained}
-use Rattle.theorems.specs.ListFacts.{
-  or-none,
-  any-false,
-  chained-tail,
-  chained-cons,
-  chained-first,
-  chained-keep,
-}
+use Rattle.theorems.specs.Chained.{Pairwise, Passing, chained-all, all-chained, chained-keep}
 
 -- ---- a privilege put in
 
@@ -48,15 +28,10 @@ insert-mem p [] x (inl e) = inl e
 insert-mem p [] x (inr m) = absurd (m .lower)
 insert-mem p (y ∷ ps) x m = cases (before p y)
     (λ h. rw h at m)
-    (λ h. either (insert-mem p ps x) (rw h at m))
-  where
-    either : (Mem x (insert p ps) → (x ≡ p) ⊎ Mem x ps) → (x ≡ y) ⊎ Mem x (insert p ps) → (x ≡ p) ⊎ Mem x (y ∷ ps)
-    either i (inl e) = inr (inl e)
-    either i (inr k) = past (i k)
-      where
-        past : (x ≡ p) ⊎ Mem x ps → (x ≡ p) ⊎ Mem x (y ∷ ps)
-        past (inl e) = inl e
-        past (inr n) = inr (inr n)
+    (λ h. let n : (x ≡ y) ⊎ Mem x (insert p ps) = rw h at m in ⊎-elim
+    (λ e. inr (inl e))
+    (λ k. ⊎-elim (λ e. inl e) (λ l. inr (inr l)) (insert-mem p ps x k))
+    n)
 
 -- ---- the order of privileges
 
@@ -110,21 +85,19 @@ before-other p x e n = cases (eqb (x .object) (p .object))
     (λ a. before-object x p (omega (arith, false-eq (x .object) (p .object) a, before-not p x e)))
 
 -- a privilege put in among those that stand in order with it
-insert-chained : (r : Privilege → Privilege → Bool) →
-    ((x y z : Privilege) → r x y ≡ true → r y z ≡ true → r x z ≡ true) →
-    (p : Privilege) (ps : List Privilege) →
-    ((x : Privilege) → Mem x ps → before p x ≡ true → r p x ≡ true) →
-    ((x : Privilege) → Mem x ps → before p x ≡ false → r x p ≡ true) →
-    chained r ps ≡ true → chained r (insert p ps) ≡ true
-insert-chained r trans p [] up down e = refl
-insert-chained r trans p (y ∷ ps) up down e = cases (before p y)
-    (λ h. rw h (and-intro (r p y) (chained r (y ∷ ps)) (up y (inl refl) h) e))
-    (λ h. rw h (chained-cons r y (insert p ps) (λ x m. either h x (insert-mem p ps x m))
-    (insert-chained r trans p ps (λ x m. up x (inr m)) (λ x m. down x (inr m)) (chained-tail r y ps e))))
-  where
-    either : before p y ≡ false → (x : Privilege) → (x ≡ p) ⊎ Mem x ps → r y x ≡ true
-    either h x (inl q) = ap (r y) q ∙ down y (inl refl) h
-    either h x (inr m) = chained-first r trans y ps e x m
+insert-all : (R : Privilege → Privilege → Type 0) (p : Privilege) (ps : List Privilege) →
+    ((x y z : Privilege) → R x y → R y z → R x z) →
+    ((x : Privilege) → Mem x ps → before p x ≡ true → R p x) →
+    ((x : Privilege) → Mem x ps → before p x ≡ false → R x p) →
+    Pairwise R ps → Pairwise R (insert p ps)
+insert-all R p [] trans up down a = ((λ x m. absurd (m .lower)), tt)
+insert-all R p (y ∷ ps) trans up down a = cases (before p y)
+    (λ h. let r = up y (inl refl) h in
+    rw h ((λ x. ⊎-elim (λ e. rw e r) (λ m. trans p y x r (a .0 x m))), a))
+    (λ h. rw h (
+      (λ x m. ⊎-elim (λ e. rw e (down y (inl refl) h)) (λ n. a .0 x n) (insert-mem p ps x m)),
+      insert-all R p ps trans (λ x m. up x (inr m)) (λ x m. down x (inr m)) (a .1),
+    ))
 
 -- the only privilege that passes the test
 pub the-privilege : (o s : ℕ) (x : Privilege) → isPrivilege o s x ≡ true → x ≡ privilege o s
@@ -148,7 +121,8 @@ module _ (given withdrawn : Bool) (o s : ℕ) (ps : List Privilege) where
       (given ≡ true → (x : Privilege) → Mem x ps → before (privilege o s) x ≡ false → r x (privilege o s) ≡ true) →
       chained r ps ≡ true → chained r now ≡ true
   changed-order r trans up down e = cases given
-      (λ k. rw k (insert-chained r trans (privilege o s) ps (up k) (down k) e))
+      (λ k. rw k (all-chained r (insert (privilege o s) ps)
+      (insert-all (Passing r) (privilege o s) ps trans (up k) (down k) (chained-all r trans ps e))))
       (λ k. cases withdrawn
       (λ l. rw (k, l) (chained-keep r trans (λ p. not (isPrivilege o s p)) ps e))
       (λ l. rw (k, l) e))
@@ -156,22 +130,15 @@ module _ (given withdrawn : Bool) (o s : ℕ) (ps : List Privilege) where
   -- each is that of s on o, or was there
   pub changed-mem : (x : Privilege) → Mem x now → ((given ≡ true) × (x ≡ privilege o s)) ⊎ Mem x ps
   changed-mem x m = cases given
-      (λ k. either k (insert-mem (privilege o s) ps x (rw k at m)))
+      (λ k. ⊎-elim (λ e. inl (k, e)) (λ n. inr n) (insert-mem (privilege o s) ps x (rw k at m)))
       (λ k. cases withdrawn
       (λ l. inr (kept (λ p. not (isPrivilege o s p)) ps x (rw (k, l) at m) .0))
       (λ l. inr (rw (k, l) at m)))
-    where
-      either : given ≡ true → (x ≡ privilege o s) ⊎ Mem x ps → ((given ≡ true) × (x ≡ privilege o s)) ⊎ Mem x ps
-      either k (inl e) = inl (k, e)
-      either k (inr n) = inr n
 
   pub changed-all : (t : Privilege → Bool) → (given ≡ true → t (privilege o s) ≡ true) →
       ((x : Privilege) → Mem x ps → t x ≡ true) → allb t now ≡ true
-  changed-all t h old = mem-all t now (λ x m. either x (changed-mem x m))
-    where
-      either : (x : Privilege) → ((given ≡ true) × (x ≡ privilege o s)) ⊎ Mem x ps → t x ≡ true
-      either x (inl w) = ap t (w .1) ∙ h (w .0)
-      either x (inr n) = old x n
+  changed-all t h old = mem-all t now
+      (λ x m. ⊎-elim (λ w. ap t (w .1) ∙ h (w .0)) (λ n. old x n) (changed-mem x m))
 
   -- what is not withdrawn stays
   pub changed-stays : (x : Privilege) → (withdrawn ≡ true → isPrivilege o s x ≡ false) → Mem x ps → Mem x now

@@ -1,25 +1,24 @@
 -- Requests over lent bytes: an accepted one leaves the encoding of its effect, a refused one the bytes as they were.
-use mathlib.Core.Path.{_≡_, refl, sym, ap, ap₂, _∙_, subst}
+use mathlib.Core.Path.{_≡_, sym, ap, _∙_, subst}
 use mathlib.Core.Logic.{_≢_}
-use Prim.Native.Nat.{ℕ, zero, suc}
+use Prim.Native.Nat.{ℕ}
 use native.Mathlib.Omega.{arith}
-use mathlib.Core.Bool.{Bool, true, false, not, true≢false, false≢true}
-use mathlib.Core.List.{List, [], _∷_}
+use mathlib.Core.Bool.{true, false}
+use mathlib.Core.List.{List}
 use lib.Dec.{eqb}
-use Rattle.foundation.specs.Tests.{cases, true-eq, false-eq, eq-true, ne-false}
+use Rattle.foundation.specs.Tests.{cases, true-eq, false-eq}
 use Rattle.model.specs.declared.Request.{Request}
-use Rattle.model.specs.declared.Reply.{Reply}
-use Rattle.model.specs.declared.Reply.the-variants.{Done, Refused}
+use Rattle.model.specs.declared.Reply.the-variants.{Refused}
 use Rattle.model.specs.Base.{Base}
 use Rattle.model.specs.Means.{plainly}
 use Rattle.model.specs.Step.{lowest, accepting, refusal, effect}
-use Rattle.model.specs.StepFacts.{accepted, answered, turned-away}
+use Rattle.model.specs.StepFacts.{answered, turned-away}
 use Rattle.model.specs.Encoding.{encode, decode}
 use Rattle.model.specs.EncodingFacts.{decode-encode, encode-sound}
 use Rattle.model.specs.Soundness.{sound, soundBytes}
-use Rattle.model.specs.SoundnessFacts.{sound-bytes, sound-tests, tests-sound}
+use Rattle.model.specs.SoundnessFacts.{sound-bytes}
 use Rattle.model.specs.Answers.{Answer, answering, refusing, requestTable, request, refusalNumber}
-use Rattle.theorems.specs.Preservation.{sound-after}
+use Rattle.theorems.specs.Preservation.{effect-sound}
 
 -- ---- on unsound bytes
 
@@ -41,15 +40,19 @@ module _ (b : Base) (q : Request) (s : sound b ≡ true) where
   unfolding request
   request-accepted z =
       answered (requestTable (encode b) q) (refusing (encode b))
-      (answering (accepting (decode (encode b)) q (effect plainly (decode (encode b)) q)) (encode (effect plainly (decode (encode b)) q)))
+      (answering (accepting (decode (encode b)) q (effect plainly (decode (encode b)) q))
+      (encode (effect plainly (decode (encode b)) q)))
       (encoded-table ∙ z)
-      ∙ ap (λ (c : Base). answering (accepting c q (effect plainly c q)) (encode (effect plainly c q))) (decode-encode b s)
+      ∙ ap (λ (c : Base). answering (accepting c q (effect plainly c q)) (encode (effect plainly c q)))
+      (decode-encode b s)
 
-  pub request-refused : refusal plainly b q ≢ 0 → request (encode b) q ≡ answering (Refused (refusal plainly b q)) (encode b)
+  pub request-refused : refusal plainly b q ≢ 0 →
+      request (encode b) q ≡ answering (Refused (refusal plainly b q)) (encode b)
   unfolding request
   request-refused n =
       turned-away (requestTable (encode b) q) (refusing (encode b))
-      (answering (accepting (decode (encode b)) q (effect plainly (decode (encode b)) q)) (encode (effect plainly (decode (encode b)) q)))
+      (answering (accepting (decode (encode b)) q (effect plainly (decode (encode b)) q))
+      (encode (effect plainly (decode (encode b)) q)))
       (λ z. n (sym encoded-table ∙ z))
       ∙ ap (λ (k : ℕ). answering (Refused k) (encode b)) encoded-table
 
@@ -59,8 +62,10 @@ module _ (b : Base) (q : Request) (s : sound b ≡ true) where
 pub refused-leaves : (s : List ℕ) (q : Request) → refusalNumber (request s q .reply) ≢ 0 → request s q .lent ≡ s
 unfolding request
 refused-leaves s q n = cases (eqb (lowest (requestTable s q)) 0)
-    (λ e. absurd (n (ap (λ (a : Answer). refusalNumber (a .reply)) (answered (requestTable s q) (refusing s) _ (true-eq (lowest (requestTable s q)) 0 e)))))
-    (λ e. ap (λ (a : Answer). a .lent) (turned-away (requestTable s q) (refusing s) _ (false-eq (lowest (requestTable s q)) 0 e)))
+    (λ e. absurd (n (ap (λ (a : Answer). refusalNumber (a .reply))
+    (answered (requestTable s q) (refusing s) _ (true-eq (lowest (requestTable s q)) 0 e)))))
+    (λ e. ap (λ (a : Answer). a .lent)
+    (turned-away (requestTable s q) (refusing s) _ (false-eq (lowest (requestTable s q)) 0 e)))
 
 -- a request on sound bytes leaves sound bytes
 pub request-sound : (s : List ℕ) (q : Request) → soundBytes s ≡ true → soundBytes (request s q .lent) ≡ true
@@ -71,6 +76,6 @@ request-sound s q e =
     (cases (eqb (refusal plainly b q) 0)
     (λ z. let n = true-eq (refusal plainly b q) 0 z in
     subst (λ (a : Answer). soundBytes (a .lent) ≡ true) (sym (request-accepted b q (w .1) n))
-    (encode-sound (effect plainly b q) (tests-sound (effect plainly b q) (sound-after b q (sound-tests b (w .1)) (accepted b q n)))))
+    (encode-sound (effect plainly b q) (effect-sound b q (w .1) n)))
     (λ z. let n = false-eq (refusal plainly b q) 0 z in
     subst (λ (a : Answer). soundBytes (a .lent) ≡ true) (sym (request-refused b q (w .1) n)) (encode-sound b (w .1))))

@@ -1,34 +1,37 @@
--- A session through the library's answers over lent bytes is the session: `session-bytes`. The bytes always encode the base
--- that the session has, which is sound.
-use mathlib.Core.Path.{_≡_, refl, sym, ap, ap₂, _∙_, subst, subst₂}
-use mathlib.Core.Logic.{_≢_}
-use Prim.Native.Nat.{ℕ, zero, suc, _+_, _*_, _/_, _≤_}
+-- A session through the library's answers over lent bytes is the session: `session-bytes`. The bytes always encode
+-- the base that the session has, which is sound.
+use mathlib.Core.Path.{_≡_, refl, sym, ap, ap₂, _∙_, subst₂}
+use Prim.Native.Nat.{ℕ, suc, _*_, _/_, _≤_}
 use native.Mathlib.Omega.{arith}
-use mathlib.Core.Bool.{Bool, true, false, not}
+use mathlib.Core.Bool.{true, false}
 use mathlib.Core.List.{List, [], _∷_, _++_}
 use lib.Dec.{ltb, eqb}
-use lib.ListN.{length, replicate, drop, getD, length-replicate}
-use Rattle.foundation.specs.Tests.{cases, le-false, eq-true, ne-false, true-eq, false-eq}
+use lib.ListN.{length, drop, length-replicate}
+use Rattle.foundation.specs.Tests.{cases, le-false, true-eq, false-eq}
 use Rattle.foundation.specs.declared.Interval.{Interval}
 use Rattle.model.specs.declared.Request.{Request}
 use Rattle.model.specs.declared.Access.{Access}
 use Rattle.model.specs.declared.Question.{Question}
 use Rattle.model.specs.declared.Reply.{Reply}
-use Rattle.model.specs.declared.Reply.the-variants.{Done, Refused, Unsupported, Yes, No, Runs}
+use Rattle.model.specs.declared.Reply.the-variants.{Refused, Runs}
 use Rattle.model.specs.Base.{Base, emptyBase}
 use Rattle.model.specs.Rules.{may, when}
 use Rattle.model.specs.HoldsMarks.{when-count}
-use Rattle.model.specs.Means.{Means, plainly}
-use Rattle.model.specs.Step.{Row, row, lowest, refusedOr, Outcome, refusal, effect, stepBy, step}
-use Rattle.model.specs.StepFacts.{accepted, answered, turned-away, step-accepted, step-refused}
-use Rattle.model.specs.Encoding.{encode, decode}
-use Rattle.model.specs.EncodingFacts.{decode-encode, encode-sound, empty-sound, counts-fit}
-use Rattle.model.specs.Soundness.{sound, soundBytes}
-use Rattle.model.specs.SoundnessFacts.{sound-tests, tests-sound}
-use Rattle.model.specs.Answers.{Answer, answering, refusing, request, mayTable, whenTable, mayReply, words, mayAnswer, whenAnswer}
-use Rattle.model.specs.Text.{Line, order, asksMay, asksWhen, unreadable, newline, lines, readLine, printRuns, printReply}
-use Rattle.model.specs.Session.{Turn, pairs, turn, transcript, session, ByteTurn, pairsOf, runsOf, whenList, byteTurn, byteTranscript, byteSession}
-use Rattle.theorems.specs.Preservation.{sound-after}
+use Rattle.model.specs.Means.{plainly}
+use Rattle.model.specs.Step.{lowest, refusedOr, Outcome, refusal, step}
+use Rattle.model.specs.StepFacts.{answered, turned-away, step-accepted, step-refused}
+use Rattle.model.specs.Encoding.{encode}
+use Rattle.model.specs.EncodingFacts.{decode-encode, encode-sound, empty-sound}
+use Rattle.model.specs.FitsFacts.{counts-fit}
+use Rattle.model.specs.Soundness.{sound}
+use Rattle.model.specs.SoundnessFacts.{sound-tests}
+use Rattle.model.specs.Answers.{Answer, answering, refusing, mayTable, whenTable, mayReply, words, mayAnswer}
+use Rattle.model.specs.Answers.{whenAnswer}
+use Rattle.model.specs.Text.{Line, order, asksMay, asksWhen, unreadable, newline, lines, readLine, printRuns}
+use Rattle.model.specs.Text.{printReply}
+use Rattle.model.specs.Session.{Turn, pairs, turn, transcript, session, ByteTurn, pairsOf, runsOf, whenList, byteTurn}
+use Rattle.model.specs.Session.{byteTranscript, byteSession}
+use Rattle.theorems.specs.Preservation.{effect-sound}
 use Rattle.theorems.specs.RequestFacts.{request-accepted, request-refused}
 
 -- a turn through the bytes and one on the base print the same and leave the same base, a sound one
@@ -48,16 +51,18 @@ list-pairs = ap (λ (n : ℕ). n / 2) (length-replicate {A = ℕ} (2 * pairs) 0)
 
 module _ (b : Base) (s : sound b ≡ true) where
   abbrev Both : Answer → Outcome → Type 0
-  Both a o = Same (record { reply = a .reply; runs = []; lent = a .lent }) (record { reply = o .reply; runs = []; base = o .base })
+  Both a o = Same (record { reply = a .reply; runs = []; lent = a .lent })
+      (record { reply = o .reply; runs = []; base = o .base })
 
   ordered : (q : Request) → Same (byteTurn (encode b) (order q)) (turn plainly b (order q))
   unfolding step
   ordered q = cases (eqb (refusal plainly b q) 0)
       (λ e. let z = true-eq (refusal plainly b q) 0 e in
       subst₂ Both (sym (request-accepted b q s z)) (sym (step-accepted b q z))
-      (record { text = refl; bytes = refl; kept = tests-sound (effect plainly b q) (sound-after b q (sound-tests b s) (accepted b q z)) }))
+      (record { text = refl; bytes = refl; kept = effect-sound b q s z }))
       (λ e. let n = false-eq (refusal plainly b q) 0 e in
-      subst₂ Both (sym (request-refused b q s n)) (sym (step-refused b q n)) (record { text = refl; bytes = refl; kept = s }))
+      subst₂ Both (sym (request-refused b q s n)) (sym (step-refused b q n))
+      (record { text = refl; bytes = refl; kept = s }))
 
   asked-may : (q : Question) → Same (byteTurn (encode b) (asksMay q)) (turn plainly b (asksMay q))
   unfolding mayAnswer
@@ -85,7 +90,8 @@ module _ (b : Base) (s : sound b ≡ true) where
             ∙ ap (λ (r : Reply). printReply r (when b x)) (sym (answered rows Refused (Runs (length (when b x))) z)))
             (λ e. let n = false-eq (lowest rows) 0 e in
             ap shownRuns (turned-away rows (refusing whenList) a n)
-            ∙ ap (λ (r : Reply). printReply r (when b x)) (sym (turned-away rows Refused (Runs (length (when b x))) n)));
+            ∙ ap (λ (r : Reply). printReply r (when b x))
+            (sym (turned-away rows Refused (Runs (length (when b x))) n)));
         bytes = refl;
         kept = s;
       }
@@ -100,7 +106,8 @@ module _ (b : Base) (s : sound b ≡ true) where
   same-turn (asksWhen x) = asked-when x
   same-turn unreadable = record { text = refl; bytes = refl; kept = s }
 
-same-transcript : (ls : List (List ℕ)) (b : Base) → sound b ≡ true → byteTranscript ls (encode b) ≡ transcript plainly ls b
+same-transcript : (ls : List (List ℕ)) (b : Base) → sound b ≡ true →
+    byteTranscript ls (encode b) ≡ transcript plainly ls b
 same-transcript [] b s = refl
 same-transcript (l ∷ ls) b s =
     let w = same-turn b s (readLine l) in

@@ -1,13 +1,14 @@
 -- An accepted request on a sound base: the counts, the clock, the last label, and the owners, administrators and
 -- referrers are sound after it. Who controls an object, or may refer to it, still does, unless that is withdrawn.
 use mathlib.Core.Path.{_≡_, refl, sym, ap, _∙_}
-use mathlib.Core.Logic.{_⊎_, inl, inr, _≢_}
+use mathlib.Core.Logic.{inl, inr, _≢_, ⊎-elim}
 use mathlib.Core.Bool.{Bool, true, false, not, _&&_, true≢false, false≢true}
 use mathlib.Core.List.{List, [], _∷_}
-use Prim.Native.Nat.{ℕ, suc}
+use Prim.Native.Nat.{ℕ, suc, _≤_}
 use native.Mathlib.Omega.{arith}
 use lib.Dec.{leb, ltb, eqb}
-use Rattle.foundation.specs.Tests.{cases, and-intro, or-cases, or-intro-left, or-true-right, le-true, eq-true}
+use Rattle.foundation.specs.Tests.{cases, must-fail, not-true, ltb-trans, and-intro, or-cases, or-intro-left}
+use Rattle.foundation.specs.Tests.{or-true-right, le-true, eq-true}
 use Rattle.foundation.specs.Lists.{allb, Mem, any-mem, mem-any, all-mem}
 use Rattle.model.specs.declared.Privilege.{Privilege}
 use Rattle.model.specs.declared.Request.{Request}
@@ -19,33 +20,12 @@ use Rattle.model.specs.Step.{countsHold, effect}
 use Rattle.model.specs.StepFacts.{Accepted}
 use Rattle.model.specs.Soundness.{chained, privilegeIn, ownersApart}
 use Rattle.model.specs.SoundnessFacts.{Sound}
-use Rattle.theorems.specs.ListFacts.{not-true, fails, ltb-trans}
 use Rattle.theorems.specs.Kinds.{objectKinds, subjectKinds, kind-is, is-kinds, is-apart}
-use Rattle.theorems.specs.Rows.{
-  now-in,
-  requester-in,
-  object-in,
-  subject-in,
-  object-exists,
-  object-new,
-  not-administrator,
-  not-referrer,
-  counts-in,
-  label-left,
-}
-use Rattle.theorems.specs.SoundTests.{order-test, ranges-test, exist-test, owners-test}
-use Rattle.theorems.specs.Privileges.{
-  before-cases,
-  before-not,
-  the-privilege,
-  changed,
-  changed-order,
-  changed-before,
-  changed-mem,
-  changed-all,
-  changed-stays,
-  listed-stays,
-}
+use Rattle.theorems.specs.Rows.{now-in, requester-in, object-in, subject-in, object-exists, object-new}
+use Rattle.theorems.specs.Rows.{not-administrator, not-referrer, counts-in, label-left}
+use Rattle.model.specs.SoundTests.{order-test, ranges-test, exist-test, owners-test}
+use Rattle.theorems.specs.Privileges.{before-cases, before-not, the-privilege, changed, changed-order}
+use Rattle.theorems.specs.Privileges.{changed-before, changed-mem, changed-all, changed-stays, listed-stays}
 
 -- the request is of this kind, REVOKEADM or REVOKEREF, and names the object o and the subject u
 abbrev pub loses : Request → ℕ → ℕ → ℕ → Bool
@@ -56,6 +36,41 @@ loses q kind o u = is q (kind ∷ []) && isPrivilege (q .object) (q .subject) (p
 module _ (b : Base) (q : Request) where
   abbrev after : Base
   after = effect plainly b q
+
+  -- ---- who could, still can
+
+  -- what exists or is owned, still is
+  pub exists-stays : (o : ℕ) → exists b o ≡ true → exists after o ≡ true
+  exists-stays o e =
+      let w = any-mem (λ p. eqb (p .object) o) (b .objects) e in
+      mem-any (λ p. eqb (p .object) o) (after .objects) (w .0)
+      (changed-stays (is q (NEW ∷ [])) false (q .object) (q .requester) (b .objects) (w .0)
+      (λ h. absurd (false≢true h)) (w .1)) (w .2)
+
+  pub owns-stays : (o u : ℕ) → owns b o u ≡ true → owns after o u ≡ true
+  owns-stays o u = listed-stays (is q (NEW ∷ [])) false (q .object) (q .requester) (b .objects) o u
+      (λ h. absurd (false≢true h))
+
+  -- unless the request withdraws it
+  pub administers-stays : (o u : ℕ) → loses q REVOKEADM o u ≡ false →
+      administers b o u ≡ true → administers after o u ≡ true
+  administers-stays o u h = listed-stays (is q (GRANTADM ∷ [])) (is q (REVOKEADM ∷ [])) (q .object) (q .subject)
+      (b .administrators) o u (λ k. rw k at h)
+
+  pub refers-stays : (o u : ℕ) → loses q REVOKEREF o u ≡ false → refers b o u ≡ true → refers after o u ≡ true
+  refers-stays o u h = listed-stays (is q (GRANTREF ∷ [])) (is q (REVOKEREF ∷ [])) (q .object) (q .subject)
+      (b .referrers) o u (λ k. rw k at h)
+
+  pub controls-stays : (o u : ℕ) → loses q REVOKEADM o u ≡ false → controls b o u ≡ true → controls after o u ≡ true
+  controls-stays o u h e = or-cases (owns b o u) (administers b o u) e
+      (λ k. or-intro-left (owns after o u) (administers after o u) (owns-stays o u k))
+      (λ k. or-true-right (owns after o u) (administers after o u) (administers-stays o u h k))
+
+  -- the last label does not fall
+  pub last-stays : b .last ≤ after .last
+  last-stays = cases (labels q) (λ k. rw k (omega arith)) (λ k. rw k (omega arith))
+
+  -- ---- soundness
 
   module _ (s : Sound b) (g : Accepted b q) where
     pub counts-after : countsHold after ≡ true
@@ -94,27 +109,15 @@ module _ (b : Base) (q : Request) where
         (object-in b q g (rw (kind-is q NEW k))) (requester-in b q g))
         (all-mem privilegeIn (b .objects) (ranges-test b s _ (inr (inr (inl refl)))))
 
-    -- an object that exists still does
-    pub exists-stays : (o : ℕ) → exists b o ≡ true → exists after o ≡ true
-    exists-stays o e =
-        let w = any-mem (λ p. eqb (p .object) o) (b .objects) e in
-        mem-any (λ p. eqb (p .object) o) (after .objects) (w .0)
-        (changed-stays (is q (NEW ∷ [])) false (q .object) (q .requester) (b .objects) (w .0)
-        (λ h. absurd (false≢true h)) (w .1)) (w .2)
-
     -- who does not own an object that exists does not own it now: only an object that did not exist gets an owner
     not-owner : (o u : ℕ) → exists b o ≡ true → owns b o u ≡ false → owns after o u ≡ false
-    not-owner o u e n = fails (owns b o u) (owns after o u) n
-        (λ h. let w = any-mem (isPrivilege o u) (after .objects) h in either (w .0) (w .2)
+    not-owner o u e n = must-fail (owns b o u) (owns after o u) n
+        (λ h. let w = any-mem (isPrivilege o u) (after .objects) h in ⊎-elim
+        (λ v. let same : o ≡ q .object =
+        ap (λ (p : Privilege). p .object) (sym (the-privilege o u (w .0) (w .2)) ∙ v .1) in
+        absurd (true≢false (sym e ∙ ap (exists b) same ∙ object-new b q g (v .0))))
+        (λ m. mem-any (isPrivilege o u) (b .objects) (w .0) m (w .2))
         (changed-mem (is q (NEW ∷ [])) false (q .object) (q .requester) (b .objects) (w .0) (w .1)))
-      where
-        either : (x : Privilege) → isPrivilege o u x ≡ true →
-            ((is q (NEW ∷ []) ≡ true) × (x ≡ privilege (q .object) (q .requester))) ⊎ Mem x (b .objects) →
-            owns b o u ≡ true
-        either x i (inl w) =
-            let same : o ≡ q .object = ap (λ (p : Privilege). p .object) (sym (the-privilege o u x i) ∙ w .1) in
-            absurd (true≢false (sym e ∙ ap (exists b) same ∙ object-new b q g (w .0)))
-        either x i (inr m) = mem-any (isPrivilege o u) (b .objects) x m i
 
     -- ---- administrators and referrers alike
 
@@ -189,24 +192,3 @@ module _ (b : Base) (q : Request) where
         (exist-test b s _ (inl refl)) (owners-test b s _ (inl refl)) (λ k. not-administrator b q g k .0))
         (owners-those (is q (GRANTREF ∷ [])) (is q (REVOKEREF ∷ [])) (b .referrers) referrer
         (exist-test b s _ (inr (inl refl))) (owners-test b s _ (inr (inl refl))) (λ k. not-referrer b q g k .0))
-
-    -- ---- who could, still can
-
-    pub owns-stays : (o u : ℕ) → owns b o u ≡ true → owns after o u ≡ true
-    owns-stays o u = listed-stays (is q (NEW ∷ [])) false (q .object) (q .requester) (b .objects) o u
-        (λ h. absurd (false≢true h))
-
-    -- unless the request withdraws it
-    pub administers-stays : (o u : ℕ) → loses q REVOKEADM o u ≡ false →
-        administers b o u ≡ true → administers after o u ≡ true
-    administers-stays o u h = listed-stays (is q (GRANTADM ∷ [])) (is q (REVOKEADM ∷ [])) (q .object) (q .subject)
-        (b .administrators) o u (λ k. rw k at h)
-
-    pub refers-stays : (o u : ℕ) → loses q REVOKEREF o u ≡ false → refers b o u ≡ true → refers after o u ≡ true
-    refers-stays o u h = listed-stays (is q (GRANTREF ∷ [])) (is q (REVOKEREF ∷ [])) (q .object) (q .subject)
-        (b .referrers) o u (λ k. rw k at h)
-
-    pub controls-stays : (o u : ℕ) → loses q REVOKEADM o u ≡ false → controls b o u ≡ true → controls after o u ≡ true
-    controls-stays o u h e = or-cases (owns b o u) (administers b o u) e
-        (λ k. or-intro-left (owns after o u) (administers after o u) (owns-stays o u k))
-        (λ k. or-true-right (owns after o u) (administers after o u) (administers-stays o u h k))

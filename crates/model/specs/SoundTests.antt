@@ -3,13 +3,12 @@ use mathlib.Core.Path.{_≡_}
 use mathlib.Core.Bool.{Bool, true, not, _&&_}
 use mathlib.Core.List.{List, [], _∷_}
 use lib.Dec.{leb, ltb, eqb}
-use Rattle.foundation.specs.Lists.{anyb, allb, Mem}
+use Rattle.foundation.specs.Lists.{anyb, allb, Mem, conjunct}
 use Rattle.model.specs.Ranges.{isInstant, lastLabel}
 use Rattle.model.specs.Base.{Base, exists, owns}
 use Rattle.model.specs.Requests.{before}
 use Rattle.model.specs.Soundness.{chained, rises, privilegeIn, authorizationIn, ruleIn, startsFirst}
 use Rattle.model.specs.SoundnessFacts.{Sound}
-use Rattle.theorems.specs.ListFacts.{joined-each}
 
 module _ (b : Base) where
   abbrev pub orderTests : List Bool
@@ -61,19 +60,19 @@ module _ (b : Base) where
 
   module _ (s : Sound b) where
     pub order-test : (x : Bool) → Mem x orderTests → x ≡ true
-    order-test = joined-each orderTests (s .order)
+    order-test = conjunct orderTests (s .order)
 
     pub ranges-test : (x : Bool) → Mem x rangesTests → x ≡ true
-    ranges-test = joined-each rangesTests (s .ranges)
+    ranges-test = conjunct rangesTests (s .ranges)
 
     pub intervals-test : (x : Bool) → Mem x intervalsTests → x ≡ true
-    intervals-test = joined-each intervalsTests (s .intervals)
+    intervals-test = conjunct intervalsTests (s .intervals)
 
     pub exist-test : (x : Bool) → Mem x existTests → x ≡ true
-    exist-test = joined-each existTests (s .objects)
+    exist-test = conjunct existTests (s .objects)
 
     pub owners-test : (x : Bool) → Mem x ownersTests → x ≡ true
-    owners-test = joined-each ownersTests (s .owners)
+    owners-test = conjunct ownersTests (s .owners)
 
     pub labels-test : (x : Bool) → Mem x labelsTests → x ≡ true
-    labels-test = joined-each labelsTests (s .labels)
+    labels-test = conjunct labelsTests (s .labels)

@@ -1,0 +1,168 @@
+-- What rules derive and what holds, with no strata in the statements: `derived-law` and `holds-law`.
+use mathlib.Core.Path.{_≡_, refl, sym, ap, _∙_}
+use Prim.Native.Nat.{ℕ, zero, suc, _≤_, _<_}
+use native.Mathlib.Omega.{arith}
+use mathlib.Core.Bool.{Bool, true, false, not, _&&_, _||_, Bool·beq}
+use mathlib.Core.List.{List}
+use lib.Dec.{leb, eqb}
+use lib.ListN.{length}
+use Rattle.foundation.specs.Tests.{pick, cases, le-true, le-false, true-le, false-le, eq-true, and-true, and-intro}
+use Rattle.foundation.specs.Lists.{anyb, Mem, any-cong-mem}
+use Rattle.foundation.specs.Intervals.{inInterval, always, always-cong}
+use Rattle.model.specs.declared.Authorization.{Authorization}
+use Rattle.model.specs.declared.Rule.{Rule}
+use Rattle.model.specs.declared.Operator.{Operator}
+use Rattle.model.specs.declared.Operator.the-variants.{Whenever, AsLongAs, WheneverNot, Unless}
+use Rattle.model.specs.declared.Access.{Access}
+use Rattle.model.specs.Support.{live}
+use Rattle.model.specs.Stratification.{isStar, meets, fitsOption, feeds, negating, strict, stratified, stratum}
+use Rattle.model.specs.Rules.{Pattern, Fact, fact, fits, fitsGrantor, derivesFor, rightOf, rightHolds, operate, holdsBy, derives, derivedBelow, holds}
+use Rattle.model.specs.RightFacts.{right-own}
+use Rattle.model.specs.HoldsFacts.{closed}
+use Rattle.model.specs.StratificationFacts.{feeder-not-above, feeder-below, stratum-few}
+
+-- a number of a left side that fits that of a right side, its star standing for z, meets it
+fit-meets : (n m z : ℕ) → isStar n || eqb n (pick (isStar m) z m) ≡ true → meets n m ≡ true
+fit-meets n m z e = cases (isStar n)
+    (λ a. rw a)
+    (λ a. cases (isStar m) (λ b. rw (a, b)) (λ b. rw (a, b) (rw (a, b) at e)))
+
+-- what fits a rule's right side is derived by a rule that feeds it
+pub fit-feeds : (q r : Rule) (x : Access) → derivesFor (rightOf r x) q ≡ true → feeds q r ≡ true
+fit-feeds q r x e =
+    let p = rightOf r x in
+    let a = isStar (q .left .subject) || eqb (q .left .subject) (p .access .subject) in
+    let b = isStar (q .left .mode) || eqb (q .left .mode) (p .access .mode) in
+    let c = eqb (q .left .object) (r .right .object) in
+    let d = Bool·beq (q .left .negative) (r .right .negative) in
+    let g = fitsGrantor (r .grantor) (q .author) in
+    let o = fitsOption (r .option) false in
+    let u = meets (q .left .subject) (r .right .subject) in
+    let v = meets (q .left .mode) (r .right .mode) in
+    let w₁ = and-true (a && b && c && d && g) o e in
+    let w₂ = and-true (a && b && c && d) g (w₁ .0) in
+    let w₃ = and-true (a && b && c) d (w₂ .0) in
+    let w₄ = and-true (a && b) c (w₃ .0) in
+    let w₅ = and-true a b (w₄ .0) in
+    let dc = and-intro d c (w₃ .1) (w₄ .1) in
+    let dcu = and-intro (d && c) u dc (fit-meets (q .left .subject) (r .right .subject) (x .subject) (w₅ .0)) in
+    let dcuv = and-intro (d && c && u) v dcu (fit-meets (q .left .mode) (r .right .mode) (x .mode) (w₅ .1)) in
+    and-intro (d && c && u && v && g) o (and-intro (d && c && u && v) g dcuv (w₂ .1)) (w₁ .1)
+
+-- what holds of p is derived only by rules that feed r
+abbrev Fed : Rule → Pattern → Type 0
+Fed r p = (q : Rule) → derivesFor p q ≡ true → feeds q r ≡ true
+
+-- and by links that count one in a rank
+abbrev StrictlyFed : Rule → Pattern → Type 0
+StrictlyFed r p = (q : Rule) → derivesFor p q ≡ true → (feeds q r ≡ true) × (strict q r ≡ true)
+
+-- A rule's right side looks up to the rule's stratum only at what its feeders derive, and below it only at what those
+-- derive that feed it by such links: where that is settled, `all` being what holds at last, so is the right side.
+right-settled : (r : Rule) (x : Access) (same lower all : Pattern → Bool) →
+    ((p : Pattern) → Fed r p → same p ≡ all p) → ((p : Pattern) → StrictlyFed r p → lower p ≡ all p) →
+    rightHolds same lower (rightOf r x) ≡ rightHolds all all (rightOf r x)
+right-settled r x same lower all h k =
+    right-own same all lower all (rightOf r x) (h (rightOf r x) (λ q e. fit-feeds q r x e))
+
+-- a negating operator looks at its second test, the others at their first
+operate-settled : (o : Operator) (f g h : ℕ → Bool) → ((u : ℕ) → f u ≡ h u) →
+    (negating o ≡ true → (u : ℕ) → g u ≡ h u) → (a t : ℕ) → operate always o f g a t ≡ operate always o h h a t
+operate-settled Whenever f g h p q a t = p t
+operate-settled AsLongAs f g h p q a t = always-cong a t f h p
+operate-settled WheneverNot f g h p q a t = ap not (q refl t)
+operate-settled Unless f g h p q a t = always-cong a t (λ u. not (g u)) (λ u. not (h u)) (λ u. ap not (q refl u))
+
+module _ (auths : List Authorization) (rules : List Rule) where
+  abbrev below : ℕ → Fact → Bool
+  below = derivedBelow always auths rules
+
+  -- what the rules derive, all strata together
+  abbrev pub derived : Fact → Bool
+  derived = derivedBelow always auths rules (suc (length rules))
+
+  -- what counts as held on a right side at u
+  abbrev pub holding : ℕ → Pattern → Bool
+  holding u p = rightHolds (holds always auths rules u) (holds always auths rules u) p
+
+  -- 01: "Held means given by a line or by a rule, denied or not"
+  pub holds-law : (t : ℕ) (p : Pattern) → holds always auths rules t p
+      ≡ anyb (fits p) (live t auths) || anyb (λ r. derivesFor p r && derived (fact r (p .access) t)) rules
+  unfolding holds
+  holds-law t p = refl
+
+  -- ---- stratum by stratum
+
+  below-keep : (k : ℕ) (x : Fact) → Mem (x .rule) rules → stratum rules (x .rule) < k → below (suc k) x ≡ below k x
+  below-keep k x m h = sym (closed auths rules k x m) ∙ rw (le-true (suc (stratum rules (x .rule))) k h)
+
+  -- what the strata below k have settled stays
+  below-upto : (k n : ℕ) (x : Fact) → Mem (x .rule) rules → stratum rules (x .rule) < k → k ≤ n →
+      below n x ≡ below k x
+  below-upto k zero x m h l = absurd (omega arith)
+  below-upto k (suc n) x m h l = cases (leb k n)
+      (λ e. let i = true-le k n e in below-keep n x m (omega arith) ∙ below-upto k n x m h i)
+      (λ e. let i = false-le k n e in let q : suc n ≡ k = omega arith in ap (λ (j : ℕ). below j x) q)
+
+  -- so what a rule derives is settled with its stratum
+  pub settled-at : (k : ℕ) (x : Fact) → Mem (x .rule) rules → stratum rules (x .rule) < k → k ≤ suc (length rules) →
+      derived x ≡ derivedBelow always auths rules k x
+  settled-at k x m h l = below-upto k (suc (length rules)) x m h l
+
+  -- a stratum is closed under its rules
+  pub at-stratum : (k : ℕ) (x : Fact) → Mem (x .rule) rules → stratum rules (x .rule) ≡ k →
+      derivedBelow always auths rules (suc k) x
+      ≡ derives always auths rules (derivedBelow always auths rules k) (derivedBelow always auths rules (suc k)) x
+  at-stratum k x m e =
+      let n = stratum rules (x .rule) in
+      sym (closed auths rules k x m) ∙ rw (le-false (suc n) k (omega arith), eq-true n k e)
+
+  -- what holds of a pattern rests on what the rules derive that derive for it
+  holds-same : (S : Fact → Bool) (t : ℕ) (p : Pattern) → ((r : Rule) → Mem r rules → derivesFor p r ≡ true →
+      derived (fact r (p .access) t) ≡ S (fact r (p .access) t)) →
+      holdsBy always auths rules S t p ≡ holds always auths rules t p
+  holds-same S t p h =
+      let x : Rule → Fact = λ r. fact r (p .access) t in
+      ap (λ (b : Bool). anyb (fits p) (live t auths) || b)
+      (any-cong-mem (λ r. derivesFor p r && S (x r)) (λ r. derivesFor p r && derived (x r)) rules
+      (λ r m. cases (derivesFor p r) (λ e. rw e (sym (h r m e))) (λ e. rw e)))
+      ∙ sym (holds-law t p)
+
+  module _ (s : stratified rules ≡ true) where
+    module _ (r : Rule) (m : Mem r rules) where
+      -- what feeders derive is settled with the rule's stratum
+      fed-settled : (u : ℕ) (p : Pattern) → Fed r p →
+          holdsBy always auths rules (below (suc (stratum rules r))) u p ≡ holds always auths rules u p
+      fed-settled u p h = holds-same (below (suc (stratum rules r))) u p (λ q k e.
+          settled-at (suc (stratum rules r)) (fact q (p .access) u) k
+          (omega (arith, feeder-not-above rules s q r k m (h q e))) (omega (arith, stratum-few rules s r m)))
+
+      -- and before it where the links count one
+      strictly-settled : (u : ℕ) (p : Pattern) → StrictlyFed r p →
+          holdsBy always auths rules (below (stratum rules r)) u p ≡ holds always auths rules u p
+      strictly-settled u p h = holds-same (below (stratum rules r)) u p (λ q k e.
+          let l = h q e in
+          settled-at (stratum rules r) (fact q (p .access) u) k
+          (feeder-below rules s q r k m (l .0) (l .1)) (omega (arith, stratum-few rules s r m)))
+
+    -- 01, the operators: a rule derives its left side at the instants of its interval where its operator allows it, the
+    -- right side being looked at in all that holds, of whatever stratum
+    pub derived-law : (r : Rule) → Mem r rules → (x : Access) (t : ℕ) →
+        derived (fact r x t)
+        ≡ inInterval (r .interval) t
+        && operate always (r .operator) (λ u. holding u (rightOf r x)) (λ u. holding u (rightOf r x))
+        (r .interval .start) t
+    derived-law r m x t =
+        let n = stratum rules r in
+        let p = rightOf r x in
+        let now : ℕ → Pattern → Bool = holdsBy always auths rules (below (suc n)) in
+        let before : ℕ → Pattern → Bool = holdsBy always auths rules (below n) in
+        let all : ℕ → Pattern → Bool = holds always auths rules in
+        settled-at (suc n) (fact r x t) m (omega arith) (omega (arith, stratum-few rules s r m))
+        ∙ at-stratum n (fact r x t) m refl
+        ∙ ap (λ (b : Bool). inInterval (r .interval) t && b) (operate-settled (r .operator)
+        (λ u. rightHolds (now u) (before u) p) (λ u. rightHolds (before u) (before u) p) (λ u. holding u p)
+        (λ u. right-settled r x (now u) (before u) (all u) (fed-settled r m u) (strictly-settled r m u))
+        (λ g u. right-settled r x (before u) (before u) (all u)
+        (λ p h. strictly-settled r m u p (λ q e. (h q e, g))) (strictly-settled r m u))
+        (r .interval .start) t)
