@@ -1,0 +1,18 @@
+-- `authorization_clean` meets its contract, test by test.
+use denote.Ref.{now}
+use Rattle.fields.proofs.Laws.{le-at}
+use Rattle.encoding.proofs.Places.{byte-at}
+use borrow.Author.Needs.{needs}
+use Rattle.encoding.proofs.bodies.authorization_clean.Statement.{statement}
+use Rattle.encoding.proofs.bodies.authorization_clean.Tie as tie
+
+returns : tie.Need-returns
+returns c =
+    let a = c .before .before .before .before .args in
+    let s = now (a .s) in
+    rw (c .before .head-flags-known .ensures, c .le16 .ensures, byte-at s (a .at) 9, le-at 2 s (a .at) 10)
+
+pub authorization-clean-spec : {M : Type 1} → statement M
+authorization-clean-spec =
+    tie.close
+    (tie.spec (λ c. search needs) (λ c. search needs) (λ c κs. search needs) (λ c. search needs) (λ c κs. search needs) returns)
