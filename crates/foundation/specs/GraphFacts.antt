@@ -1,17 +1,18 @@
 -- Ranks in a graph where no strict edge lies on a cycle: they rise along the edges, strictly along the strict ones,
 -- none exceeds the number of nodes (`ranked`), and they are the most that a walk counts (`rank-most`, `rank-walk`).
+-- As many rounds as there are nodes find them (`rank-soon`).
 -- At the end, for code that computes them: rounds until nothing changes, or until a rank exceeds the number of nodes.
 use mathlib.Core.Path.{_≡_, refl, sym, ap, ap₂, _∙_}
 use mathlib.Core.Logic.{_⊎_, inl, inr, _↔_, ⊎-elim}
-use Prim.Native.Nat.{ℕ, zero, suc, _+_, _*_, _≤_, _<_, max}
+use Prim.Native.Nat.{ℕ, zero, suc, _+_, _-_, _*_, _≤_, _<_, max}
 use native.Mathlib.Omega.{arith}
-use mathlib.Core.Bool.{Bool, true, false}
+use mathlib.Core.Bool.{Bool, true, false, not}
 use mathlib.Core.List.{List, [], _∷_}
 use lib.Dec.{leb}
 use lib.ListN.{length}
-use Rattle.foundation.specs.Tests.{cases, must-fail, and-true, and-intro, true-le, false-le}
+use Rattle.foundation.specs.Tests.{cases, must-fail, and-true, and-intro, le-true, true-le, false-le}
 use Rattle.foundation.specs.Lists.{keepIf, Mem, keepIf-mem, kept}
-use Rattle.foundation.specs.Totals.{count, count-le, total-le, still-after}
+use Rattle.foundation.specs.Totals.{count, count-le, count-mono, count-same, total-le, still-after}
 use Rattle.foundation.specs.Closure.{size, size-le, size-mono, size-less}
 use Rattle.foundation.specs.Graph.{Path, direct, onward, reaches, strictEdge, cyclic, most, rankIn, rank, Walk}
 use Rattle.foundation.specs.Graph.{alone, then, reaches-path, cyclic-path}
@@ -104,6 +105,19 @@ module _ {K : Type 0} (edge strict : K → K → Bool) (own : K → Bool) (nodes
   rises (suc n) r = after-le n (after (suc (suc n)) r) r (own-le (suc (suc n)) r)
       (λ q m e. omega (arith, rises n q, by-le (suc n) q r m e))
 
+  -- a round adds at most one
+  pub rank-rounds : (n : ℕ) (r : K) → rankIn edge strict own n nodes r ≤ n + 1
+  rank-rounds zero r = omega (arith, rank-zero r, count-le (own r))
+  rank-rounds (suc n) r = after-le n (suc n + 1) r (omega (arith, count-le (own r)))
+      (λ q m e. omega (arith, rank-rounds n q, count-le (strict q r)))
+
+  -- a bound that every node's own and every edge keep to is kept to by the ranks
+  within : (g : K → ℕ) → ((r : K) → Mem r nodes → count (own r) ≤ g r) →
+      ((q r : K) → Mem q nodes → Mem r nodes → edge q r ≡ true → count (strict q r) + g q ≤ g r) →
+      (n : ℕ) (r : K) → Mem r nodes → after n r ≤ g r
+  within g a b zero r m = omega (arith, rank-zero r, a r m)
+  within g a b (suc n) r m = after-le n (g r) r (a r m) (λ q k e. omega (arith, within g a b n q k, b q r k m e))
+
   -- a round looks at the nodes' ranks only
   step-cong : (m n : ℕ) → ((q : K) → Mem q nodes → after m q ≡ after n q) →
       (r : K) → after (suc m) r ≡ after (suc n) r
@@ -123,6 +137,10 @@ module _ {K : Type 0} (edge strict : K → K → Bool) (own : K → Bool) (nodes
   pub rank-walk : (r : K) → Walk edge strict own nodes (rank edge strict own nodes r) r
   unfolding rank
   rank-walk r = walk-after (length nodes * length nodes) r
+
+  rank-own : (r : K) → count (own r) ≤ rank edge strict own nodes r
+  unfolding rank
+  rank-own r = own-le (length nodes * length nodes) r
 
   -- ---- no strict edge lies on a cycle
 
@@ -153,9 +171,8 @@ module _ {K : Type 0} (edge strict : K → K → Bool) (own : K → Bool) (nodes
         more p k a = above-path p r n .1 (onward (above-path p q m .0 a) m e)
 
     after-above : (n : ℕ) (r : K) → Mem r nodes → after n r ≤ 1 + size (above r) nodes
-    after-above zero r m = omega (arith, rank-zero r, count-le (own r))
-    after-above (suc n) r m = after-le n (1 + size (above r) nodes) r (omega (arith, count-le (own r)))
-        (λ q k e. omega (arith, after-above n q k, above-less q r k m e))
+    after-above = within (λ r. 1 + size (above r) nodes) (λ r m. omega (arith, count-le (own r)))
+        (λ q r m k e. omega (arith, above-less q r m k e))
 
     -- r itself is not above r
     after-few : (n : ℕ) (r : K) → Mem r nodes → after n r ≤ length nodes
@@ -187,14 +204,74 @@ module _ {K : Type 0} (edge strict : K → K → Bool) (own : K → Bool) (nodes
     }
 
     walk-le : {n : ℕ} {r : K} → Walk edge strict own nodes n r → Mem r nodes → n ≤ rank edge strict own nodes r
-    unfolding rank
-    walk-le (alone {r}) m = own-le (length nodes * length nodes) r
+    walk-le (alone {r}) m = rank-own r
     walk-le (then {n} {q} {r} w k e) m = omega (arith, walk-le w k, rank-by q r k m e)
 
     -- no walk counts more
     pub rank-most : (r : K) → Mem r nodes → {n : ℕ} → Walk edge strict own nodes n r →
         n ≤ rank edge strict own nodes r
     rank-most r m w = walk-le w m
+
+    -- ---- as many rounds as there are nodes are enough: each finds the rank of one node more, until all are found
+
+    -- n rounds find the rank of r
+    abbrev known : ℕ → K → Bool
+    known n r = leb (rank edge strict own nodes r) (after n r)
+
+    known-le : (n : ℕ) (r : K) → known n r ≡ true → rank edge strict own nodes r ≤ after n r
+    known-le n r e = true-le (rank edge strict own nodes r) (after n r) e
+
+    unknown-less : (n : ℕ) (r : K) → known n r ≡ false → after n r < rank edge strict own nodes r
+    unknown-less n r e = false-le (rank edge strict own nodes r) (after n r) e
+
+    known-on : (n : ℕ) (r : K) → known n r ≡ true → known (suc n) r ≡ true
+    known-on n r e = le-true (rank edge strict own nodes r) (after (suc n) r)
+        (omega (arith, known-le n r e, rises n r))
+
+    -- if a round finds no further one, all were found: else one less for each that is missing would bound the ranks
+    module _ (n : ℕ) (none : (r : K) → Mem r nodes → count (known n r) ≡ count (known (suc n) r)) where
+      abbrev lower : K → ℕ
+      lower r = rank edge strict own nodes r - count (not (known n r))
+
+      lower-own : (r : K) → Mem r nodes → count (own r) ≤ lower r
+      lower-own r m = cases (known n r)
+          (λ e. rw e (omega (arith, rank-own r)))
+          (λ e. rw e (omega (arith, unknown-less n r e, own-le n r)))
+
+      lower-edge : (q r : K) → Mem q nodes → Mem r nodes → edge q r ≡ true → count (strict q r) + lower q ≤ lower r
+      lower-edge q r m k e = cases (known n r)
+          (λ a. rw a (omega (arith, rank-by q r m k e)))
+          (λ a. cases (known n q)
+          (λ b. let less = unknown-less (suc n) r (sym (count-same (known n r) (known (suc n) r) (none r k)) ∙ a) in
+          rw (a, b) (omega (arith, known-le n q b, by-le n q r m e)))
+          (λ b. rw (a, b) (omega (arith, unknown-less n q b, rank-by q r m k e))))
+
+      known-all : (r : K) → Mem r nodes → known n r ≡ true
+      unfolding rank
+      known-all r m = cases (known n r) (λ e. e) (λ e. absurd (omega (
+        arith,
+        unknown-less n r e,
+        rw e at (within lower lower-own lower-edge (length nodes * length nodes) r m),
+      )))
+
+    all-known : (r : K) → Mem r nodes → known (length nodes) r ≡ true
+    all-known = known-all (length nodes) (still-after nodes (λ n r. count (known n r)) (length nodes)
+        (λ n r m. count-mono (known n r) (known (suc n) r) (known-on n r))
+        (λ n h r m. let e = known-on n r (known-all n h r m) in ap count (e ∙ sym (known-on (suc n) r e)))
+        (λ n. omega (arith, total-le (λ r. count (known n r)) 1 nodes (λ r m. count-le (known n r))))
+        (length nodes) (omega arith))
+
+    known-rank : (n : ℕ) (r : K) → Mem r nodes → known n r ≡ true → after n r ≡ rank edge strict own nodes r
+    known-rank n r m e = omega (
+      arith,
+      known-le n r e,
+      within (rank edge strict own nodes) (λ r m. rank-own r) rank-by n r m,
+    )
+
+    pub rank-soon : Still (length nodes)
+    rank-soon r m =
+        let e = all-known r m in
+        known-rank (length nodes) r m e ∙ sym (known-rank (suc (length nodes)) r m (known-on (length nodes) r e))
 
   -- ---- for code: rounds until nothing changes, or until a rank exceeds the number of nodes
 

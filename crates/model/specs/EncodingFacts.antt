@@ -44,7 +44,7 @@ privilege-back p rest f i = record {
   subject = le-bytes 2 (p .subject) [] (f .subject) i;
 }
 
-authorization-back : (a : Authorization) (rest : List ℕ) → AuthorizationFits a →
+pub authorization-back : (a : Authorization) (rest : List ℕ) → AuthorizationFits a →
     authorizationOf (authorizationBytes a ++ rest) ≡ a
 authorization-back a rest f i =
     let h = a .head in

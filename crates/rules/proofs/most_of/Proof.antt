@@ -1,0 +1,40 @@
+-- `most_of` meets its contract. The loop's invariant: `best` is the largest of the first `i` numbers that `m` picks.
+use native.Mathlib.Omega.{arith}
+use native.Mathlib.Numerals.{add-one}
+use mathlib.Core.Path.{_≡_, sym, ap, _∙_}
+use Prim.Native.Nat.{ℕ, _-_, _≤_}
+use lib.ListN.{getD}
+use denote.Ref.{now}
+use borrow.Author.Needs.{needs}
+use Rattle.rules.specs.Masks.{larger, top}
+use Rattle.rules.proofs.most_of.Statement.{statement}
+use Rattle.rules.proofs.most_of.Tie as tie
+
+abbrev Inv-loop : tie.InvT-loop
+Inv-loop m l n best₀ i₀ best i = (i ≤ n) × (best ≡ top i m l)
+
+abbrev μ-loop : tie.MeasureT-loop
+μ-loop m l n best₀ i₀ best i = n - i
+
+loop-again : tie.Need-loop-again Inv-loop μ-loop
+loop-again c =
+    let a = c .before .before .before .before .before .args in
+    let l = c .before .before .before .before .loop in (
+      search needs,
+      c .larger-of .ensures
+          ∙ (λ k. larger (c .before .before .bit-at .ensures k) (getD (now (a .l)) (l .i) 0) (l .inv .1 k))
+          ∙ ap (λ (j : ℕ). top j (a .m) (now (a .l))) (sym (add-one (l .i))),
+    )
+
+returns : tie.Need-returns Inv-loop μ-loop
+returns c =
+    let a = c .before .before .args in
+    let l = c .before .loop in
+    let e : l .i ≡ a .n = omega (arith, l .inv .0) in
+    l .inv .1 ∙ ap (λ (j : ℕ). top j (a .m) (now (a .l))) e
+
+pub most-of-spec : {M : Type 1} → statement M
+most-of-spec =
+    tie.close
+    (tie.spec Inv-loop μ-loop (λ c. search needs) (λ c. search needs) (λ c κs. search needs) (λ c. search needs)
+    (λ c. search needs) (λ c κs. search needs) (λ c. search needs) (λ c. search needs) loop-again returns)

@@ -1,0 +1,47 @@
+-- The rules of a base's bytes by their places, and tables with a number for each.
+use mathlib.Core.Path.{_≡_}
+use Prim.Native.Nat.{ℕ, _+_, _*_, _<_}
+use mathlib.Core.Bool.{Bool, true}
+use mathlib.Core.List.{List}
+use lib.ListN.{drop, getD}
+use Rattle.foundation.specs.Lists.{keepIf}
+use Rattle.foundation.specs.Bytes.{records}
+use Rattle.foundation.specs.Graph.{most}
+use Rattle.foundation.specs.Totals.{count}
+use Rattle.model.specs.declared.Rule.{Rule}
+use Rattle.model.specs.Encoding.{ruleOf}
+use Rattle.model.specs.Stratification.{feeds, negates, stratified, stratum}
+use Rattle.rules.specs.Masks.{maskOf}
+
+-- the n rules that stand in s, and the i-th of them
+abbrev pub rulesIn : ℕ → List ℕ → List Rule
+rulesIn n s = records 28 ruleOf n s
+
+abbrev pub ruleAt : List ℕ → ℕ → Rule
+ruleAt s i = ruleOf (drop (i * 28) s)
+
+-- the first n numbers of l are those of f
+abbrev pub Filled : ℕ → (ℕ → ℕ) → List ℕ → Type 0
+Filled n f l = (i : ℕ) → i < n → getD l i 0 ≡ f i
+
+-- l holds f of each of the n rules, at the rule's place
+abbrev pub Holds : ℕ → List ℕ → (Rule → ℕ) → List ℕ → Type 0
+Holds n s f l = Filled n (λ i. f (ruleAt s i)) l
+
+-- the mask of the rules that feed r
+abbrev pub feedersOf : List Rule → Rule → ℕ
+feedersOf rules r = maskOf (λ q. feeds q r) rules
+
+-- what a round makes of the numbers f of the rules: the largest of the feeders', and one more for a rule with
+-- WHENEVERNOT or UNLESS
+abbrev pub raised : List Rule → (Rule → ℕ) → Rule → ℕ
+raised rules f r = count (negates r) + most f (keepIf (λ q. feeds q r) rules)
+
+-- what the test for circles answers of n rules, and the table that it leaves
+pub record Stratified (n : ℕ) (s strata : List ℕ) (answer : Bool) : Type 0 where
+  pub test : answer ≡ stratified (rulesIn n s)
+  pub table : answer ≡ true → Holds n s (stratum (rulesIn n s)) strata
+
+-- two tables are equal in the first n places
+abbrev pub Same : ℕ → List ℕ → List ℕ → Type 0
+Same n a b = Filled n (λ i. getD b i 0) a

@@ -1,0 +1,5 @@
+pub mod First
+pub mod Places
+pub mod Cover
+pub mod Sweep
+pub mod Gaps
