@@ -48,7 +48,7 @@ eqList-sym : (xs ys : List ℕ) → eqList xs ys ≡ eqList ys xs
 eqList-sym xs ys = agree (eqList xs ys) (eqList ys xs)
     (λ e. rw (eqList-eq xs ys e) (eqList-refl ys)) (λ e. rw (eqList-eq ys xs e) (eqList-refl xs))
 
-length-records : {A : Type 0} (w : ℕ) (f : List ℕ → A) (n : ℕ) (s : List ℕ) → length (records w f n s) ≡ n
+pub length-records : {A : Type 0} (w : ℕ) (f : List ℕ → A) (n : ℕ) (s : List ℕ) → length (records w f n s) ≡ n
 length-records w f zero s = refl
 length-records w f (suc n) s = ap suc (length-records w f n (drop w s))
 

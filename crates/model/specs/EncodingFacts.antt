@@ -27,7 +27,7 @@ use Rattle.model.specs.SoundnessFacts.{sound-tests, sound-bytes}
 use Rattle.model.specs.FlagFacts.{head-flags-back, rule-flags-back, operator-back, head-flags-most}
 use Rattle.model.specs.FlagFacts.{rule-flags-most, operator-most}
 use Rattle.model.specs.FitsFacts.{PrivilegeFits, IntervalFits, AuthorizationFits, RuleFits, counts-fit}
-use Rattle.model.specs.FitsFacts.{BaseFits, base-fits}
+use Rattle.model.specs.FitsFacts.{CountsFit, BaseFits, base-fits}
 
 -- ---- what is written is read back. A field's number depends on its own bytes: `[]` serves for what is behind them
 
@@ -164,9 +164,13 @@ module _ (b : Base) (f : BaseFits b) (z : List ℕ) where
       (le-bytes 2 (length (b .authorizations)) [] (omega (arith, c .authorizations)) i)
       (le-bytes 2 (length (b .rules)) [] (omega (arith, c .rules)) i) (regroup i)) ∙ bodies-back
 
-pub decode-encode : (b : Base) → sound b ≡ true → decode (encode b) ≡ b
+-- a base whose fields fit their widths is read back
+pub decode-fits : (b : Base) → BaseFits b → decode (encode b) ≡ b
 unfolding encode
-decode-encode b e = base-back b (base-fits b e) (replicate (size - length (heading b ++ bodies b)) 0)
+decode-fits b f = base-back b f (replicate (size - length (heading b ++ bodies b)) 0)
+
+pub decode-encode : (b : Base) → sound b ≡ true → decode (encode b) ≡ b
+decode-encode b e = decode-fits b (base-fits b e)
 
 pub encode-sound : (b : Base) → sound b ≡ true → soundBytes (encode b) ≡ true
 unfolding soundBytes
@@ -175,7 +179,7 @@ encode-sound b e = rw (decode-encode b e)
 
 -- ---- the length
 
-privileges-length : (ps : List Privilege) → length (each ps privilegeBytes) ≡ length ps * 4
+pub privileges-length : (ps : List Privilege) → length (each ps privilegeBytes) ≡ length ps * 4
 privileges-length ps = length-each ps privilegeBytes 4 (λ p. refl)
 
 pub bodies-length : (b : Base) → length (bodies b) ≡
@@ -188,13 +192,16 @@ bodies-length b = simp (
   length-each (b .rules) ruleBytes 28 (λ r. refl),
 )
 
-pub encode-length : (b : Base) → countsHold b ≡ true → length (encode b) ≡ size
+pub length-fits : (b : Base) → CountsFit b → length (encode b) ≡ size
 unfolding encode
-encode-length b e =
+length-fits b c =
     let front = heading b ++ bodies b in
     let l : length front ≡ 32 + length (bodies b) = length-append (heading b) (bodies b) in
     length-append front (replicate (size - length front) 0) ∙ rw (length-replicate {A = ℕ} (size - length front) 0)
-    (omega (arith, l, bodies-length b, counts-fit b e))
+    (omega (arith, l, bodies-length b, c))
+
+pub encode-length : (b : Base) → countsHold b ≡ true → length (encode b) ≡ size
+encode-length b e = length-fits b (counts-fit b e)
 
 pub sound-length : (s : List ℕ) → soundBytes s ≡ true → length s ≡ size
 sound-length s e =

@@ -1,0 +1,185 @@
+-- A base with one of its parts replaced, and the bytes that an edit starts from.
+use mathlib.Core.Path.{_≡_, ap}
+use Prim.Native.Nat.{ℕ, suc, _+_, _-_}
+use mathlib.Core.Bool.{true}
+use mathlib.Core.List.{List, _∷_, _++_}
+use lib.ListN.{length, take, drop, replicate}
+use Rattle.model.specs.declared.Privilege.{Privilege}
+use Rattle.model.specs.declared.Authorization.{Authorization}
+use Rattle.model.specs.declared.Rule.{Rule}
+use Rattle.model.specs.Base.{Base}
+use Rattle.model.specs.Encoding.{encode, decode}
+use Rattle.model.specs.Soundness.{soundBytes}
+use Rattle.model.specs.SoundnessFacts.{sound-bytes}
+use Rattle.model.specs.FitsFacts.{BaseFits, base-fits}
+use Rattle.model.specs.EncodingFacts.{decode-fits}
+use Rattle.encoding.specs.declared.Counts.{Counts}
+use Rattle.encoding.specs.Format.{administratorsAt, referrersAt}
+use Rattle.edits.specs.declared.PrivilegeBody.{PrivilegeBody}
+use Rattle.edits.specs.declared.PrivilegeBody.the-variants.{Objects, Administrators, Referrers}
+
+-- ---- a base with one part replaced
+
+abbrev pub withClock : ℕ → ℕ → Base → Base
+withClock clock last b = record {
+  clock = clock;
+  last = last;
+  objects = b .objects;
+  administrators = b .administrators;
+  referrers = b .referrers;
+  authorizations = b .authorizations;
+  rules = b .rules;
+}
+
+abbrev pub withObjects : List Privilege → Base → Base
+withObjects ps b = record {
+  clock = b .clock;
+  last = b .last;
+  objects = ps;
+  administrators = b .administrators;
+  referrers = b .referrers;
+  authorizations = b .authorizations;
+  rules = b .rules;
+}
+
+abbrev pub withAdministrators : List Privilege → Base → Base
+withAdministrators ps b = record {
+  clock = b .clock;
+  last = b .last;
+  objects = b .objects;
+  administrators = ps;
+  referrers = b .referrers;
+  authorizations = b .authorizations;
+  rules = b .rules;
+}
+
+abbrev pub withReferrers : List Privilege → Base → Base
+withReferrers ps b = record {
+  clock = b .clock;
+  last = b .last;
+  objects = b .objects;
+  administrators = b .administrators;
+  referrers = ps;
+  authorizations = b .authorizations;
+  rules = b .rules;
+}
+
+abbrev pub withAuthorizations : List Authorization → Base → Base
+withAuthorizations as′ b = record {
+  clock = b .clock;
+  last = b .last;
+  objects = b .objects;
+  administrators = b .administrators;
+  referrers = b .referrers;
+  authorizations = as′;
+  rules = b .rules;
+}
+
+abbrev pub withRules : List Rule → Base → Base
+withRules rs b = record {
+  clock = b .clock;
+  last = b .last;
+  objects = b .objects;
+  administrators = b .administrators;
+  referrers = b .referrers;
+  authorizations = b .authorizations;
+  rules = rs;
+}
+
+-- the privileges of one of the three bodies, and the base with them replaced
+abbrev pub privilegesOf : PrivilegeBody → Base → List Privilege
+privilegesOf Objects b = b .objects
+privilegesOf Administrators b = b .administrators
+privilegesOf Referrers b = b .referrers
+
+abbrev pub withPrivileges : PrivilegeBody → List Privilege → Base → Base
+withPrivileges Objects ps b = withObjects ps b
+withPrivileges Administrators ps b = withAdministrators ps b
+withPrivileges Referrers ps b = withReferrers ps b
+
+-- ---- lists
+
+-- x put before the element at i, or at the end where i is the length
+abbrev pub insertAt : {A : Type 0} → ℕ → A → List A → List A
+insertAt i x xs = take i xs ++ (x ∷ drop i xs)
+
+-- without the element at i
+abbrev pub removeAt : {A : Type 0} → ℕ → List A → List A
+removeAt i xs = take i xs ++ drop (suc i) xs
+
+-- ---- counts
+
+-- where the privileges of a body start
+abbrev pub privilegesAt : PrivilegeBody → Counts → ℕ
+privilegesAt Objects c = 32
+privilegesAt Administrators c = administratorsAt c
+privilegesAt Referrers c = referrersAt c
+
+-- how many they are
+abbrev pub privilegeCount : PrivilegeBody → Counts → ℕ
+privilegeCount Objects c = c .objects
+privilegeCount Administrators c = c .administrators
+privilegeCount Referrers c = c .referrers
+
+-- the counts with n of them
+abbrev pub withPrivilegeCount : PrivilegeBody → ℕ → Counts → Counts
+withPrivilegeCount Objects n c = record {
+  objects = n;
+  administrators = c .administrators;
+  referrers = c .referrers;
+  authorizations = c .authorizations;
+  rules = c .rules;
+}
+withPrivilegeCount Administrators n c = record {
+  objects = c .objects;
+  administrators = n;
+  referrers = c .referrers;
+  authorizations = c .authorizations;
+  rules = c .rules;
+}
+withPrivilegeCount Referrers n c = record {
+  objects = c .objects;
+  administrators = c .administrators;
+  referrers = n;
+  authorizations = c .authorizations;
+  rules = c .rules;
+}
+
+abbrev pub withAuthorizationCount : ℕ → Counts → Counts
+withAuthorizationCount n c = record {
+  objects = c .objects;
+  administrators = c .administrators;
+  referrers = c .referrers;
+  authorizations = n;
+  rules = c .rules;
+}
+
+abbrev pub withRuleCount : ℕ → Counts → Counts
+withRuleCount n c = record {
+  objects = c .objects;
+  administrators = c .administrators;
+  referrers = c .referrers;
+  authorizations = c .authorizations;
+  rules = n;
+}
+
+-- ---- bytes
+
+-- s with the `old` bytes at `at` made `new` ones: what stands behind them is moved, and the end is cut or filled with
+-- zeros, so that the length remains
+unfoldable pub resized : ℕ → ℕ → ℕ → List ℕ → List ℕ
+resized at old new s =
+    take (at + new) s ++ take (length s - at - new) (drop (at + old) s ++ replicate (old - new) 0)
+
+-- the bytes are those of a base whose fields fit their widths and whose counts are within their limits
+pub record Written (s : List ℕ) : Type 0 where
+  pub encoded : encode (decode s) ≡ s
+  pub fits : BaseFits (decode s)
+
+pub written-sound : (s : List ℕ) → soundBytes s ≡ true → Written s
+written-sound s e =
+    let t = sound-bytes s e in
+    record { encoded = t .0; fits = base-fits (decode s) (t .1) }
+
+pub written-encode : (b : Base) → BaseFits b → Written (encode b)
+written-encode b f = record { encoded = ap encode (decode-fits b f); fits = rw (decode-fits b f) f }
