@@ -1,0 +1,37 @@
+-- `soundness::parts::lent_hold` meets its contract: the bodies first, and support and strata only if they hold.
+-- Assumes nothing.
+use borrow.Author.Needs.{needs}
+use borrow.Author.Tests.{not-true, not-false}
+use mathlib.Core.Path.{sym, _∙_}
+use mathlib.Core.Bool.{_&&_}
+use denote.Ref.{now}
+use Rattle.model.specs.Base.{Base}
+use Rattle.model.specs.Stratification.{stratified}
+use Rattle.model.specs.Soundness.{allSupported}
+use Rattle.soundness.specs.Bodies.{baseOf}
+use Rattle.soundness.proofs.parts.lent_hold.Statement.{statement}
+use Rattle.soundness.proofs.parts.lent_hold.Tie as tie
+
+returns : tie.Need-returns
+returns c =
+    let a = c .before .before .before .before .before .before .before .args in
+    let b : Base = baseOf (a .clock) (a .last) (a .c) (now (a .objects)) (now (a .administrators)) (now (a .referrers))
+    (now (a .authorizations)) (now (a .rules)) in
+    λ k. (sym (not-true _ (c .if1 .taken)) ∙ c .before .bodies-hold .ensures) k && allSupported b && stratified (b .rules)
+
+all-supported-requires : tie.Need-all-supported-requires
+all-supported-requires c κs = search needs
+
+stratify-requires : tie.Need-stratify-requires
+stratify-requires c κs = search needs
+
+returns-2 : tie.Need-returns-2
+returns-2 c = λ k.
+    (sym (not-false _ (c .before .before .before .before .before .before .before .before .before .if1 .left)) ∙ c .before .before .before .before .before .before .before .before .before .before .bodies-hold .ensures) k
+    && c .before .before .before .all-supported .ensures k && c .stratify .ensures .test k
+
+pub lent-hold-spec : {M : Type 1} → statement M
+lent-hold-spec =
+    tie.close
+    (tie.spec (λ c κs. search needs) returns (λ c. search needs) (λ c. search needs) (λ c. search needs) (λ c. search needs)
+    (λ c. search needs) all-supported-requires stratify-requires returns-2)
