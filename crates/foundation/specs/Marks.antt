@@ -41,7 +41,7 @@ walk f ms e (suc k) a =
       | true ↦ elim (f a) [ true ↦ prepend (interval a (m - 1)) (walk f ms e k m) | false ↦ walk f ms e k m ]
     ]
 
-next-above : (a : ℕ) (ms : List ℕ) (d : ℕ) → a < d → a < next a ms d
+pub next-above : (a : ℕ) (ms : List ℕ) (d : ℕ) → a < d → a < next a ms d
 unfolding next
 next-above a [] d h = h
 next-above a (m ∷ ms) d h = cases (ltb a m && ltb m (next a ms d))
@@ -56,7 +56,7 @@ next-le a (m ∷ ms) d = cases (ltb a m && ltb m (next a ms d))
     let i = next-le a ms d in rw e (omega arith))
     (λ e. rw e (next-le a ms d))
 
-next-clear : (a : ℕ) (ms : List ℕ) (d t : ℕ) → t < next a ms d → clear ms a t ≡ true
+pub next-clear : (a : ℕ) (ms : List ℕ) (d t : ℕ) → t < next a ms d → clear ms a t ≡ true
 unfolding next
 next-clear a [] d t h = refl
 next-clear a (m ∷ ms) d t h = cases (ltb a m && ltb m (next a ms d))

@@ -1,13 +1,13 @@
 -- What holds changes at marks only (`below-steady`). Theorem 4: what the rules of a stratum derive is closed under
 -- them (`closed`) and the smallest such set (`smallest`); `below-stratum` says which rules it speaks of.
-use mathlib.Core.Path.{_≡_, refl, sym, _∙_}
+use mathlib.Core.Path.{_≡_, refl, sym, _∙_, subst}
 use mathlib.Core.Logic.{inl}
-use Prim.Native.Nat.{ℕ, zero, suc, _<_}
+use Prim.Native.Nat.{ℕ, zero, suc, _≤_, _<_}
 use native.Mathlib.Omega.{arith}
 use mathlib.Core.Bool.{Bool, true, false≢true}
 use mathlib.Core.List.{List}
-use lib.Dec.{ltb, eqb}
-use Rattle.foundation.specs.Tests.{cases, true-le, le-true, true-eq, and-true}
+use lib.Dec.{leb, ltb, eqb}
+use Rattle.foundation.specs.Tests.{cases, true-le, false-le, le-true, true-eq, and-true}
 use Rattle.foundation.specs.Lists.{Mem}
 use Rattle.foundation.specs.Closure.{iter, settled, least}
 use Rattle.foundation.specs.Intervals.{always}
@@ -65,6 +65,21 @@ module _ (auths : List Authorization) (rules : List Rule) where
   -- and so it is after each round
   pub rounds-steady : (k n : ℕ) → Stead auths rules (rounds k n)
   rounds-steady k n = rounds-good k (below-steady k) n .0
+
+  -- each round only adds,
+  rounds-grow : (k n j : ℕ) → n ≤ j → Part (rounds k n) (rounds k j)
+  unfolding iter
+  rounds-grow k n zero h x e = let q : n ≡ 0 = omega arith in subst (λ (i : ℕ). rounds k i x ≡ true) q e
+  rounds-grow k n (suc j) h x e = cases (leb n j)
+      (λ l. rounds-good k (below-steady k) j .1 x (rounds-grow k n j (true-le n j l) x e))
+      (λ l. let g = false-le n j l in let q : n ≡ suc j = omega arith in
+      subst (λ (i : ℕ). rounds k i x ≡ true) q e)
+
+  -- so that what one of the first derives is derived at last
+  pub rounds-below : (k n : ℕ) → n ≤ enough always auths rules → (x : Fact) → rounds k n x ≡ true →
+      derivedBelow always auths rules (suc k) x ≡ true
+  unfolding derivedBelow
+  rounds-below k n h x e = rounds-grow k n (enough always auths rules) h x e
 
   -- THEOREM 4, closed: one more round of stratum k adds nothing
   pub closed : (k : ℕ) (x : Fact) → Mem (x .rule) rules →

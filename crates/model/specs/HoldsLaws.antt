@@ -50,16 +50,16 @@ fit-feeds q r x e =
     and-intro (d && c && u && v && g) o (and-intro (d && c && u && v) g dcuv (w₂ .1)) (w₁ .1)
 
 -- what holds of p is derived only by rules that feed r
-abbrev Fed : Rule → Pattern → Type 0
+abbrev pub Fed : Rule → Pattern → Type 0
 Fed r p = (q : Rule) → derivesFor p q ≡ true → feeds q r ≡ true
 
 -- and by links that count one in a rank
-abbrev StrictlyFed : Rule → Pattern → Type 0
+abbrev pub StrictlyFed : Rule → Pattern → Type 0
 StrictlyFed r p = (q : Rule) → derivesFor p q ≡ true → (feeds q r ≡ true) × (strict q r ≡ true)
 
 -- A rule's right side looks up to the rule's stratum only at what its feeders derive, and below it only at what those
 -- derive that feed it by such links: where that is settled, `all` being what holds at last, so is the right side.
-right-settled : (r : Rule) (x : Access) (same lower all : Pattern → Bool) →
+pub right-settled : (r : Rule) (x : Access) (same lower all : Pattern → Bool) →
     ((p : Pattern) → Fed r p → same p ≡ all p) → ((p : Pattern) → StrictlyFed r p → lower p ≡ all p) →
     rightHolds same lower (rightOf r x) ≡ rightHolds all all (rightOf r x)
 right-settled r x same lower all h k =
@@ -118,15 +118,19 @@ module _ (auths : List Authorization) (rules : List Rule) where
       sym (closed auths rules k x m) ∙ rw (le-false (suc n) k (omega arith), eq-true n k e)
 
   -- what holds of a pattern rests on what the rules derive that derive for it
-  holds-same : (S : Fact → Bool) (t : ℕ) (p : Pattern) → ((r : Rule) → Mem r rules → derivesFor p r ≡ true →
-      derived (fact r (p .access) t) ≡ S (fact r (p .access) t)) →
-      holdsBy always auths rules S t p ≡ holds always auths rules t p
-  holds-same S t p h =
+  pub holds-fit : (S Q : Fact → Bool) (t : ℕ) (p : Pattern) → ((r : Rule) → Mem r rules → derivesFor p r ≡ true →
+      S (fact r (p .access) t) ≡ Q (fact r (p .access) t)) →
+      holdsBy always auths rules S t p ≡ holdsBy always auths rules Q t p
+  holds-fit S Q t p h =
       let x : Rule → Fact = λ r. fact r (p .access) t in
       ap (λ (b : Bool). anyb (fits p) (live t auths) || b)
-      (any-cong-mem (λ r. derivesFor p r && S (x r)) (λ r. derivesFor p r && derived (x r)) rules
-      (λ r m. cases (derivesFor p r) (λ e. rw e (sym (h r m e))) (λ e. rw e)))
-      ∙ sym (holds-law t p)
+      (any-cong-mem (λ r. derivesFor p r && S (x r)) (λ r. derivesFor p r && Q (x r)) rules
+      (λ r m. cases (derivesFor p r) (λ e. rw e (h r m e)) (λ e. rw e)))
+
+  pub holds-same : (S : Fact → Bool) (t : ℕ) (p : Pattern) → ((r : Rule) → Mem r rules → derivesFor p r ≡ true →
+      derived (fact r (p .access) t) ≡ S (fact r (p .access) t)) →
+      holdsBy always auths rules S t p ≡ holds always auths rules t p
+  holds-same S t p h = holds-fit S derived t p (λ r m e. sym (h r m e)) ∙ sym (holds-law t p)
 
   module _ (s : stratified rules ≡ true) where
     module _ (r : Rule) (m : Mem r rules) where
@@ -138,7 +142,7 @@ module _ (auths : List Authorization) (rules : List Rule) where
           (omega (arith, feeder-not-above rules s q r k m (h q e))) (omega (arith, stratum-few rules s r m)))
 
       -- and before it where the links count one
-      strictly-settled : (u : ℕ) (p : Pattern) → StrictlyFed r p →
+      pub strictly-settled : (u : ℕ) (p : Pattern) → StrictlyFed r p →
           holdsBy always auths rules (below (stratum rules r)) u p ≡ holds always auths rules u p
       strictly-settled u p h = holds-same (below (stratum rules r)) u p (λ q k e.
           let l = h q e in

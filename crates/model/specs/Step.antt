@@ -140,8 +140,8 @@ isGap b q t =
     inInterval (q .interval) t && not (coveredFor (b .authorizations) (newHead (suc (b .last)) q) t)
 
 -- 10: "object exists (NEW); subject is owner or already holds that privilege (GRANTADM, GRANTREF)"
-abbrev pub alreadySo : Base → Request → Bool
-alreadySo b q =
+abbrev pub alreadyThere : Base → Request → Bool
+alreadyThere b q =
     (is q (NEW ∷ []) && exists b (q .object))
     || (is q (GRANTADM ∷ []) && controls b (q .object) (q .subject))
     || (is q (GRANTREF ∷ []) && (owns b (q .object) (q .subject) || refers b (q .object) (q .subject)))
@@ -235,7 +235,7 @@ module _ (M : Means) where
       ∷ row 7 (noLabel b q)
       ∷ row 8 (notPermitted b q)
       ∷ row 9 (notSupported b q)
-      ∷ row 10 (alreadySo b q)
+      ∷ row 10 (alreadyThere b q)
       ∷ row 11 (notHeld b q)
       ∷ row 12 (notStratified b q)
       ∷ row 13 (full b q)

@@ -12,7 +12,7 @@ use Rattle.model.specs.declared.Reply.the-variants.{Refused}
 use Rattle.model.specs.Base.{Base}
 use Rattle.model.specs.Means.{Means, plainly}
 use Rattle.model.specs.Step.{Row, lowest, rangeTests, outOfRange, behindClock, badInterval, noObject, noLabel}
-use Rattle.model.specs.Step.{notPermitted, notSupported, alreadySo, notHeld, notStratified, full, table}
+use Rattle.model.specs.Step.{notPermitted, notSupported, alreadyThere, notHeld, notStratified, full, table}
 use Rattle.model.specs.Step.{refusal, refusedOr, accepting, effect, Outcome, step}
 
 -- ---- the lowest number of rows that rise
@@ -86,7 +86,7 @@ pub record Accepted (b : Base) (q : Request) : Type 0 where
   pub label : noLabel b q ≡ false
   pub permitted : notPermitted b q ≡ false
   pub support : notSupported plainly b q ≡ false
-  pub fresh : alreadySo b q ≡ false
+  pub fresh : alreadyThere b q ≡ false
   pub held : notHeld b q ≡ false
   pub strata : notStratified b q ≡ false
   pub room : full plainly b q ≡ false

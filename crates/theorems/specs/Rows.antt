@@ -17,7 +17,7 @@ use Rattle.model.specs.Stratification.{stratified}
 use Rattle.model.specs.Requests.{NEW, ADDRULE, GRANTADM, GRANTREF, is, grants, labels, newHead, rulesAfter}
 use Rattle.model.specs.Means.{plainly}
 use Rattle.model.specs.Step.{namesObject, namesSubject, namesMode, namesInterval, ruleTermsIn, badInterval, noObject}
-use Rattle.model.specs.Step.{notPermitted, notSupported, alreadySo, notStratified, countsHold, full, effect}
+use Rattle.model.specs.Step.{notPermitted, notSupported, alreadyThere, notStratified, countsHold, full, effect}
 use Rattle.model.specs.Soundness.{intervalIn, startsFirst}
 use Rattle.model.specs.StepFacts.{Accepted, in-range}
 
@@ -88,17 +88,17 @@ module _ (b : Base) (q : Request) (g : Accepted b q) where
       (none? (gaps (b .authorizations) (newHead (suc (b .last)) q) (q .interval))) (g .support) (λ e. rw (k, c, e))
 
   pub object-new : is q (NEW ∷ []) ≡ true → exists b (q .object) ≡ false
-  object-new k = must-fail (alreadySo b q) (exists b (q .object)) (g .fresh) (λ e. rw (k, e))
+  object-new k = must-fail (alreadyThere b q) (exists b (q .object)) (g .fresh) (λ e. rw (k, e))
 
   pub not-administrator : is q (GRANTADM ∷ []) ≡ true →
       (owns b (q .object) (q .subject) ≡ false) × (administers b (q .object) (q .subject) ≡ false)
   not-administrator k = or-none (owns b (q .object) (q .subject)) (administers b (q .object) (q .subject))
-      (must-fail (alreadySo b q) (controls b (q .object) (q .subject)) (g .fresh) (λ e. rw (k, e, or-true)))
+      (must-fail (alreadyThere b q) (controls b (q .object) (q .subject)) (g .fresh) (λ e. rw (k, e, or-true)))
 
   pub not-referrer : is q (GRANTREF ∷ []) ≡ true →
       (owns b (q .object) (q .subject) ≡ false) × (refers b (q .object) (q .subject) ≡ false)
   not-referrer k = or-none (owns b (q .object) (q .subject)) (refers b (q .object) (q .subject))
-      (must-fail (alreadySo b q) (owns b (q .object) (q .subject) || refers b (q .object) (q .subject)) (g .fresh)
+      (must-fail (alreadyThere b q) (owns b (q .object) (q .subject) || refers b (q .object) (q .subject)) (g .fresh)
       (λ e. rw (k, e, or-true)))
 
   pub no-circle : is q (ADDRULE ∷ []) ≡ true → stratified (rulesAfter b q) ≡ true

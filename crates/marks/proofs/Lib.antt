@@ -1,0 +1,2 @@
+-- `Laws` has the next mark, record by record.
+pub mod Laws

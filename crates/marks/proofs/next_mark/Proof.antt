@@ -1,0 +1,23 @@
+use borrow.Author.Needs.{needs}
+use mathlib.Core.Path.{sym, ap, _∙_}
+use mathlib.Core.List.{_++_}
+use denote.Ref.{now}
+use Rattle.foundation.specs.Marks.{next}
+use Rattle.marks.specs.Marks.{marksIn, lines-marks, rules-marks}
+use Rattle.marks.proofs.Laws.{next-append}
+use Rattle.marks.proofs.next_mark.Statement.{statement}
+use Rattle.marks.proofs.next_mark.Tie as tie
+
+returns : tie.Need-returns
+returns c =
+    let a = c .before .before .before .before .args in
+    let ls = marksIn 24 16 (a .n) (now (a .lines)) in
+    let rs = marksIn 28 20 (a .k) (now (a .rules)) in
+    c .next-in2 .ensures
+    ∙ ap (next (a .t) ls) (c .before .next-in .ensures)
+    ∙ sym (next-append (a .t) ls rs 4294967296)
+    ∙ (λ i. next (a .t) (sym (lines-marks (a .n) (now (a .lines))) i ++ sym (rules-marks (a .k) (now (a .rules))) i)
+    4294967296)
+
+pub next-mark-spec : {M : Type 1} → statement M
+next-mark-spec = tie.close (tie.spec (λ c κs. search needs) (λ c κs. search needs) returns)

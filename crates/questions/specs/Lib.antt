@@ -1,0 +1,5 @@
+pub mod Operators
+pub mod Table
+pub mod Stratum
+pub mod FromMarkToMark
+pub mod Planned

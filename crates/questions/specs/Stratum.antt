@@ -1,0 +1,244 @@
+-- The sweep of one stratum. In a table that says nothing wrong and is right below stratum k, the bit of a rule of
+-- stratum k that derives now may be set (`set-right`); once none is left to set, the table is right below stratum
+-- k + 1 (`swept`).
+use mathlib.Core.Path.{_≡_, refl, sym, _∙_, subst}
+use Prim.Native.Nat.{ℕ, zero, suc, _-_, _≤_, _<_}
+use native.Mathlib.Omega.{arith}
+use mathlib.Core.Bool.{Bool, true, not, _&&_, _||_}
+use mathlib.Core.List.{List}
+use lib.Dec.{ltb, eqb}
+use lib.ListN.{length}
+use Rattle.foundation.specs.Tests.{pick, cases, agree, le-false, true-eq, eq-true, and-true, and-intro, or-cases, or-intro-left, or-true-right}
+use Rattle.foundation.specs.Lists.{anyb, Mem, any-mem, mem-any}
+use Rattle.foundation.specs.Closure.{iter}
+use Rattle.foundation.specs.Intervals.{inInterval, inInterval-true, always}
+use Rattle.model.specs.declared.Authorization.{Authorization}
+use Rattle.model.specs.declared.Rule.{Rule}
+use Rattle.model.specs.declared.Access.{Access}
+use Rattle.model.specs.Support.{live}
+use Rattle.model.specs.Stratification.{negating, stratified, stratum}
+use Rattle.model.specs.StratificationFacts.{feeder-below}
+use Rattle.model.specs.Rules.{Pattern, Fact, fact, fits, standsFor, derivesFor, rightOf, operate, holdsBy, rightBy, derives, enough, derivedBelow, holds}
+use Rattle.model.specs.RightFacts.{right-mono, right-cong}
+use Rattle.model.specs.HoldsFacts.{below-stratum, rounds, rounds-below}
+use Rattle.model.specs.HoldsLaws.{Fed, StrictlyFed, right-settled, settled-at, holds-fit, holds-law, strictly-settled}
+use Rattle.questions.specs.Operators.{lasting, sense, operate-back, operate-now, sense-more}
+use Rattle.questions.specs.Table.{Bits, asFacts, gate, truth, heldIn, rightIn, snap, Node, Inward, Before, Sound, RightBelow, ClosedAt, derives-stands, gate-first, instant-before, now-law}
+
+-- from more facts about the rules at hand no less holds
+holds-more : (auths : List Authorization) (rules : List Rule) (S Q : Fact → Bool) (t : ℕ) (p : Pattern) →
+    ((r : Rule) → Mem r rules → S (fact r (p .access) t) ≡ true → Q (fact r (p .access) t) ≡ true) →
+    holdsBy always auths rules S t p ≡ true → holdsBy always auths rules Q t p ≡ true
+holds-more auths rules S Q t p h e =
+    let x : Rule → Fact = λ r. fact r (p .access) t in
+    let s : Rule → Bool = λ r. derivesFor p r && S (x r) in
+    let q : Rule → Bool = λ r. derivesFor p r && Q (x r) in
+    let direct = anyb (fits p) (live t auths) in
+    or-cases direct (anyb s rules) e
+    (λ a. or-intro-left direct (anyb q rules) a)
+    (λ a. let m = any-mem s rules a in
+    let w = and-true (derivesFor p (m .0)) (S (x (m .0))) (m .2) in
+    or-true-right direct (anyb q rules) (mem-any q rules (m .0) (m .1)
+    (and-intro (derivesFor p (m .0)) (Q (x (m .0))) (w .0) (h (m .0) (m .1) (w .1)))))
+
+module _ (auths : List Authorization) (rules : List Rule) (s : stratified rules ≡ true) (D : Access → Bool)
+    (inward : Inward rules D) (P : Bits) (t : ℕ) (before : Before auths rules D P t)
+    (k : ℕ) (X : Bits) (sound : Sound auths rules D t X) (right-below : RightBelow auths rules D t k X) where
+  -- ---- the table filled up: where its bits do not count, with what is derived
+
+  counts : Rule → Access → Bool
+  counts r x = D x && standsFor r x
+
+  filled : Bits
+  unfolding counts
+  filled r x = pick (counts r x) (X r x) (truth auths rules t r x)
+
+  -- a bit counts, or is filled up
+  split : (r : Rule) (x : Access) → Mem r rules → {Z : Type 0} → (Node rules D r x → filled r x ≡ X r x → Z) →
+      (filled r x ≡ truth auths rules t r x → Z) → Z
+  unfolding filled
+  split r x m f g = cases (counts r x)
+      (λ e. let w = and-true (D x) (standsFor r x) e in f (m, w .0, w .1) (rw e))
+      (λ e. g (rw e))
+
+  filled-node : (r : Rule) (x : Access) → Node rules D r x → filled r x ≡ X r x
+  unfolding filled
+  filled-node r x n = rw (and-intro (D x) (standsFor r x) (n .1) (n .2))
+
+  filled-sound : (r : Rule) (x : Access) → Mem r rules → filled r x ≡ true → truth auths rules t r x ≡ true
+  filled-sound r x m e = split r x m (λ n q. sound r x n (sym q ∙ e)) (λ q. sym q ∙ e)
+
+  filled-below : (r : Rule) (x : Access) → Mem r rules → stratum rules r < k → filled r x ≡ truth auths rules t r x
+  filled-below r x m h = split r x m (λ n q. q ∙ right-below r x n h) (λ q. q)
+
+  -- of an access that counts the same holds by the filled table
+  held-filled : (p : Pattern) → D (p .access) ≡ true → heldIn auths rules X t p ≡ heldIn auths rules filled t p
+  held-filled p d = holds-fit auths rules (asFacts X) (asFacts filled) t p
+      (λ r m e. sym (filled-node r (p .access) (m, d, derives-stands p r e)))
+
+  right-filled : (r : Rule) (x : Access) → Node rules D r x →
+      rightIn auths rules X t r x ≡ rightIn auths rules filled t r x
+  right-filled r x n =
+      let E = heldIn auths rules X t in
+      let F = heldIn auths rules filled t in
+      let same : (p : Pattern) → p .access ≡ rightOf r x .access → E p ≡ F p =
+      λ p e. held-filled p (subst (λ (y : Access). D y ≡ true) (sym e) (inward r x n)) in
+      right-cong E F E F (rightOf r x) same same
+
+  -- ---- what the filled table says of right sides of stratum k
+
+  -- what holds by it does hold
+  held-sound : (p : Pattern) → heldIn auths rules filled t p ≡ true →
+      heldIn auths rules (truth auths rules t) t p ≡ true
+  held-sound p = holds-more auths rules (asFacts filled) (asFacts (truth auths rules t)) t p
+      (λ r m. filled-sound r (p .access) m)
+
+  module _ (r : Rule) (m : Mem r rules) (h : stratum rules r ≡ k) where
+    -- and it is right of what only lower strata derive
+    held-exact : (p : Pattern) → StrictlyFed r p →
+        heldIn auths rules filled t p ≡ heldIn auths rules (truth auths rules t) t p
+    held-exact p f = holds-fit auths rules (asFacts filled) (asFacts (truth auths rules t)) t p
+        (λ q j e. let g = f q e in
+        filled-below q (p .access) j (omega (arith, feeder-below rules s q r j m (g .0) (g .1))))
+
+    -- all that feeds a negating rule does so by a link that counts
+    strictly : negating (r .operator) ≡ true → (p : Pattern) → Fed r p → StrictlyFed r p
+    strictly g p f q e = (f q e, g)
+
+    right-sound : (x : Access) → rightIn auths rules filled t r x ≡ true →
+        rightIn auths rules (truth auths rules t) t r x ≡ true
+    right-sound x e =
+        let F = heldIn auths rules filled t in
+        let G = heldIn auths rules (truth auths rules t) t in
+        sym (right-settled r x G F G (λ p f. refl) held-exact)
+        ∙ right-mono F G F (rightOf r x) held-sound e
+
+    right-exact : negating (r .operator) ≡ true → (x : Access) →
+        rightIn auths rules filled t r x ≡ rightIn auths rules (truth auths rules t) t r x
+    right-exact g x =
+        let F = heldIn auths rules filled t in
+        right-settled r x F F (heldIn auths rules (truth auths rules t) t)
+        (λ p f. held-exact p (strictly g p f)) held-exact
+
+  -- a bit that the sweep sets is right
+  pub set-right : (r : Rule) (x : Access) → Node rules D r x → stratum rules r ≡ k →
+      snap auths rules P t X r x ≡ true → truth auths rules t r x ≡ true
+  set-right r x n h e =
+      let right : Bits → Bool = λ Y. rightIn auths rules Y t r x in
+      let T = truth auths rules t in
+      let w = and-true (gate P t r x) (sense (r .operator) (right X)) e in
+      let q = right-filled r x n in
+      now-law auths rules s D P t before r x n
+      ∙ and-intro (gate P t r x) (sense (r .operator) (right T)) (w .0)
+      (sense-more (r .operator) (right X) (right T)
+      (λ a. right-sound r (n .0) h x (sym q ∙ a))
+      (λ g. q ∙ right-exact r (n .0) h g x) (w .1))
+
+  -- ---- when no more can be set
+
+  module _ (few : k ≤ length rules) (shut : ClosedAt auths rules D P t k X) where
+    abbrev lower : Fact → Bool
+    lower = derivedBelow always auths rules k
+
+    abbrev stage : ℕ → Fact → Bool
+    stage n = rounds auths rules k n
+
+    -- what lower strata derive is in the table
+    lower-in : (r : Rule) (x : Access) → Mem r rules → lower (fact r x t) ≡ true → filled r x ≡ true
+    lower-in r x m e =
+        let h = below-stratum auths rules k (fact r x t) e in
+        filled-below r x m h ∙ settled-at auths rules k (fact r x t) m h (omega arith) ∙ e
+
+    -- what a round of stratum k derives is derived at last, at any instant
+    round-true : (n : ℕ) → n ≤ enough always auths rules → (r : Rule) (x : Access) (u : ℕ) → Mem r rules →
+        stage n (fact r x u) ≡ true → truth auths rules u r x ≡ true
+    round-true n l r x u m e =
+        let y = fact r x u in
+        let b = rounds-below auths rules k n l y e in
+        settled-at auths rules (suc k) y m (below-stratum auths rules (suc k) y b) (omega arith) ∙ b
+
+    -- one round more, the table having what the first n derive at t
+    module _ (n : ℕ) (l : suc n ≤ enough always auths rules)
+        (found : (r : Rule) (x : Access) → Mem r rules → stage n (fact r x t) ≡ true → filled r x ≡ true)
+        (r : Rule) (x : Access) (w : Node rules D r x) (h : stratum rules r ≡ k) where
+      -- the right side, as the round looks at it, up to the stratum and below it
+      abbrev same : ℕ → Bool
+      same u = rightBy always auths rules lower (stage n) (rightOf r x) u
+
+      abbrev under : ℕ → Bool
+      under u = rightBy always auths rules lower lower (rightOf r x) u
+
+      abbrev allowed : ℕ → Bool
+      allowed u = operate always (r .operator) same under (r .interval .start) u
+
+      abbrev F : Pattern → Bool
+      F = heldIn auths rules filled t
+
+      -- the strata below are right about what only they derive, and so is the table
+      under-exact : (p : Pattern) → StrictlyFed r p → holdsBy always auths rules lower t p ≡ F p
+      under-exact p f =
+          subst (λ (j : ℕ).
+          holdsBy always auths rules (derivedBelow always auths rules j) t p ≡ holds always auths rules t p)
+          h (strictly-settled auths rules s r (w .0) t p f)
+          ∙ holds-law auths rules t p ∙ sym (held-exact r (w .0) h p f)
+
+      -- so a right side that the round finds held is held by the table
+      same-in : same t ≡ true → rightIn auths rules X t r x ≡ true
+      same-in e =
+          let L = holdsBy always auths rules lower t in
+          right-filled r x w
+          ∙ sym (right-settled r x F L F (λ p f. refl) under-exact)
+          ∙ right-mono (holdsBy always auths rules (stage n) t) F L (rightOf r x)
+          (λ p. holds-more auths rules (stage n) (asFacts filled) t p (λ q m. found q (p .access) m)) e
+
+      under-is : negating (r .operator) ≡ true → under t ≡ rightIn auths rules X t r x
+      under-is g =
+          let L = holdsBy always auths rules lower t in
+          right-settled r x L L F (λ p f. under-exact p (strictly r (w .0) h g p f)) under-exact
+          ∙ sym (right-filled r x w)
+
+      -- and where the operator looks back, the rule derived at the instant before
+      was-open : inInterval (r .interval) t ≡ true → allowed t ≡ true →
+          not (lasting (r .operator)) || eqb t (r .interval .start) || P r x ≡ true
+      unfolding iter
+      was-open i e = cases (eqb t (r .interval .start))
+          (λ a. gate-first P t r x a)
+          (λ a. cases (lasting (r .operator))
+          (λ f. let v = instant-before r t i a in
+          let u = t - 1 in
+          let o = and-intro (inInterval (r .interval) u) (allowed u) (v .2)
+          (operate-back (r .operator) same under (r .interval .start) u t f (v .0) e) in
+          rw (f, a) (before r x w f u (v .0) (v .1) ∙ round-true (suc n) l r x u (w .0)
+          (rw (le-false (suc (stratum rules r)) k (omega arith), eq-true (stratum rules r) k h) o)))
+          (λ f. rw f))
+
+      derived-in : derives always auths rules lower (stage n) (fact r x t) ≡ true → filled r x ≡ true
+      derived-in e =
+          let o = r .operator in
+          let a = and-true (inInterval (r .interval) t) (allowed t) e in
+          filled-node r x w
+          ∙ shut r x w h (and-intro (gate P t r x) (sense o (rightIn auths rules X t r x))
+          (and-intro (inInterval (r .interval) t) (not (lasting o) || eqb t (r .interval .start) || P r x)
+          (a .0) (was-open (a .0) (a .1)))
+          (operate-now o same under (rightIn auths rules X t r x) (r .interval .start) t
+          (inInterval-true (r .interval) t (a .0) .0) same-in under-is (a .1)))
+
+    -- by induction over the rounds: what they derive at t is in the table
+    found-in : (n : ℕ) → n ≤ enough always auths rules → (r : Rule) (x : Access) → Mem r rules →
+        stage n (fact r x t) ≡ true → filled r x ≡ true
+    unfolding iter
+    found-in zero l r x m e = lower-in r x m e
+    found-in (suc n) l r x m e = split r x m
+        (λ w q. cases (ltb (stratum rules r) k)
+        (λ b. lower-in r x m (rw b at e))
+        (λ b. let d = derives always auths rules lower (stage n) (fact r x t) in
+        let a = and-true (eqb (stratum rules r) k) d (rw b at e) in
+        derived-in n l (found-in n (omega arith)) r x w (true-eq (stratum rules r) k (a .0)) (a .1)))
+        (λ q. q ∙ round-true (suc n) l r x t m e)
+
+    -- after the sweep of stratum k the table is right below k + 1
+    pub swept : RightBelow auths rules D t (suc k) X
+    unfolding derivedBelow
+    swept r x n h = agree (X r x) (truth auths rules t r x) (sound r x n)
+        (λ e. sym (filled-node r x n) ∙ found-in (enough always auths rules) (omega arith) r x (n .0)
+        (sym (settled-at auths rules (suc k) (fact r x t) (n .0) h (omega arith)) ∙ e))
