@@ -59,7 +59,7 @@ live-lines (e ∷ es) f t =
 -- ---- keeping, by authorizations and by entries
 
 -- intervals that end by b, and then intervals from b + 2 on
-separate-append : (xs ys : List Interval) (k b : ℕ) → Separate k xs → ((t : ℕ) → covered xs t ≡ true → t ≤ b) →
+pub separate-append : (xs ys : List Interval) (k b : ℕ) → Separate k xs → ((t : ℕ) → covered xs t ≡ true → t ≤ b) →
     k ≤ suc (suc b) → Separate (suc (suc b)) ys → Separate k (xs ++ ys)
 separate-append [] ys k b a h l c = separate-weaken ys k (suc (suc b)) l c
 separate-append (x ∷ xs) ys k b a h l c =
@@ -71,12 +71,12 @@ separate-append (x ∷ xs) ys k b a h l c =
           (λ t e. h t (or-true-right (inInterval x t) (covered xs t) e)) (omega arith) c,
     )
 
-covered-append : (xs ys : List Interval) (t : ℕ) → covered (xs ++ ys) t ≡ covered xs t || covered ys t
+pub covered-append : (xs ys : List Interval) (t : ℕ) → covered (xs ++ ys) t ≡ covered xs t || covered ys t
 covered-append [] ys t = refl
 covered-append (x ∷ xs) ys t = cases (inInterval x t) (λ e. rw e) (λ e. rw (e, covered-append xs ys t))
 
 -- each interval replaced by the maximal ones in it where p holds
-abbrev refine : (ℕ → Bool) → List Interval → List Interval
+abbrev pub refine : (ℕ → Bool) → List Interval → List Interval
 refine p [] = []
 refine p (i ∷ is) = maximal (i .start) (i .end) p ++ refine p is
 
@@ -97,14 +97,14 @@ refine-covered p (i ∷ is) t =
     ∙ rw (maximal-covered (i .start) (i .end) p t, refine-covered p is t)
     (or-and (inInterval i t) (covered is t) (p t))
 
-refine-maximal : (f p : ℕ → Bool) → refine p (maximal 0 lastInstant f) ≡ maximal 0 lastInstant (λ t. f t && p t)
-refine-maximal f p =
-    maximal-unique 0 lastInstant (λ t. f t && p t) 0 (refine p (maximal 0 lastInstant f))
-    (refine-separate p (maximal 0 lastInstant f) 0 (maximal-separate 0 lastInstant f))
-    (λ t. refine-covered p (maximal 0 lastInstant f) t
-    ∙ rw (maximal-covered 0 lastInstant f t) (and-assoc (inInterval (interval 0 lastInstant) t) (f t) (p t)))
+pub refine-maximal : (a e : ℕ) (f p : ℕ → Bool) → refine p (maximal a e f) ≡ maximal a e (λ t. f t && p t)
+refine-maximal a e f p =
+    maximal-unique a e (λ t. f t && p t) a (refine p (maximal a e f))
+    (refine-separate p (maximal a e f) a (maximal-separate a e f))
+    (λ t. refine-covered p (maximal a e f) t
+    ∙ rw (maximal-covered a e f t) (and-assoc (inInterval (interval a e) t) (f t) (p t)))
 
-keep-append : (p : Head → ℕ → Bool) (xs ys : List Authorization) → keep p (xs ++ ys) ≡ keep p xs ++ keep p ys
+pub keep-append : (p : Head → ℕ → Bool) (xs ys : List Authorization) → keep p (xs ++ ys) ≡ keep p xs ++ keep p ys
 unfolding keep
 keep-append p [] ys = refl
 keep-append p (x ∷ xs) ys =
@@ -112,7 +112,7 @@ keep-append p (x ∷ xs) ys =
     ap (λ (l : List Authorization). front ++ l) (keep-append p xs ys)
     ∙ sym (append-assoc front (keep p xs) (keep p ys))
 
-keep-pieces : (p : Head → ℕ → Bool) (h : Head) (is : List Interval) →
+pub keep-pieces : (p : Head → ℕ → Bool) (h : Head) (is : List Interval) →
     keep p (pieces h is) ≡ pieces h (refine (p h) is)
 unfolding keep
 keep-pieces p h [] = refl
@@ -128,7 +128,7 @@ keep-lines p (e ∷ es) =
     keep-append p (pieces (e .head) (maximal 0 lastInstant (e .at))) (linesOf es)
     ∙ ap₂ (λ (a b : List Authorization). a ++ b)
     (keep-pieces p (e .head) (maximal 0 lastInstant (e .at))
-    ∙ ap (λ (is : List Interval). pieces (e .head) is) (refine-maximal (e .at) (p (e .head))))
+    ∙ ap (λ (is : List Interval). pieces (e .head) is) (refine-maximal 0 lastInstant (e .at) (p (e .head))))
     (keep-lines p es)
 
 -- restricting the authorizations is settling the entries

@@ -1,0 +1,12 @@
+pub mod Stretches
+pub mod Stays
+pub mod Cuts
+pub mod Nearest
+pub mod Bodies
+pub mod Parts
+pub mod Putting
+pub mod Times
+pub mod Turns
+pub mod Rounds
+pub mod Walks
+pub mod Link
