@@ -60,7 +60,7 @@ fn copy(s: &mut [u8], at: usize, src: &[u8], n: usize)
 }
 
 // Where the privileges of a body start.
-fn privileges_at(c: Counts, k: PrivilegeBody) -> usize
+pub fn privileges_at(c: Counts, k: PrivilegeBody) -> usize
     ensures { λ r. ⌜ r ≡ privilegesAt k c ⌝ }
 {
     match k {
@@ -71,7 +71,7 @@ fn privileges_at(c: Counts, k: PrivilegeBody) -> usize
 }
 
 // How many privileges a body has.
-fn privilege_count(c: Counts, k: PrivilegeBody) -> u16
+pub fn privilege_count(c: Counts, k: PrivilegeBody) -> u16
     ensures { λ r. ⌜ r ≡ privilegeCount k c ⌝ }
 {
     match k {

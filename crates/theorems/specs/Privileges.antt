@@ -69,7 +69,7 @@ module _ (p x : Privilege) where
       (rw (eq-true (p .object) (x .object) i) at (or-none lower level e .1)) in
       omega arith
 
-before-trans : (x y z : Privilege) → before x y ≡ true → before y z ≡ true → before x z ≡ true
+pub before-trans : (x y z : Privilege) → before x y ≡ true → before y z ≡ true → before x z ≡ true
 before-trans x y z e f = before-cases x y e
     (λ a. before-object x z (before-cases y z f (λ c. omega arith) (λ c d. omega arith)))
     (λ a l. before-cases y z f

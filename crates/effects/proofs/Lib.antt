@@ -1,0 +1,5 @@
+pub mod Laws
+pub mod Reading
+pub mod Dropping
+pub mod Places
+pub mod Changes

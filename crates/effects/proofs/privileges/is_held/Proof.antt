@@ -1,0 +1,72 @@
+-- `effects::privileges::is_held` meets its contract: the answer is among the privileges from i on.
+use borrow.Author.Needs.{needs}
+use mathlib.Core.Path.{_≡_, refl, sym, ap, _∙_}
+use Prim.Native.Nat.{_-_}
+use native.Mathlib.Omega.{arith}
+use lib.ListN.{length}
+use denote.Ref.{now}
+use Rattle.model.specs.Base.{isPrivilege}
+use Rattle.model.specs.Requests.{before}
+use Rattle.model.specs.Encoding.{decode}
+use Rattle.edits.specs.Edits.{privilegesOf, privilegeCount}
+use Rattle.edits.proofs.Laws.{written-length}
+use Rattle.effects.proofs.Reading.{privileges-body}
+use Rattle.effects.proofs.Places.{AnyFrom, any-found, any-later, any-ends}
+use Rattle.effects.proofs.privileges.is_held.Statement.{statement}
+use Rattle.effects.proofs.privileges.is_held.Tie as tie
+
+abbrev Inv-loop : tie.InvT-loop
+Inv-loop s k p n i₀ i = AnyFrom (isPrivilege (p .object) (p .subject)) (privilegesOf k (decode s)) i
+
+abbrev μ-loop : tie.MeasureT-loop
+μ-loop s k p n i₀ i = n - i
+
+counts-of-requires : tie.Need-counts-of-requires Inv-loop μ-loop
+counts-of-requires c κs = omega (arith, written-length (now (c .before .args .s)) (c .before .pre))
+
+-- how many they are
+count : (c : tie.After-privilege-count Inv-loop μ-loop) →
+    c .privilege-count .result ≡ length (privilegesOf (c .before .before .before .args .k) (decode (now (c .before .before .before .args .s))))
+count c =
+    let d = c .before .before .before in
+    c .privilege-count .ensures ∙ ap (privilegeCount (d .args .k)) (c .before .counts-of .ensures)
+    ∙ sym (privileges-body (d .args .k) (now (d .args .s)) (d .pre) .count)
+
+loop-holds : tie.Need-loop-holds Inv-loop μ-loop
+loop-holds c = (search needs, refl)
+
+nth-privilege-requires : tie.Need-nth-privilege-requires Inv-loop μ-loop
+nth-privilege-requires c κs =
+    let n = c .before .before in
+    (n .before .before .before .pre, omega (arith, count n))
+
+returns : tie.Need-returns Inv-loop μ-loop
+returns c =
+    let r = c .before .before .before .before .before in
+    let l = r .before .before in
+    let n = l .before in
+    let d = n .before .before .before in
+    any-found (isPrivilege (d .args .p .object) (d .args .p .subject)) (privilegesOf (d .args .k) (decode (now (d .args .s)))) (l .loop .i) (r .nth-privilege .result)
+    (omega (arith, count n)) (r .nth-privilege .ensures) (c .if1 .taken) (l .loop .inv)
+
+loop-again : tie.Need-loop-again Inv-loop μ-loop
+loop-again c =
+    let r = c .before .before .before .before .before in
+    let l = r .before .before in
+    let n = l .before in
+    let d = n .before .before .before in
+    any-later (isPrivilege (d .args .p .object) (d .args .p .subject)) (privilegesOf (d .args .k) (decode (now (d .args .s)))) (l .loop .i) (r .nth-privilege .result)
+    (omega (arith, count n)) (r .nth-privilege .ensures) (c .if1 .left) (l .loop .inv)
+
+returns-2 : tie.Need-returns-2 Inv-loop μ-loop
+returns-2 c =
+    let l = c .before in
+    let n = l .before in
+    let d = n .before .before .before in
+    any-ends (isPrivilege (d .args .p .object) (d .args .p .subject)) (privilegesOf (d .args .k) (decode (now (d .args .s)))) (l .loop .i) (omega (arith, count n)) (l .loop .inv)
+
+pub is-held-spec : {M : Type 1} → statement M
+is-held-spec =
+    tie.close
+    (tie.spec Inv-loop μ-loop counts-of-requires (λ c κs. search needs) (λ c. search needs) loop-holds
+    nth-privilege-requires returns (λ c. search needs) (λ c. search needs) loop-again returns-2)

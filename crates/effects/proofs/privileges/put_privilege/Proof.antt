@@ -1,0 +1,35 @@
+-- `effects::privileges::put_privilege` meets its contract, by `insert-place`.
+use borrow.Author.Needs.{needs}
+use mathlib.Core.Path.{sym, ap, _∙_}
+use native.Mathlib.Omega.{arith}
+use mathlib.Core.List.{List}
+use Prim.Native.Nat.{ℕ}
+use denote.Ref.{now}
+use Rattle.model.specs.declared.Privilege.{Privilege}
+use Rattle.model.specs.Requests.{before}
+use Rattle.model.specs.Encoding.{encode, decode}
+use Rattle.edits.specs.Edits.{privilegesOf, withPrivileges, insertAt}
+use Rattle.effects.proofs.Places.{first-most, insert-place}
+use Rattle.effects.proofs.privileges.put_privilege.Statement.{statement}
+use Rattle.effects.proofs.privileges.put_privilege.Tie as tie
+
+insert-privilege-requires : tie.Need-insert-privilege-requires
+insert-privilege-requires c κs =
+    let d = c .before .before .before .before in
+    let m = first-most (before (d .args .p)) (privilegesOf (d .args .k) (decode (now (d .args .s)))) in
+    (d .pre .0, omega (arith, m, c .before .place-of .ensures), d .pre .1)
+
+returns : tie.Need-returns
+returns c =
+    let r = c .before .before in
+    let p = r .before .before in
+    let d = p .before .before .before in
+    let b = decode (now (d .args .s)) in
+    let ps = privilegesOf (d .args .k) b in
+    r .insert-privilege .ensures
+    ∙ ap (λ (n : ℕ). encode (withPrivileges (d .args .k) (insertAt n (d .args .p) ps) b)) (p .place-of .ensures)
+    ∙ ap (λ (l : List Privilege). encode (withPrivileges (d .args .k) l b)) (sym (insert-place (d .args .p) ps))
+
+pub put-privilege-spec : {M : Type 1} → statement M
+put-privilege-spec =
+    tie.close (tie.spec (λ c κs. search needs) insert-privilege-requires (λ c. search needs) returns)

@@ -1,0 +1,30 @@
+-- `effects::records::authorization_of` meets its contract, field by field.
+use borrow.Author.Needs.{needs}
+use mathlib.Core.Path.{sym}
+use mathlib.Core.Bool.{_&&_}
+use lib.Dec.{eqb}
+use Rattle.foundation.specs.Tests.{or-false}
+use Rattle.effects.proofs.records.authorization_of.Statement.{statement}
+use Rattle.effects.proofs.records.authorization_of.Tie as tie
+
+returns : tie.Need-returns
+returns c =
+    let a = c .before .before .before .before .before .before .before .before .args in
+    let q = a .q in
+    λ k. record {
+      head = record {
+        label = a .label;
+        grantor = q .requester;
+        subject = q .subject;
+        object = q .object;
+        mode = q .mode;
+        negative = sym (or-false (eqb (q .kind) 3)) k;
+        option = sym (or-false (eqb (q .kind) 2)) k && q .option;
+        granted = q .now;
+      };
+      interval = q .interval;
+    }
+
+pub authorization-of-spec : {M : Type 1} → statement M
+authorization-of-spec =
+    tie.close (tie.spec (λ c. search needs) (λ c. search needs) (λ c. search needs) (λ c. search needs) returns)

@@ -1,0 +1,116 @@
+// What an accepted request does to the bytes of a sound base, for the requests that withdraw no instants, and of
+// REVOKEADM what is not about authorizations.
+ghost use mathlib.Core.Path.{_≡_};
+ghost use mathlib.Core.List.{_∷_, []};
+ghost use Prim.Native.Nat.{_+_, _<_};
+ghost use Rattle.model.specs.Ranges.{lastLabel};
+ghost use Rattle.model.specs.Requests.{NEW, GRANT, DENY, ADDRULE, DROPRULE, GRANTADM, REVOKEADM, GRANTREF, REVOKEREF, without};
+ghost use Rattle.model.specs.Encoding.{encode, decode};
+ghost use Rattle.model.specs.Means.{plainly};
+ghost use Rattle.model.specs.Step.{effect};
+ghost use Rattle.edits.specs.Edits.{Written, withClock, withAdministrators};
+ghost use Rattle.effects.specs.Effects.{Allowed};
+
+mod privileges;
+mod records;
+mod rules;
+
+use edits::PrivilegeBody;
+use model::Request;
+pub use privileges::is_held;
+use privileges::put_privilege;
+use privileges::take_privilege;
+use records::authorization_of;
+use records::body_of;
+use records::owner_of;
+use records::privilege_of;
+use records::rule_of;
+pub use rules::drop_rules;
+
+// Sets the clock and the last label.
+fn stamp(s: &mut [u8], clock: u32, last: u16)
+    requires { ⌜ Written (now s) ⌝ }
+    ensures { λ _. ⌜ now (s .exit) ≡ encode (withClock clock last (decode (now (s .entry)))) ⌝ }
+{
+    edits::set_clock(s, clock);
+    edits::set_last(s, last);
+}
+
+// The label that a new authorization or rule gets.
+fn next_label(s: &[u8]) -> u16
+    requires { ⌜ Written (now s) × (decode (now s) .last < lastLabel) ⌝ }
+    ensures { λ r. ⌜ r ≡ decode (now (s .entry)) .last + 1 ⌝ }
+{
+    fields::le16(s, 8) + 1
+}
+
+// GRANT and DENY: a new authorization behind the others, under the next label.
+pub fn grant(s: &mut [u8], q: Request)
+    requires { ⌜ Allowed (GRANT ∷ DENY ∷ []) (now s) q ⌝ }
+    ensures { λ _. ⌜ now (s .exit) ≡ encode (effect plainly (decode (now (s .entry))) q) ⌝ }
+{
+    let c = encoding::counts_of(s);
+    let label = next_label(s);
+    stamp(s, q.now, label);
+    edits::insert_authorization(s, c.authorizations as usize, authorization_of(q, label));
+}
+
+// ADDRULE: a new rule behind the others, under the next label.
+pub fn add_rule(s: &mut [u8], q: Request)
+    requires { ⌜ Allowed (ADDRULE ∷ []) (now s) q ⌝ }
+    ensures { λ _. ⌜ now (s .exit) ≡ encode (effect plainly (decode (now (s .entry))) q) ⌝ }
+{
+    let c = encoding::counts_of(s);
+    let label = next_label(s);
+    stamp(s, q.now, label);
+    edits::insert_rule(s, c.rules as usize, rule_of(q, label));
+}
+
+// DROPRULE: the rule of the label is taken out.
+pub fn drop_rule(s: &mut [u8], q: Request)
+    requires { ⌜ Allowed (DROPRULE ∷ []) (now s) q ⌝ }
+    ensures { λ _. ⌜ now (s .exit) ≡ encode (effect plainly (decode (now (s .entry))) q) ⌝ }
+{
+    edits::set_clock(s, q.now);
+    drop_rules(s, q, false, false);
+}
+
+// NEW: the object gets its owner, the requester.
+pub fn new_object(s: &mut [u8], q: Request)
+    requires { ⌜ Allowed (NEW ∷ []) (now s) q ⌝ }
+    ensures { λ _. ⌜ now (s .exit) ≡ encode (effect plainly (decode (now (s .entry))) q) ⌝ }
+{
+    edits::set_clock(s, q.now);
+    put_privilege(s, PrivilegeBody::Objects, owner_of(q));
+}
+
+// GRANTADM and GRANTREF: the privilege is put in its place.
+pub fn grant_privilege(s: &mut [u8], q: Request)
+    requires { ⌜ Allowed (GRANTADM ∷ GRANTREF ∷ []) (now s) q ⌝ }
+    ensures { λ _. ⌜ now (s .exit) ≡ encode (effect plainly (decode (now (s .entry))) q) ⌝ }
+{
+    edits::set_clock(s, q.now);
+    put_privilege(s, body_of(q.kind), privilege_of(q));
+}
+
+// REVOKEREF: the privilege is taken out, and with it the subject's rules with the object on the right, unless he
+// administers it.
+pub fn revoke_referrer(s: &mut [u8], q: Request)
+    requires { ⌜ Allowed (REVOKEREF ∷ []) (now s) q ⌝ }
+    ensures { λ _. ⌜ now (s .exit) ≡ encode (effect plainly (decode (now (s .entry))) q) ⌝ }
+{
+    let p = privilege_of(q);
+    let administers = is_held(s, PrivilegeBody::Administrators, p);
+    edits::set_clock(s, q.now);
+    take_privilege(s, PrivilegeBody::Referrers, p);
+    drop_rules(s, q, false, administers);
+}
+
+// REVOKEADM, of the privileges: that of the subject is taken out. The rules go by `drop_rules`.
+pub fn remove_administrator(s: &mut [u8], q: Request)
+    requires { ⌜ Allowed (REVOKEADM ∷ []) (now s) q ⌝ }
+    ensures { λ _. ⌜ now (s .exit)
+        ≡ encode (withAdministrators (without (q .object) (q .subject) (decode (now (s .entry)) .administrators)) (decode (now (s .entry)))) ⌝ }
+{
+    take_privilege(s, PrivilegeBody::Administrators, privilege_of(q));
+}
