@@ -1,0 +1,162 @@
+-- The rows of the table by the kind of the request: each kind is asked at most one of a row's questions.
+-- Assumes nothing.
+use mathlib.Core.Path.{_≡_, sym, ap, _∙_}
+use Prim.Native.Nat.{ℕ}
+use mathlib.Core.Bool.{Bool, true, false, not, _&&_, _||_}
+use mathlib.Core.List.{List, [], _∷_}
+use lib.Dec.{eqb}
+use borrow.Author.Tests.{ne-eqb}
+use Rattle.foundation.specs.Tests.{or-false}
+use Rattle.foundation.specs.Lists.{anyb}
+use Rattle.model.specs.declared.Request.{Request}
+use Rattle.model.specs.Base.{Base, exists, owns, administers, refers, controls, mayRule}
+use Rattle.model.specs.Requests.{NEW, GRANT, DENY, REVOKE, REVOKEP, REVOKEN, ADDRULE, DROPRULE, GRANTADM}
+use Rattle.model.specs.Requests.{REVOKEADM, GRANTREF, REVOKEREF, is}
+use Rattle.model.specs.Step.{namesObject, noObject, noLabel, notPermitted, alreadyThere, notHeld}
+use Rattle.refusals.specs.Numbers.{hasLabel, ofOther, labelled, ofOtherAuthor}
+
+abbrev oneOf : ℕ → List ℕ → Bool
+oneOf k kinds = anyb (λ j. eqb k j) kinds
+
+abbrev privilegeKinds : List ℕ
+privilegeKinds = GRANTADM ∷ REVOKEADM ∷ GRANTREF ∷ REVOKEREF ∷ []
+
+-- a kind that is not the one
+pub no-kind : (k n : ℕ) → (k ≡ n → ⊥) → oneOf k (n ∷ []) ≡ false
+no-kind k n f = rw (ne-eqb k n f)
+
+module _ (b : Base) (q : Request) where
+  -- ---- row 6
+
+  abbrev missing : Bool
+  missing = not (exists b (q .object))
+
+  abbrev ruleMissing : Bool
+  ruleMissing = not (exists b (q .rule .left .object) && exists b (q .rule .right .object))
+
+  abbrev objectRow : Bool → Bool → Bool
+  objectRow named rule = (named && missing) || (rule && ruleMissing)
+
+  pub object-rule : q .kind ≡ 7 → ruleMissing ≡ noObject b q
+  object-rule e = sym (ap (λ (k : ℕ). objectRow
+      (oneOf k (NEW ∷ GRANT ∷ DENY ∷ REVOKEP ∷ REVOKEN ∷ GRANTADM ∷ REVOKEADM ∷ GRANTREF ∷ REVOKEREF ∷ [])
+      && not (oneOf k (NEW ∷ []))) (oneOf k (ADDRULE ∷ []))) e)
+
+  module _ (f : q .kind ≡ 7 → ⊥) where
+    pub object-named : namesObject q && not (is q (NEW ∷ [])) ≡ true → missing ≡ noObject b q
+    object-named e = sym ((λ t. objectRow (e t) (no-kind (q .kind) 7 f t)) ∙ or-false missing)
+
+    pub object-none : namesObject q && not (is q (NEW ∷ [])) ≡ false → false ≡ noObject b q
+    object-none e = sym (λ t. objectRow (e t) (no-kind (q .kind) 7 f t))
+
+  -- ---- row 7
+
+  abbrev unlabelled : Bool
+  unlabelled = not (anyb (hasLabel (q .label)) (b .authorizations))
+
+  abbrev ruleUnlabelled : Bool
+  ruleUnlabelled = not (anyb (labelled (q .label)) (b .rules))
+
+  abbrev labelRow : Bool → Bool → Bool
+  labelRow revoke drop = (revoke && unlabelled) || (drop && ruleUnlabelled)
+
+  abbrev labelRowAt : ℕ → Bool
+  labelRowAt k = labelRow (oneOf k (REVOKE ∷ [])) (oneOf k (DROPRULE ∷ []))
+
+  pub label-revoke : q .kind ≡ 4 → unlabelled ≡ noLabel b q
+  label-revoke e = sym (ap labelRowAt e ∙ or-false unlabelled)
+
+  pub label-drop : q .kind ≡ 8 → ruleUnlabelled ≡ noLabel b q
+  label-drop e = sym (ap labelRowAt e)
+
+  pub label-none : (q .kind ≡ 4 → ⊥) → (q .kind ≡ 8 → ⊥) → false ≡ noLabel b q
+  label-none f g = sym (λ t. labelRow (no-kind (q .kind) 4 f t) (no-kind (q .kind) 8 g t))
+
+  -- ---- row 8
+
+  abbrev otherGrantor : Bool
+  otherGrantor = anyb (ofOther (q .label) (q .requester)) (b .authorizations)
+
+  abbrev otherAuthor : Bool
+  otherAuthor = anyb (ofOtherAuthor (q .label) (q .requester)) (b .rules)
+
+  abbrev notOwner : Bool
+  notOwner = not (owns b (q .object) (q .requester))
+
+  abbrev noPower : Bool
+  noPower = not (mayRule b (q .requester) (q .rule .left .object) (q .rule .right .object))
+
+  abbrev permitRow : Bool → Bool → Bool → Bool → Bool
+  permitRow revoke drop privilege rule =
+      (revoke && otherGrantor) || (drop && otherAuthor) || (privilege && notOwner) || (rule && noPower)
+
+  abbrev permitRowAt : ℕ → Bool
+  permitRowAt k = permitRow (oneOf k (REVOKE ∷ [])) (oneOf k (DROPRULE ∷ [])) (oneOf k privilegeKinds) (oneOf k (ADDRULE ∷ []))
+
+  pub permit-revoke : q .kind ≡ 4 → otherGrantor ≡ notPermitted b q
+  permit-revoke e =
+      sym (ap permitRowAt e ∙ or-false (otherGrantor || false || false) ∙ or-false (otherGrantor || false) ∙ or-false otherGrantor)
+
+  pub permit-drop : q .kind ≡ 8 → otherAuthor ≡ notPermitted b q
+  permit-drop e = sym (ap permitRowAt e ∙ or-false (otherAuthor || false) ∙ or-false otherAuthor)
+
+  pub permit-rule : q .kind ≡ 7 → noPower ≡ notPermitted b q
+  permit-rule e = sym (ap permitRowAt e)
+
+  module _ (f : q .kind ≡ 4 → ⊥) (g : q .kind ≡ 8 → ⊥) (h : q .kind ≡ 7 → ⊥) where
+    permit-otherwise : (x : Bool) → is q privilegeKinds ≡ x → notPermitted b q ≡ permitRow false false x false
+    permit-otherwise x e =
+        λ t. permitRow (no-kind (q .kind) 4 f t) (no-kind (q .kind) 8 g t) (e t) (no-kind (q .kind) 7 h t)
+
+    pub permit-privilege : is q privilegeKinds ≡ true → notOwner ≡ notPermitted b q
+    permit-privilege e = sym (permit-otherwise true e ∙ or-false notOwner)
+
+    pub permit-none : is q privilegeKinds ≡ false → false ≡ notPermitted b q
+    permit-none e = sym (permit-otherwise false e)
+
+  -- ---- row 10
+
+  abbrev referrerThere : Bool
+  referrerThere = owns b (q .object) (q .subject) || refers b (q .object) (q .subject)
+
+  abbrev thereRow : Bool → Bool → Bool → Bool
+  thereRow new administrator referrer =
+      (new && exists b (q .object)) || (administrator && controls b (q .object) (q .subject)) || (referrer && referrerThere)
+
+  abbrev thereRowAt : ℕ → Bool
+  thereRowAt k = thereRow (oneOf k (NEW ∷ [])) (oneOf k (GRANTADM ∷ [])) (oneOf k (GRANTREF ∷ []))
+
+  pub there-new : q .kind ≡ 1 → exists b (q .object) ≡ alreadyThere b q
+  there-new e = sym (ap thereRowAt e ∙ or-false (exists b (q .object) || false) ∙ or-false (exists b (q .object)))
+
+  pub there-administrator : q .kind ≡ 9 → controls b (q .object) (q .subject) ≡ alreadyThere b q
+  there-administrator e = sym (ap thereRowAt e ∙ or-false (controls b (q .object) (q .subject)))
+
+  pub there-referrer : q .kind ≡ 11 → referrerThere ≡ alreadyThere b q
+  there-referrer e = sym (ap thereRowAt e)
+
+  pub there-none : (q .kind ≡ 1 → ⊥) → (q .kind ≡ 9 → ⊥) → (q .kind ≡ 11 → ⊥) → false ≡ alreadyThere b q
+  there-none f g h = sym (λ t. thereRow (no-kind (q .kind) 1 f t) (no-kind (q .kind) 9 g t) (no-kind (q .kind) 11 h t))
+
+  -- ---- row 11
+
+  abbrev notAdministrator : Bool
+  notAdministrator = not (administers b (q .object) (q .subject))
+
+  abbrev notReferrer : Bool
+  notReferrer = not (refers b (q .object) (q .subject))
+
+  abbrev heldRow : Bool → Bool → Bool
+  heldRow administrator referrer = (administrator && notAdministrator) || (referrer && notReferrer)
+
+  abbrev heldRowAt : ℕ → Bool
+  heldRowAt k = heldRow (oneOf k (REVOKEADM ∷ [])) (oneOf k (REVOKEREF ∷ []))
+
+  pub held-administrator : q .kind ≡ 10 → notAdministrator ≡ notHeld b q
+  held-administrator e = sym (ap heldRowAt e ∙ or-false notAdministrator)
+
+  pub held-referrer : q .kind ≡ 12 → notReferrer ≡ notHeld b q
+  held-referrer e = sym (ap heldRowAt e)
+
+  pub held-none : (q .kind ≡ 10 → ⊥) → (q .kind ≡ 12 → ⊥) → false ≡ notHeld b q
+  held-none f g = sym (λ t. heldRow (no-kind (q .kind) 10 f t) (no-kind (q .kind) 12 g t))

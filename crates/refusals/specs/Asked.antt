@@ -1,0 +1,84 @@
+-- What an accepted range says of a grant or denial, and what an uncovered instant says of row 9.
+use mathlib.Core.Path.{_≡_, refl, sym, ap, _∙_}
+use mathlib.Core.Logic.{inl, inr}
+use Prim.Native.Nat.{ℕ, suc, _≤_}
+use mathlib.Core.Bool.{Bool, true, false, not, _&&_, false≢true}
+use mathlib.Core.List.{List, [], _∷_}
+use lib.Dec.{leb, eqb}
+use Rattle.foundation.specs.Tests.{or-cases, or-false, true-le, true-eq, and-true, not-false}
+use Rattle.foundation.specs.Lists.{anyb}
+use Rattle.model.specs.declared.Request.{Request}
+use Rattle.model.specs.Ranges.{between}
+use Rattle.model.specs.Base.{Base, controls}
+use Rattle.model.specs.Requests.{NEW, GRANT, DENY, REVOKEP, REVOKEN, GRANTADM, REVOKEADM, GRANTREF, REVOKEREF, grants, newHead}
+use Rattle.model.specs.Means.{plainly}
+use Rattle.model.specs.Step.{namesObject, namesMode, outOfRange, notSupported, isGap}
+use Rattle.model.specs.StepFacts.{in-range}
+use Rattle.support.specs.declared.Gap.{Gap}
+use Rattle.support.specs.declared.Gap.the-variants.{At, None}
+use Rattle.support.specs.Gaps.{GapIs}
+
+-- ---- ranges
+
+-- the upper end of a range
+pub upper : (lowest highest n : ℕ) → between lowest highest n ≡ true → n ≤ highest
+upper lowest highest n e = true-le n highest (and-true (leb lowest n) (leb n highest) e .1)
+
+-- a test that is not failed where it is asked
+pub asked-passes : (asked test : Bool) → asked ≡ true → asked && not test ≡ false → test ≡ true
+asked-passes true test p e = not-false test e
+asked-passes false test p e = absurd (false≢true p)
+
+-- a grant or denial names an object and a mode
+grant-kind : {X : Type 0} (q : Request) → grants q ≡ true → (q .kind ≡ 2 → X) → (q .kind ≡ 3 → X) → X
+grant-kind q e f g = or-cases (eqb (q .kind) 2) (anyb (λ k. eqb (q .kind) k) (3 ∷ [])) e
+    (λ p. f (true-eq (q .kind) 2 p))
+    (λ p. g (true-eq (q .kind) 3 (sym (or-false (eqb (q .kind) 3)) ∙ p)))
+
+-- by its kind alone
+names-of : (kinds : List ℕ) (q : Request) → grants q ≡ true → anyb (λ k. eqb 2 k) kinds ≡ true →
+    anyb (λ k. eqb 3 k) kinds ≡ true → anyb (λ k. eqb (q .kind) k) kinds ≡ true
+names-of kinds q e f g = grant-kind q e
+    (λ p. ap (λ (n : ℕ). anyb (λ k. eqb n k) kinds) p ∙ f)
+    (λ p. ap (λ (n : ℕ). anyb (λ k. eqb n k) kinds) p ∙ g)
+
+-- the numbers of a grant or denial that is in range
+pub record GrantIn (q : Request) : Type 0 where
+  pub object : q .object ≤ 128
+  pub mode : q .mode ≤ 8
+  pub requester : q .requester ≤ 1023
+
+pub grant-in : (q : Request) → outOfRange q ≡ false → grants q ≡ true → GrantIn q
+grant-in q r e =
+    let t = in-range q r in
+    record {
+      object = upper 1 128 (q .object) (asked-passes (namesObject q) (between 1 128 (q .object))
+          (names-of (NEW ∷ GRANT ∷ DENY ∷ REVOKEP ∷ REVOKEN ∷ GRANTADM ∷ REVOKEADM ∷ GRANTREF ∷ REVOKEREF ∷ []) q e refl refl)
+          (t _ (inr (inr (inr (inl refl))))));
+      mode = upper 1 8 (q .mode) (asked-passes (namesMode q) (between 1 8 (q .mode))
+          (names-of (GRANT ∷ DENY ∷ REVOKEP ∷ REVOKEN ∷ []) q e refl refl)
+          (t _ (inr (inr (inr (inr (inr (inl refl))))))));
+      requester = upper 1 1023 (q .requester) (not-false (between 1 1023 (q .requester)) (t _ (inr (inr (inl refl)))));
+    }
+
+-- ---- row 9
+
+-- what an answer says: an uncovered instant, or that row 9 does not apply
+abbrev pub UncoveredIs : Base → Request → Gap → Type 0
+UncoveredIs b q (At t) = (notSupported plainly b q ≡ true) × (isGap b q t ≡ true)
+UncoveredIs b q None = notSupported plainly b q ≡ false
+
+-- nothing is asked of other requests, nor of owners and administrators
+pub no-grant : (b : Base) (q : Request) → grants q ≡ false → notSupported plainly b q ≡ false
+no-grant b q e = rw e
+
+pub in-control : (b : Base) (q : Request) → grants q ≡ true → controls b (q .object) (q .requester) ≡ true →
+    notSupported plainly b q ≡ false
+in-control b q e f = rw (e, f)
+
+-- the gaps under the new authorization are what row 9 asks for
+pub uncovered-is : (b : Base) (q : Request) → grants q ≡ true → controls b (q .object) (q .requester) ≡ false →
+    (r : Gap) → GapIs (b .authorizations) (newHead (suc (b .last)) q) (q .interval) r → UncoveredIs b q r
+uncovered-is b q e f (At t) g =
+    ((λ k. e k && not (f k) && not (g .some k)), (λ k. g .within k && not (g .bare k)))
+uncovered-is b q e f None g = λ k. e k && not (f k) && not (g k)

@@ -1,0 +1,40 @@
+// Row 9 of the table of refusals: what a new grant or denial lacks.
+ghost use mathlib.Core.Path.{_≡_};
+ghost use mathlib.Core.Bool.{true, false};
+ghost use Rattle.model.specs.Encoding.{decode};
+ghost use Rattle.model.specs.Soundness.{soundBytes};
+ghost use Rattle.model.specs.Step.{outOfRange};
+ghost use Rattle.refusals.specs.Asked.{UncoveredIs};
+use crate::kinds::is_grant;
+use crate::lookups::controls;
+use model::Request;
+use support::Gap;
+use support::Want;
+
+// Row 9: the earliest instant of a new grant or denial that no authorization covers which may support it, unless the
+// requester owns or administers the object.
+pub fn uncovered(s: &[u8], q: Request) -> Gap
+    requires { ⌜ (soundBytes (now s) ≡ true) × (outOfRange q ≡ false) ⌝ }
+    ensures { λ r. ⌜ UncoveredIs (decode (now (s .entry))) q r ⌝ }
+{
+    if !is_grant(q) {
+        return Gap::None;
+    }
+    if controls(s, q.object, q.requester) {
+        return Gap::None;
+    }
+    let c = encoding::counts_of(s);
+    let at = encoding::authorizations_at(c);
+    let object = q.object as u16;
+    let mode = q.mode as u8;
+    let grantor = q.requester as u16;
+    let before = q.now;
+    let w = Want {
+        object,
+        mode,
+        grantor,
+        before,
+    };
+    let i = q.interval;
+    support::first_gap(&s[at..], c.authorizations as usize, w, i.start, i.end)
+}
