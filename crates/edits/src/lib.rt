@@ -47,18 +47,6 @@ fn reshape(s: &mut [u8], at: usize, old: usize, new: usize, c: Counts)
     encoding::put_counts(s, c);
 }
 
-// Copies the first n bytes of src to a place.
-fn copy(s: &mut [u8], at: usize, src: &[u8], n: usize)
-    requires { ⌜ (at + n ≤ length (now s)) × (n ≤ length (now src)) ⌝ }
-    ensures { λ _. ⌜ now (s .exit) ≡ splice at (take n (now (src .entry))) (now (s .entry)) ⌝ }
-{
-    let mut i = 0;
-    while i < n {
-        s[at + i] = src[i];
-        i += 1;
-    }
-}
-
 // Where the privileges of a body start.
 pub fn privileges_at(c: Counts, k: PrivilegeBody) -> usize
     ensures { λ r. ⌜ r ≡ privilegesAt k c ⌝ }
@@ -248,7 +236,7 @@ pub fn replace_authorizations(s: &mut [u8], body: &[u8], m: usize)
         24 * m,
         with_authorization_count(c, m as u16),
     );
-    copy(s, at, body, 24 * m);
+    fields::copy(s, at, body, 24 * m);
 }
 
 // Sets the clock.

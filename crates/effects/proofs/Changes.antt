@@ -19,7 +19,8 @@ use Rattle.model.specs.Encoding.{encode, decode}
 use Rattle.model.specs.FitsFacts.{BaseFits, PrivilegeFits}
 use Rattle.model.specs.Soundness.{chained}
 use Rattle.model.specs.SoundTests.{order-test}
-use Rattle.model.specs.Requests.{REVOKEADM, REVOKEREF, before, insert, without}
+use Rattle.model.specs.SoundnessFacts.{Sound}
+use Rattle.model.specs.Requests.{REVOKEADM, REVOKEREF, is, before, insert, without}
 use Rattle.model.specs.Means.{plainly}
 use Rattle.model.specs.Step.{effect, notHeld}
 use Rattle.theorems.specs.Kinds.{is-kinds, objectKinds, subjectKinds}
@@ -118,13 +119,11 @@ module _ (kinds : List ℕ) (s : List ℕ) (q : Request) (a : Allowed kinds s q)
 
 -- ---- REVOKEADM and REVOKEREF: what is taken out is there, in order
 
-pub administrator-there : (s : List ℕ) (q : Request) → Allowed (REVOKEADM ∷ []) s q →
-    (chained before (decode s .administrators) ≡ true)
-    × (listed (decode s .administrators) (q .object) (q .subject) ≡ true)
-administrator-there s q a = (
-  order-test (decode s) (allowed-sound (REVOKEADM ∷ []) s q a) _ (inr (inl refl)),
-  must-pass (notHeld (decode s) q) (administers (decode s) (q .object) (q .subject)) (a .accepted .held)
-      (λ e. rw (a .kind, e)),
+pub administrator-there : (b : Base) (q : Request) → Sound b → is q (REVOKEADM ∷ []) ≡ true → notHeld b q ≡ false →
+    (chained before (b .administrators) ≡ true) × (listed (b .administrators) (q .object) (q .subject) ≡ true)
+administrator-there b q s k h = (
+  order-test b s _ (inr (inl refl)),
+  must-pass (notHeld b q) (administers b (q .object) (q .subject)) h (λ e. rw (k, e)),
 )
 
 pub referrer-there : (s : List ℕ) (q : Request) → Allowed (REVOKEREF ∷ []) s q →

@@ -1,10 +1,15 @@
 // What an accepted request does to the bytes of a sound base, for the requests that withdraw no instants, and of
 // REVOKEADM what is not about authorizations.
 ghost use mathlib.Core.Path.{_≡_};
+ghost use mathlib.Core.Bool.{true};
 ghost use mathlib.Core.List.{_∷_, []};
 ghost use Prim.Native.Nat.{_+_, _<_};
 ghost use Rattle.model.specs.Ranges.{lastLabel};
-ghost use Rattle.model.specs.Requests.{NEW, GRANT, DENY, ADDRULE, DROPRULE, GRANTADM, REVOKEADM, GRANTREF, REVOKEREF, without};
+ghost use Rattle.model.specs.Base.{privilege, listed};
+ghost use Rattle.model.specs.FitsFacts.{PrivilegeFits};
+ghost use Rattle.model.specs.Soundness.{chained};
+ghost use Rattle.model.specs.Requests.{NEW, GRANT, DENY, ADDRULE, DROPRULE, GRANTADM, GRANTREF, REVOKEREF};
+ghost use Rattle.model.specs.Requests.{before, without};
 ghost use Rattle.model.specs.Encoding.{encode, decode};
 ghost use Rattle.model.specs.Means.{plainly};
 ghost use Rattle.model.specs.Step.{effect};
@@ -16,6 +21,7 @@ mod records;
 mod rules;
 
 use edits::PrivilegeBody;
+use encoding::rule_of;
 use model::Request;
 pub use privileges::is_held;
 use privileges::put_privilege;
@@ -23,8 +29,7 @@ use privileges::take_privilege;
 use records::authorization_of;
 use records::body_of;
 use records::owner_of;
-use records::privilege_of;
-use records::rule_of;
+pub use records::privilege_of;
 pub use rules::drop_rules;
 
 // Sets the clock and the last label.
@@ -106,9 +111,12 @@ pub fn revoke_referrer(s: &mut [u8], q: Request)
     drop_rules(s, q, false, administers);
 }
 
-// REVOKEADM, of the privileges: that of the subject is taken out. The rules go by `drop_rules`.
+// REVOKEADM, of the privileges: that of the subject is taken out. The rules go by `drop_rules`. Nothing is asked of
+// the authorizations, so that this may be done before it is known whether they find room.
 pub fn remove_administrator(s: &mut [u8], q: Request)
-    requires { ⌜ Allowed (REVOKEADM ∷ []) (now s) q ⌝ }
+    requires { ⌜ Written (now s) × PrivilegeFits (privilege (q .object) (q .subject))
+        × (chained before (decode (now s) .administrators) ≡ true)
+        × (listed (decode (now s) .administrators) (q .object) (q .subject) ≡ true) ⌝ }
     ensures { λ _. ⌜ now (s .exit)
         ≡ encode (withAdministrators (without (q .object) (q .subject) (decode (now (s .entry)) .administrators)) (decode (now (s .entry)))) ⌝ }
 {

@@ -2,6 +2,7 @@
 mod bodies;
 mod flags;
 mod heading;
+mod terms;
 
 pub use bodies::authorization_at;
 pub use bodies::authorization_clean;
@@ -33,6 +34,7 @@ pub use heading::put_counts;
 pub use heading::put_mark;
 pub use heading::referrers_at;
 pub use heading::rules_at;
+pub use terms::rule_of;
 
 // How many records each body has.
 pub struct Counts {

@@ -60,6 +60,18 @@ pub fn put4(s: &mut [u8], at: usize, a: u8, b: u8, c: u8, d: u8)
     s[at + 3] = d;
 }
 
+// Copies the first n bytes of src to a place.
+pub fn copy(s: &mut [u8], at: usize, src: &[u8], n: usize)
+    requires { ⌜ (at + n ≤ length (now s)) × (n ≤ length (now src)) ⌝ }
+    ensures { λ _. ⌜ now (s .exit) ≡ splice at (take n (now (src .entry))) (now (s .entry)) ⌝ }
+{
+    let mut i = 0;
+    while i < n {
+        s[at + i] = src[i];
+        i += 1;
+    }
+}
+
 // Moves the bytes of a slice up by w places: the first w are as they were, and the last w are lost.
 pub fn move_up(s: &mut [u8], w: usize)
     requires { ⌜ w ≤ length (now s) ⌝ }

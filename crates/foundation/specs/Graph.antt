@@ -1,15 +1,16 @@
 -- Directed graphs over a list of nodes: paths, cycles through a strict edge, and ranks.
 -- `edge` says which node leads to which, `strict` which edges count, `own` which nodes count by themselves.
--- `reaches-path` and `cyclic-path`: the tests find exactly the paths. What ranks are is shown in GraphFacts.
-use mathlib.Core.Path.{_≡_, ap, _∙_}
+-- `reaches-path` and `cyclic-path`: the tests find exactly the paths. `cyclic-map`: nodes may have other names. What
+-- ranks are is shown in GraphFacts.
+use mathlib.Core.Path.{_≡_, refl, ap, _∙_}
 use mathlib.Core.Logic.{_↔_}
 use Prim.Native.Nat.{ℕ, zero, suc, _+_, _*_, max}
 use native.Mathlib.Omega.{arith}
 use mathlib.Core.Bool.{Bool, true, false, _&&_, _||_, false≢true}
-use mathlib.Core.List.{List, [], _∷_}
-use lib.ListN.{length}
+use mathlib.Core.List.{List, [], _∷_, map}
+use lib.ListN.{length, length-map}
 use Rattle.foundation.specs.Tests.{and-true, and-intro, or-true-right, or-intro-left, or-cases}
-use Rattle.foundation.specs.Lists.{anyb, keepIf, Mem, any-mem, mem-any, any-cong-mem}
+use Rattle.foundation.specs.Lists.{anyb, keepIf, Mem, any-mem, mem-any, any-cong, any-cong-mem, any-map}
 use Rattle.foundation.specs.Totals.{count}
 use Rattle.foundation.specs.Closure.{iter, settled}
 
@@ -124,3 +125,36 @@ cyclic-path {K} edge strict nodes = (
   where
     back : K → Bool
     back q = reaches (strictEdge edge strict) edge nodes q q
+
+-- ---- nodes under other names
+
+-- edges that look at the nodes through f only are those between their images
+module _ {K L : Type 0} (f : K → L) (edge : L → L → Bool) (nodes : List K) where
+  abbrev through : (L → L → Bool) → K → K → Bool
+  through link q r = link (f q) (f r)
+
+  iter-map : (first : L → L → Bool) (q : K) (n : ℕ) (r : K) →
+      iter (further first edge (map f nodes) (f q)) n (λ p. false) (f r)
+      ≡ iter (further (through first) (through edge) nodes q) n (λ p. false) r
+  unfolding iter
+  iter-map first q zero r = refl
+  iter-map first q (suc n) r = ap (λ (b : Bool). first (f q) (f r) || b)
+      (any-map (λ p. edge p (f r) && iter (further first edge (map f nodes) (f q)) n (λ p. false) p) f nodes
+      ∙ any-cong (λ p. edge (f p) (f r) && iter (further first edge (map f nodes) (f q)) n (λ p. false) (f p))
+      (λ p. edge (f p) (f r) && iter (further (through first) (through edge) nodes q) n (λ p. false) p) nodes
+      (λ p. ap (λ (b : Bool). edge (f p) (f r) && b) (iter-map first q n p)))
+
+  reaches-map : (first : L → L → Bool) (q : K) →
+      reaches first edge (map f nodes) (f q) (f q) ≡ reaches (through first) (through edge) nodes q q
+  unfolding reaches
+  reaches-map first q =
+      ap (λ (n : ℕ). iter (further first edge (map f nodes) (f q)) n (λ p. false) (f q)) (length-map nodes f)
+      ∙ iter-map first q (length nodes) q
+
+  pub cyclic-map : (strict : L → L → Bool) →
+      cyclic edge strict (map f nodes) ≡ cyclic (λ q r. edge (f q) (f r)) (λ q r. strict (f q) (f r)) nodes
+  unfolding cyclic
+  cyclic-map strict = any-map (λ q. reaches (strictEdge edge strict) edge (map f nodes) q q) f nodes
+      ∙ any-cong (λ q. reaches (strictEdge edge strict) edge (map f nodes) (f q) (f q))
+      (λ q. reaches (strictEdge (through edge) (through strict)) (through edge) nodes q q) nodes
+      (reaches-map (strictEdge edge strict))

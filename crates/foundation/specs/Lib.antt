@@ -8,3 +8,4 @@ pub mod Intervals
 pub mod Marks
 pub mod Counting
 pub mod Bytes
+pub mod Runs

@@ -64,6 +64,11 @@ any-cong-mem p q (x ∷ xs) h = rw (h x (inl refl), any-cong-mem p q xs (λ y m.
 pub any-cong {ℓ} : {A : Type ℓ} (p q : A → Bool) (xs : List A) → ((x : A) → p x ≡ q x) → anyb p xs ≡ anyb q xs
 any-cong p q xs h = any-cong-mem p q xs (λ x m. h x)
 
+pub any-map {ℓ κ} : {A : Type ℓ} {B : Type κ} (p : B → Bool) (f : A → B) (xs : List A) →
+    anyb p (map f xs) ≡ anyb (λ x. p (f x)) xs
+any-map p f [] = refl
+any-map p f (x ∷ xs) = ap (λ (b : Bool). p (f x) || b) (any-map p f xs)
+
 pub any-mono {ℓ} : {A : Type ℓ} (p q : A → Bool) (xs : List A) → ((x : A) → p x ≡ true → q x ≡ true) →
     anyb p xs ≡ true → anyb q xs ≡ true
 any-mono p q xs h e = let m = any-mem p xs e in mem-any q xs (m .0) (m .1) (h (m .0) (m .2))

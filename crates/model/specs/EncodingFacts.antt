@@ -63,7 +63,7 @@ authorization-back a rest f i =
       interval = interval-back (a .interval) (f .interval) i;
     }
 
-rule-back : (r : Rule) (rest : List ℕ) → RuleFits r → ruleOf (ruleBytes r ++ rest) ≡ r
+pub rule-back : (r : Rule) (rest : List ℕ) → RuleFits r → ruleOf (ruleBytes r ++ rest) ≡ r
 rule-back r rest f i =
     let flags = rule-flags-back (r .left .negative) (r .right .negative) (r .option) in
     record {

@@ -120,7 +120,7 @@ pub record RuleFits (r : Rule) : Type 0 where
   pub grantor : r .grantor < 256 ^ 2
   pub interval : IntervalFits (r .interval)
 
-rule-fits : (r : Rule) → ruleIn r ≡ true → RuleFits r
+pub rule-fits : (r : Rule) → ruleIn r ≡ true → RuleFits r
 rule-fits r e =
     let t = conjunct (isLabel (r .label) ∷ isSubject (r .author) ∷ sideIn (r .left) ∷ sideIn (r .right)
     ∷ orStar isSubject (r .grantor) ∷ intervalIn (r .interval) ∷ []) e in

@@ -1,13 +1,13 @@
--- Theorem 3: forbidden circles and ranks in 01's words.
-use mathlib.Core.Path.{_≡_, ap}
+-- Theorem 3: forbidden circles and ranks in 01's words. `label-free`: a rule's label does not matter for them.
+use mathlib.Core.Path.{_≡_, sym, ap, _∙_}
 use mathlib.Core.Logic.{_↔_}
 use Prim.Native.Nat.{ℕ, _≤_, _<_}
 use mathlib.Core.Bool.{true, false, not}
-use mathlib.Core.List.{List}
+use mathlib.Core.List.{List, [], _∷_, _++_, map, map-append}
 use lib.ListN.{length}
 use Rattle.foundation.specs.Tests.{and-true, and-intro, not-true, not-false}
 use Rattle.foundation.specs.Lists.{Mem}
-use Rattle.foundation.specs.Graph.{Path, direct, onward, Walk, strictEdge, cyclic, cyclic-path}
+use Rattle.foundation.specs.Graph.{Path, direct, onward, Walk, strictEdge, cyclic, cyclic-path, cyclic-map}
 use Rattle.foundation.specs.GraphFacts.{Ranked, ranked, rank-most, rank-walk}
 use Rattle.model.specs.declared.Rule.{Rule}
 use Rattle.model.specs.Stratification.{feeds, strict, negates, stratified, stratum}
@@ -93,3 +93,30 @@ module _ (rules : List Rule) where
     pub stratum-few : (r : Rule) → Mem r rules → stratum rules r ≤ length rules
     unfolding stratum
     stratum-few r m = laws .few r m
+
+-- ---- labels do not matter
+
+abbrev pub unlabelled : Rule → Rule
+unlabelled r = record {
+  label = 0;
+  author = r .author;
+  left = r .left;
+  operator = r .operator;
+  right = r .right;
+  grantor = r .grantor;
+  option = r .option;
+  interval = r .interval;
+}
+
+unlabelled-same : (rules : List Rule) → stratified (map unlabelled rules) ≡ stratified rules
+unfolding stratified
+unlabelled-same rules = ap not (cyclic-map unlabelled feeds rules strict)
+
+-- one more rule, under this label or another
+pub label-free : (rules : List Rule) (r u : Rule) → unlabelled r ≡ unlabelled u →
+    stratified (rules ++ (r ∷ [])) ≡ stratified (rules ++ (u ∷ []))
+label-free rules r u e = sym (unlabelled-same (rules ++ (r ∷ [])))
+    ∙ ap stratified (map-append unlabelled rules (r ∷ [])
+    ∙ ap (λ (x : Rule). map unlabelled rules ++ (x ∷ [])) e
+    ∙ sym (map-append unlabelled rules (u ∷ [])))
+    ∙ unlabelled-same (rules ++ (u ∷ []))

@@ -3,3 +3,7 @@ pub mod Table
 pub mod Stratum
 pub mod FromMarkToMark
 pub mod Planned
+pub mod Drawn
+pub mod Places
+pub mod Feeding
+pub mod DrawnFacts

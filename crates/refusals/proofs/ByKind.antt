@@ -1,9 +1,9 @@
 -- The rows of the table by the kind of the request: each kind is asked at most one of a row's questions.
 -- Assumes nothing.
-use mathlib.Core.Path.{_≡_, sym, ap, _∙_}
-use Prim.Native.Nat.{ℕ}
+use mathlib.Core.Path.{_≡_, refl, sym, ap, _∙_}
+use Prim.Native.Nat.{ℕ, suc}
 use mathlib.Core.Bool.{Bool, true, false, not, _&&_, _||_}
-use mathlib.Core.List.{List, [], _∷_}
+use mathlib.Core.List.{List, [], _∷_, _++_}
 use lib.Dec.{eqb}
 use borrow.Author.Tests.{ne-eqb}
 use Rattle.foundation.specs.Tests.{or-false}
@@ -11,8 +11,10 @@ use Rattle.foundation.specs.Lists.{anyb}
 use Rattle.model.specs.declared.Request.{Request}
 use Rattle.model.specs.Base.{Base, exists, owns, administers, refers, controls, mayRule}
 use Rattle.model.specs.Requests.{NEW, GRANT, DENY, REVOKE, REVOKEP, REVOKEN, ADDRULE, DROPRULE, GRANTADM}
-use Rattle.model.specs.Requests.{REVOKEADM, GRANTREF, REVOKEREF, is}
-use Rattle.model.specs.Step.{namesObject, noObject, noLabel, notPermitted, alreadyThere, notHeld}
+use Rattle.model.specs.Requests.{REVOKEADM, GRANTREF, REVOKEREF, is, newRule, rulesAfter}
+use Rattle.model.specs.Stratification.{stratified}
+use Rattle.model.specs.StratificationFacts.{label-free}
+use Rattle.model.specs.Step.{namesObject, noObject, noLabel, notPermitted, alreadyThere, notHeld, notStratified}
 use Rattle.refusals.specs.Numbers.{hasLabel, ofOther, labelled, ofOtherAuthor}
 
 abbrev oneOf : ℕ → List ℕ → Bool
@@ -160,3 +162,14 @@ module _ (b : Base) (q : Request) where
 
   pub held-none : (q .kind ≡ 10 → ⊥) → (q .kind ≡ 12 → ⊥) → false ≡ notHeld b q
   held-none f g = sym (λ t. heldRow (no-kind (q .kind) 10 f t) (no-kind (q .kind) 12 g t))
+
+  -- ---- row 12
+
+  -- the new rule is tested under the label 1
+  pub strata-rule : q .kind ≡ 7 → not (stratified (b .rules ++ (newRule 1 q ∷ []))) ≡ notStratified b q
+  strata-rule e =
+      let k : is q (ADDRULE ∷ []) ≡ true = ap (λ (n : ℕ). oneOf n (ADDRULE ∷ [])) e in
+      rw k (ap not (label-free (b .rules) (newRule 1 q) (newRule (suc (b .last)) q) refl))
+
+  pub strata-none : (q .kind ≡ 7 → ⊥) → false ≡ notStratified b q
+  strata-none f = sym (λ t. no-kind (q .kind) 7 f t && not (stratified (rulesAfter b q)))

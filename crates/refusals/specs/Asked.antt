@@ -1,19 +1,24 @@
--- What an accepted range says of a grant or denial, and what an uncovered instant says of row 9.
+-- What an accepted range says of a grant, a denial or a rule, and what an uncovered instant says of row 9.
 use mathlib.Core.Path.{_≡_, refl, sym, ap, _∙_}
 use mathlib.Core.Logic.{inl, inr}
-use Prim.Native.Nat.{ℕ, suc, _≤_}
+use Prim.Native.Nat.{ℕ, suc, _≤_, _<_}
+use native.Mathlib.Omega.{arith}
 use mathlib.Core.Bool.{Bool, true, false, not, _&&_, false≢true}
 use mathlib.Core.List.{List, [], _∷_}
 use lib.Dec.{leb, eqb}
-use Rattle.foundation.specs.Tests.{or-cases, or-false, true-le, true-eq, and-true, not-false}
-use Rattle.foundation.specs.Lists.{anyb}
+use Rattle.foundation.specs.Tests.{or-cases, or-false, le-true, true-le, true-eq, and-true, not-false}
+use Rattle.foundation.specs.Lists.{anyb, conjunct}
 use Rattle.model.specs.declared.Request.{Request}
-use Rattle.model.specs.Ranges.{between}
+use Rattle.model.specs.Ranges.{between, isSubject, lastLabel}
 use Rattle.model.specs.Base.{Base, controls}
-use Rattle.model.specs.Requests.{NEW, GRANT, DENY, REVOKEP, REVOKEN, GRANTADM, REVOKEADM, GRANTREF, REVOKEREF, grants, newHead}
+use Rattle.model.specs.Requests.{NEW, GRANT, DENY, REVOKEP, REVOKEN, ADDRULE, GRANTADM, REVOKEADM, GRANTREF}
+use Rattle.model.specs.Requests.{REVOKEREF, is, grants, newHead, newRule}
 use Rattle.model.specs.Means.{plainly}
-use Rattle.model.specs.Step.{namesObject, namesMode, outOfRange, notSupported, isGap}
+use Rattle.model.specs.Step.{namesObject, namesMode, namesInterval, ruleTermsIn, outOfRange, notSupported, isGap}
+use Rattle.model.specs.Soundness.{intervalIn, ruleIn}
+use Rattle.model.specs.FitsFacts.{RuleFits, rule-fits}
 use Rattle.model.specs.StepFacts.{in-range}
+use Rattle.theorems.specs.RuleTerms.{term-in, side-in, ruleTests}
 use Rattle.support.specs.declared.Gap.{Gap}
 use Rattle.support.specs.declared.Gap.the-variants.{At, None}
 use Rattle.support.specs.Gaps.{GapIs}
@@ -59,6 +64,33 @@ grant-in q r e =
           (names-of (GRANT ∷ DENY ∷ REVOKEP ∷ REVOKEN ∷ []) q e refl refl)
           (t _ (inr (inr (inr (inr (inr (inl refl))))))));
       requester = upper 1 1023 (q .requester) (not-false (between 1 1023 (q .requester)) (t _ (inr (inr (inl refl)))));
+    }
+
+-- ADDRULE's rule, under the label 1, fits its bytes, and so does the number of its operator
+pub record RuleRequestIn (q : Request) : Type 0 where
+  pub rule : RuleFits (newRule 1 q)
+  pub operator : q .rule .operator < 256
+
+pub rule-request-in : (q : Request) → outOfRange q ≡ false → q .kind ≡ ADDRULE → RuleRequestIn q
+rule-request-in q r e =
+    let t = in-range q r in
+    let named : namesInterval q ≡ true =
+    ap (λ (n : ℕ). anyb (λ k. eqb n k) (GRANT ∷ DENY ∷ REVOKEP ∷ REVOKEN ∷ ADDRULE ∷ [])) e in
+    let adds : is q (ADDRULE ∷ []) ≡ true = ap (λ (n : ℕ). anyb (λ k. eqb n k) (ADDRULE ∷ [])) e in
+    let u = conjunct (ruleTests (q .rule)) (asked-passes (is q (ADDRULE ∷ [])) (ruleTermsIn (q .rule)) adds
+    (t _ (inr (inr (inr (inr (inr (inr (inr (inr (inl refl))))))))))) in
+    let within : ruleIn (newRule 1 q) ≡ true = rw (
+      le-true 1 lastLabel (omega arith),
+      not-false (isSubject (q .requester)) (t _ (inr (inr (inl refl)))),
+      side-in (q .rule .left) (u _ (inl refl)),
+      side-in (q .rule .right) (u _ (inr (inl refl))),
+      term-in isSubject (q .rule .grantor) (u _ (inr (inr (inr (inl refl))))),
+      asked-passes (namesInterval q) (intervalIn (q .interval)) named
+          (t _ (inr (inr (inr (inr (inr (inr (inl refl)))))))),
+    ) in
+    record {
+      rule = rule-fits (newRule 1 q) within;
+      operator = omega (arith, upper 1 4 (q .rule .operator) (u _ (inr (inr (inl refl)))));
     }
 
 -- ---- row 9

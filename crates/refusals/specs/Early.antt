@@ -1,7 +1,7 @@
 -- Rows 3 to 12 of the table of refusals, and what the code answers of them. Row 13 is asked of the effect.
 -- `early-strata` and `refusal-early` say how the rows go on.
-use mathlib.Core.Path.{_≡_, refl}
-use mathlib.Core.Logic.{_≢_}
+use mathlib.Core.Path.{_≡_, refl, sym, ap, _∙_}
+use mathlib.Core.Logic.{_≢_, inl}
 use Prim.Native.Nat.{ℕ, _<_}
 use native.Mathlib.Omega.{arith}
 use mathlib.Core.Bool.{Bool, true, false}
@@ -13,7 +13,7 @@ use Rattle.model.specs.Base.{Base}
 use Rattle.model.specs.Means.{plainly}
 use Rattle.model.specs.Step.{Row, row, lowest, outOfRange, behindClock, badInterval, noObject, noLabel, notPermitted}
 use Rattle.model.specs.Step.{notSupported, isGap, alreadyThere, notHeld, notStratified, full, refusal}
-use Rattle.model.specs.StepFacts.{Rising}
+use Rattle.model.specs.StepFacts.{Rising, lowest-none}
 use Rattle.refusals.specs.declared.Early.{Early}
 use Rattle.refusals.specs.declared.Early.the-variants.{Passed, Number, Uncovered}
 
@@ -65,7 +65,7 @@ module _ (b : Base) (q : Request) where
     ),
   )
 
-  early-rises : Rising 2 (earlyRows b q)
+  pub early-rises : Rising 2 (earlyRows b q)
   early-rises = (
     omega arith,
     (
@@ -81,6 +81,23 @@ module _ (b : Base) (q : Request) where
   pub early-strata : lowest (earlyRows b q)
       ≡ pick (eqb (lowest (rowsBeforeStrata b q)) 0) (pick (notStratified b q) 12 0) (lowest (rowsBeforeStrata b q))
   early-strata = lowest-more 2 (rowsBeforeStrata b q) (row 12 (notStratified b q)) before-rises
+
+  -- a row that applies before row 12 stands, and where none does, row 12 decides
+  pub early-stands : (n : ℕ) → n ≢ 0 → lowest (rowsBeforeStrata b q) ≡ n → lowest (earlyRows b q) ≡ n
+  early-stands n f e =
+      let g : eqb (lowest (rowsBeforeStrata b q)) 0 ≡ false =
+      ne-false (lowest (rowsBeforeStrata b q)) 0 (λ z. f (sym e ∙ z)) in
+      early-strata
+      ∙ ap (λ (x : Bool). pick x (pick (notStratified b q) 12 0) (lowest (rowsBeforeStrata b q))) g
+      ∙ e
+
+  pub early-last : (x : Bool) → lowest (rowsBeforeStrata b q) ≡ 0 → notStratified b q ≡ x →
+      lowest (earlyRows b q) ≡ pick x 12 0
+  early-last x z e = early-strata ∙ (λ k. pick (eqb (z k) 0) (pick (e k) 12 0) (z k))
+
+  -- where none of rows 3 to 11 applies, the fields are in their ranges
+  pub passed-range : lowest (rowsBeforeStrata b q) ≡ 0 → outOfRange q ≡ false
+  passed-range z = lowest-none 2 (rowsBeforeStrata b q) before-rises z _ (inl refl)
 
   -- row 13 behind all of these
   pub refusal-early : refusal plainly b q

@@ -1,6 +1,7 @@
 // The table of refusals: rows 3 to 12, asked of the bytes of a sound base and a request. Row 13 is asked of what the
 // request would leave.
 mod bodies;
+mod circles;
 mod cover;
 mod kinds;
 mod lookups;
@@ -8,9 +9,15 @@ mod ranges;
 mod rows;
 mod table;
 
+pub use circles::not_stratified;
 pub use cover::uncovered;
+pub use kinds::is_labelling;
+pub use lookups::exists;
 pub use ranges::bad_interval;
+pub use ranges::mode_in;
+pub use ranges::object_in;
 pub use ranges::out_of_range;
+pub use ranges::subject_in;
 pub use rows::already_there;
 pub use rows::behind_clock;
 pub use rows::no_label;
@@ -18,6 +25,7 @@ pub use rows::no_object;
 pub use rows::not_held;
 pub use rows::not_permitted;
 pub use table::before_strata;
+pub use table::early_refusal;
 
 // The first of rows 3 to 12 that applies: none; its number; or row 9, with the earliest uncovered instant.
 pub enum Early {

@@ -17,21 +17,21 @@ use model::Term;
 use soundness::option_fits;
 
 // Whether a number is a subject's, 1 to 1,023.
-fn subject_in(n: u32) -> bool
+pub fn subject_in(n: u32) -> bool
     ensures { λ r. ⌜ r ≡ isSubject n ⌝ }
 {
     (1 <= n) & (n <= 1023)
 }
 
 // Whether a number is an object's, 1 to 128.
-fn object_in(n: u32) -> bool
+pub fn object_in(n: u32) -> bool
     ensures { λ r. ⌜ r ≡ isObject n ⌝ }
 {
     (1 <= n) & (n <= 128)
 }
 
 // Whether a number is a mode, 1 to 8.
-fn mode_in(n: u32) -> bool
+pub fn mode_in(n: u32) -> bool
     ensures { λ r. ⌜ r ≡ isMode n ⌝ }
 {
     (1 <= n) & (n <= 8)

@@ -4,8 +4,9 @@ ghost use mathlib.Core.Bool.{true};
 ghost use Rattle.model.specs.Encoding.{decode};
 ghost use Rattle.model.specs.Soundness.{soundBytes};
 ghost use Rattle.model.specs.Step.{lowest};
-ghost use Rattle.refusals.specs.Early.{rowsBeforeStrata, saysOf};
+ghost use Rattle.refusals.specs.Early.{rowsBeforeStrata, saysOf, earlyIs};
 use crate::Early;
+use crate::circles::not_stratified;
 use crate::cover::uncovered;
 use crate::ranges::bad_interval;
 use crate::ranges::out_of_range;
@@ -52,6 +53,24 @@ pub fn before_strata(s: &[u8], q: Request) -> Early
             }
             if not_held(s, q) {
                 return Early::Number(11);
+            }
+            Early::Passed
+        }
+    }
+}
+
+// The first of rows 3 to 12 that applies.
+pub fn early_refusal(s: &[u8], q: Request) -> Early
+    requires { ⌜ soundBytes (now s) ≡ true ⌝ }
+    ensures { λ r. ⌜ earlyIs (decode (now (s .entry))) q r ⌝ }
+{
+    let e = before_strata(s, q);
+    match e {
+        Early::Number(n) => Early::Number(n),
+        Early::Uncovered(t) => Early::Uncovered(t),
+        Early::Passed => {
+            if not_stratified(s, q) {
+                return Early::Number(12);
             }
             Early::Passed
         }

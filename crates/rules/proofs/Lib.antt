@@ -1,3 +1,4 @@
 pub mod Records
 pub mod Masks
 pub mod Rounds
+pub mod Tables

@@ -1,13 +1,15 @@
--- Masks of the records of any width: built by a loop, read bit by bit, and the largest number that a mask picks.
+-- Masks of the records of any width, built by a loop; masks of any list, read bit by bit; and the largest number that
+-- a mask picks.
 use mathlib.Core.Path.{_≡_, refl, sym, ap, _∙_}
 use mathlib.Core.Bool.{Bool, true, false, _&&_, Bool·beq, false≢true}
 use mathlib.Core.List.{List, [], _∷_}
 use Prim.Native.Nat.{ℕ, zero, suc, _+_, _*_, _-_, _/_, _%_, _^_, _≤_, _<_}
-use native.Mathlib.Nat.{pow-succ', lt-of-lt-of-le, pow-le-pow-right, div-one, div-div-eq-div-mul, le-antisymm}
+use native.Mathlib.Nat.{pow-succ', lt-of-lt-of-le, pow-le-pow-right, div-one, div-eq-of-lt, div-div-eq-div-mul, le-antisymm}
 use native.Mathlib.Omega.{arith}
 use mir.Val.{boolByte}
 use lib.Dec.{eqb, ltb}
 use lib.ListN.{length, drop, getD}
+use lib.Seq.{drop-nil}
 use Rattle.foundation.specs.Tests.{cases, and-true, eq-true, ne-false, true-eq, false-eq, true-le, false-le}
 use Rattle.foundation.specs.Lists.{keepIf, keepIf-mem, kept}
 use Rattle.foundation.specs.Bytes.{records}
@@ -16,31 +18,31 @@ use Rattle.foundation.specs.GraphFacts.{most-le, le-most}
 use Rattle.model.specs.Encoding.{asBit, bit}
 use Rattle.rules.specs.Masks.{maskOf, larger, top}
 use Rattle.encoding.proofs.Records.{rest, rest-all, rest-step, rest-end}
-use Rattle.rules.proofs.Records.{length-records, place-zero, place-step, record-mem, mem-record}
+use Rattle.rules.proofs.Records.{length-records, record-nth, record-mem, mem-record}
 
 pub beq-yes : (a b : Bool) → a ≡ true → b ≡ Bool·beq a b
 beq-yes true true e = refl
 beq-yes true false e = refl
 beq-yes false b e = absurd (false≢true e)
 
-bit-le : (b : Bool) → asBit b ≤ 1
+pub bit-le : (b : Bool) → asBit b ≤ 1
 bit-le true = omega arith
 bit-le false = omega arith
 
-bit-true : (b : Bool) → eqb (asBit b) 1 ≡ b
+pub bit-true : (b : Bool) → eqb (asBit b) 1 ≡ b
 bit-true true = eq-true 1 1 refl
 bit-true false = ne-false 0 1 (λ e. omega arith)
 
 -- ---- the masks
 
-mask-lt : {A : Type 0} (p : A → Bool) (l : List A) → maskOf p l < 2 ^ length l
+pub mask-lt : {A : Type 0} (p : A → Bool) (l : List A) → maskOf p l < 2 ^ length l
 mask-lt p [] = omega arith
 mask-lt p (x ∷ l) = let i = mask-lt p l in rw (pow-succ' 2 (length l)) (omega (arith, bit-le (p x)))
 
-half : (b : Bool) (m : ℕ) → (asBit b + 2 * m) / 2 ≡ m
+pub half : (b : Bool) (m : ℕ) → (asBit b + 2 * m) / 2 ≡ m
 half b m = omega (arith, bit-le b)
 
-byte-bit : (b : Bool) → boolByte b ≡ asBit b
+pub byte-bit : (b : Bool) → boolByte b ≡ asBit b
 byte-bit true = refl
 byte-bit false = refl
 
@@ -69,24 +71,40 @@ module _ {R : Type 0} (w : ℕ) (f : List ℕ → R) (p : R → Bool) (n : ℕ) 
   pub build-end : (m i : ℕ) → i ≡ 0 → Built m i → m ≡ maskOf p (records w f n s)
   build-end m i z e = rw (← rest-all w f n s, ← z) e
 
-module _ {R : Type 0} (w : ℕ) (f : List ℕ → R) (p : R → Bool) where
-  mask-digit : (n : ℕ) (s : List ℕ) (i : ℕ) → i < n →
-      maskOf p (records w f n s) / 2 ^ i % 2 ≡ asBit (p (f (drop (i * w) s)))
-  mask-digit zero s i h = absurd (omega arith)
-  mask-digit (suc n) s zero h =
-      let m : ℕ = maskOf p (records w f n (drop w s)) in
-      rw (← place-zero w f s, div-one (asBit (p (f s)) + 2 * m)) (omega (arith, bit-le (p (f s))))
-  mask-digit (suc n) s (suc i) h =
-      let b : Bool = p (f s) in
-      let m : ℕ = maskOf p (records w f n (drop w s)) in
-      rw (pow-succ' 2 i, ← div-div-eq-div-mul (asBit b + 2 * m) 2 (2 ^ i), half b m, ← place-step w f s i)
-      (mask-digit n (drop w s) i (omega arith))
+mask-digit : {A : Type 0} (p : A → Bool) (l : List A) (i : ℕ) (x : A) (r : List A) → drop i l ≡ x ∷ r →
+    maskOf p l / 2 ^ i % 2 ≡ asBit (p x)
+mask-digit {A} p [] i x r e =
+    let n : _≡_ {A = List A} [] (x ∷ r) = sym (drop-nil i) ∙ e in
+    let z : _≡_ {A = ℕ} 0 1 = cc in
+    absurd (omega arith)
+mask-digit p (y ∷ l) zero x r e =
+    let q : y ≡ x = cc in
+    rw (q, div-one (asBit (p x) + 2 * maskOf p l)) (omega (arith, bit-le (p x)))
+mask-digit p (y ∷ l) (suc i) x r e =
+    let m : ℕ = maskOf p l in
+    rw (pow-succ' 2 i, ← div-div-eq-div-mul (asBit (p y) + 2 * m) 2 (2 ^ i), half (p y) m) (mask-digit p l i x r e)
 
-  -- bit i of the mask is what the i-th record answers
-  pub mask-at : (n : ℕ) (s : List ℕ) (i : ℕ) → i < n → bit i (maskOf p (records w f n s)) ≡ p (f (drop (i * w) s))
-  mask-at n s i h = ap (λ (x : ℕ). eqb x 1) (mask-digit n s i h) ∙ bit-true (p (f (drop (i * w) s)))
+-- bit i of the mask is what the i-th of the list answers, x
+pub mask-nth : {A : Type 0} (p : A → Bool) (l : List A) (i : ℕ) (x : A) (r : List A) → drop i l ≡ x ∷ r →
+    bit i (maskOf p l) ≡ p x
+mask-nth p l i x r e = ap (λ (n : ℕ). eqb n 1) (mask-digit p l i x r e) ∙ bit-true (p x)
 
--- ---- the largest of the numbers that a mask picks
+-- and no other bit is set
+pub mask-inside : {A : Type 0} (p : A → Bool) (l : List A) (i : ℕ) → bit i (maskOf p l) ≡ true → i < length l
+mask-inside p l i e = cases (ltb i (length l)) (λ k. true-le (suc i) (length l) k) (λ k.
+    let g : length l ≤ i = omega (arith, false-le (suc i) (length l) k) in
+    let z : maskOf p l / 2 ^ i ≡ 0 =
+    div-eq-of-lt (lt-of-lt-of-le (mask-lt p l) (pow-le-pow-right {n = 2} (omega arith) g)) in
+    absurd (omega (arith, true-eq (maskOf p l / 2 ^ i % 2) 1 e)))
+
+-- for a list of records
+pub mask-at : {R : Type 0} (w : ℕ) (f : List ℕ → R) (p : R → Bool) (n : ℕ) (s : List ℕ) (i : ℕ) → i < n →
+    bit i (maskOf p (records w f n s)) ≡ p (f (drop (i * w) s))
+mask-at w f p n s i h =
+    let l = records w f n s in
+    mask-nth p l i (f (drop (i * w) s)) (drop (suc i) l) (record-nth w f n s i h)
+
+-- ---- the largest of the numbers that a test picks
 
 larger-le : (t : Bool) (a b k : ℕ) → (t ≡ true → a ≤ k) → b ≤ k → larger t a b ≤ k
 larger-le t a b k f h = cases (t && ltb b a) (λ e. rw e (f (and-true t (ltb b a) e .0))) (λ e. rw e h)
@@ -99,46 +117,43 @@ le-larger t a b = cases (t && ltb b a)
 larger-picks : (a b : ℕ) → a ≤ larger true a b
 larger-picks a b = cases (ltb b a) (λ e. rw e (omega arith)) (λ e. let h = false-le (suc b) a e in rw e (omega arith))
 
-pub top-le : (n m : ℕ) (l : List ℕ) (b : ℕ) → ((i : ℕ) → i < n → bit i m ≡ true → getD l i 0 ≤ b) → top n m l ≤ b
-top-le zero m l b h = omega arith
-top-le (suc n) m l b h = larger-le (bit n m) (getD l n 0) (top n m l) b (h n (omega arith))
-    (top-le n m l b (λ i j. h i (omega arith)))
+module _ (t : ℕ → Bool) where
+  pub top-le : (n : ℕ) (l : List ℕ) (b : ℕ) → ((i : ℕ) → i < n → t i ≡ true → getD l i 0 ≤ b) → top n t l ≤ b
+  top-le zero l b h = omega arith
+  top-le (suc n) l b h = larger-le (t n) (getD l n 0) (top n t l) b (h n (omega arith))
+      (top-le n l b (λ i j. h i (omega arith)))
 
-le-top : (n m : ℕ) (l : List ℕ) (i : ℕ) → i < n → bit i m ≡ true → getD l i 0 ≤ top n m l
-le-top zero m l i h e = absurd (omega arith)
-le-top (suc n) m l i h e = cases (eqb i n)
-    (λ q. let z = true-eq i n q in
-    let b : bit n m ≡ true = rw z at e in
-    rw (z, b) (larger-picks (getD l n 0) (top n m l)))
-    (λ q. let z = false-eq i n q in
-    omega (arith, le-top n m l i (omega arith) e, le-larger (bit n m) (getD l n 0) (top n m l)))
+  le-top : (n : ℕ) (l : List ℕ) (i : ℕ) → i < n → t i ≡ true → getD l i 0 ≤ top n t l
+  le-top zero l i h e = absurd (omega arith)
+  le-top (suc n) l i h e = cases (eqb i n)
+      (λ q. let z = true-eq i n q in
+      let b : t n ≡ true = rw z at e in
+      rw (z, b) (larger-picks (getD l n 0) (top n t l)))
+      (λ q. let z = false-eq i n q in
+      omega (arith, le-top n l i (omega arith) e, le-larger (t n) (getD l n 0) (top n t l)))
 
--- where l holds g of each of the n records, the largest that the mask of a test picks is the most of g over those
--- that pass
-pub top-most : {R : Type 0} (w : ℕ) (f : List ℕ → R) (p : R → Bool) (g : R → ℕ) (n : ℕ) (s l : List ℕ) →
-    ((i : ℕ) → i < n → getD l i 0 ≡ g (f (drop (i * w) s))) →
-    top n (maskOf p (records w f n s)) l ≡ most g (keepIf p (records w f n s))
-top-most {R} w f p g n s l h = le-antisymm
-    (top-le n m l (most g picked) (λ i k e. omega (
+-- where l holds g of each of the n records, and t tells which of them pass a test, the largest that t picks is the
+-- most of g over those that pass
+pub top-most : {R : Type 0} (w : ℕ) (f : List ℕ → R) (p : R → Bool) (g : R → ℕ) (n : ℕ) (s l : List ℕ)
+    (t : ℕ → Bool) → ((i : ℕ) → i < n → t i ≡ p (f (drop (i * w) s))) →
+    ((i : ℕ) → i < n → getD l i 0 ≡ g (f (drop (i * w) s))) → top n t l ≡ most g (keepIf p (records w f n s))
+top-most {R} w f p g n s l t a h = le-antisymm
+    (top-le t n l (most g picked) (λ i k e. omega (
       arith,
       h i k,
-      le-most g picked (at i)
-          (keepIf-mem p rs (at i) (record-mem w f n s i k) (sym (mask-at w f p n s i k) ∙ e)),
+      le-most g picked (at i) (keepIf-mem p rs (at i) (record-mem w f n s i k) (sym (a i k) ∙ e)),
     )))
-    (most-le g picked (top n m l) (λ r k.
+    (most-le g picked (top n t l) (λ r k.
     let v = kept p rs r k in
     let z = mem-record w f n s r (v .0) in
-    let e : bit (z .0) m ≡ true = mask-at w f p n s (z .0) (z .1) ∙ ap p (sym (z .2)) ∙ v .1 in
-    omega (arith, ap g (z .2), h (z .0) (z .1), le-top n m l (z .0) (z .1) e)))
+    let e : t (z .0) ≡ true = a (z .0) (z .1) ∙ ap p (sym (z .2)) ∙ v .1 in
+    omega (arith, ap g (z .2), h (z .0) (z .1), le-top t n l (z .0) (z .1) e)))
   where
     rs : List R
     rs = records w f n s
 
     picked : List R
     picked = keepIf p rs
-
-    m : ℕ
-    m = maskOf p rs
 
     at : ℕ → R
     at i = f (drop (i * w) s)

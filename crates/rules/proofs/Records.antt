@@ -1,7 +1,7 @@
 -- The members of a body of records, by their places.
 use mathlib.Core.Path.{_≡_, refl, sym, ap, _∙_}
 use mathlib.Core.Logic.{inl, inr}
-use mathlib.Core.List.{List}
+use mathlib.Core.List.{List, _∷_}
 use Prim.Native.Nat.{ℕ, zero, suc, _+_, _*_, _<_}
 use native.Mathlib.Nat.{suc-mul}
 use native.Mathlib.Omega.{arith}
@@ -23,6 +23,14 @@ module _ {R : Type 0} (w : ℕ) (f : List ℕ → R) where
 
   pub place-zero : (s : List ℕ) → f s ≡ f (drop (0 * w) s)
   place-zero s = let z : 0 * w ≡ 0 = omega arith in rw z
+
+  -- the list from its i-th on
+  pub record-nth : (n : ℕ) (s : List ℕ) (i : ℕ) → i < n →
+      drop i (records w f n s) ≡ f (drop (i * w) s) ∷ drop (suc i) (records w f n s)
+  record-nth zero s i h = absurd (omega arith)
+  record-nth (suc n) s zero h = ap (λ (x : R). x ∷ records w f n (drop w s)) (place-zero s)
+  record-nth (suc n) s (suc i) h = record-nth n (drop w s) i (omega arith)
+      ∙ ap (λ (x : R). x ∷ drop (suc i) (records w f n (drop w s))) (place-step s i)
 
   pub record-mem : (n : ℕ) (s : List ℕ) (i : ℕ) → i < n → Mem (f (drop (i * w) s)) (records w f n s)
   record-mem zero s i h = absurd (omega arith)

@@ -1,13 +1,13 @@
 -- Tables filled place by place, and rounds of ranks: what the masks compute is the definition's, ranks that a round
 -- does not change are the strata, and ranks that change in one round more than there are rules betray a circle.
 use mathlib.Core.Path.{_≡_, refl, sym, ap, ap₂, _∙_}
-use mathlib.Core.Bool.{true, false, not}
+use mathlib.Core.Bool.{Bool, true, false, not}
 use mathlib.Core.List.{List, [], _∷_}
 use Prim.Native.Nat.{ℕ, suc, _+_, _≤_, _<_, max}
 use native.Mathlib.Omega.{arith}
 use native.Mathlib.Numerals.{add-one}
 use lib.Dec.{eqb}
-use lib.ListN.{length, getD, set}
+use lib.ListN.{length, getD, set, replicate, getD-replicate}
 use lib.Seq.{getD-set-same, getD-set-other}
 use Rattle.foundation.specs.Tests.{cases, true-eq, false-eq}
 use Rattle.foundation.specs.Lists.{Mem, keepIf}
@@ -29,16 +29,24 @@ fill-turn f l j v h e g i k = cases (eqb i j)
     (λ q. let z = true-eq i j q in rw z (getD-set-same l j v 0 h ∙ e))
     (λ q. let z = false-eq i j q in getD-set-other l j i v 0 z ∙ g i (omega arith))
 
+-- the table with which the rounds begin
+pub none-at : (w n : ℕ) → n ≤ w → Filled n (λ i. 0) (replicate w 0)
+none-at w n h i k = getD-replicate w i 0 0 (omega arith)
+
 -- what a round puts in the place j
 abbrev pub oneRound : List ℕ → ℕ → List ℕ → ℕ → ℕ → ℕ
-oneRound fed neg old n j = count (bit j neg) + top n (getD fed j 0) old
+oneRound fed neg old n j = count (bit j neg) + top n (λ i. bit i (getD fed j 0)) old
 
 pub round-raised : (n : ℕ) (s fed : List ℕ) (neg : ℕ) (old : List ℕ) (f : Rule → ℕ) →
     Holds n s (feedersOf (rulesIn n s)) fed → neg ≡ maskOf negates (rulesIn n s) → Holds n s f old →
     (j : ℕ) → j < n → oneRound fed neg old n j ≡ raised (rulesIn n s) f (ruleAt s j)
 round-raised n s fed neg old f a b h j k = ap₂ (λ (x y : ℕ). x + y)
     (ap count (ap (bit j) b ∙ mask-at 28 ruleOf negates n s j k))
-    (ap (λ (m : ℕ). top n m old) (a j k) ∙ top-most 28 ruleOf (λ q. feeds q (ruleAt s j)) f n s old h)
+    (top-most 28 ruleOf p f n s old (λ i. bit i (getD fed j 0))
+    (λ i l. ap (bit i) (a j k) ∙ mask-at 28 ruleOf p n s i l) h)
+  where
+    p : Rule → Bool
+    p q = feeds q (ruleAt s j)
 
 -- ---- ranks
 

@@ -10,12 +10,16 @@ ghost use Rattle.model.specs.Encoding.{bit};
 ghost use Rattle.model.specs.declared.Rule.{Rule};
 ghost use Rattle.rules.specs.Masks.{maskOf, larger, top};
 ghost use Rattle.rules.specs.Strata.{rulesIn, feedersOf, Holds, raised, Stratified, Same};
+
+mod circles;
+
+pub use circles::is_stratified;
 use model::Operator;
 use model::OptionTerm;
 use model::Rule;
 
 // Whether two tests agree.
-fn alike(a: bool, b: bool) -> bool
+pub fn alike(a: bool, b: bool) -> bool
     ensures { λ r. ⌜ r ≡ Bool·beq a b ⌝ }
 {
     if a {
@@ -134,7 +138,7 @@ pub fn bit_at(m: u64, i: u32) -> bool
 // The largest of the first n numbers whose bit is set in a mask.
 fn most_of(m: u64, l: &[u16; 64], n: usize) -> u16
     requires { ⌜ n ≤ 64 ⌝ }
-    ensures { λ x. ⌜ x ≡ top n m (now (l .entry)) ⌝ }
+    ensures { λ x. ⌜ x ≡ top n (λ i. bit i m) (now (l .entry)) ⌝ }
 {
     let mut best = 0;
     let mut i = 0;
@@ -161,7 +165,8 @@ fn one_if(b: bool) -> u16
 // and `old` a number for each rule, from which `out` gets the next.
 pub fn rank_round(fed: &[u64; 64], neg: u64, old: &[u16; 64], out: &mut [u16; 64], n: usize)
     requires { ⌜ (n ≤ 64) × ((i : ℕ) → i < n → getD (now old) i 0 < 65535) ⌝ }
-    ensures { λ _. ⌜ ((s : List ℕ) (f : Rule → ℕ) → Holds n s (feedersOf (rulesIn n s)) (now (fed .entry)) →
+    ensures { λ _. ⌜ (length (now (out .exit)) ≡ 64)
+        × ((s : List ℕ) (f : Rule → ℕ) → Holds n s (feedersOf (rulesIn n s)) (now (fed .entry)) →
         neg ≡ maskOf model.negates (rulesIn n s) → Holds n s f (now (old .entry)) →
         Holds n s (raised (rulesIn n s) f) (now (out .exit))) ⌝ }
 {
@@ -177,8 +182,8 @@ pub fn rank_round(fed: &[u64; 64], neg: u64, old: &[u16; 64], out: &mut [u16; 64
 }
 
 // Whether two tables are equal in the first n places.
-fn same_ranks(a: &[u16; 64], b: &[u16; 64], n: usize) -> bool
-    requires { ⌜ n ≤ 64 ⌝ }
+fn same_ranks(a: &[u16], b: &[u16], n: usize) -> bool
+    requires { ⌜ (n ≤ length (now a)) × (n ≤ length (now b)) ⌝ }
     ensures { λ r. ⌜ (r ≡ true → Same n (now (a .entry)) (now (b .entry)))
         × (Same n (now (a .entry)) (now (b .entry)) → r ≡ true) ⌝ }
 {

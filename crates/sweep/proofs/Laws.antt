@@ -33,10 +33,10 @@ or-odd a b =
     let l : max (a % 2) (b % 2) ≤ 1 = max-le (omega arith) (omega arith) in
     omega arith
 
-or-digit : (a b i : ℕ) → bitOr a b / 2 ^ i % 2 ≡ max (a / 2 ^ i % 2) (b / 2 ^ i % 2)
+pub or-digit : (a b i : ℕ) → bitOr a b / 2 ^ i % 2 ≡ max (a / 2 ^ i % 2) (b / 2 ^ i % 2)
 or-digit a b i = rw (or-shr a b i) (or-odd (a / 2 ^ i) (b / 2 ^ i))
 
-digit-le : (x : ℕ) → x % 2 ≤ 1
+pub digit-le : (x : ℕ) → x % 2 ≤ 1
 digit-le x = omega arith
 
 pub bit-same : (x r : ℕ) → bit r (bitOr x (2 ^ r)) ≡ true

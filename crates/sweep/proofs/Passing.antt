@@ -1,19 +1,24 @@
--- The turns of the loops of `pass` and `settle`.
+-- The turns of the loops of `pass` and `sweep`, and a stage with no active rule (`idle`).
 use mathlib.Core.Path.{_≡_, refl, sym, ap, _∙_, subst}
-use mathlib.Core.Bool.{Bool, true, false, _||_, true≢false, false≢true}
+use mathlib.Core.Bool.{Bool, true, false, _&&_, _||_, true≢false, false≢true}
 use mathlib.Core.List.{List, [], _∷_}
-use Prim.Native.Nat.{ℕ, suc, _+_, _*_, _≤_, _<_}
+use Prim.Native.Nat.{ℕ, suc, _+_, _*_, _^_, _≤_, _<_}
+use native.Mathlib.Nat.{zero-div}
 use native.Mathlib.Omega.{arith}
 use lib.Dec.{eqb}
 use lib.ListN.{length, getD, set}
 use lib.Seq.{getD-set-same, getD-set-other}
-use Rattle.foundation.specs.Tests.{cases, true-eq, false-eq, or-cases, or-none}
-use Rattle.sweep.specs.Sweep.{places, Plan}
+use Rattle.foundation.specs.Tests.{cases, true-eq, false-eq, and-true, or-cases, or-none}
+use Rattle.model.specs.Encoding.{bit}
+use Rattle.sweep.specs.Sweep.{places, looksBy, wantsBy, Plan, linkOf, aim}
 use Rattle.sweep.specs.Progress.{wordBound, Shut, total, Ready, Visit, Looked, Pass, Smallest, Settling, left}
 
 total-bound : (l : List ℕ) (b : ℕ) → ((i : ℕ) → getD l i 0 < b) → total l ≤ length l * b
 total-bound [] b h = omega arith
 total-bound (x ∷ l) b h = omega (arith, h 0, total-bound l b (λ i. h (suc i)))
+
+bit-none : (i : ℕ) → bit i 0 ≡ false
+bit-none i = rw (zero-div (2 ^ i))
 
 module _ (pl : Plan) (before direct : List ℕ) where
   -- ---- one place
@@ -135,4 +140,22 @@ module _ (pl : Plan) (before direct : List ℕ) where
     shut = λ i h. x .ready .tidy i h (x .done e i h);
     above = x .above;
     within = x .within;
+    size = x .ready .size;
+    words = x .ready .words;
+  }
+
+  -- where no rule is active, no bit is to be set
+  pub idle : (T D : List ℕ) → pl .stage .active ≡ 0 → Ready pl before direct T D → Smallest pl before direct T T
+  idle T D e y = record {
+    shut = λ p h r k f. let c = linkOf pl r in
+        let l = looksBy (c .rsubject) (c .rmode) p in
+        let g = c .fresh || bit r (getD before (aim pl r p) 0) in
+        let w = wantsBy (c .feed) (c .negating) (getD T p 0) (getD direct p 0) r in
+        let a : bit r (pl .stage .active) ≡ true = and-true (c .active) l (and-true (c .active && l) g
+        (and-true (c .active && l && g) w f .0) .0) .0 in
+        absurd (false≢true (sym (ap (bit r) e ∙ bit-none r) ∙ a));
+    above = λ p r f. f;
+    within = λ Q h k. h;
+    size = y .size;
+    words = y .words;
   }

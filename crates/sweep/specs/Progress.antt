@@ -101,6 +101,8 @@ pub record Smallest (pl : Plan) (before direct T₀ T : List ℕ) : Type 0 where
   pub shut : (p : ℕ) → p < pl .stage .used → Shut pl before direct T (pl .stage .rules) p
   pub above : Above T₀ T
   pub within : Within pl before direct T₀ T
+  pub size : length T ≡ places
+  pub words : (i : ℕ) → getD T i 0 < wordBound
 
 -- what is left to set, at most
 abbrev pub left : Bool → List ℕ → ℕ

@@ -274,8 +274,8 @@ fn pass(
     hit
 }
 
-// Sets every bit that the rules lead to.
-pub fn settle(
+// Passes over the places until none sets a bit.
+fn sweep(
     g: Stage,
     sides: &[u8; 256],
     feed: &[u64; 64],
@@ -293,5 +293,26 @@ pub fn settle(
     let mut again = true;
     while again {
         again = pass(g, sides, feed, before, direct, table, changed);
+    }
+}
+
+// Sets every bit that the rules lead to. In most strata no rule is active.
+pub fn settle(
+    g: Stage,
+    sides: &[u8; 256],
+    feed: &[u64; 64],
+    before: &[u64; PLACES],
+    direct: &[u64; PLACES],
+    table: &mut [u64; PLACES],
+    changed: &mut [u8; PLACES],
+)
+    requires { ⌜ Ready (plan g (now sides) (now feed)) (now before) (now direct) (now table) (now changed) ⌝ }
+    ensures { λ _. ⌜
+        Smallest (plan g (now (sides .entry)) (now (feed .entry))) (now (before .entry)) (now (direct .entry))
+        (now (table .entry)) (now (table .exit))
+        ⌝ }
+{
+    if g.active != 0 {
+        sweep(g, sides, feed, before, direct, table, changed);
     }
 }

@@ -17,6 +17,7 @@ pub mod Preservation
 pub mod RequestFacts
 pub mod LedgerFacts
 pub mod Demand3
+pub mod Served
 pub mod Remains
 pub mod SessionFacts
 pub mod Cases

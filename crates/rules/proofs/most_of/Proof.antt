@@ -6,12 +6,13 @@ use Prim.Native.Nat.{ℕ, _-_, _≤_}
 use lib.ListN.{getD}
 use denote.Ref.{now}
 use borrow.Author.Needs.{needs}
+use Rattle.model.specs.Encoding.{bit}
 use Rattle.rules.specs.Masks.{larger, top}
 use Rattle.rules.proofs.most_of.Statement.{statement}
 use Rattle.rules.proofs.most_of.Tie as tie
 
 abbrev Inv-loop : tie.InvT-loop
-Inv-loop m l n best₀ i₀ best i = (i ≤ n) × (best ≡ top i m l)
+Inv-loop m l n best₀ i₀ best i = (i ≤ n) × (best ≡ top i (λ k. bit k m) l)
 
 abbrev μ-loop : tie.MeasureT-loop
 μ-loop m l n best₀ i₀ best i = n - i
@@ -23,7 +24,7 @@ loop-again c =
       search needs,
       c .larger-of .ensures
           ∙ (λ k. larger (c .before .before .bit-at .ensures k) (getD (now (a .l)) (l .i) 0) (l .inv .1 k))
-          ∙ ap (λ (j : ℕ). top j (a .m) (now (a .l))) (sym (add-one (l .i))),
+          ∙ ap (λ (j : ℕ). top j (λ i. bit i (a .m)) (now (a .l))) (sym (add-one (l .i))),
     )
 
 returns : tie.Need-returns Inv-loop μ-loop
@@ -31,7 +32,7 @@ returns c =
     let a = c .before .before .args in
     let l = c .before .loop in
     let e : l .i ≡ a .n = omega (arith, l .inv .0) in
-    l .inv .1 ∙ ap (λ (j : ℕ). top j (a .m) (now (a .l))) e
+    l .inv .1 ∙ ap (λ (j : ℕ). top j (λ i. bit i (a .m)) (now (a .l))) e
 
 pub most-of-spec : {M : Type 1} → statement M
 most-of-spec =

@@ -6,6 +6,7 @@ use lib.ListN.{length, getD, length-set}
 use denote.Ref.{now}
 use borrow.Author.Needs.{needs}
 use Rattle.foundation.specs.Totals.{count}
+use Rattle.model.specs.Encoding.{bit}
 use Rattle.rules.specs.Strata.{Filled}
 use Rattle.rules.proofs.Masks.{top-le}
 use Rattle.rules.proofs.Rounds.{fill-turn, oneRound, round-raised}
@@ -30,7 +31,8 @@ add-out c =
       arith,
       c .before .before .most-of .ensures,
       c .one-if .ensures .1,
-      top-le (a .n) (getD (now (a .fed)) j 0) (now (a .old)) 65534 (λ i h e. omega (arith, b .pre .1 i h)),
+      top-le (λ i. bit i (getD (now (a .fed)) j 0)) (a .n) (now (a .old)) 65534
+          (λ i h e. omega (arith, b .pre .1 i h)),
     )
 
 loop-again : tie.Need-loop-again Inv-loop μ-loop
@@ -49,9 +51,12 @@ loop-again c =
 returns : tie.Need-returns Inv-loop μ-loop
 returns c =
     let a = c .before .before .before .args in
-    let l = c .before .loop in
-    λ s f fed neg old i h.
-    l .inv .2 i (omega arith) ∙ round-raised (a .n) s (now (a .fed)) (a .neg) (now (a .old)) f fed neg old i h
+    let l = c .before .loop in (
+      l .inv .1,
+      λ s f fed neg old i h.
+          l .inv .2 i (omega arith)
+          ∙ round-raised (a .n) s (now (a .fed)) (a .neg) (now (a .old)) f fed neg old i h,
+    )
 
 pub rank-round-spec : {M : Type 1} → statement M
 rank-round-spec =

@@ -6,18 +6,13 @@ use mathlib.Core.Bool.{false, true≢false, false≢true}
 use Prim.Native.Nat.{_+_, _-_, _≤_, _<_}
 use denote.Ref.{now}
 use borrow.Author.Needs.{needs}
-use lib.ListN.{replicate, getD-replicate}
 use Rattle.model.specs.Stratification.{negates, stratified}
 use Rattle.rules.specs.Masks.{maskOf}
-use Rattle.rules.specs.Strata.{rulesIn, feedersOf, Filled, Holds, Same}
-use Rattle.rules.proofs.Rounds.{ranks, first-ranks, next-ranks, ranks-small}
+use Rattle.rules.specs.Strata.{rulesIn, feedersOf, Holds, Same}
+use Rattle.rules.proofs.Rounds.{none-at, ranks, first-ranks, next-ranks, ranks-small}
 use Rattle.rules.proofs.Rounds.{same-stratified, same-strata, circle}
 use Rattle.rules.proofs.stratify.Statement.{statement}
 use Rattle.rules.proofs.stratify.Tie as tie
-
--- the table with which the rounds begin
-none-at : Filled 64 (λ i. 0) (replicate 64 0)
-none-at i h = getD-replicate 64 i 0 0 h
 
 abbrev Inv-loop : tie.InvT-loop
 Inv-loop s n strata₀ fed neg k₀ strata k =
@@ -33,7 +28,7 @@ abbrev μ-loop : tie.MeasureT-loop
 rank-round-requires : tie.Need-rank-round-requires Inv-loop μ-loop
 rank-round-requires c κs =
     let b = c .before .before .before .before .before .before .before in
-    (b .pre .1, λ i h. omega (arith, none-at i (omega (arith, b .pre .1))))
+    (b .pre .1, λ i h. omega (arith, none-at 64 (b .args .n) (b .pre .1) i h))
 
 loop-holds : tie.Need-loop-holds Inv-loop μ-loop
 loop-holds c =
@@ -46,7 +41,7 @@ loop-holds c =
       fed,
       neg,
       first-ranks n s (c .rank-round .last .1 .1 .1 .0)
-          (c .rank-round .ensures s (λ q. 0) fed neg (λ i h. none-at i (omega (arith, b .pre .1)))),
+          (c .rank-round .ensures .1 s (λ q. 0) fed neg (none-at 64 n (b .pre .1))),
       λ h. absurd (omega arith),
     )
 
@@ -58,15 +53,24 @@ rank-round-requires-2 c κs =
     let small = ranks-small (b .args .n) (now (b .args .s)) (l .k) (l .strata) (l .inv .3) in
     (b .pre .1, λ i h. omega (arith, small i h, l .inv .0, b .pre .1))
 
+same-ranks-requires : tie.Need-same-ranks-requires Inv-loop μ-loop
+same-ranks-requires c κs =
+    let d = c .before .before .before in
+    let b = d .before .before .before .before .before .before .before .before .before .before .before .before in
+    (search needs, omega (arith, d .rank-round2 .ensures .0, b .before .before .pre .1))
+
+slice-aggregate-same-ranks : tie.Need-slice-aggregate-same-ranks Inv-loop μ-loop
+slice-aggregate-same-ranks c = sym (c .before .before .before .rank-round2 .ensures .0)
+
 returns : tie.Need-returns Inv-loop μ-loop
 returns c =
-    let d = c .before .before .before .before in
+    let d = c .before .before .before .before .before in
     let l = d .before .before .before .before .before .loop in
     let b = d .before .before .before .before .before .before .before .before .before .before .before .before in
     let n = b .before .before .args .n in
     let s = now (b .before .before .args .s) in
     let next = d .rank-round2 .last .1 .1 .1 .0 in
-    let g = d .rank-round2 .ensures s (ranks (rulesIn n s) (l .k)) (l .inv .1) (l .inv .2) (l .inv .3) in
+    let g = d .rank-round2 .ensures .1 s (ranks (rulesIn n s) (l .k)) (l .inv .1) (l .inv .2) (l .inv .3) in
     let e = c .before .same-ranks .ensures .0 (c .if1 .taken) in
     record {
       test = sym (same-stratified n s (l .k) (l .strata) next (l .inv .3) g e);
@@ -75,13 +79,13 @@ returns c =
 
 loop-again : tie.Need-loop-again Inv-loop μ-loop
 loop-again c =
-    let d = c .before .before .before .before in
+    let d = c .before .before .before .before .before in
     let l = d .before .before .before .before .before .loop in
     let b = d .before .before .before .before .before .before .before .before .before .before .before .before in
     let n = b .before .before .args .n in
     let s = now (b .before .before .args .s) in
     let next = d .rank-round2 .last .1 .1 .1 .0 in
-    let g = d .rank-round2 .ensures s (ranks (rulesIn n s) (l .k)) (l .inv .1) (l .inv .2) (l .inv .3) in
+    let g = d .rank-round2 .ensures .1 s (ranks (rulesIn n s) (l .k)) (l .inv .1) (l .inv .2) (l .inv .3) in
     let e : Same n (l .strata) next → ⊥ =
     λ q. true≢false (sym (c .before .same-ranks .ensures .1 q) ∙ c .if1 .left) in (
       search needs,
@@ -100,5 +104,6 @@ pub stratify-spec : {M : Type 1} → statement M
 stratify-spec =
     tie.close
     (tie.spec Inv-loop μ-loop (λ c κs. search needs) (λ c κs. search needs) rank-round-requires loop-holds
-    rank-round-requires-2 (λ c κs. search needs) returns (λ c. search needs) (λ c. search needs) loop-again
+    rank-round-requires-2 slice-aggregate-same-ranks same-ranks-requires returns (λ c. search needs)
+    (λ c. search needs) loop-again
     returns-2)

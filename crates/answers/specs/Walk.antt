@@ -1,0 +1,181 @@
+-- A walk from mark to mark over the bodies of a base: MAY's answer is read off the table (`read`), does not change before
+-- the next mark (`steady`), and WHEN has no more intervals than fit (`most`).
+use mathlib.Core.Path.{_≡_, refl, sym, ap, ap₂, _∙_, subst}
+use mathlib.Core.Logic.{inl, inr}
+use Prim.Native.Nat.{ℕ, suc, _+_, _*_, _-_, _≤_, _<_}
+use native.Mathlib.Omega.{arith}
+use mathlib.Core.Bool.{Bool, true, false, not, _&&_, _||_}
+use mathlib.Core.List.{List, [], _++_}
+use lib.Bits.{bitAnd}
+use lib.Dec.{leb, eqb}
+use lib.ListN.{length, take, getD}
+use Rattle.foundation.specs.Tests.{le-true, true-le, eq-true, ne-false, and-true, and-intro, or-true-right, or-false}
+use Rattle.foundation.specs.Lists.{anyb}
+use Rattle.foundation.specs.declared.Interval.{Interval}
+use Rattle.foundation.specs.Intervals.{maximal}
+use Rattle.foundation.specs.Marks.{next, next-above, next-clear}
+use Rattle.model.specs.declared.Authorization.{Authorization}
+use Rattle.model.specs.declared.Rule.{Rule}
+use Rattle.model.specs.declared.Access.{Access}
+use Rattle.model.specs.Ranges.{isSubject, isMode, isObject, lastInstant}
+use Rattle.model.specs.Base.{Base}
+use Rattle.model.specs.Encoding.{authorizationOf, ruleOf}
+use Rattle.model.specs.Support.{live}
+use Rattle.model.specs.Rules.{fits, asked, may, when, mayWith}
+use Rattle.model.specs.Answers.{accessIn, words}
+use Rattle.model.specs.HoldsSteady.{marks}
+use Rattle.model.specs.HoldsMarks.{may-steady, when-count}
+use Rattle.marks.specs.Least.{Found, next-is}
+use Rattle.support.specs.Cover.{authorizationsIn}
+use Rattle.rules.specs.Masks.{maskOf}
+use Rattle.rules.specs.Strata.{rulesIn}
+use Rattle.rules.proofs.Records.{length-records}
+use Rattle.questions.specs.Drawn.{indexOf, among, counted, placeOf}
+use Rattle.plan.specs.Scene.{derivesOn, Prepared, At}
+use Rattle.plan.specs.Reading.{read-off}
+
+-- a base with these authorizations and rules: MAY and WHEN look at nothing else
+abbrev pub bare : List Authorization → List Rule → Base
+bare auths rules = record {
+  clock = 0;
+  last = 0;
+  objects = [];
+  administrators = [];
+  referrers = [];
+  authorizations = auths;
+  rules = rules;
+}
+
+pub bare-may : (b : Base) (x : Access) (t : ℕ) → may (bare (b .authorizations) (b .rules)) x t ≡ may b x t
+unfolding may mayWith
+bare-may b x t = refl
+
+pub bare-when : (b : Base) (x : Access) → when (bare (b .authorizations) (b .rules)) x ≡ when b x
+unfolding when may mayWith
+bare-when b x = refl
+
+-- held by a rule of the word; else by an authorization or not
+by-rule : (a : Bool) (w d m : ℕ) → d ≡ m → (bitAnd w d ≡ 0 → ⊥) → true ≡ a || not (eqb (bitAnd w m) 0)
+by-rule a w d m e h =
+    sym (or-true-right a (not (eqb (bitAnd w m) 0))
+    (ap not (ne-false (bitAnd w m) 0 (λ z. h (ap (bitAnd w) e ∙ z)))))
+
+by-line : (a r : Bool) (w d m : ℕ) → d ≡ m → bitAnd w d ≡ 0 → r ≡ a → r ≡ a || not (eqb (bitAnd w m) 0)
+by-line a r w d m e h q =
+    q ∙ sym (or-false a)
+    ∙ ap (λ (b : Bool). a || not b) (sym (eq-true (bitAnd w m) 0 (sym (ap (bitAnd w) e) ∙ h)))
+
+-- the numbers of an access that is in range
+pub object-fits : (x : Access) → accessIn x ≡ true → x .object < 65536
+object-fits x a =
+    let i = isSubject (x .subject) && isMode (x .mode) in
+    let o = and-true (leb 1 (x .object)) (leb (x .object) 128) (and-true i (isObject (x .object)) a .1) in
+    omega (arith, true-le (x .object) 128 (o .1))
+
+pub subject-fits : (x : Access) → accessIn x ≡ true → x .subject < 65536
+subject-fits x a =
+    let i = isSubject (x .subject) in
+    let m = isMode (x .mode) in
+    let o = and-true (leb 1 (x .subject)) (leb (x .subject) 1023)
+    (and-true i m (and-true (i && m) (isObject (x .object)) a .0) .0) in
+    omega (arith, true-le (x .subject) 1023 (o .1))
+
+pub mode-fits : (x : Access) → accessIn x ≡ true → (1 ≤ x .mode) × (x .mode ≤ 8)
+mode-fits x a =
+    let i = isSubject (x .subject) in
+    let m = isMode (x .mode) in
+    let o = and-true (leb 1 (x .mode)) (leb (x .mode) 8)
+    (and-true i m (and-true (i && m) (isObject (x .object)) a .0) .1) in
+    (true-le 1 (x .mode) (o .0), true-le (x .mode) 8 (o .1))
+
+-- the n intervals stand in the list, and there are no more than can be
+pub record Listing (intervals : List Interval) (n : ℕ) (list : List ℕ) : Type 0 where
+  pub count : n ≡ length intervals
+  pub few : n ≤ 1089
+  pub there : take (2 * n) list ≡ words intervals
+  pub size : length list ≡ 2200
+
+module _ (lines : List ℕ) (na : ℕ) (body : List ℕ) (n : ℕ) where
+  -- an authorization is for the access with that sign, or a rule of the word derives it
+  abbrev pub heldBy : ℕ → Access → ℕ → Bool → Bool
+  heldBy word x t negative =
+      anyb (fits (asked x negative)) (live t (authorizationsIn na lines))
+      || not (eqb (bitAnd word (maskOf (derivesOn (x .object) negative) (rulesIn n body))) 0)
+
+  pub held-rule : (word : ℕ) (x : Access) (t : ℕ) (negative : Bool) (d : ℕ) →
+      d ≡ maskOf (derivesOn (x .object) negative) (rulesIn n body) → (bitAnd word d ≡ 0 → ⊥) →
+      true ≡ heldBy word x t negative
+  held-rule word x t negative d e h =
+      by-rule (anyb (fits (asked x negative)) (live t (authorizationsIn na lines))) word d
+      (maskOf (derivesOn (x .object) negative) (rulesIn n body)) e h
+
+  pub held-line : (word : ℕ) (x : Access) (t : ℕ) (negative : Bool) (d : ℕ) (r : Bool) →
+      d ≡ maskOf (derivesOn (x .object) negative) (rulesIn n body) → bitAnd word d ≡ 0 →
+      r ≡ anyb (fits (asked x negative)) (live t (authorizationsIn na lines)) → r ≡ heldBy word x t negative
+  held-line word x t negative d r e h q =
+      by-line (anyb (fits (asked x negative)) (live t (authorizationsIn na lines))) r word d
+      (maskOf (derivesOn (x .object) negative) (rulesIn n body)) e h q
+
+  -- MAY's answer by the authorizations and rules
+  abbrev pub mayIn : Access → ℕ → Bool
+  mayIn x t = may (bare (authorizationsIn na lines) (rulesIn n body)) x t
+
+  -- and WHEN's
+  abbrev pub whenIn : Access → List Interval
+  whenIn x = when (bare (authorizationsIn na lines) (rulesIn n body)) x
+
+  -- the answer r is read off a table that says what the rules derive at t, whose first subject is that of the access
+  abbrev pub ReadOff : List ℕ → Access → ℕ → Bool → Type 0
+  ReadOff T x t r = (U L S F M P : List ℕ) (l g : ℕ) → Prepared lines na body n U L S F M P l g →
+      At lines na body n U t T → indexOf (x .subject) U ≡ 0 → r ≡ mayIn x t
+
+  pub read : (T : List ℕ) (x : Access) (t : ℕ) (r : Bool) → accessIn x ≡ true →
+      (let word = getD T (x .mode - 1) 0 in r ≡ heldBy word x t false && not (heldBy word x t true)) →
+      ReadOff T x t r
+  read T x t r a e U L S F M P l g ready at first =
+      let i = isSubject (x .subject) in
+      let m = isMode (x .mode) in
+      let moded : isMode (x .mode) ≡ true = and-true i m (and-true (i && m) (isObject (x .object)) a .0) .1 in
+      let there : counted U x ≡ true = and-intro (among U (x .subject)) (isMode (x .mode))
+      (le-true (suc (indexOf (x .subject) U)) (length U) (omega (arith, first, ready .listed .some))) moded in
+      let place : placeOf U x ≡ x .mode - 1 = omega (arith, first) in
+      e ∙ ap (λ (p : ℕ). let word = getD T p 0 in heldBy word x t false && not (heldBy word x t true)) (sym place)
+      ∙ read-off lines na body n U L S F M P l g ready t T at x there (bare (authorizationsIn na lines) (rulesIn n body))
+      refl refl
+
+  -- between marks the answer does not change
+  pub steady : (x : Access) (t m : ℕ) →
+      m ≡ next t (marks (authorizationsIn na lines) (rulesIn n body)) 4294967296 →
+      (u : ℕ) → t ≤ u → u < m → mayIn x u ≡ mayIn x t
+  steady x t m e u h k =
+      may-steady (bare (authorizationsIn na lines) (rulesIn n body)) x t u h
+      (next-clear t (marks (authorizationsIn na lines) (rulesIn n body)) 4294967296 u (omega (arith, e)))
+
+  -- no more intervals than there are authorizations and rules, and one
+  pub most : (x : Access) → na ≤ 1024 → n ≤ 64 → length (maximal 0 lastInstant (λ t. mayIn x t)) ≤ 1089
+  unfolding when
+  most x h k = omega (
+    arith,
+    when-count (bare (authorizationsIn na lines) (rulesIn n body)) x,
+    length-records 24 authorizationOf na lines,
+    length-records 28 ruleOf n body,
+  )
+
+  pub listing : (x : Access) (r : ℕ) (list : List ℕ) → na ≤ 1024 → n ≤ 64 →
+      (r ≡ length (maximal 0 lastInstant (λ t. mayIn x t)))
+      × (take (2 * r) list ≡ words (maximal 0 lastInstant (λ t. mayIn x t))) → length list ≡ 2200 →
+      Listing (whenIn x) r list
+  unfolding when
+  listing x r list h k e z = record { count = e .0; few = omega (arith, e .0, most x h k); there = e .1; size = z }
+
+  -- the next mark is behind t, and none is behind 2^32
+  pub ahead : (t m : ℕ) → m ≡ next t (marks (authorizationsIn na lines) (rulesIn n body)) 4294967296 →
+      t < 4294967296 → (t < m) × (m ≤ 4294967296)
+  ahead t m e h =
+      let ms = marks (authorizationsIn na lines) (rulesIn n body) in
+      (omega (arith, e, next-above t ms 4294967296 h), bounded (next-is t 4294967296 ms))
+    where
+      bounded : Found t 4294967296 (marks (authorizationsIn na lines) (rulesIn n body))
+          (next t (marks (authorizationsIn na lines) (rulesIn n body)) 4294967296) → m ≤ 4294967296
+      bounded (inl q) = omega (arith, e, q)
+      bounded (inr q) = omega (arith, e, q .2)

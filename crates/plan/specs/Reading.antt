@@ -1,0 +1,111 @@
+-- The answer to MAY, read off a table that says what the rules derive at an instant (`read-off`): for each sign, an
+-- authorization for the access, or a bit of a rule whose left side is on the object with that sign.
+use mathlib.Core.Path.{_≡_, refl, sym, ap, ap₂, _∙_, subst}
+use Prim.Native.Nat.{ℕ}
+use native.Mathlib.Omega.{arith}
+use mathlib.Core.Bool.{Bool, true, false, not, _&&_, _||_, Bool·beq}
+use mathlib.Core.List.{List}
+use lib.Bits.{bitAnd}
+use lib.Dec.{eqb}
+use lib.ListN.{length, getD}
+use Rattle.foundation.specs.Tests.{agree, true-eq, and-true, and-intro}
+use Rattle.foundation.specs.Lists.{anyb, any-mem, mem-any}
+use Rattle.model.specs.declared.Authorization.{Authorization}
+use Rattle.model.specs.declared.Rule.{Rule}
+use Rattle.model.specs.declared.Access.{Access}
+use Rattle.model.specs.Encoding.{ruleOf, bit}
+use Rattle.model.specs.Base.{Base}
+use Rattle.model.specs.Support.{live}
+use Rattle.model.specs.Stratification.{isStar}
+use Rattle.model.specs.Rules.{fits, standsFor, derivesFor, asked, may}
+use Rattle.support.specs.Cover.{authorizationsIn}
+use Rattle.rules.specs.Masks.{maskOf}
+use Rattle.rules.specs.Strata.{rulesIn, ruleAt}
+use Rattle.rules.proofs.Masks.{mask-inside}
+use Rattle.questions.specs.Table.{truth, heldIn, Right}
+use Rattle.questions.specs.FromMarkToMark.{may-answer}
+use Rattle.questions.specs.Drawn.{counted, placeOf, accessOf}
+use Rattle.questions.specs.Places.{at-place}
+use Rattle.questions.specs.Feeding.{common, in-common, mask-rule, mask-number}
+use Rattle.plan.specs.Scene.{numberIn, derivesOn, Prepared, bitsOf, mayBeSet, At}
+
+module _ (lines : List ℕ) (na : ℕ) (body : List ℕ) (n : ℕ) (U L S F M P : List ℕ) (l g : ℕ)
+    (ready : Prepared lines na body n U L S F M P l g) (t : ℕ) (T : List ℕ) (at : At lines na body n U t T)
+    (x : Access) (there : counted U x ≡ true) where
+  abbrev rules : List Rule
+  rules = rulesIn n body
+
+  abbrev word : ℕ
+  word = getD T (placeOf U x) 0
+
+  -- the rules whose left side is on the object with the sign, and whose bit is set
+  abbrev pub given : Bool → Bool
+  given negative = not (eqb (bitAnd word (maskOf (derivesOn (x .object) negative) rules)) 0)
+
+  module _ (negative : Bool) where
+    abbrev derived : Rule → Bool
+    derived r = derivesFor (asked x negative) r && bitsOf lines na body n U T r x
+
+    -- what is asked of a rule's left side besides the subject and the mode
+    on-object : (r : Rule) → derivesFor (asked x negative) r ≡ true → derivesOn (x .object) negative r ≡ true
+    on-object r e =
+        let s = standsFor r x in
+        let d = Bool·beq (r .left .negative) negative in
+        let v = and-true s d (and-true (s && d) true (and-true (s && d && true) true e .0) .0) in
+        let a = isStar (r .left .subject) || eqb (r .left .subject) (x .subject) in
+        let c = isStar (r .left .mode) || eqb (r .left .mode) (x .mode) in
+        let o = eqb (r .left .object) (x .object) in
+        and-intro o d (and-true (a && c) o (v .0) .1) (v .1)
+
+    found : anyb derived rules ≡ true → given negative ≡ true
+    found e =
+        let w = any-mem derived rules e in
+        let r = w .0 in
+        let v = and-true (derivesFor (asked x negative) r) (bitsOf lines na body n U T r x) (w .2) in
+        in-common word (maskOf (derivesOn (x .object) negative) rules) (numberIn rules r) (v .1)
+        (mask-number rules (numberIn rules) (ruleAt body) (ready .grounds .numbering) (derivesOn (x .object) negative) r
+        (w .1) ∙ on-object r (v .0))
+
+    back : given negative ≡ true → anyb derived rules ≡ true
+    back e =
+        let test = derivesOn (x .object) negative in
+        let numbering = ready .grounds .numbering in
+        let w = common word (maskOf test rules) e in
+        let i = w .0 in
+        let r = ruleAt body i in
+        let h = mask-inside test rules i (w .2) in
+        let k : test r ≡ true = sym (mask-rule rules (numberIn rules) (ruleAt body) numbering test i h) ∙ w .2 in
+        let v = and-true (eqb (r .left .object) (x .object)) (Bool·beq (r .left .negative) negative) k in
+        let y = accessOf U (ruleAt body) i (placeOf U x) in
+        let same : y ≡ x = at-place U x there (r .left .object) (true-eq (r .left .object) (x .object) (v .0)) in
+        let c = counted U y in
+        let d = standsFor r y in
+        let f = truth (authorizationsIn na lines) rules t r y in
+        let z : standsFor r x ≡ true = subst (λ (y : Access). standsFor r y ≡ true) same
+        (and-true c d (and-true (c && d) f (at .has (placeOf U x) i (w .1)) .0) .1) in
+        let m = numbering .ruled i h in
+        mem-any derived rules r (m .0)
+        (and-intro (derivesFor (asked x negative) r) (bitsOf lines na body n U T r x)
+        (rw (z, v .1)) (ap (λ (j : ℕ). bit j word) (m .1) ∙ w .1))
+
+    by-rule : anyb derived rules ≡ given negative
+    by-rule = agree (anyb derived rules) (given negative) found back
+
+  -- an authorization for the access, or a rule that derives it
+  abbrev pub held : Bool → Bool
+  held negative = anyb (fits (asked x negative)) (live t (authorizationsIn na lines)) || given negative
+
+  pub read-off : (b : Base) → authorizationsIn na lines ≡ b .authorizations → rulesIn n body ≡ b .rules →
+      held false && not (held true) ≡ may b x t
+  read-off b ea er =
+      let auths = authorizationsIn na lines in
+      let X = bitsOf lines na body n U T in
+      let both : (negative : Bool) → held negative ≡ heldIn auths rules X t (asked x negative) =
+      λ negative. ap (λ (d : Bool). anyb (fits (asked x negative)) (live t auths) || d) (sym (by-rule negative)) in
+      let right : Right (b .authorizations) (b .rules) (counted U) t X =
+      subst (λ (rs : List Rule). Right (b .authorizations) rs (counted U) t X) er
+      (subst (λ (xs : List Authorization). Right xs rules (counted U) t X) ea (at .right)) in
+      ap₂ (λ (p q : Bool). p && not q) (both false) (both true)
+      ∙ ap₂ (λ (xs : List Authorization) (rs : List Rule).
+      heldIn xs rs X t (asked x false) && not (heldIn xs rs X t (asked x true))) ea er
+      ∙ may-answer b (counted U) t X right x there

@@ -1,0 +1,123 @@
+-- What the code keeps of a base while it answers a question: the subjects that matter, and tables of what does not change
+-- from mark to mark (`Prepared`). At a mark a table of words says what the rules derive there (`At`).
+use mathlib.Core.Path.{_≡_}
+use Prim.Native.Nat.{ℕ, zero, suc, _+_, _*_, _-_, _≤_, _<_}
+use mathlib.Core.Bool.{Bool, true, false, _&&_, _||_, Bool·beq}
+use mathlib.Core.List.{List, [], _∷_}
+use lib.Dec.{eqb}
+use lib.ListN.{length, drop, getD}
+use Rattle.foundation.specs.Tests.{pick}
+use Rattle.foundation.specs.Lists.{Mem}
+use Rattle.foundation.specs.Intervals.{inInterval}
+use Rattle.model.specs.declared.Head.{Head}
+use Rattle.model.specs.declared.Authorization.{Authorization}
+use Rattle.model.specs.declared.Rule.{Rule}
+use Rattle.model.specs.declared.Access.{Access}
+use Rattle.model.specs.Ranges.{isMode}
+use Rattle.model.specs.Encoding.{authorizationOf, bit}
+use Rattle.model.specs.Stratification.{fitsOption, negates, stratified, stratum}
+use Rattle.model.specs.Rules.{fitsGrantor}
+use Rattle.support.specs.Cover.{authorizationsIn}
+use Rattle.rules.specs.Masks.{maskOf}
+use Rattle.rules.specs.Strata.{rulesIn, ruleAt, feedersOf, Holds}
+use Rattle.sweep.specs.Sweep.{subjects, modes, places}
+use Rattle.sweep.specs.Progress.{Has}
+use Rattle.questions.specs.Table.{Bits, Before, Right}
+use Rattle.questions.specs.Planned as planned
+use Rattle.questions.specs.Drawn.{indexOf, among, Subjects, Numbering, Shaped, counted, placeOf, leads, accessOf, Coded}
+
+-- ---- leaves
+
+-- the j-th authorization of a body
+abbrev pub authorizationAt : List ℕ → ℕ → Authorization
+authorizationAt s j = authorizationOf (drop (j * 24) s)
+
+-- some number below n passes
+abbrev pub anyBelow : ℕ → (ℕ → Bool) → Bool
+anyBelow zero f = false
+anyBelow (suc n) f = let r = anyBelow n f in r || f n
+
+-- an authorization is what a rule's right side looks for, its subject and mode aside
+abbrev pub fitsRight : Head → Rule → Bool
+fitsRight h r =
+    eqb (h .object) (r .right .object)
+    && Bool·beq (h .negative) (r .right .negative)
+    && fitsGrantor (r .grantor) (h .grantor)
+    && fitsOption (r .option) (h .option)
+
+-- the place of an authorization, or `places` where its subject does not matter
+abbrev pub spotOf : List ℕ → Head → ℕ
+spotOf U h = pick (among U (h .subject)) (indexOf (h .subject) U * modes + (h .mode - 1)) places
+
+-- a rule's left side is on the object, with that sign
+abbrev pub derivesOn : ℕ → Bool → Rule → Bool
+derivesOn o negative r = eqb (r .left .object) o && Bool·beq (r .left .negative) negative
+
+-- the rules that have t in their interval
+abbrev pub livingAt : ℕ → Rule → Bool
+livingAt t r = inInterval (r .interval) t
+
+-- what gather finds: the subject of the question first, then those that rules name on their right
+pub record Gathered (subject : ℕ) (rules : List Rule) (m : ℕ) (U : List ℕ) : Type 0 where
+  pub count : length U ≡ m
+  pub few : m ≤ subjects
+  pub first : indexOf subject U ≡ 0
+  pub listed : Subjects rules U
+
+-- the words at t: bit i at p says that an authorization there at t has bit i in its mask
+abbrev pub Lit : List ℕ → ℕ → List ℕ → List ℕ → ℕ → List ℕ → Type 0
+Lit lines na masks spots t direct =
+    (i p : ℕ) → p < places →
+    bit i (getD direct p 0) ≡ anyBelow na (λ j. inInterval (authorizationAt lines j .interval) t
+    && eqb (getD spots j 0) p && bit i (getD masks j 0))
+
+-- ---- the scene
+
+-- a rule's number is its place; labels tell the rules apart
+abbrev pub numberIn : List Rule → Rule → ℕ
+numberIn [] r = 0
+numberIn (q ∷ rest) r = let i = numberIn rest r in pick (eqb (q .label) (r .label)) 0 (suc i)
+
+module _ (lines : List ℕ) (na : ℕ) (body : List ℕ) (n : ℕ) where
+  -- what soundness says of the two bodies
+  pub record Grounds : Type 0 where
+    pub lines-few : na ≤ 1024
+    pub lines-there : na * 24 ≤ length lines
+    pub rules-few : n ≤ 64
+    pub rules-there : n * 28 ≤ length body
+    pub strata : stratified (rulesIn n body) ≡ true
+    pub shaped : (r : Rule) → Mem r (rulesIn n body) → Shaped r
+    pub numbering : Numbering (rulesIn n body) (numberIn (rulesIn n body)) (ruleAt body)
+    pub moded : (a : Authorization) → Mem a (authorizationsIn na lines) → isMode (a .head .mode) ≡ true
+
+  module _ (U : List ℕ) where
+    -- the tables for the subjects U
+    pub record Prepared (L S F M P : List ℕ) (l g : ℕ) : Type 0 where
+      pub grounds : Grounds
+      pub few : length U ≤ subjects
+      pub listed : Subjects (rulesIn n body) U
+      pub levels : Holds n body (stratum (rulesIn n body)) L
+      pub sides : (i : ℕ) → i < n → Coded U (ruleAt body) S i
+      pub feed : Holds n body (feedersOf (rulesIn n body)) F
+      pub masks : (j : ℕ) → j < na → getD M j 0 ≡ maskOf (fitsRight (authorizationAt lines j .head)) (rulesIn n body)
+      pub spots : (j : ℕ) → j < na → getD P j 0 ≡ spotOf U (authorizationAt lines j .head)
+      pub lead : l ≡ maskOf (leads U) (rulesIn n body)
+      pub negating : g ≡ maskOf negates (rulesIn n body)
+
+    -- the bits of a table of words
+    abbrev pub bitsOf : List ℕ → Bits
+    bitsOf T r x = bit (numberIn (rulesIn n body) r) (getD T (placeOf U x) 0)
+
+    -- the bits that may be set at t
+    abbrev pub mayBeSet : ℕ → ℕ → ℕ → Bool
+    mayBeSet t = planned.derivedAt (authorizationsIn na lines) (rulesIn n body) (counted U) t
+        (numberIn (rulesIn n body)) (placeOf U) (ruleAt body) (accessOf U (ruleAt body))
+
+    -- the table before serves at t
+    abbrev pub Serves : ℕ → List ℕ → Type 0
+    Serves t T = Before (authorizationsIn na lines) (rulesIn n body) (counted U) (bitsOf T) t
+
+    -- the table says what the rules derive at t
+    pub record At (t : ℕ) (T : List ℕ) : Type 0 where
+      pub has : Has T (mayBeSet t)
+      pub right : Right (authorizationsIn na lines) (rulesIn n body) (counted U) t (bitsOf T)

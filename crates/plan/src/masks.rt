@@ -1,0 +1,234 @@
+// Masks of the rules, a bit a rule: what changes from mark to mark, and what authorizations fit.
+ghost use mathlib.Core.Path.{_≡_};
+ghost use mathlib.Core.Bool.{_&&_};
+ghost use Prim.Native.Nat.{ℕ, _*_, _≤_, _<_};
+ghost use lib.Dec.{eqb};
+ghost use lib.ListN.{length, getD};
+ghost use Rattle.foundation.specs.Lists.{anyb};
+ghost use Rattle.foundation.specs.Intervals.{inInterval};
+ghost use Rattle.model.specs.Support.{live};
+ghost use Rattle.model.specs.Stratification.{fitsOption};
+ghost use Rattle.model.specs.Rules.{fits, asked};
+ghost use Rattle.support.specs.Cover.{authorizationsIn};
+ghost use Rattle.rules.specs.Masks.{maskOf};
+ghost use Rattle.rules.specs.Strata.{rulesIn};
+ghost use Rattle.questions.specs.Operators.{lasting};
+ghost use Rattle.questions.specs.Drawn.{freshAt};
+ghost use Rattle.plan.specs.Scene.{authorizationAt, fitsRight, derivesOn, livingAt, Lit};
+ghost use Rattle.plan.specs.Words.{numbersIn};
+use foundation::Interval;
+use model::Access;
+use model::Authorization;
+use model::Head;
+use model::Operator;
+use model::OptionTerm;
+use model::Rule;
+
+// Whether an instant lies in an interval.
+fn has_instant(i: Interval, t: u32) -> bool
+    ensures { λ r. ⌜ r ≡ inInterval i t ⌝ }
+{
+    (i.start <= t) & (t <= i.end)
+}
+
+// Whether an operator looks back to the rule's start.
+pub fn is_lasting(o: Operator) -> bool
+    ensures { λ r. ⌜ r ≡ lasting o ⌝ }
+{
+    match o {
+        Operator::Whenever => false,
+        Operator::AsLongAs => true,
+        Operator::WheneverNot => false,
+        Operator::Unless => true,
+    }
+}
+
+// The rules whose number in a table is k, as a mask.
+pub fn level(levels: &[u16; 64], n: usize, k: u16) -> u64
+    requires { ⌜ n ≤ 64 ⌝ }
+    ensures { λ x. ⌜ x ≡ maskOf (λ (v : ℕ). eqb v k) (numbersIn n (now (levels .entry))) ⌝ }
+{
+    let mut x = 0;
+    let mut i = n;
+    while 0 < i {
+        i -= 1;
+        let b = levels[i] == k;
+        x = 2 * x + b as u64;
+    }
+    x
+}
+
+// The rules that have t in their interval, as a mask.
+pub fn living(body: &[u8], n: usize, t: u32) -> u64
+    requires { ⌜ (n * 28 ≤ length (now body)) × (n ≤ 64) ⌝ }
+    ensures { λ x. ⌜ x ≡ maskOf (livingAt t) (rulesIn n (now (body .entry))) ⌝ }
+{
+    let mut x = 0;
+    let mut i = n;
+    while 0 < i {
+        i -= 1;
+        let r = encoding::rule_at(body, i * 28);
+        let j = r.interval;
+        x = 2 * x + has_instant(j, t) as u64;
+    }
+    x
+}
+
+// Whether a rule looks at nothing before t.
+fn is_fresh(r: Rule, t: u32) -> bool
+    ensures { λ b. ⌜ b ≡ freshAt t r ⌝ }
+{
+    let o = r.operator;
+    let l = is_lasting(o);
+    !l | (t == r.interval.start)
+}
+
+// The rules that look at nothing before t, as a mask.
+pub fn fresh(body: &[u8], n: usize, t: u32) -> u64
+    requires { ⌜ (n * 28 ≤ length (now body)) × (n ≤ 64) ⌝ }
+    ensures { λ x. ⌜ x ≡ maskOf (freshAt t) (rulesIn n (now (body .entry))) ⌝ }
+{
+    let mut x = 0;
+    let mut i = n;
+    while 0 < i {
+        i -= 1;
+        x = 2 * x + is_fresh(encoding::rule_at(body, i * 28), t) as u64;
+    }
+    x
+}
+
+// Whether the option of a right side fits.
+fn fits_option(o: OptionTerm, has: bool) -> bool
+    ensures { λ r. ⌜ r ≡ fitsOption o has ⌝ }
+{
+    match o {
+        OptionTerm::With => has,
+        OptionTerm::Without => !has,
+        OptionTerm::Either => true,
+    }
+}
+
+// Whether an authorization is what a rule's right side looks for, its subject and mode aside.
+fn fits_right(h: Head, r: Rule) -> bool
+    ensures { λ x. ⌜ x ≡ fitsRight h r ⌝ }
+{
+    let right = r.right;
+    let o = r.option;
+    let sign = rules::alike(h.negative, right.negative);
+    let option = fits_option(o, h.option);
+    (h.object == right.object) & sign & ((r.grantor == 0) | (r.grantor == h.grantor)) & option
+}
+
+// The rules whose right side an authorization fits, as a mask.
+fn fitted(h: Head, body: &[u8], n: usize) -> u64
+    requires { ⌜ (n * 28 ≤ length (now body)) × (n ≤ 64) ⌝ }
+    ensures { λ x. ⌜ x ≡ maskOf (fitsRight h) (rulesIn n (now (body .entry))) ⌝ }
+{
+    let mut x = 0;
+    let mut i = n;
+    while 0 < i {
+        i -= 1;
+        x = 2 * x + fits_right(h, encoding::rule_at(body, i * 28)) as u64;
+    }
+    x
+}
+
+// Puts into `masks`, for each authorization, the rules whose right side it fits.
+pub fn fit_lines(lines: &[u8], na: usize, body: &[u8], n: usize, masks: &mut [u64; 1024])
+    requires { ⌜ (na * 24 ≤ length (now lines)) × (na ≤ 1024) × (n * 28 ≤ length (now body)) × (n ≤ 64) ⌝ }
+    ensures { λ _. ⌜ ((j : ℕ) → j < na → getD (now (masks .exit)) j 0
+        ≡ maskOf (fitsRight (authorizationAt (now (lines .entry)) j .head)) (rulesIn n (now (body .entry)))) ⌝ }
+{
+    *masks = [0; 1024];
+    let mut j = 0;
+    while j < na {
+        let a = encoding::authorization_at(lines, j * 24);
+        let h = a.head;
+        masks[j] = fitted(h, body, n);
+        j += 1;
+    }
+}
+
+// Whether a rule's left side is on an object, with a sign.
+fn derives_on(r: Rule, o: u16, negative: bool) -> bool
+    ensures { λ b. ⌜ b ≡ derivesOn o negative r ⌝ }
+{
+    let left = r.left;
+    let sign = rules::alike(left.negative, negative);
+    (left.object == o) & sign
+}
+
+// The rules whose left side is on an object, with a sign, as a mask.
+pub fn derivers(body: &[u8], n: usize, o: u16, negative: bool) -> u64
+    requires { ⌜ (n * 28 ≤ length (now body)) × (n ≤ 64) ⌝ }
+    ensures { λ x. ⌜ x ≡ maskOf (derivesOn o negative) (rulesIn n (now (body .entry))) ⌝ }
+{
+    let mut x = 0;
+    let mut i = n;
+    while 0 < i {
+        i -= 1;
+        x = 2 * x + derives_on(encoding::rule_at(body, i * 28), o, negative) as u64;
+    }
+    x
+}
+
+// A place as an index.
+fn index(p: u16) -> usize
+    ensures { λ r. ⌜ r ≡ p ⌝ }
+{
+    p as usize
+}
+
+// Puts into `direct`, for each place, the rules whose right side an authorization there fits that has t.
+pub fn light(
+    lines: &[u8],
+    na: usize,
+    masks: &[u64; 1024],
+    spots: &[u16; 1024],
+    t: u32,
+    direct: &mut [u64; 520],
+)
+    requires { ⌜ (na * 24 ≤ length (now lines)) × (na ≤ 1024) ⌝ }
+    ensures { λ _. ⌜ Lit (now (lines .entry)) na (now (masks .entry)) (now (spots .entry)) t (now (direct .exit)) ⌝ }
+{
+    *direct = [0; 520];
+    let mut j = 0;
+    while j < na {
+        let a = encoding::authorization_at(lines, j * 24);
+        let i = a.interval;
+        let p = index(spots[j]);
+        if has_instant(i, t) & (p < 520) {
+            direct[p] = direct[p] | masks[j];
+        }
+        j += 1;
+    }
+}
+
+// Whether an authorization is for an access, positive or a denial, and has t.
+fn is_held(a: Authorization, x: Access, negative: bool, t: u32) -> bool
+    ensures { λ r. ⌜ r ≡ inInterval (a .interval) t && fits (asked x negative) (a .head) ⌝ }
+{
+    let h = a.head;
+    let i = a.interval;
+    let sign = rules::alike(h.negative, negative);
+    has_instant(i, t)
+        & (h.subject as u32 == x.subject)
+        & (h.mode as u32 == x.mode)
+        & (h.object as u32 == x.object)
+        & sign
+}
+
+// Whether an authorization for an access, positive or a denial, has t.
+pub fn holds_line(lines: &[u8], na: usize, x: Access, negative: bool, t: u32) -> bool
+    requires { ⌜ na * 24 ≤ length (now lines) ⌝ }
+    ensures { λ r. ⌜ r ≡ anyb (fits (asked x negative)) (live t (authorizationsIn na (now (lines .entry)))) ⌝ }
+{
+    let mut j = 0;
+    while j < na {
+        if is_held(encoding::authorization_at(lines, j * 24), x, negative, t) {
+            return true;
+        }
+        j += 1;
+    }
+    false
+}

@@ -1,0 +1,133 @@
+-- Words of bits that stand for rules: the masks of tests; two words have a bit in common exactly if their `bitAnd` is
+-- not 0; and a word has a rule in common with those that feed a rule exactly if one of its rules derives what that
+-- rule looks for (`fed`).
+use mathlib.Core.Path.{_≡_, sym, ap, _∙_}
+use Prim.Native.Nat.{ℕ, suc, _/_, _%_, _^_, _≤_, _<_, min}
+use native.Mathlib.Nat.{pow-succ', div-one, zero-div, div-div-eq-div-mul, min-le-left, min-le-right}
+use native.Mathlib.Omega.{arith}
+use mathlib.Core.Bool.{Bool, true, false, not, _&&_, Bool·beq}
+use mathlib.Core.List.{List}
+use lib.Arith.{bin-ind}
+use lib.Bits.{bitAnd, and-step, and-shr}
+use lib.Dec.{eqb}
+use lib.ListN.{length, drop}
+use Rattle.foundation.specs.Tests.{cases, agree, eq-true, true-eq, false-eq, ne-false, not-true, and-true, and-intro}
+use Rattle.foundation.specs.Lists.{anyb, Mem, any-mem, mem-any}
+use Rattle.model.specs.declared.Rule.{Rule}
+use Rattle.model.specs.declared.Access.{Access}
+use Rattle.model.specs.Encoding.{bit}
+use Rattle.model.specs.Stratification.{meets, fitsOption, feeds}
+use Rattle.model.specs.Rules.{fitsGrantor, standsFor, derivesFor, rightOf}
+use Rattle.model.specs.HoldsLaws.{fit-feeds}
+use Rattle.rules.specs.Masks.{maskOf}
+use Rattle.rules.specs.Strata.{feedersOf}
+use Rattle.rules.proofs.Masks.{mask-nth, mask-inside}
+use Rattle.questions.specs.Drawn.{Numbering}
+
+-- ---- bits in common
+
+and-odd : (a b : ℕ) → bitAnd a b % 2 ≡ min (a % 2) (b % 2)
+and-odd a b =
+    let s = and-step a b in
+    let l : min (a % 2) (b % 2) ≤ a % 2 = min-le-left (a % 2) (b % 2) in
+    omega arith
+
+and-digit : (a b i : ℕ) → bitAnd a b / 2 ^ i % 2 ≡ min (a / 2 ^ i % 2) (b / 2 ^ i % 2)
+and-digit a b i = rw (and-shr a b i) (and-odd (a / 2 ^ i) (b / 2 ^ i))
+
+-- a number that is not 0 has a bit
+some-bit : (n : ℕ) → (n ≡ 0 → ⊥) → (i : ℕ) × (bit i n ≡ true)
+some-bit = bin-ind (λ (n : ℕ). (n ≡ 0 → ⊥) → (i : ℕ) × (bit i n ≡ true))
+    (λ h. absurd (h (omega arith)))
+    (λ n f h. cases (eqb (n % 2) 1)
+    (λ e. (0, rw (div-one n) e))
+    (λ e. let o : (n % 2 ≡ 1) → ⊥ = false-eq (n % 2) 1 e in
+    let w = f (λ z. h (omega arith)) in
+    (suc (w .0), rw (pow-succ' 2 (w .0), ← div-div-eq-div-mul n 2 (2 ^ w .0)) (w .1))))
+
+pub common : (a b : ℕ) → not (eqb (bitAnd a b) 0) ≡ true → (i : ℕ) × (bit i a ≡ true) × (bit i b ≡ true)
+common a b e =
+    let w = some-bit (bitAnd a b) (false-eq (bitAnd a b) 0 (not-true (eqb (bitAnd a b) 0) e)) in
+    let i = w .0 in
+    let x : ℕ = a / 2 ^ i % 2 in
+    let y : ℕ = b / 2 ^ i % 2 in
+    let m : min x y ≡ 1 = sym (and-digit a b i) ∙ true-eq (bitAnd a b / 2 ^ i % 2) 1 (w .1) in
+    (i, eq-true x 1 (omega (arith, min-le-left x y)), eq-true y 1 (omega (arith, min-le-right x y)))
+
+pub in-common : (a b i : ℕ) → bit i a ≡ true → bit i b ≡ true → not (eqb (bitAnd a b) 0) ≡ true
+in-common a b i e f =
+    let x = true-eq (a / 2 ^ i % 2) 1 e in
+    let y = true-eq (b / 2 ^ i % 2) 1 f in
+    let d : bitAnd a b / 2 ^ i % 2 ≡ 1 = and-digit a b i ∙ rw (x, y) in
+    let n : eqb (bitAnd a b) 0 ≡ false = ne-false (bitAnd a b) 0 (λ z.
+    let u : bitAnd a b / 2 ^ i % 2 ≡ 0 = rw (z, zero-div (2 ^ i)) in omega arith) in
+    rw n
+
+-- ---- feeding
+
+-- what a rule q that feeds r has in common with what r looks for, whatever the subject and the mode
+feeds-parts : (q r : Rule) → feeds q r ≡ true →
+    (Bool·beq (q .left .negative) (r .right .negative) ≡ true) × (eqb (q .left .object) (r .right .object) ≡ true)
+    × (fitsGrantor (r .grantor) (q .author) ≡ true) × (fitsOption (r .option) false ≡ true)
+feeds-parts q r e =
+    let d = Bool·beq (q .left .negative) (r .right .negative) in
+    let c = eqb (q .left .object) (r .right .object) in
+    let u = meets (q .left .subject) (r .right .subject) in
+    let v = meets (q .left .mode) (r .right .mode) in
+    let g = fitsGrantor (r .grantor) (q .author) in
+    let w₁ = and-true (d && c && u && v && g) (fitsOption (r .option) false) e in
+    let w₂ = and-true (d && c && u && v) g (w₁ .0) in
+    let w₃ = and-true d c (and-true (d && c) u (and-true (d && c && u) v (w₂ .0) .0) .0) in
+    (w₃ .0, w₃ .1, w₂ .1, w₁ .1)
+
+pub feeds-object : (q r : Rule) → feeds q r ≡ true → q .left .object ≡ r .right .object
+feeds-object q r e = true-eq (q .left .object) (r .right .object) (feeds-parts q r e .1)
+
+-- where q stands for the access that r looks for, it derives what r looks for
+pub feeds-fit : (q r : Rule) (x : Access) → feeds q r ≡ true → standsFor q (rightOf r x .access) ≡ true →
+    derivesFor (rightOf r x) q ≡ true
+feeds-fit q r x e s =
+    let w = feeds-parts q r e in
+    let a = standsFor q (rightOf r x .access) in
+    let d = Bool·beq (q .left .negative) (r .right .negative) in
+    let g = fitsGrantor (r .grantor) (q .author) in
+    and-intro (a && d && g) (fitsOption (r .option) false)
+    (and-intro (a && d) g (and-intro a d s (w .0)) (w .2)) (w .3)
+
+-- ---- the rules of a word
+
+module _ (rules : List Rule) (number : Rule → ℕ) (rule : ℕ → Rule) (numbering : Numbering rules number rule) where
+  -- the bit of a rule in the mask of a test
+  pub mask-rule : (f : Rule → Bool) (i : ℕ) → i < length rules → bit i (maskOf f rules) ≡ f (rule i)
+  mask-rule f i h = mask-nth f rules i (rule i) (drop (suc i) rules) (numbering .nth i h)
+
+  pub mask-number : (f : Rule → Bool) (r : Rule) → Mem r rules → bit (number r) (maskOf f rules) ≡ f r
+  mask-number f r m = let w = numbering .numbered r m in mask-rule f (number r) (w .0) ∙ ap f (w .1)
+
+  -- Where each rule of a word that feeds r stands for the access that r looks for, one of them feeds r exactly if one
+  -- derives what r looks for
+  module _ (r : Rule) (x : Access) (word : ℕ) (stood : (j : ℕ) → bit j word ≡ true → feeds (rule j) r ≡ true →
+      standsFor (rule j) (rightOf r x .access) ≡ true) where
+    abbrev feeders : ℕ
+    feeders = feedersOf rules r
+
+    abbrev derivesIt : Rule → Bool
+    derivesIt q = derivesFor (rightOf r x) q && bit (number q) word
+
+    fed-derives : (j : ℕ) → bit j word ≡ true → bit j feeders ≡ true → anyb derivesIt rules ≡ true
+    fed-derives j e f =
+        let l = mask-inside (λ q. feeds q r) rules j f in
+        let w = numbering .ruled j l in
+        let g : feeds (rule j) r ≡ true = sym (mask-rule (λ q. feeds q r) j l) ∙ f in
+        mem-any derivesIt rules (rule j) (w .0)
+        (and-intro (derivesFor (rightOf r x) (rule j)) (bit (number (rule j)) word)
+        (feeds-fit (rule j) r x g (stood j e g)) (ap (λ (v : ℕ). bit v word) (w .1) ∙ e))
+
+    pub fed : not (eqb (bitAnd word feeders) 0) ≡ anyb derivesIt rules
+    fed = agree (not (eqb (bitAnd word feeders) 0)) (anyb derivesIt rules)
+        (λ e. let w = common word feeders e in fed-derives (w .0) (w .1) (w .2))
+        (λ e. let w = any-mem derivesIt rules e in
+        let q = w .0 in
+        let v = and-true (derivesFor (rightOf r x) q) (bit (number q) word) (w .2) in
+        in-common word feeders (number q) (v .1)
+        (mask-number (λ q. feeds q r) q (w .1) ∙ fit-feeds q r x (v .0)))
