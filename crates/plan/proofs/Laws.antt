@@ -18,13 +18,12 @@ use Rattle.plan.specs.Scene.{authorizationAt, anyBelow, Lit}
 use Rattle.plan.specs.Words.{bit-or, bit-zero}
 
 -- where any grantor and any option fit, nothing is asked of them
-pub any-option : (i s m o n : Bool) → i && s && m && o && n ≡ i && (s && m && o && n && true && true)
-any-option false s m o n = refl
-any-option true false m o n = refl
-any-option true true false o n = refl
-any-option true true true false n = refl
-any-option true true true true false = refl
-any-option true true true true true = refl
+pub any-option : (s m o n : Bool) → s && m && o && n ≡ s && m && o && n && true && true
+any-option false m o n = refl
+any-option true false o n = refl
+any-option true true false n = refl
+any-option true true true false = refl
+any-option true true true true = refl
 
 -- a place that is tested is one of the table's
 pub in-table : (b : Bool) (p : ℕ) → b && ltb p 520 ≡ true → p < 520

@@ -8,6 +8,7 @@ use mathlib.Core.List.{List}
 use lib.Bits.{bitAnd}
 use lib.Dec.{eqb}
 use lib.ListN.{length, take, getD, replicate}
+use Rattle.foundation.specs.Lists.{Mem}
 use Rattle.foundation.specs.Intervals.{inInterval}
 use Rattle.model.specs.declared.Rule.{Rule}
 use Rattle.model.specs.Encoding.{ruleOf, bit}
@@ -45,6 +46,13 @@ module _ (lines : List ℕ) (na : ℕ) (body : List ℕ) (n : ℕ) (U : List ℕ
         has = λ p i e. absurd (false≢true (sym (clear p i) ∙ e));
         right = λ r x m h. absurd (omega arith);
       }
+
+  -- where there are no rules, an empty table says what they derive
+  pub no-rules : (t : ℕ) (T : List ℕ) → n ≡ 0 → ((i : ℕ) → getD T i 0 ≡ 0) → At lines na body n U t T
+  no-rules t T e none = record {
+    has = λ p i f. absurd (false≢true (sym (ap (bit i) (none p) ∙ bit-zero i) ∙ f));
+    right = λ r x m. absurd (subst (λ (k : ℕ). Mem r (rulesIn k body)) e (m .0) .lower);
+  }
 
 -- a table of zeros
 pub zeros-at : (n i : ℕ) → _≡_ {A = ℕ} (getD (replicate n 0) i 0) 0

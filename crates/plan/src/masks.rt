@@ -204,18 +204,27 @@ pub fn light(
     }
 }
 
-// Whether an authorization is for an access, positive or a denial, and has t.
-fn is_held(a: Authorization, x: Access, negative: bool, t: u32) -> bool
-    ensures { λ r. ⌜ r ≡ inInterval (a .interval) t && fits (asked x negative) (a .head) ⌝ }
+// Whether an authorization is for an access, positive or a denial.
+fn is_for(h: Head, x: Access, negative: bool) -> bool
+    ensures { λ r. ⌜ r ≡ fits (asked x negative) h ⌝ }
 {
-    let h = a.head;
-    let i = a.interval;
     let sign = rules::alike(h.negative, negative);
-    has_instant(i, t)
-        & (h.subject as u32 == x.subject)
+    (h.subject as u32 == x.subject)
         & (h.mode as u32 == x.mode)
         & (h.object as u32 == x.object)
         & sign
+}
+
+// The same, and has t. Most have not.
+fn is_held(a: Authorization, x: Access, negative: bool, t: u32) -> bool
+    ensures { λ r. ⌜ r ≡ inInterval (a .interval) t && fits (asked x negative) (a .head) ⌝ }
+{
+    let i = a.interval;
+    if has_instant(i, t) {
+        let h = a.head;
+        return is_for(h, x, negative);
+    }
+    false
 }
 
 // Whether an authorization for an access, positive or a denial, has t.

@@ -10,9 +10,8 @@ use crate::masks::light;
 use crate::masks::living;
 use sweep::Stage;
 
-// Puts into `table` what the rules derive at t, `before` being the table of an instant before, or any where no rule
-// looks back from t. `direct` and `changed` are tables to work in.
-pub fn derive(
+// The same where there are rules: stratum by stratum.
+fn sweep_strata(
     lines: &[u8],
     na: usize,
     body: &[u8],
@@ -40,6 +39,8 @@ pub fn derive(
     light(lines, na, masks, spots, t, direct);
     let here = o.lead & living(body, n, t);
     let new = fresh(body, n, t);
+    let mut looks = [0u64; 520];
+    sweep::draw_looks(sides, n, o.subjects * 8, &mut looks);
     *table = [0; 520];
     let mut k = 0;
     while k <= n {
@@ -51,7 +52,57 @@ pub fn derive(
             negating: o.negating,
         };
         *changed = [1; 520];
-        sweep::settle(g, sides, feed, before, direct, table, changed);
+        sweep::settle(g, sides, feed, &looks, before, direct, table, changed);
         k += 1;
+    }
+}
+
+// Puts into `table` what the rules derive at t, `before` being the table of an instant before, or any where no rule
+// looks back from t. `direct` and `changed` are tables to work in.
+pub fn derive(
+    lines: &[u8],
+    na: usize,
+    body: &[u8],
+    n: usize,
+    u: &[u16; 65],
+    o: Outline,
+    levels: &[u16; 64],
+    sides: &[u8; 256],
+    feed: &[u64; 64],
+    masks: &[u64; 1024],
+    spots: &[u16; 1024],
+    t: u32,
+    before: &[u64; 520],
+    direct: &mut [u64; 520],
+    table: &mut [u64; 520],
+    changed: &mut [u8; 520],
+)
+    requires { ⌜ Prepared (now lines) na (now body) n (take (o .subjects) (now u)) (now levels) (now sides) (now feed)
+        (now masks) (now spots) (o .lead) (o .negating) ⌝ }
+    requires { ⌜ (length (take (o .subjects) (now u)) ≡ o .subjects)
+        × Serves (now lines) na (now body) n (take (o .subjects) (now u)) t (now before) ⌝ }
+    ensures { λ _. ⌜ At (now (lines .entry)) na (now (body .entry)) n (take (o .subjects) (now (u .entry))) t
+        (now (table .exit)) ⌝ }
+{
+    *table = [0; 520];
+    if n != 0 {
+        sweep_strata(
+            lines,
+            na,
+            body,
+            n,
+            u,
+            o,
+            levels,
+            sides,
+            feed,
+            masks,
+            spots,
+            t,
+            before,
+            direct,
+            table,
+            changed,
+        );
     }
 }

@@ -2,13 +2,13 @@
 -- not 0; and a word has a rule in common with those that feed a rule exactly if one of its rules derives what that
 -- rule looks for (`fed`).
 use mathlib.Core.Path.{_≡_, sym, ap, _∙_}
-use Prim.Native.Nat.{ℕ, suc, _/_, _%_, _^_, _≤_, _<_, min}
-use native.Mathlib.Nat.{pow-succ', div-one, zero-div, div-div-eq-div-mul, min-le-left, min-le-right}
+use Prim.Native.Nat.{ℕ, suc, _/_, _%_, _^_, _<_, min}
+use native.Mathlib.Nat.{pow-succ', div-one, div-div-eq-div-mul, min-le-left, min-le-right}
 use native.Mathlib.Omega.{arith}
-use mathlib.Core.Bool.{Bool, true, false, not, _&&_, Bool·beq}
+use mathlib.Core.Bool.{Bool, true, false, not, _&&_, Bool·beq, false≢true}
 use mathlib.Core.List.{List}
 use lib.Arith.{bin-ind}
-use lib.Bits.{bitAnd, and-step, and-shr}
+use lib.Bits.{bitAnd}
 use lib.Dec.{eqb}
 use lib.ListN.{length, drop}
 use Rattle.foundation.specs.Tests.{cases, agree, eq-true, true-eq, false-eq, ne-false, not-true, and-true, and-intro}
@@ -22,18 +22,10 @@ use Rattle.model.specs.HoldsLaws.{fit-feeds}
 use Rattle.rules.specs.Masks.{maskOf}
 use Rattle.rules.specs.Strata.{feedersOf}
 use Rattle.rules.proofs.Masks.{mask-nth, mask-inside}
+use Rattle.sweep.proofs.Laws.{and-digit, bit-none, bit-both}
 use Rattle.questions.specs.Drawn.{Numbering}
 
 -- ---- bits in common
-
-and-odd : (a b : ℕ) → bitAnd a b % 2 ≡ min (a % 2) (b % 2)
-and-odd a b =
-    let s = and-step a b in
-    let l : min (a % 2) (b % 2) ≤ a % 2 = min-le-left (a % 2) (b % 2) in
-    omega arith
-
-and-digit : (a b i : ℕ) → bitAnd a b / 2 ^ i % 2 ≡ min (a / 2 ^ i % 2) (b / 2 ^ i % 2)
-and-digit a b i = rw (and-shr a b i) (and-odd (a / 2 ^ i) (b / 2 ^ i))
 
 -- a number that is not 0 has a bit
 some-bit : (n : ℕ) → (n ≡ 0 → ⊥) → (i : ℕ) × (bit i n ≡ true)
@@ -55,13 +47,8 @@ common a b e =
     (i, eq-true x 1 (omega (arith, min-le-left x y)), eq-true y 1 (omega (arith, min-le-right x y)))
 
 pub in-common : (a b i : ℕ) → bit i a ≡ true → bit i b ≡ true → not (eqb (bitAnd a b) 0) ≡ true
-in-common a b i e f =
-    let x = true-eq (a / 2 ^ i % 2) 1 e in
-    let y = true-eq (b / 2 ^ i % 2) 1 f in
-    let d : bitAnd a b / 2 ^ i % 2 ≡ 1 = and-digit a b i ∙ rw (x, y) in
-    let n : eqb (bitAnd a b) 0 ≡ false = ne-false (bitAnd a b) 0 (λ z.
-    let u : bitAnd a b / 2 ^ i % 2 ≡ 0 = rw (z, zero-div (2 ^ i)) in omega arith) in
-    rw n
+in-common a b i e f = ap not (ne-false (bitAnd a b) 0 (λ z.
+    false≢true (sym (ap (bit i) z ∙ bit-none i) ∙ bit-both a b i e f)))
 
 -- ---- feeding
 

@@ -1,15 +1,24 @@
--- The bits of words: which are set where one more is set, and that the word is larger then.
-use mathlib.Core.Path.{_≡_, refl, sym, ap, _∙_}
+-- The bits of words: which are set where one more is set, that the word is larger then, which two words have in
+-- common, and between which ends they lie; and what the bits of a place's candidates say (`looker-bit`).
+use mathlib.Core.Path.{_≡_, refl, sym, ap, ap₂, _∙_}
 use mathlib.Core.Bool.{Bool, true, false, not, Bool·beq, true≢false, false≢true}
-use Prim.Native.Nat.{ℕ, zero, suc, _+_, _*_, _-_, _/_, _%_, _^_, _≤_, _<_, max}
-use native.Mathlib.Nat.{mod-eq-of-lt, pow-succ', one-mul, max-le, max-eq-left, max-eq-right, max-zero, div-self, div-one, div-eq-of-lt, div-div-eq-div-mul}
+use mathlib.Core.List.{List}
+use Prim.Native.Nat.{ℕ, zero, suc, _+_, _*_, _-_, _/_, _%_, _^_, _≤_, _<_, min, max}
+use native.Mathlib.Nat.{mod-eq-of-lt, pow-succ', one-mul, max-le, max-eq-left, max-eq-right, max-zero, min-le-left}
+use native.Mathlib.Nat.{div-self, div-one, zero-div, div-eq-of-lt, div-div-eq-div-mul}
+use native.Mathlib.Nat.{lt-of-lt-of-le, pow-le-pow-right}
 use native.Mathlib.Omega.{arith}
 use native.Mathlib.Numerals.{one-add}
 use lib.Pow.{pow-lt, pow-pos}
-use lib.Bits.{bitAnd, bitOr, or-step, or-shr, or-disjoint, and-high}
-use lib.Dec.{eqb}
-use Rattle.foundation.specs.Tests.{cases, eq-true, true-eq, false-eq}
+use lib.Bits.{bitAnd, bitOr, or-step, or-shr, or-disjoint, and-step, and-shr, and-high}
+use lib.Count.{leadingZeros, trailingZeros, under, leading-length}
+use lib.Dec.{eqb, ltb}
+use lib.ListN.{drop, getD}
+use lib.Seq.{getD-drop}
+use Rattle.foundation.specs.Tests.{cases, eq-true, true-eq, false-eq, true-le, false-le}
 use Rattle.model.specs.Encoding.{bit}
+use Rattle.rules.proofs.Masks.{mask-at}
+use Rattle.sweep.specs.Sweep.{looksBy, codes, looksFrom, lookersOf}
 
 pub shifted : (r : ℕ) → r < 64 → 1 * 2 ^ r % 18446744073709551616 ≡ 2 ^ r
 shifted r h = rw (one-mul (2 ^ r)) (mod-eq-of-lt (pow-lt h))
@@ -82,3 +91,66 @@ bit-more x r e =
     let h : 2 ^ (1 + r) - 2 ^ r ≡ 2 ^ r = rw (one-add r, pow-succ' 2 r) (omega arith) in
     let a : bitAnd x (2 ^ r) ≡ 0 = ap (bitAnd x) (sym h) ∙ and-high x 1 r ∙ rw z (omega arith) in
     omega (arith, or-disjoint x (2 ^ r) a, pow-pos r)
+
+-- ---- bits in common
+
+and-odd : (a b : ℕ) → bitAnd a b % 2 ≡ min (a % 2) (b % 2)
+and-odd a b =
+    let s = and-step a b in
+    let l : min (a % 2) (b % 2) ≤ a % 2 = min-le-left (a % 2) (b % 2) in
+    omega arith
+
+pub and-digit : (a b i : ℕ) → bitAnd a b / 2 ^ i % 2 ≡ min (a / 2 ^ i % 2) (b / 2 ^ i % 2)
+and-digit a b i = rw (and-shr a b i) (and-odd (a / 2 ^ i) (b / 2 ^ i))
+
+pub bit-none : (i : ℕ) → bit i 0 ≡ false
+bit-none i = rw (zero-div (2 ^ i))
+
+pub bit-both : (a b i : ℕ) → bit i a ≡ true → bit i b ≡ true → bit i (bitAnd a b) ≡ true
+bit-both a b i e f =
+    let x = true-eq (a / 2 ^ i % 2) 1 e in
+    let y = true-eq (b / 2 ^ i % 2) 1 f in
+    eq-true (bitAnd a b / 2 ^ i % 2) 1 (and-digit a b i ∙ rw (x, y))
+
+-- ---- the ends of a word
+
+-- no bit lies below the lowest
+pub lowest-bit : (k x r : ℕ) → bit r x ≡ true → trailingZeros k x ≤ r
+unfolding trailingZeros
+lowest-bit zero x r e = omega arith
+lowest-bit (suc k) x zero e =
+    let d : x % 2 ≡ 1 = ap (λ (n : ℕ). n % 2) (sym (div-one x)) ∙ true-eq (x / 2 ^ 0 % 2) 1 e in
+    rw d (omega arith)
+lowest-bit (suc k) x (suc r) e =
+    let d : bit r (x / 2) ≡ true = rw (div-div-eq-div-mul x 2 (2 ^ r), ← pow-succ' 2 r) e in
+    under-suc (x % 2) (trailingZeros k (x / 2)) r (lowest-bit k (x / 2) r d)
+  where
+    under-suc : (d t r : ℕ) → t ≤ r → under d t ≤ suc r
+    under-suc zero t r h = omega arith
+    under-suc (suc d) t r h = omega arith
+
+-- every bit lies below the width without the zeros above the highest
+pub highest-bit : (k x r : ℕ) → x < 2 ^ k → bit r x ≡ true → r < k - leadingZeros k x
+highest-bit k x r h e =
+    let w = leading-length k x h in
+    cases (ltb r (w .0))
+    (λ l. omega (arith, w .1, true-le (suc r) (w .0) l))
+    (λ l. let m : w .0 ≤ r = omega (arith, false-le (suc r) (w .0) l) in
+    let z : x / 2 ^ r ≡ 0 = div-eq-of-lt (lt-of-lt-of-le (w .2) (pow-le-pow-right {n = 2} (omega arith) m)) in
+    absurd (omega (arith, true-eq (x / 2 ^ r % 2) 1 e)))
+
+-- ---- the rules that look at a place
+
+-- the codes of rule r lie four a rule
+pub looks-from : (sides : List ℕ) (p r : ℕ) →
+    looksFrom p (drop (r * 4) sides) ≡ looksBy (getD sides (4 * r) 0) (getD sides (4 * r + 2) 0) p
+looks-from sides p r =
+    let a : r * 4 + 0 ≡ 4 * r = omega arith in
+    let b : r * 4 + 2 ≡ 4 * r + 2 = omega arith in
+    let s = getD-drop (r * 4) sides 0 0 ∙ ap (λ (k : ℕ). getD sides k 0) a in
+    let m = getD-drop (r * 4) sides 2 0 ∙ ap (λ (k : ℕ). getD sides k 0) b in
+    ap₂ (λ (x y : ℕ). looksBy x y p) s m
+
+pub looker-bit : (sides : List ℕ) (n p r : ℕ) → r < n →
+    bit r (lookersOf sides n p) ≡ looksBy (getD sides (4 * r) 0) (getD sides (4 * r + 2) 0) p
+looker-bit sides n p r h = mask-at 4 codes (looksFrom p) n sides r h ∙ looks-from sides p r

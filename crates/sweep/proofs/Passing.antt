@@ -1,24 +1,24 @@
--- The turns of the loops of `pass` and `sweep`, and a stage with no active rule (`idle`).
+-- The look at one place, the turns of the loops of `pass` and `sweep`, and a stage with no active rule (`idle`).
 use mathlib.Core.Path.{_≡_, refl, sym, ap, _∙_, subst}
-use mathlib.Core.Bool.{Bool, true, false, _&&_, _||_, true≢false, false≢true}
+use mathlib.Core.Bool.{Bool, true, false, _||_, true≢false, false≢true}
 use mathlib.Core.List.{List, [], _∷_}
-use Prim.Native.Nat.{ℕ, suc, _+_, _*_, _^_, _≤_, _<_}
-use native.Mathlib.Nat.{zero-div}
+use Prim.Native.Nat.{ℕ, suc, _+_, _*_, _≤_, _<_}
 use native.Mathlib.Omega.{arith}
+use lib.Bits.{bitAnd}
 use lib.Dec.{eqb}
 use lib.ListN.{length, getD, set}
 use lib.Seq.{getD-set-same, getD-set-other}
-use Rattle.foundation.specs.Tests.{cases, true-eq, false-eq, and-true, or-cases, or-none}
+use Rattle.foundation.specs.Tests.{cases, true-eq, false-eq, or-cases, or-none}
 use Rattle.model.specs.Encoding.{bit}
-use Rattle.sweep.specs.Sweep.{places, looksBy, wantsBy, Plan, linkOf, aim}
-use Rattle.sweep.specs.Progress.{wordBound, Shut, total, Ready, Visit, Looked, Pass, Smallest, Settling, left}
+use Rattle.sweep.specs.Sweep.{places, looksBy, Plan, linkOf}
+use Rattle.sweep.specs.Progress.{wordBound, Shut, total, Ready, Looking, Span, Visit, Looked, Pass}
+use Rattle.sweep.specs.Progress.{Settling, Smallest, left}
+use Rattle.sweep.proofs.Laws.{bit-none, bit-both}
+use Rattle.sweep.proofs.Turn.{given, begin}
 
 total-bound : (l : List ℕ) (b : ℕ) → ((i : ℕ) → getD l i 0 < b) → total l ≤ length l * b
 total-bound [] b h = omega arith
 total-bound (x ∷ l) b h = omega (arith, h 0, total-bound l b (λ i. h (suc i)))
-
-bit-none : (i : ℕ) → bit i 0 ≡ false
-bit-none i = rw (zero-div (2 ^ i))
 
 module _ (pl : Plan) (before direct : List ℕ) where
   -- ---- one place
@@ -66,6 +66,31 @@ module _ (pl : Plan) (before direct : List ℕ) where
     where
       cleared : getD (set D₀ p 0) p 0 ≡ 0
       cleared = getD-set-same D₀ p 0 0 (omega (arith, y .flags))
+
+  -- the active candidates of a place in use are the word c
+  module _ (looks : List ℕ) (p c : ℕ) (e : c ≡ bitAnd (getD looks p 0) (pl .stage .active)) (h : p < pl .stage .used)
+      (k : Looking pl looks) where
+    candidate : (r : ℕ) → r < pl .stage .rules → bit r (pl .stage .active) ≡ true →
+        looksBy (linkOf pl r .rsubject) (linkOf pl r .rmode) p ≡ true → bit r c ≡ true
+    candidate r l a b = ap (bit r) e ∙ bit-both (getD looks p 0) (pl .stage .active) r (k r p l h b) a
+
+    -- where there are none, the flag is cleared, and that is all
+    pub unwatched : (T D : List ℕ) → Ready pl before direct T D → c ≡ 0 →
+        Looked pl before direct T D p false T (set D p 0)
+    unwatched T D y z = seen T D p false T (set D p 0) y h (begin pl before direct T D p y (pl .stage .rules)
+        (λ r l f. let g = given pl before direct T r p f in
+        false≢true (sym (ap (bit r) z ∙ bit-none r) ∙ candidate r l (g .0) (g .1))))
+
+    -- else they lie between the ends of c
+    pub spanned : (first last : ℕ) →
+        (first ≤ pl .stage .rules) × ((r : ℕ) → r < pl .stage .rules → bit r c ≡ true → first ≤ r) →
+        (last ≤ pl .stage .rules) × ((r : ℕ) → r < pl .stage .rules → bit r c ≡ true → r < last) →
+        Span pl p first last
+    spanned first last f g = record {
+      starts = f .0;
+      ends = g .0;
+      spans = λ r l a b. let w = candidate r l a b in (f .1 r l w, g .1 r l w);
+    }
 
   -- ---- a pass
 
@@ -147,13 +172,7 @@ module _ (pl : Plan) (before direct : List ℕ) where
   -- where no rule is active, no bit is to be set
   pub idle : (T D : List ℕ) → pl .stage .active ≡ 0 → Ready pl before direct T D → Smallest pl before direct T T
   idle T D e y = record {
-    shut = λ p h r k f. let c = linkOf pl r in
-        let l = looksBy (c .rsubject) (c .rmode) p in
-        let g = c .fresh || bit r (getD before (aim pl r p) 0) in
-        let w = wantsBy (c .feed) (c .negating) (getD T p 0) (getD direct p 0) r in
-        let a : bit r (pl .stage .active) ≡ true = and-true (c .active) l (and-true (c .active && l) g
-        (and-true (c .active && l && g) w f .0) .0) .0 in
-        absurd (false≢true (sym (ap (bit r) e ∙ bit-none r) ∙ a));
+    shut = λ p h r k f. absurd (false≢true (sym (ap (bit r) e ∙ bit-none r) ∙ given pl before direct T r p f .0));
     above = λ p r f. f;
     within = λ Q h k. h;
     size = y .size;

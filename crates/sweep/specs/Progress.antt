@@ -8,7 +8,7 @@ use lib.Bits.{bitOr}
 use Rattle.foundation.specs.Tests.{pick}
 use Rattle.model.specs.Encoding.{bit}
 use Rattle.sweep.specs.declared.Link.{Link}
-use Rattle.sweep.specs.Sweep.{places, Plan, target, setsBy, aim, gives}
+use Rattle.sweep.specs.Sweep.{places, looksBy, Plan, target, setsBy, linkOf, aim, gives}
 
 -- one more than the largest word
 abbrev pub wordBound : ℕ
@@ -50,6 +50,19 @@ pub record Ready (pl : Plan) (before direct T D : List ℕ) : Type 0 where
   pub flags : length D ≡ places
   pub words : (i : ℕ) → getD T i 0 < wordBound
   pub tidy : (i : ℕ) → i < pl .stage .used → getD D i 0 ≡ 0 → Shut pl before direct T (pl .stage .rules) i
+
+-- every rule that looks at a place is among the place's candidates
+abbrev pub Looking : Plan → List ℕ → Type 0
+Looking pl looks =
+    (r p : ℕ) → r < pl .stage .rules → p < pl .stage .used →
+    looksBy (linkOf pl r .rsubject) (linkOf pl r .rmode) p ≡ true → bit r (getD looks p 0) ≡ true
+
+-- the active rules that look at place p are from `first` to before `last`
+pub record Span (pl : Plan) (p first last : ℕ) : Type 0 where
+  pub starts : first ≤ pl .stage .rules
+  pub ends : last ≤ pl .stage .rules
+  pub spans : (r : ℕ) → r < pl .stage .rules → bit r (pl .stage .active) ≡ true →
+      looksBy (linkOf pl r .rsubject) (linkOf pl r .rmode) p ≡ true → (first ≤ r) × (r < last)
 
 -- One rule tried at place p: b says whether it set its bit, and T and D are the table and the flags after that
 pub record Tried (k : Link) (before direct T₀ D₀ : List ℕ) (r p : ℕ) (b : Bool) (T D : List ℕ) : Type 0 where

@@ -7,7 +7,9 @@ use lib.Dec.{eqb}
 use lib.ListN.{getD}
 use lib.Bits.{bitAnd}
 use Rattle.foundation.specs.Tests.{pick}
+use Rattle.foundation.specs.Bytes.{records}
 use Rattle.model.specs.Encoding.{bit}
+use Rattle.rules.specs.Masks.{maskOf}
 use Rattle.sweep.specs.declared.Stage.{Stage}
 use Rattle.sweep.specs.declared.Link.{Link}
 
@@ -26,6 +28,17 @@ places = subjects * modes
 -- p is the place of a right side with subject code s and mode code m
 abbrev pub looksBy : ℕ → ℕ → ℕ → Bool
 looksBy s m p = (eqb s subjects || eqb s (p / modes)) && (eqb m modes || eqb m (p % modes))
+
+-- a rule looks at p whose codes are at the start of l: of its right side the subject is first, and the mode third
+abbrev pub looksFrom : ℕ → List ℕ → Bool
+looksFrom p l = looksBy (getD l 0 0) (getD l 2 0) p
+
+-- as bits, which of n rules look at p; their codes are four a rule, read as they lie
+abbrev pub codes : List ℕ → List ℕ
+codes l = l
+
+abbrev pub lookersOf : List ℕ → ℕ → ℕ → ℕ
+lookersOf sides n p = maskOf (looksFrom p) (records 4 codes n sides)
 
 -- the place of the left side with subject code s and mode code m, seen from the place p of the right side
 abbrev pub targetBy : ℕ → ℕ → ℕ → ℕ

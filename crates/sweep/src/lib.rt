@@ -5,13 +5,14 @@
 // says that rule r derives its left side there. A rule leads from the place of its right side to that of its left
 // side.
 ghost use mathlib.Core.Path.{_≡_};
-ghost use Prim.Native.Nat.{_+_, _^_, _≤_, _<_};
-ghost use lib.ListN.{set};
+ghost use mathlib.Core.Bool.{true};
+ghost use Prim.Native.Nat.{ℕ, _+_, _*_, _^_, _≤_, _<_};
+ghost use lib.ListN.{getD, set};
 ghost use lib.Bits.{bitOr};
 ghost use Rattle.foundation.specs.Tests.{pick};
 ghost use Rattle.model.specs.Encoding.{bit};
-ghost use Rattle.sweep.specs.Sweep.{places, looksBy, targetBy, wantsBy, target, plan, linkOf, aim};
-ghost use Rattle.sweep.specs.Progress.{Ready, Tried, Visit, Looked, Pass, Smallest};
+ghost use Rattle.sweep.specs.Sweep.{places, looksBy, lookersOf, targetBy, wantsBy, target, plan, linkOf, aim};
+ghost use Rattle.sweep.specs.Progress.{Ready, Looking, Span, Tried, Visit, Looked, Pass, Smallest};
 
 // The subjects of a question, the modes, and each subject with each mode. As the code of a subject or a mode of a
 // rule, the number itself is the star.
@@ -61,6 +62,28 @@ pub fn with_bit(x: u64, r: u32) -> u64
     x | (1 << r)
 }
 
+// The number of the lowest bit of x, if it is below n; else n.
+fn lowest(x: u64, n: usize) -> usize
+    ensures { λ k. ⌜ (k ≤ n) × ((r : ℕ) → r < n → bit r x ≡ true → k ≤ r) ⌝ }
+{
+    let k = u64::trailing_zeros(x) as usize;
+    if k < n {
+        return k;
+    }
+    n
+}
+
+// One more than the number of the highest bit of x, if that is below n; else n.
+fn beyond(x: u64, n: usize) -> usize
+    ensures { λ k. ⌜ (k ≤ n) × ((r : ℕ) → r < n → bit r x ≡ true → r < k) ⌝ }
+{
+    let k = 64 - u64::leading_zeros(x) as usize;
+    if k < n {
+        return k;
+    }
+    n
+}
+
 // A byte as a number.
 fn wide(x: u8) -> usize
     ensures { λ r. ⌜ (r ≡ x) × (r < 256) ⌝ }
@@ -97,6 +120,35 @@ fn looks_at(s: u8, m: u8, p: usize) -> bool
     let s = s as usize;
     let m = m as usize;
     ((s == SUBJECTS) | (s == p / MODES)) & ((m == MODES) | (m == p % MODES))
+}
+
+// The rules that look at place p, as bits.
+fn lookers(sides: &[u8; 256], n: usize, p: usize) -> u64
+    requires { ⌜ n ≤ 64 ⌝ }
+    ensures { λ m. ⌜ m ≡ lookersOf (now (sides .entry)) n p ⌝ }
+{
+    let mut m = 0;
+    let mut r = n;
+    while 0 < r {
+        r -= 1;
+        let at = 4 * r;
+        m = 2 * m + looks_at(sides[at], sides[at + 2], p) as u64;
+    }
+    m
+}
+
+// Puts into `looks`, for each place in use, the rules that look at it.
+pub fn draw_looks(sides: &[u8; 256], n: usize, used: usize, looks: &mut [u64; PLACES])
+    requires { ⌜ (n ≤ 64) × (used ≤ places) ⌝ }
+    ensures { λ _. ⌜ ((r p : ℕ) → r < n → p < used → bit r (getD (now (looks .exit)) p 0)
+        ≡ looksBy (getD (now (sides .entry)) (4 * r) 0) (getD (now (sides .entry)) (4 * r + 2) 0) p) ⌝ }
+{
+    *looks = [0; PLACES];
+    let mut p = 0;
+    while p < used {
+        looks[p] = lookers(sides, n, p);
+        p += 1;
+    }
 }
 
 // Whether the right side of rule r is as the rule wants, at a place where the rules derive w and authorizations fit
@@ -190,7 +242,8 @@ fn try_rule(
     step(k, before, direct, table, changed, r, p)
 }
 
-// Looks at place p for every rule; whether a bit was set.
+// Looks at place p for the rules from `first` to before `last`; whether a bit was set. The other rules do not look
+// at the place, or are not active.
 fn visit(
     g: Stage,
     sides: &[u8; 256],
@@ -200,10 +253,13 @@ fn visit(
     table: &mut [u64; PLACES],
     changed: &mut [u8; PLACES],
     p: usize,
+    first: usize,
+    last: usize,
 ) -> bool
     requires { ⌜
         (p < g .used)
         × Ready (plan g (now sides) (now feed)) (now before) (now direct) (now table) (now changed)
+        × Span (plan g (now sides) (now feed)) p first last
         ⌝ }
     ensures { λ b. ⌜
         Visit (plan g (now (sides .entry)) (now (feed .entry))) (now (before .entry)) (now (direct .entry))
@@ -212,8 +268,8 @@ fn visit(
 {
     changed[p] = 0;
     let mut hit = false;
-    let mut r = 0;
-    while r < g.rules {
+    let mut r = first;
+    while r < last {
         let b = try_rule(g, sides, feed, before, direct, table, changed, r, p);
         hit = hit | b;
         r += 1;
@@ -221,11 +277,13 @@ fn visit(
     hit
 }
 
-// Looks at place p, if it changed since it was looked at; whether a bit was set.
+// Looks at place p, if it changed since it was looked at; whether a bit was set. Where no active rule looks at the
+// place, its flag is cleared and no rule is tried.
 fn look(
     g: Stage,
     sides: &[u8; 256],
     feed: &[u64; 64],
+    looks: &[u64; PLACES],
     before: &[u64; PLACES],
     direct: &[u64; PLACES],
     table: &mut [u64; PLACES],
@@ -235,6 +293,7 @@ fn look(
     requires { ⌜
         (p < g .used)
         × Ready (plan g (now sides) (now feed)) (now before) (now direct) (now table) (now changed)
+        × Looking (plan g (now sides) (now feed)) (now looks)
         ⌝ }
     ensures { λ b. ⌜
         Looked (plan g (now (sides .entry)) (now (feed .entry))) (now (before .entry)) (now (direct .entry))
@@ -243,7 +302,25 @@ fn look(
 {
     let d = changed[p];
     if d != 0 {
-        return visit(g, sides, feed, before, direct, table, changed, p);
+        let c = looks[p] & g.active;
+        if c == 0 {
+            changed[p] = 0;
+            return false;
+        }
+        let first = lowest(c, g.rules);
+        let last = beyond(c, g.rules);
+        return visit(
+            g,
+            sides,
+            feed,
+            before,
+            direct,
+            table,
+            changed,
+            p,
+            first,
+            last,
+        );
     }
     false
 }
@@ -253,12 +330,16 @@ fn pass(
     g: Stage,
     sides: &[u8; 256],
     feed: &[u64; 64],
+    looks: &[u64; PLACES],
     before: &[u64; PLACES],
     direct: &[u64; PLACES],
     table: &mut [u64; PLACES],
     changed: &mut [u8; PLACES],
 ) -> bool
-    requires { ⌜ Ready (plan g (now sides) (now feed)) (now before) (now direct) (now table) (now changed) ⌝ }
+    requires { ⌜
+        Ready (plan g (now sides) (now feed)) (now before) (now direct) (now table) (now changed)
+        × Looking (plan g (now sides) (now feed)) (now looks)
+        ⌝ }
     ensures { λ b. ⌜
         Pass (plan g (now (sides .entry)) (now (feed .entry))) (now (before .entry)) (now (direct .entry))
         (now (table .entry)) (g .used) b (now (table .exit)) (now (changed .exit))
@@ -267,7 +348,7 @@ fn pass(
     let mut hit = false;
     let mut p = 0;
     while p < g.used {
-        let b = look(g, sides, feed, before, direct, table, changed, p);
+        let b = look(g, sides, feed, looks, before, direct, table, changed, p);
         hit = hit | b;
         p += 1;
     }
@@ -279,12 +360,16 @@ fn sweep(
     g: Stage,
     sides: &[u8; 256],
     feed: &[u64; 64],
+    looks: &[u64; PLACES],
     before: &[u64; PLACES],
     direct: &[u64; PLACES],
     table: &mut [u64; PLACES],
     changed: &mut [u8; PLACES],
 )
-    requires { ⌜ Ready (plan g (now sides) (now feed)) (now before) (now direct) (now table) (now changed) ⌝ }
+    requires { ⌜
+        Ready (plan g (now sides) (now feed)) (now before) (now direct) (now table) (now changed)
+        × Looking (plan g (now sides) (now feed)) (now looks)
+        ⌝ }
     ensures { λ _. ⌜
         Smallest (plan g (now (sides .entry)) (now (feed .entry))) (now (before .entry)) (now (direct .entry))
         (now (table .entry)) (now (table .exit))
@@ -292,7 +377,7 @@ fn sweep(
 {
     let mut again = true;
     while again {
-        again = pass(g, sides, feed, before, direct, table, changed);
+        again = pass(g, sides, feed, looks, before, direct, table, changed);
     }
 }
 
@@ -301,18 +386,22 @@ pub fn settle(
     g: Stage,
     sides: &[u8; 256],
     feed: &[u64; 64],
+    looks: &[u64; PLACES],
     before: &[u64; PLACES],
     direct: &[u64; PLACES],
     table: &mut [u64; PLACES],
     changed: &mut [u8; PLACES],
 )
-    requires { ⌜ Ready (plan g (now sides) (now feed)) (now before) (now direct) (now table) (now changed) ⌝ }
+    requires { ⌜
+        Ready (plan g (now sides) (now feed)) (now before) (now direct) (now table) (now changed)
+        × Looking (plan g (now sides) (now feed)) (now looks)
+        ⌝ }
     ensures { λ _. ⌜
         Smallest (plan g (now (sides .entry)) (now (feed .entry))) (now (before .entry)) (now (direct .entry))
         (now (table .entry)) (now (table .exit))
         ⌝ }
 {
     if g.active != 0 {
-        sweep(g, sides, feed, before, direct, table, changed);
+        sweep(g, sides, feed, looks, before, direct, table, changed);
     }
 }

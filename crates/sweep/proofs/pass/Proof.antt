@@ -11,22 +11,24 @@ use Rattle.sweep.proofs.pass.Statement.{statement}
 use Rattle.sweep.proofs.pass.Tie as tie
 
 abbrev Inv-loop : tie.InvT-loop
-Inv-loop g sides feed before direct table₀ changed₀ hit₀ p₀ table changed hit p =
+Inv-loop g sides feed looks before direct table₀ changed₀ hit₀ p₀ table changed hit p =
     (p ≤ g .used) × Pass (plan g sides feed) before direct table₀ p hit table changed
 
 abbrev μ-loop : tie.MeasureT-loop
-μ-loop g sides feed before direct table₀ changed₀ hit₀ p₀ table changed hit p = g .used - p
+μ-loop g sides feed looks before direct table₀ changed₀ hit₀ p₀ table changed hit p = g .used - p
 
 loop-holds : tie.Need-loop-holds Inv-loop μ-loop
 loop-holds c =
     let a = c .args in (
       search needs,
       pass-begin (plan (a .g) (now (a .sides)) (now (a .feed))) (now (a .before)) (now (a .direct)) (now (a .table))
-          (now (a .changed)) (c .pre),
+          (now (a .changed)) (c .pre .0),
     )
 
 look-requires : tie.Need-look-requires Inv-loop μ-loop
-look-requires c κs = (search needs, c .before .before .before .before .loop .inv .1 .ready)
+look-requires c κs =
+    let l = c .before .before .before .before in
+    (search needs, l .loop .inv .1 .ready, l .before .pre .1)
 
 loop-again : tie.Need-loop-again Inv-loop μ-loop
 loop-again c =

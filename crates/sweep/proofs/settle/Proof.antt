@@ -11,7 +11,7 @@ returns-2 : tie.Need-returns-2
 returns-2 c =
     let a = c .before .before .args in
     idle (plan (a .g) (now (a .sides)) (now (a .feed))) (now (a .before)) (now (a .direct)) (now (a .table))
-    (now (a .changed)) (omega arith) (c .before .before .pre)
+    (now (a .changed)) (omega arith) (c .before .before .pre .0)
 
 pub settle-spec : {M : Type 1} → statement M
 settle-spec = tie.close (tie.spec (λ c κs. search needs) (λ c. search needs) returns-2)

@@ -7,20 +7,22 @@ use Rattle.sweep.proofs.sweep.Statement.{statement}
 use Rattle.sweep.proofs.sweep.Tie as tie
 
 abbrev Inv-loop : tie.InvT-loop
-Inv-loop g sides feed before direct table₀ changed₀ again₀ table changed again =
+Inv-loop g sides feed looks before direct table₀ changed₀ again₀ table changed again =
     Settling (plan g sides feed) before direct table₀ again table changed
 
 abbrev μ-loop : tie.MeasureT-loop
-μ-loop g sides feed before direct table₀ changed₀ again₀ table changed again = left again table
+μ-loop g sides feed looks before direct table₀ changed₀ again₀ table changed again = left again table
 
 loop-holds : tie.Need-loop-holds Inv-loop μ-loop
 loop-holds c =
     let a = c .args in
     settle-begin (plan (a .g) (now (a .sides)) (now (a .feed))) (now (a .before)) (now (a .direct)) (now (a .table))
-    (now (a .changed)) (c .pre)
+    (now (a .changed)) (c .pre .0)
 
 pass-requires : tie.Need-pass-requires Inv-loop μ-loop
-pass-requires c κs = c .before .before .before .loop .inv .ready
+pass-requires c κs =
+    let l = c .before .before .before in
+    (l .loop .inv .ready, l .before .pre .1)
 
 loop-less : tie.Need-loop-less Inv-loop μ-loop
 loop-less c =

@@ -1,0 +1,2 @@
+-- `Print` has what the contracts of printing say.
+pub mod Print

@@ -1,0 +1,22 @@
+-- `option_at` meets its contract: one field, read by its bytes.
+use mathlib.Core.Path.{refl}
+use denote.Ref.{now}
+use borrow.Author.Needs.{needs}
+use Rattle.model.specs.Text.{option}
+use Rattle.reading.proofs.Laws.{field-read}
+use Rattle.reading.proofs.places.option_at.Statement.{statement}
+use Rattle.reading.proofs.places.option_at.Tie as tie
+
+returns : tie.Need-returns
+returns c =
+    let f = c .before .before .before in
+    let a = f .before .before .args in
+    field-read option (now (a .s)) (a .at) (f .field-at .result .from) (f .field-at .result .to)
+    (c .before .option-of .result .known) (c .before .option-of .result .value) (c .behind .result)
+    (f .field-at .ensures) refl (c .before .option-of .ensures) (c .behind .ensures)
+
+pub option-at-spec : {M : Type 1} → statement M
+option-at-spec =
+    tie.close
+    (tie.spec (λ c κs. search needs) (λ c. search needs) (λ c. search needs) (λ c. search needs)
+    (λ c κs. search needs) (λ c κs. search needs) returns)

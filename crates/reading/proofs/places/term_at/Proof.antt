@@ -1,0 +1,22 @@
+-- `term_at` meets its contract: one field, read by its bytes.
+use mathlib.Core.Path.{refl}
+use denote.Ref.{now}
+use borrow.Author.Needs.{needs}
+use Rattle.model.specs.Text.{term}
+use Rattle.reading.proofs.Laws.{field-read}
+use Rattle.reading.proofs.places.term_at.Statement.{statement}
+use Rattle.reading.proofs.places.term_at.Tie as tie
+
+returns : tie.Need-returns
+returns c =
+    let f = c .before .before .before in
+    let a = f .before .before .args in
+    field-read term (now (a .s)) (a .at) (f .field-at .result .from) (f .field-at .result .to)
+    (c .before .term-of .result .known) (c .before .term-of .result .value) (c .behind .result)
+    (f .field-at .ensures) refl (c .before .term-of .ensures) (c .behind .ensures)
+
+pub term-at-spec : {M : Type 1} → statement M
+term-at-spec =
+    tie.close
+    (tie.spec (λ c κs. search needs) (λ c. search needs) (λ c. search needs) (λ c. search needs)
+    (λ c κs. search needs) (λ c κs. search needs) returns)
