@@ -6,8 +6,8 @@ mod asking;
 mod runs;
 mod walk;
 
-use asking::may_sound;
-use asking::when_sound;
+pub use asking::may_sound;
+pub use asking::when_sound;
 use model::Access;
 use model::Question;
 use model::Reply;

@@ -1,0 +1,2 @@
+-- `Walk` has the laws of a walk through a piece of input.
+pub mod Walk

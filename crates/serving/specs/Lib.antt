@@ -1,0 +1,6 @@
+pub mod Turns
+pub mod Replies
+pub mod Pieces
+pub mod Stream
+pub mod Steps
+pub mod Progress

@@ -1,0 +1,77 @@
+-- One step through a piece of input, as the program takes it: what is printed, and what is left of the piece, are
+-- what `feed` says.
+use mathlib.Core.Path.{_≡_, refl, sym, _∙_, subst}
+use Prim.Native.Nat.{ℕ, _≤_, _<_}
+use native.Mathlib.Omega.{arith}
+use mathlib.Core.Bool.{true, false, true≢false, false≢true}
+use mathlib.Core.List.{List, [], _∷_, _++_}
+use lib.ListN.{length, take, drop}
+use lib.Seq.{drop-length}
+use Rattle.model.specs.Soundness.{soundBytes}
+use Rattle.serving.specs.declared.pieces.Reached.{Reached}
+use Rattle.serving.specs.declared.steps.Stepped.{Stepped}
+use Rattle.serving.specs.Turns.{Turned, Kept}
+use Rattle.serving.specs.Pieces.{Took, before-all, kept-turned, kept-none}
+use Rattle.serving.specs.Stream.{printed, feed, finish, feed-ended, feed-goes-on}
+
+-- a step from the place `from` of a piece, on the bytes s, behind the bytes of a line: `left` are those of the line
+-- that is not ended yet. All that is still to be fed is fed from there on.
+pub record Steps (s pending piece : List ℕ) (from : ℕ) (r : Stepped) (s′ line′ out : List ℕ) : Type 0 where
+  pub left : List ℕ
+  pub kept : Kept left (r .len) line′
+  pub feeds : feed s pending (drop from piece) ≡ printed (take (r .n) out) (feed s′ left (drop (r .at) piece))
+  pub sound : soundBytes s′ ≡ true
+  pub few : r .n ≤ 24001
+  pub within : r .at ≤ length piece
+  pub further : r .ended ≡ true → from < r .at
+  pub whole : r .ended ≡ false → r .at ≡ length piece
+
+-- a line was answered
+pub step-ended : {s pending piece : List ℕ} {from : ℕ} {r : Reached} {line′ : List ℕ} {n : ℕ} {out s′ : List ℕ} →
+    Took pending piece from r line′ → r .ended ≡ true → Turned s (take (r .len) line′) n out s′ →
+    Steps s pending piece from (record { n = n; len = 0; at = r .at; ended = true }) s′ line′ out
+step-ended {s} {pending} {piece} {from} {r} {line′} {n} {out} {s′} k e t =
+    let u = kept-turned (k .kept) t in
+    let w = drop from piece in
+    record {
+      left = [];
+      kept = kept-none line′ (k .kept .size);
+      feeds = feed-ended s pending w (sym (k .ended) ∙ e) ∙ rw (u .text, u .bytes, k .rest);
+      sound = t .sound;
+      few = t .few;
+      within = k .within;
+      further = λ q. k .further e;
+      whole = λ q. absurd (true≢false q);
+    }
+
+-- the piece ended before the line
+pub step-goes-on : {s pending piece : List ℕ} {from : ℕ} {r : Reached} {line′ out : List ℕ} →
+    Took pending piece from r line′ → r .ended ≡ false → soundBytes s ≡ true →
+    Steps s pending piece from (record { n = 0; len = r .len; at = r .at; ended = false }) s line′ out
+step-goes-on {s} {pending} {piece} {from} {r} {line′} {out} k e h =
+    let w = drop from piece in
+    let none = sym (k .ended) ∙ e in
+    record {
+      left = pending ++ w;
+      kept = subst (λ (p : List ℕ). Kept (pending ++ p) (r .len) line′) (before-all w none) (k .kept);
+      feeds = feed-goes-on s pending w none ∙ rw (k .whole e, drop-length piece);
+      sound = h;
+      few = omega arith;
+      within = k .within;
+      further = λ q. absurd (false≢true q);
+      whole = λ q. k .whole e;
+    }
+
+-- ---- the end of the input
+
+-- no byte is kept of a line that has none
+pub finish-none : (s pending : List ℕ) {len : ℕ} {line : List ℕ} → Kept pending len line → len ≡ 0 →
+    [] ≡ finish s pending
+finish-none s [] k e = refl
+finish-none s (c ∷ p) k e = absurd (omega (arith, k .count))
+
+-- of any other line there is one, and it is answered
+pub finish-line : (s pending : List ℕ) {len : ℕ} {line : List ℕ} {n : ℕ} {out s′ : List ℕ} → Kept pending len line →
+    0 < len → Turned s (take len line) n out s′ → take n out ≡ finish s pending
+finish-line s [] k h t = absurd (omega (arith, k .count))
+finish-line s (c ∷ p) k h t = kept-turned k t .text
