@@ -1,5 +1,5 @@
 -- What a request does that rows 3 to 12 let pass: row 13 is asked of its effect, and either refuses it or leaves the
--- effect's bytes (`Carried`). `passed-answered`, `number-answered`, `uncovered-answered` and `foreign-answered` make
+-- effect's bytes (`Carried`). `passed-answered`, `number-answered`, `uncovered-answered` and `unsound-answered` make
 -- the library's answer of it.
 use mathlib.Core.Path.{_≡_, refl, sym, ap, _∙_}
 use mathlib.Core.Logic.{_≢_}
@@ -75,8 +75,8 @@ module _ (s : List ℕ) (q : Request) (e : soundBytes s ≡ true) where
 
 -- ---- on bytes that are not
 
-pub foreign-answered : (s : List ℕ) (q : Request) → soundBytes s ≡ false → Answered s q (Refused 2) s
-foreign-answered s q e = answered-by s q (Refused 2) s (request-unsound s q e) refl
+pub unsound-answered : (s : List ℕ) (q : Request) → soundBytes s ≡ false → Answered s q (Refused 2) s
+unsound-answered s q e = answered-by s q (Refused 2) s (request-unsound s q e) refl
 
 -- ---- past rows 3 to 12
 

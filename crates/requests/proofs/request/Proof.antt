@@ -3,7 +3,7 @@ use borrow.Author.Needs.{needs}
 use mathlib.Core.Path.{sym, _∙_}
 use denote.Ref.{now}
 use Rattle.foundation.specs.Tests.{not-true, not-false}
-use Rattle.requests.specs.Carried.{foreign-answered}
+use Rattle.requests.specs.Carried.{unsound-answered}
 use Rattle.requests.proofs.request.Statement.{statement}
 use Rattle.requests.proofs.request.Tie as tie
 
@@ -11,7 +11,7 @@ returns : tie.Need-returns
 returns c =
     let i = c .before in
     let d = i .before .before .before in
-    foreign-answered (now (d .args .s)) (d .args .q)
+    unsound-answered (now (d .args .s)) (d .args .q)
     (sym (i .is-sound .ensures) ∙ not-true (i .is-sound .result) (c .if1 .taken))
 
 step-requires : tie.Need-step-requires
