@@ -1,3 +1,4 @@
 pub mod Asking
+pub mod Relevant
 pub mod Runs
 pub mod Walk

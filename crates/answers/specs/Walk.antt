@@ -126,13 +126,13 @@ module _ (lines : List ℕ) (na : ℕ) (body : List ℕ) (n : ℕ) where
 
   -- the answer r is read off a table that says what the rules derive at t, whose first subject is that of the access
   abbrev pub ReadOff : List ℕ → Access → ℕ → Bool → Type 0
-  ReadOff T x t r = (U L S F M P : List ℕ) (l g : ℕ) → Prepared lines na body n U L S F M P l g →
+  ReadOff T x t r = (U L S F M P K : List ℕ) (l g top : ℕ) → Prepared lines na body n U L S F M P K l g top →
       At lines na body n U t T → indexOf (x .subject) U ≡ 0 → r ≡ mayIn x t
 
   pub read : (T : List ℕ) (x : Access) (t : ℕ) (r : Bool) → accessIn x ≡ true →
       (let word = getD T (x .mode - 1) 0 in r ≡ heldBy word x t false && not (heldBy word x t true)) →
       ReadOff T x t r
-  read T x t r a e U L S F M P l g ready at first =
+  read T x t r a e U L S F M P K l g top ready at first =
       let i = isSubject (x .subject) in
       let m = isMode (x .mode) in
       let moded : isMode (x .mode) ≡ true = and-true i m (and-true (i && m) (isObject (x .object)) a .0) .1 in
@@ -140,7 +140,7 @@ module _ (lines : List ℕ) (na : ℕ) (body : List ℕ) (n : ℕ) where
       (le-true (suc (indexOf (x .subject) U)) (length U) (omega (arith, first, ready .listed .some))) moded in
       let place : placeOf U x ≡ x .mode - 1 = omega (arith, first) in
       e ∙ ap (λ (p : ℕ). let word = getD T p 0 in heldBy word x t false && not (heldBy word x t true)) (sym place)
-      ∙ read-off lines na body n U L S F M P l g ready t T at x there (bare (authorizationsIn na lines) (rulesIn n body))
+      ∙ read-off lines na body n U L S F M P K l g top ready t T at x there (bare (authorizationsIn na lines) (rulesIn n body))
       refl refl
 
   -- between marks the answer does not change

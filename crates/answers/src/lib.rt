@@ -3,6 +3,7 @@ ghost use mathlib.Core.Path.{_≡_};
 ghost use Rattle.model.specs.Answers.{answering, mayAnswer, whenAnswer};
 
 mod asking;
+mod relevant;
 mod runs;
 mod walk;
 

@@ -12,6 +12,7 @@ ghost use Rattle.questions.specs.Drawn.{indexOf};
 ghost use Rattle.plan.specs.Scene.{Grounds, Prepared};
 ghost use Rattle.answers.specs.Walk.{heldBy, mayIn, whenIn, ReadOff, Listing};
 use crate::Track;
+use crate::relevant::narrow;
 use crate::runs::finish;
 use crate::runs::note;
 use marks::next_mark;
@@ -74,6 +75,7 @@ fn holds_in(lines: &[u8], na: usize, body: &[u8], n: usize, x: Access, t: u32) -
     let mut feed = [0u64; 64];
     let mut masks = [0u64; 1024];
     let mut spots = [0u16; 1024];
+    let mut looks = [0u64; 520];
     let subject = x.subject as u16;
     let o = prepare(
         lines,
@@ -87,6 +89,7 @@ fn holds_in(lines: &[u8], na: usize, body: &[u8], n: usize, x: Access, t: u32) -
         &mut feed,
         &mut masks,
         &mut spots,
+        &mut looks,
     );
     let mut table = [0u64; 520];
     go_to(
@@ -101,10 +104,21 @@ fn holds_in(lines: &[u8], na: usize, body: &[u8], n: usize, x: Access, t: u32) -
         &feed,
         &masks,
         &spots,
+        &looks,
         t,
         &mut table,
     );
     verdict(lines, na, body, n, &table, x, t)
+}
+
+// Whether MAY says yes at t, by those of the authorizations that matter.
+fn holds_narrowed(lines: &[u8], na: usize, body: &[u8], n: usize, x: Access, t: u32) -> bool
+    requires { ⌜ Grounds (now lines) na (now body) n × (accessIn x ≡ true) ⌝ }
+    ensures { λ r. ⌜ r ≡ mayIn (now (lines .entry)) na (now (body .entry)) n x t ⌝ }
+{
+    let mut kept = [0u8; 24576];
+    let k = narrow(lines, na, body, n, x, &mut kept);
+    holds_in(&kept, k, body, n, x, t)
 }
 
 // Whether MAY says yes at t.
@@ -115,7 +129,7 @@ pub fn holds_at(s: &[u8], x: Access, t: u32) -> bool
     let c = encoding::counts_of(s);
     let la = encoding::authorizations_at(c);
     let ra = encoding::rules_at(c);
-    holds_in(
+    holds_narrowed(
         &s[la..],
         c.authorizations as usize,
         &s[ra..],
@@ -138,11 +152,12 @@ fn scan(
     feed: &[u64; 64],
     masks: &[u64; 1024],
     spots: &[u16; 1024],
+    looks: &[u64; 520],
     x: Access,
     runs: &mut [u32; 2200],
 ) -> usize
     requires { ⌜ Prepared (now lines) na (now body) n (take (o .subjects) (now u)) (now levels) (now sides) (now feed)
-        (now masks) (now spots) (o .lead) (o .negating) ⌝ }
+        (now masks) (now spots) (now looks) (o .lead) (o .negating) (o .top) ⌝ }
     requires { ⌜ (length (take (o .subjects) (now u)) ≡ o .subjects)
         × (indexOf (x .subject) (take (o .subjects) (now u)) ≡ 0) × (accessIn x ≡ true) × (length (now runs) ≡ 2200) ⌝ }
     ensures { λ r. ⌜ Listing (whenIn (now (lines .entry)) na (now (body .entry)) n x) r (now (runs .exit)) ⌝ }
@@ -171,6 +186,7 @@ fn scan(
             feed,
             masks,
             spots,
+            looks,
             a,
             &before,
             &mut direct,
@@ -203,6 +219,7 @@ fn runs_in(
     let mut feed = [0u64; 64];
     let mut masks = [0u64; 1024];
     let mut spots = [0u16; 1024];
+    let mut looks = [0u64; 520];
     let subject = x.subject as u16;
     let o = prepare(
         lines,
@@ -216,6 +233,7 @@ fn runs_in(
         &mut feed,
         &mut masks,
         &mut spots,
+        &mut looks,
     );
     scan(
         lines,
@@ -229,9 +247,27 @@ fn runs_in(
         &feed,
         &masks,
         &spots,
+        &looks,
         x,
         runs,
     )
+}
+
+// The same by those of the authorizations that matter.
+fn runs_narrowed(
+    lines: &[u8],
+    na: usize,
+    body: &[u8],
+    n: usize,
+    x: Access,
+    runs: &mut [u32; 2200],
+) -> usize
+    requires { ⌜ Grounds (now lines) na (now body) n × (accessIn x ≡ true) × (length (now runs) ≡ 2200) ⌝ }
+    ensures { λ r. ⌜ Listing (whenIn (now (lines .entry)) na (now (body .entry)) n x) r (now (runs .exit)) ⌝ }
+{
+    let mut kept = [0u8; 24576];
+    let k = narrow(lines, na, body, n, x, &mut kept);
+    runs_in(&kept, k, body, n, x, runs)
 }
 
 // Writes the maximal intervals where MAY says yes; how many they are.
@@ -242,7 +278,7 @@ pub fn list_runs(s: &[u8], x: Access, runs: &mut [u32; 2200]) -> usize
     let c = encoding::counts_of(s);
     let la = encoding::authorizations_at(c);
     let ra = encoding::rules_at(c);
-    runs_in(
+    runs_narrowed(
         &s[la..],
         c.authorizations as usize,
         &s[ra..],

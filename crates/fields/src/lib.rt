@@ -151,16 +151,16 @@ pub fn same(a: &[u8], b: &[u8]) -> bool
     true
 }
 
-// Whether every byte of a slice is zero.
+// Whether every byte of a slice is zero. It asks all of them, also behind one that is not: a loop with one way out is
+// compiled to many bytes at a time.
 pub fn zeros(s: &[u8]) -> bool
     ensures { λ r. ⌜ r ≡ allb (λ x. eqb x 0) (now (s .entry)) ⌝ }
 {
+    let mut all = true;
     let mut i = 0;
     while i < s.len() {
-        if s[i] != 0 {
-            return false;
-        }
+        all = all & (s[i] == 0);
         i += 1;
     }
-    true
+    all
 }

@@ -29,8 +29,8 @@ use Rattle.questions.specs.Places.{at-place}
 use Rattle.questions.specs.Feeding.{common, in-common, mask-rule, mask-number}
 use Rattle.plan.specs.Scene.{numberIn, derivesOn, Prepared, bitsOf, mayBeSet, At}
 
-module _ (lines : List ℕ) (na : ℕ) (body : List ℕ) (n : ℕ) (U L S F M P : List ℕ) (l g : ℕ)
-    (ready : Prepared lines na body n U L S F M P l g) (t : ℕ) (T : List ℕ) (at : At lines na body n U t T)
+module _ (lines : List ℕ) (na : ℕ) (body : List ℕ) (n : ℕ) (U L S F M P K : List ℕ) (l g top : ℕ)
+    (ready : Prepared lines na body n U L S F M P K l g top) (t : ℕ) (T : List ℕ) (at : At lines na body n U t T)
     (x : Access) (there : counted U x ≡ true) where
   abbrev rules : List Rule
   rules = rulesIn n body

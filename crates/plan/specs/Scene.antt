@@ -20,7 +20,7 @@ use Rattle.model.specs.Rules.{fitsGrantor}
 use Rattle.support.specs.Cover.{authorizationsIn}
 use Rattle.rules.specs.Masks.{maskOf}
 use Rattle.rules.specs.Strata.{rulesIn, ruleAt, feedersOf, Holds}
-use Rattle.sweep.specs.Sweep.{subjects, modes, places}
+use Rattle.sweep.specs.Sweep.{subjects, modes, places, looksBy}
 use Rattle.sweep.specs.Progress.{Has}
 use Rattle.questions.specs.Table.{Bits, Before, Right}
 use Rattle.questions.specs.Planned as planned
@@ -92,7 +92,7 @@ module _ (lines : List ℕ) (na : ℕ) (body : List ℕ) (n : ℕ) where
 
   module _ (U : List ℕ) where
     -- the tables for the subjects U
-    pub record Prepared (L S F M P : List ℕ) (l g : ℕ) : Type 0 where
+    pub record Prepared (L S F M P K : List ℕ) (l g top : ℕ) : Type 0 where
       pub grounds : Grounds
       pub few : length U ≤ subjects
       pub listed : Subjects (rulesIn n body) U
@@ -101,8 +101,12 @@ module _ (lines : List ℕ) (na : ℕ) (body : List ℕ) (n : ℕ) where
       pub feed : Holds n body (feedersOf (rulesIn n body)) F
       pub masks : (j : ℕ) → j < na → getD M j 0 ≡ maskOf (fitsRight (authorizationAt lines j .head)) (rulesIn n body)
       pub spots : (j : ℕ) → j < na → getD P j 0 ≡ spotOf U (authorizationAt lines j .head)
+      pub looks : (r p : ℕ) → r < n → p < length U * modes →
+          bit r (getD K p 0) ≡ looksBy (getD S (4 * r) 0) (getD S (4 * r + 2) 0) p
       pub lead : l ≡ maskOf (leads U) (rulesIn n body)
       pub negating : g ≡ maskOf negates (rulesIn n body)
+      pub low : top ≤ n
+      pub highest : (r : Rule) → Mem r (rulesIn n body) → leads U r ≡ true → stratum (rulesIn n body) r ≤ top
 
     -- the bits of a table of words
     abbrev pub bitsOf : List ℕ → Bits

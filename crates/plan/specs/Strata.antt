@@ -21,10 +21,9 @@ use Rattle.sweep.specs.declared.Stage.{Stage}
 use Rattle.sweep.specs.Sweep.{modes, places, Plan, plan, aim}
 use Rattle.sweep.specs.Progress.{wordBound, Has, Ready, Smallest}
 use Rattle.questions.specs.Table.{Inward, RightBelow}
-use Rattle.questions.specs.FromMarkToMark.{all-right}
 use Rattle.questions.specs.Planned.{stratum-right}
 use Rattle.questions.specs.Drawn.{Direct, Drawn, counted, placeOf, leads, accessOf, activeAt, freshAt}
-use Rattle.questions.specs.DrawnFacts.{drawn-inward, drawn-fit, stands}
+use Rattle.questions.specs.DrawnFacts.{drawn-inward, drawn-fit, node-leads, stands}
 use Rattle.plan.specs.Scene.{numberIn, livingAt, Prepared, bitsOf, mayBeSet, Serves, At}
 use Rattle.plan.specs.Words.{mask-and, numbersIn, level-holds, bit-zero}
 
@@ -60,8 +59,8 @@ zeros-at zero i = refl
 zeros-at (suc n) zero = refl
 zeros-at (suc n) (suc i) = zeros-at n i
 
-module _ (lines : List ℕ) (na : ℕ) (body : List ℕ) (n : ℕ) (U L S F M P : List ℕ) (l g : ℕ)
-    (ready : Prepared lines na body n U L S F M P l g) where
+module _ (lines : List ℕ) (na : ℕ) (body : List ℕ) (n : ℕ) (U L S F M P K : List ℕ) (l g top : ℕ)
+    (ready : Prepared lines na body n U L S F M P K l g top) where
   -- the stage of stratum k at t
   abbrev pub stageAt : ℕ → ℕ → Stage
   stageAt t k = record {
@@ -121,15 +120,19 @@ module _ (lines : List ℕ) (na : ℕ) (body : List ℕ) (n : ℕ) (U L S F M P 
       auths before direct dir) T₀ (d .has) (d .right) T z in
       record { size = z .size; words = z .words; has = w .0; right = w .1 }
 
-  -- after the last stratum all is right
-  pub strata-done : (t : ℕ) (T : List ℕ) → Done lines na body n U t (suc n) T → At lines na body n U t T
-  strata-done t T d = record {
-    has = d .has;
-    right = all-right (authorizationsIn na lines) (rulesIn n body) (counted U) (ready .grounds .strata) t
-        (bitsOf lines na body n U T)
-        (subst (λ (k : ℕ). RightBelow (authorizationsIn na lines) (rulesIn n body) (counted U) t (suc k)
-        (bitsOf lines na body n U T)) (sym count) (d .right));
-  }
+  -- after the highest stratum that a rule about these subjects has, all is right
+  pub strata-done : (t : ℕ) (T : List ℕ) → Done lines na body n U t (suc top) T → At lines na body n U t T
+  strata-done t T d =
+      let gr = ready .grounds in
+      let rules = rulesIn n body in
+      record {
+        has = d .has;
+        right = λ r x o. d .right r x o (omega (
+          arith,
+          ready .highest r (o .0) (node-leads rules U (numberIn rules) (ruleAt body) (ready .listed) (ready .few)
+              (gr .numbering) (gr .shaped) r x o),
+        ));
+      }
 
   -- the rules that are active: by their left side and interval, and by their stratum
   pub active-is : (t k here : ℕ) → here ≡ bitAnd l (maskOf (livingAt t) (rulesIn n body)) →

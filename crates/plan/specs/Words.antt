@@ -266,10 +266,10 @@ spot-is U rules u few h m p l = agree _ _ there back
         rw a (eq-true (i * 8 + (h .mode - 1)) p (omega (arith, range .0)))
 
 -- bit i at p says that an authorization at t is what rule i looks for at p
-pub direct-is : (lines : List ℕ) (na : ℕ) (body : List ℕ) (n : ℕ) (U L S F M P : List ℕ) (l g : ℕ) →
-    Prepared lines na body n U L S F M P l g → (t : ℕ) (direct : List ℕ) → Lit lines na M P t direct →
+pub direct-is : (lines : List ℕ) (na : ℕ) (body : List ℕ) (n : ℕ) (U L S F M P K : List ℕ) (l g top : ℕ) →
+    Prepared lines na body n U L S F M P K l g top → (t : ℕ) (direct : List ℕ) → Lit lines na M P t direct →
     Direct (authorizationsIn na lines) t U (rulesIn n body) (ruleAt body) direct
-direct-is lines na body n U L S F M P l g c t direct lit i p h k =
+direct-is lines na body n U L S F M P K l g top c t direct lit i p h k =
     lit i p (omega (arith, c .few))
     ∙ below-cong na
     (λ j. inInterval (authorizationAt lines j .interval) t && eqb (getD P j 0) p && bit i (getD M j 0))

@@ -1,11 +1,12 @@
 // Masks of the rules, a bit a rule: what changes from mark to mark, and what authorizations fit.
 ghost use mathlib.Core.Path.{_≡_};
-ghost use mathlib.Core.Bool.{_&&_};
+ghost use mathlib.Core.Bool.{true, _&&_};
 ghost use Prim.Native.Nat.{ℕ, _*_, _≤_, _<_};
 ghost use lib.Dec.{eqb};
 ghost use lib.ListN.{length, getD};
 ghost use Rattle.foundation.specs.Lists.{anyb};
 ghost use Rattle.foundation.specs.Intervals.{inInterval};
+ghost use Rattle.model.specs.Encoding.{bit};
 ghost use Rattle.model.specs.Support.{live};
 ghost use Rattle.model.specs.Stratification.{fitsOption};
 ghost use Rattle.model.specs.Rules.{fits, asked};
@@ -54,6 +55,32 @@ pub fn level(levels: &[u16; 64], n: usize, k: u16) -> u64
         i -= 1;
         let b = levels[i] == k;
         x = 2 * x + b as u64;
+    }
+    x
+}
+
+// The larger of two numbers, if the second counts; else the first.
+fn higher(a: usize, b: u16, counts: bool) -> usize
+    ensures { λ x. ⌜ (a ≤ x) × (counts ≡ true → b ≤ x) × ((m : ℕ) → a ≤ m → b ≤ m → x ≤ m) ⌝ }
+{
+    let b = b as usize;
+    if counts & (a < b) {
+        return b;
+    }
+    a
+}
+
+// The largest number in a table of those whose bit is set.
+pub fn highest(levels: &[u16; 64], n: usize, bits: u64) -> usize
+    requires { ⌜ n ≤ 64 ⌝ }
+    ensures { λ x. ⌜ ((i : ℕ) → i < n → bit i bits ≡ true → getD (now (levels .entry)) i 0 ≤ x)
+        × ((m : ℕ) → ((i : ℕ) → i < n → getD (now (levels .entry)) i 0 ≤ m) → x ≤ m) ⌝ }
+{
+    let mut x = 0;
+    let mut i = 0;
+    while i < n {
+        x = higher(x, levels[i], sweep::has_bit(bits, i as u32));
+        i += 1;
     }
     x
 }
@@ -109,7 +136,7 @@ fn fits_option(o: OptionTerm, has: bool) -> bool
 }
 
 // Whether an authorization is what a rule's right side looks for, its subject and mode aside.
-fn fits_right(h: Head, r: Rule) -> bool
+pub fn fits_right(h: Head, r: Rule) -> bool
     ensures { λ x. ⌜ x ≡ fitsRight h r ⌝ }
 {
     let right = r.right;
@@ -205,7 +232,7 @@ pub fn light(
 }
 
 // Whether an authorization is for an access, positive or a denial.
-fn is_for(h: Head, x: Access, negative: bool) -> bool
+pub fn is_for(h: Head, x: Access, negative: bool) -> bool
     ensures { λ r. ⌜ r ≡ fits (asked x negative) h ⌝ }
 {
     let sign = rules::alike(h.negative, negative);

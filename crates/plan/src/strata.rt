@@ -23,6 +23,7 @@ fn sweep_strata(
     feed: &[u64; 64],
     masks: &[u64; 1024],
     spots: &[u16; 1024],
+    looks: &[u64; 520],
     t: u32,
     before: &[u64; 520],
     direct: &mut [u64; 520],
@@ -30,7 +31,7 @@ fn sweep_strata(
     changed: &mut [u8; 520],
 )
     requires { ⌜ Prepared (now lines) na (now body) n (take (o .subjects) (now u)) (now levels) (now sides) (now feed)
-        (now masks) (now spots) (o .lead) (o .negating) ⌝ }
+        (now masks) (now spots) (now looks) (o .lead) (o .negating) (o .top) ⌝ }
     requires { ⌜ (length (take (o .subjects) (now u)) ≡ o .subjects)
         × Serves (now lines) na (now body) n (take (o .subjects) (now u)) t (now before) ⌝ }
     ensures { λ _. ⌜ At (now (lines .entry)) na (now (body .entry)) n (take (o .subjects) (now (u .entry))) t
@@ -39,11 +40,10 @@ fn sweep_strata(
     light(lines, na, masks, spots, t, direct);
     let here = o.lead & living(body, n, t);
     let new = fresh(body, n, t);
-    let mut looks = [0u64; 520];
-    sweep::draw_looks(sides, n, o.subjects * 8, &mut looks);
     *table = [0; 520];
+    let top = o.top;
     let mut k = 0;
-    while k <= n {
+    while k <= top {
         let g = Stage {
             used: o.subjects * 8,
             rules: n,
@@ -52,7 +52,7 @@ fn sweep_strata(
             negating: o.negating,
         };
         *changed = [1; 520];
-        sweep::settle(g, sides, feed, &looks, before, direct, table, changed);
+        sweep::settle(g, sides, feed, looks, before, direct, table, changed);
         k += 1;
     }
 }
@@ -71,6 +71,7 @@ pub fn derive(
     feed: &[u64; 64],
     masks: &[u64; 1024],
     spots: &[u16; 1024],
+    looks: &[u64; 520],
     t: u32,
     before: &[u64; 520],
     direct: &mut [u64; 520],
@@ -78,7 +79,7 @@ pub fn derive(
     changed: &mut [u8; 520],
 )
     requires { ⌜ Prepared (now lines) na (now body) n (take (o .subjects) (now u)) (now levels) (now sides) (now feed)
-        (now masks) (now spots) (o .lead) (o .negating) ⌝ }
+        (now masks) (now spots) (now looks) (o .lead) (o .negating) (o .top) ⌝ }
     requires { ⌜ (length (take (o .subjects) (now u)) ≡ o .subjects)
         × Serves (now lines) na (now body) n (take (o .subjects) (now u)) t (now before) ⌝ }
     ensures { λ _. ⌜ At (now (lines .entry)) na (now (body .entry)) n (take (o .subjects) (now (u .entry))) t
@@ -98,6 +99,7 @@ pub fn derive(
             feed,
             masks,
             spots,
+            looks,
             t,
             before,
             direct,

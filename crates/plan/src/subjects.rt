@@ -4,6 +4,7 @@ ghost use mathlib.Core.Bool.{true};
 ghost use Prim.Native.Nat.{ℕ, _+_, _*_, _≤_, _<_};
 ghost use lib.ListN.{length, take, getD};
 ghost use Rattle.foundation.specs.Lists.{Mem};
+ghost use Rattle.foundation.specs.Totals.{count};
 ghost use Rattle.model.specs.declared.Authorization.{Authorization};
 ghost use Rattle.model.specs.declared.Head.{Head};
 ghost use Rattle.model.specs.Ranges.{isMode};
@@ -13,9 +14,11 @@ ghost use Rattle.rules.specs.Strata.{rulesIn, ruleAt};
 ghost use Rattle.questions.specs.Drawn.{indexOf, subjectCode, modeCode, leads, Coded};
 ghost use Rattle.plan.specs.Scene.{authorizationAt, spotOf, Gathered};
 ghost use Rattle.plan.specs.Indexes.{knownIn, withSubject};
+ghost use Rattle.plan.specs.Gathering.{leftIs, followed, withRights, howMany};
+use model::Rule;
 
 // The index of the first of m subjects that is v, or m.
-fn index_of(u: &[u16; 65], m: usize, v: u16) -> usize
+pub fn index_of(u: &[u16; 65], m: usize, v: u16) -> usize
     requires { ⌜ (m ≤ 65) × (length (take m (now u)) ≡ m) ⌝ }
     ensures { λ r. ⌜ r ≡ indexOf v (take m (now (u .entry))) ⌝ }
 {
@@ -50,8 +53,36 @@ fn add_subject(u: &mut [u16; 65], m: usize, v: u16) -> usize
     m + 1
 }
 
-// Puts the subject of a question into u, and behind it those that the n rules name on their right, each once; how
-// many they are.
+// Puts the subject on the right of a rule behind m subjects, if the rule has v on its left; how many they are then.
+fn follow(r: Rule, v: u16, u: &mut [u16; 65], m: usize) -> usize
+    requires { ⌜ (m + count (leftIs v r) ≤ 65) × (length (now u) ≡ 65) ⌝ }
+    ensures { λ k. ⌜ (k ≤ m + count (leftIs v r)) × (length (now (u .exit)) ≡ 65)
+        × (take k (now (u .exit)) ≡ followed v r (take m (now (u .entry)))) ⌝ }
+{
+    if r.left.subject == v {
+        return add_subject(u, m, r.right.subject);
+    }
+    m
+}
+
+// The same for each of n rules.
+fn add_rights(body: &[u8], n: usize, v: u16, u: &mut [u16; 65], m: usize) -> usize
+    requires { ⌜ (n * 28 ≤ length (now body)) × (length (now u) ≡ 65)
+        × (m + howMany (leftIs v) (rulesIn n (now body)) ≤ 65) ⌝ }
+    ensures { λ k. ⌜ (k ≤ m + howMany (leftIs v) (rulesIn n (now (body .entry)))) × (length (now (u .exit)) ≡ 65)
+        × (take k (now (u .exit)) ≡ withRights v (rulesIn n (now (body .entry))) (take m (now (u .entry)))) ⌝ }
+{
+    let mut k = m;
+    let mut i = 0;
+    while i < n {
+        k = follow(encoding::rule_at(body, i * 28), v, u, k);
+        i += 1;
+    }
+    k
+}
+
+// Puts the subject of a question into u, and behind it, each once, those on the right of rules that have one of u on
+// their left; how many they are. No other subject matters to the question.
 pub fn gather(body: &[u8], n: usize, subject: u16, u: &mut [u16; 65]) -> usize
     requires { ⌜ (n * 28 ≤ length (now body)) × (n ≤ 64) ⌝ }
     ensures { λ m. ⌜ Gathered subject (rulesIn n (now (body .entry))) m (take m (now (u .exit))) ⌝ }
@@ -60,9 +91,9 @@ pub fn gather(body: &[u8], n: usize, subject: u16, u: &mut [u16; 65]) -> usize
     u[0] = subject;
     let mut m = 1;
     let mut i = 0;
-    while i < n {
-        let r = encoding::rule_at(body, i * 28);
-        m = add_subject(u, m, r.right.subject);
+    while i < m {
+        let v = u[i];
+        m = add_rights(body, n, v, u, m);
         i += 1;
     }
     m

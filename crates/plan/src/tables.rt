@@ -5,6 +5,7 @@ ghost use Rattle.questions.specs.Drawn.{indexOf};
 ghost use Rattle.plan.specs.Scene.{Grounds, Prepared};
 use crate::Outline;
 use crate::masks::fit_lines;
+use crate::masks::highest;
 use crate::subjects::draw_sides;
 use crate::subjects::gather;
 use crate::subjects::leading;
@@ -23,11 +24,12 @@ pub fn prepare(
     feed: &mut [u64; 64],
     masks: &mut [u64; 1024],
     spots: &mut [u16; 1024],
+    looks: &mut [u64; 520],
 ) -> Outline
     requires { ⌜ Grounds (now lines) na (now body) n ⌝ }
     ensures { λ o. ⌜ Prepared (now (lines .entry)) na (now (body .entry)) n (take (o .subjects) (now (u .exit)))
-        (now (levels .exit)) (now (sides .exit)) (now (feed .exit)) (now (masks .exit)) (now (spots .exit)) (o .lead)
-        (o .negating)
+        (now (levels .exit)) (now (sides .exit)) (now (feed .exit)) (now (masks .exit)) (now (spots .exit))
+        (now (looks .exit)) (o .lead) (o .negating) (o .top)
         × (length (take (o .subjects) (now (u .exit))) ≡ o .subjects)
         × (indexOf subject (take (o .subjects) (now (u .exit))) ≡ 0) ⌝ }
 {
@@ -37,9 +39,12 @@ pub fn prepare(
     rules::feeding(body, n, feed);
     fit_lines(lines, na, body, n, masks);
     place_lines(lines, na, u, m, spots);
+    sweep::draw_looks(sides, n, m * 8, looks);
+    let lead = leading(body, n, u, m);
     Outline {
         subjects: m,
-        lead: leading(body, n, u, m),
+        lead: lead,
         negating: rules::negating(body, n),
+        top: highest(levels, n, lead),
     }
 }

@@ -65,11 +65,12 @@ pub fn go_to(
     feed: &[u64; 64],
     masks: &[u64; 1024],
     spots: &[u16; 1024],
+    looks: &[u64; 520],
     t: u32,
     table: &mut [u64; 520],
 )
     requires { ⌜ Prepared (now lines) na (now body) n (take (o .subjects) (now u)) (now levels) (now sides) (now feed)
-        (now masks) (now spots) (o .lead) (o .negating) ⌝ }
+        (now masks) (now spots) (now looks) (o .lead) (o .negating) (o .top) ⌝ }
     requires { ⌜ length (take (o .subjects) (now u)) ≡ o .subjects ⌝ }
     ensures { λ _. ⌜ At (now (lines .entry)) na (now (body .entry)) n (take (o .subjects) (now (u .entry))) t
         (now (table .exit)) ⌝ }
@@ -90,6 +91,7 @@ pub fn go_to(
         feed,
         masks,
         spots,
+        looks,
         a,
         &before,
         &mut direct,
@@ -111,6 +113,7 @@ pub fn go_to(
             feed,
             masks,
             spots,
+            looks,
             b,
             &before,
             &mut direct,

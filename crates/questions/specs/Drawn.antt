@@ -33,9 +33,10 @@ indexOf v (u ∷ us) = let i = indexOf v us in pick (eqb u v) 0 (suc i)
 abbrev pub among : List ℕ → ℕ → Bool
 among U v = ltb (indexOf v U) (length U)
 
--- U has every subject that a rule names on its right, and none twice
+-- with the subject on the left of a rule U has the one on its right, and none twice
 pub record Subjects (rules : List Rule) (U : List ℕ) : Type 0 where
-  pub named : (r : Rule) → Mem r rules → isStar (r .right .subject) ≡ false → among U (r .right .subject) ≡ true
+  pub named : (r : Rule) → Mem r rules → among U (r .left .subject) ≡ true → isStar (r .right .subject) ≡ false →
+      among U (r .right .subject) ≡ true
   pub apart : (i : ℕ) → i < length U → indexOf (getD U i 0) U ≡ i
   pub some : 0 < length U
 

@@ -2,12 +2,12 @@
 -- in use to such (`drawn-fit`), and the right sides of rules from accesses that count to such (`drawn-inward`).
 use mathlib.Core.Path.{_≡_, refl, sym, ap, ap₂, _∙_}
 use Prim.Native.Nat.{ℕ, suc, _+_, _*_, _-_, _/_, _%_, _<_, _≤_}
-use mathlib.Core.Bool.{Bool, true, false, not, _&&_, _||_, Bool·beq}
+use mathlib.Core.Bool.{Bool, true, false, not, _&&_, _||_, Bool·beq, true≢false}
 use mathlib.Core.List.{List}
 use lib.Dec.{eqb}
 use lib.ListN.{length, getD}
 use lib.Bits.{bitAnd}
-use Rattle.foundation.specs.Tests.{cases, eq-true, true-eq, and-true, and-intro}
+use Rattle.foundation.specs.Tests.{cases, eq-true, true-eq, and-true, and-intro, or-cases}
 use Rattle.foundation.specs.Lists.{anyb, Mem}
 use Rattle.foundation.specs.Intervals.{inInterval}
 use Rattle.model.specs.declared.Authorization.{Authorization}
@@ -42,16 +42,13 @@ module _ (rules : List Rule) (U : List ℕ) (number : Rule → ℕ) (rule : ℕ 
   subject-axis : Coordinate (among U) (λ v. indexOf v U) (λ j. getD U j 0) (subjectCode U) (length U) subjects
   subject-axis = subject-coordinate U (subjects-ok .apart) few
 
-  right-listed : (r : Rule) → Mem r rules → isStar (r .right .subject) || among U (r .right .subject) ≡ true
-  right-listed r m = cases (isStar (r .right .subject)) (λ e. rw e) (λ e. rw e (subjects-ok .named r m e))
-
-  pub drawn-inward : Inward rules (counted U)
-  drawn-inward r x n =
-      let s = r .right .subject in
-      let m = r .right .mode in
-      and-intro (among U (side s (x .subject))) (isMode (side m (x .mode)))
-      (side-in subject-axis s (x .subject) (right-listed r (n .0)) (listed U x (n .1)))
-      (side-in mode-coordinate m (x .mode) (shaped r (n .0) .right) (proper U x (n .1)))
+  -- with the left side of a rule, U has its right side; a star on the left is one on the right too
+  right-listed : (r : Rule) → Mem r rules → leads U r ≡ true →
+      isStar (r .right .subject) || among U (r .right .subject) ≡ true
+  right-listed r m l = cases (isStar (r .right .subject)) (λ e. rw e) (λ e.
+      let a : among U (r .left .subject) ≡ true = or-cases (isStar (r .left .subject)) (among U (r .left .subject)) l
+      (λ s. absurd (true≢false (sym s ∙ shaped r m .subjects ∙ e))) (λ a. a) in
+      rw e (subjects-ok .named r m a e))
 
   -- ---- a rule that stands for an access that counts
 
@@ -71,15 +68,25 @@ module _ (rules : List Rule) (U : List ℕ) (number : Rule → ℕ) (rule : ℕ 
     same-sides : (fits-subject ≡ true) × (fits-mode ≡ true)
     same-sides = and-true fits-subject fits-mode (and-true (fits-subject && fits-mode) fits-object (n .2) .0)
 
-    node-leads : leads U r ≡ true
+    pub node-leads : leads U r ≡ true
     node-leads = cases (isStar (r .left .subject)) (λ e. rw e) (λ e.
         let f : eqb (r .left .subject) (x .subject) ≡ true = rw e at (same-sides .0) in
         rw (e, true-eq (r .left .subject) (x .subject) f) (listed U x (n .1)))
 
+  pub drawn-inward : Inward rules (counted U)
+  drawn-inward r x n =
+      let s = r .right .subject in
+      let m = r .right .mode in
+      and-intro (among U (side s (x .subject))) (isMode (side m (x .mode)))
+      (side-in subject-axis s (x .subject) (right-listed r (n .0) (node-leads r x n)) (listed U x (n .1)))
+      (side-in mode-coordinate m (x .mode) (shaped r (n .0) .right) (proper U x (n .1)))
+
+  module _ (r : Rule) (x : Access) (n : Node rules (counted U) r x) where
     node-back : (rule (number r) ≡ r) × (accessOf U rule (number r) (placeOf U x) ≡ x)
     node-back =
         let w = numbering .numbered r (n .0) .1 in
-        (w, at-place U x (n .1) (rule (number r) .left .object) (ap (λ (q : Rule). q .left .object) w ∙ same-object))
+        let o = ap (λ (q : Rule). q .left .object) w ∙ same-object r x n in
+        (w, at-place U x (n .1) (rule (number r) .left .object) o)
 
     -- what is sought where the rule looks for x is its right side
     sought : soughtAt U r (placeOf U (rightOf r x .access)) ≡ rightOf r x
@@ -171,7 +178,7 @@ module _ (rules : List Rule) (U : List ℕ) (number : Rule → ℕ) (rule : ℕ 
           look-law i p (own .0)
           ∙ rw (own .1, place-subject j m m-below, place-mode j m m-below)
           (and-intro (looked subject-axis a j) (looked mode-coordinate b m)
-          (look-there subject-axis a (x .subject) (right-listed r (n .0)))
+          (look-there subject-axis a (x .subject) (right-listed r (n .0) (node-leads r x n)))
           (look-there mode-coordinate b (x .mode) (shaped r (n .0) .right)))
 
     -- and back: the access of the left side of rule i, seen from place p
@@ -203,14 +210,14 @@ module _ (rules : List Rule) (U : List ℕ) (number : Rule → ℕ) (rule : ℕ 
                 (eq-true (r .left .object) (r .left .object) refl),
           )
 
-      left-origin : looks i p ≡ true → placeOf U (rightOf (rule i) (leftAt i p) .access) ≡ p
-      left-origin e =
+      left-origin : leads U (rule i) ≡ true → looks i p ≡ true → placeOf U (rightOf (rule i) (leftAt i p) .access) ≡ p
+      left-origin a e =
           let r = rule i in
           let s = shaped r member in
           let w = and-true (looks-subject i p) (looks-mode i p) (sym (look-law i p h) ∙ e) in
           ap₂ (λ (a b : ℕ). a * modes + b)
           (look-back subject-axis (r .left .subject) (r .right .subject) (p / modes) (s .subjects)
-          (right-listed r member) (subject-below (length U) p l) (w .0))
+          (right-listed r member a) (subject-below (length U) p l) (w .0))
           (look-back mode-coordinate (r .left .mode) (r .right .mode) (p % modes) (s .modes) (s .right)
           (mode-below p) (w .1))
           ∙ place-whole p
@@ -293,13 +300,14 @@ module _ (rules : List Rule) (U : List ℕ) (number : Rule → ℕ) (rule : ℕ 
           let a : activeAt U rules t k r ≡ true = sym (ap (λ (m : ℕ). bit i m) (drawn .active)
           ∙ mask-rule rules number rule numbering (activeAt U rules t k) i h) ∙ w .0 in
           let b = inInterval (r .interval) t in
-          let v = and-true (leads U r && b) (eqb (stratum rules r) k) a in (
+          let v = and-true (leads U r && b) (eqb (stratum rules r) k) a in
+          let led = and-true (leads U r) b (v .0) .0 in (
             r,
             leftAt i p,
-            left-node i p h l (and-true (leads U r) b (v .0) .0),
+            left-node i p h l led,
             true-eq (stratum rules r) k (v .1),
             numbering .ruled i h .1,
-            left-origin i p h l (w .1),
+            left-origin i p h l led (w .1),
           )
 
     pub stands : (auths : List Authorization) (before direct : List ℕ) → Direct auths t U rules rule direct →

@@ -7,3 +7,4 @@ pub mod Drawn
 pub mod Places
 pub mod Feeding
 pub mod DrawnFacts
+pub mod Relevance

@@ -1,4 +1,5 @@
 pub mod Records
 pub mod Masks
+pub mod Bits
 pub mod Rounds
 pub mod Tables

@@ -7,7 +7,7 @@ use Prim.Native.Nat.{ℕ, zero, suc, _+_, _*_, _-_, _/_, _%_, _^_, _≤_, _<_}
 use native.Mathlib.Nat.{pow-succ', lt-of-lt-of-le, pow-le-pow-right, div-one, div-eq-of-lt, div-div-eq-div-mul, le-antisymm}
 use native.Mathlib.Omega.{arith}
 use mir.Val.{boolByte}
-use lib.Dec.{eqb, ltb}
+use lib.Dec.{eqb, ltb, leb}
 use lib.ListN.{length, drop, getD}
 use lib.Seq.{drop-nil}
 use Rattle.foundation.specs.Tests.{cases, and-true, eq-true, ne-false, true-eq, false-eq, true-le, false-le}
@@ -118,6 +118,14 @@ larger-picks : (a b : ℕ) → a ≤ larger true a b
 larger-picks a b = cases (ltb b a) (λ e. rw e (omega arith)) (λ e. let h = false-le (suc b) a e in rw e (omega arith))
 
 module _ (t : ℕ → Bool) where
+  -- places that do not pass the test add nothing
+  pub top-skip : (n r : ℕ) (l : List ℕ) → r ≤ n → ((i : ℕ) → r ≤ i → i < n → t i ≡ false) → top n t l ≡ top r t l
+  top-skip zero r l h f = let z : r ≡ 0 = omega arith in rw z
+  top-skip (suc n) r l h f = cases (leb r n)
+      (λ q. let k = true-le r n q in
+      rw (f n k (omega arith)) (top-skip n r l k (λ i a b. f i a (omega arith))))
+      (λ q. let z : r ≡ suc n = omega (arith, false-le r n q) in rw z)
+
   pub top-le : (n : ℕ) (l : List ℕ) (b : ℕ) → ((i : ℕ) → i < n → t i ≡ true → getD l i 0 ≤ b) → top n t l ≤ b
   top-le zero l b h = omega arith
   top-le (suc n) l b h = larger-le (t n) (getD l n 0) (top n t l) b (h n (omega arith))

@@ -46,10 +46,13 @@ fn fits_given(o: OptionTerm) -> bool
     }
 }
 
-// Whether q's left side can fit r's right side.
+// Whether q's left side can fit r's right side. Most rules are of other objects, so that is asked first.
 pub fn feeds(q: Rule, r: Rule) -> bool
     ensures { λ x. ⌜ x ≡ model.feeds q r ⌝ }
 {
+    if q.left.object != r.right.object {
+        return false;
+    }
     let sign = alike(q.left.negative, r.right.negative);
     let subject = meets(q.left.subject, r.right.subject);
     let mode = meets(fields::wide(q.left.mode), fields::wide(r.right.mode));
@@ -135,18 +138,33 @@ pub fn bit_at(m: u64, i: u32) -> bool
     (m >> i) % 2 == 1
 }
 
+// The number of the first bit of m that is set, from the r-th on and below the n-th; n if there is none.
+pub fn next_bit(m: u64, r: usize, n: usize) -> usize
+    requires { ⌜ (r ≤ n) × (n ≤ 64) ⌝ }
+    ensures { λ k. ⌜ (r ≤ k) × (k ≤ n) × ((i : ℕ) → r ≤ i → i < k → bit i m ≡ false) ⌝ }
+{
+    if n <= r {
+        return n;
+    }
+    let k = r + u64::trailing_zeros(m >> (r as u32)) as usize;
+    if k < n {
+        return k;
+    }
+    n
+}
+
 // The largest of the first n numbers whose bit is set in a mask.
 fn most_of(m: u64, l: &[u16; 64], n: usize) -> u16
     requires { ⌜ n ≤ 64 ⌝ }
     ensures { λ x. ⌜ x ≡ top n (λ i. bit i m) (now (l .entry)) ⌝ }
 {
     let mut best = 0;
-    let mut i = 0;
+    let mut i = next_bit(m, 0, n);
     while i < n {
         let t = bit_at(m, i as u32);
         let a = l[i];
         best = larger_of(t, a, best);
-        i += 1;
+        i = next_bit(m, i + 1, n);
     }
     best
 }

@@ -23,14 +23,14 @@ baseOf clock last c objects administrators referrers authorizations rules = reco
   rules = rulesIn (c .rules) rules;
 }
 
--- the bodies that are lent are long enough, and the two that are copied or ranked not too long
+-- the bodies that are lent are long enough, and the two that are sorted or ranked not too long
 pub record Lent (c : Counts) (objects administrators referrers authorizations rules : List ℕ) : Type 0 where
   pub objects-there : c .objects * 4 ≤ length objects
   pub administrators-there : c .administrators * 4 ≤ length administrators
   pub referrers-there : c .referrers * 4 ≤ length referrers
   pub authorizations-there : c .authorizations * 24 ≤ length authorizations
   pub rules-there : c .rules * 28 ≤ length rules
-  pub copied : c .authorizations ≤ 1024
+  pub sorted : c .authorizations ≤ 1024
   pub ranked : c .rules ≤ 64
 
 -- each body beside the others

@@ -141,17 +141,8 @@ fn lent_hold(
     let na = c.administrators as usize;
     let n = c.authorizations as usize;
     let nr = c.rules as usize;
-    let mut copy = [0u8; 24576];
     let mut strata = [0u16; 64];
-    let supported = support::all_supported(
-        objects,
-        no,
-        administrators,
-        na,
-        authorizations,
-        n,
-        &mut copy,
-    );
+    let supported = support::all_supported(objects, no, administrators, na, authorizations, n);
     supported & rules::stratify(rules, nr, &mut strata)
 }
 

@@ -19,7 +19,6 @@ use Rattle.support.specs.declared.Want.{Want}
 use Rattle.support.specs.declared.Gap.{Gap}
 use Rattle.support.specs.declared.Gap.the-variants.{At, None}
 use Rattle.support.specs.First.{first, first-of, first-past}
-use Rattle.support.specs.Places.{SameMembers}
 use Rattle.support.specs.Cover.{wantOf, wanted, supports-wanted, coveredBy, uncovered, gapIn}
 
 -- ---- a test at every instant, and the first instant that fails
@@ -136,27 +135,14 @@ eachSupported root xs =
 abbrev pub everHop : (Head → Bool) → List Authorization → Authorization → Bool
 everHop root xs a = always (a .interval .start) (a .interval .end) (hop root xs (a .head))
 
--- for which the first gap is asked
-pub hop-gap : (root : Head → Bool) (xs : List Authorization) (a : Authorization) →
+-- for which the first gap is asked, unless the grantor is a root
+pub hop-gap : (root : Head → Bool) (xs : List Authorization) (a : Authorization) (b : Bool) → root (a .head) ≡ b →
     everHop root xs a
-    ≡ root (a .head)
-    || leb (a .interval .end + 1) (gapIn (wantOf (a .head)) xs (a .interval .start) (a .interval .end + 1))
+    ≡ b || leb (a .interval .end + 1) (gapIn (wantOf (a .head)) xs (a .interval .start) (a .interval .end + 1))
 unfolding coveredFor
-hop-gap root xs a =
-    let s = a .interval .start in
-    let e = a .interval .end in
-    let covered = coveredBy (wantOf (a .head)) xs in
-    cases (root (a .head))
-    (λ r. rw r (all-always s e (hop root xs (a .head)) (λ t p q. rw r)))
-    (λ r. always-cong s e (hop root xs (a .head)) covered (λ t. rw r (covered-by xs (a .head) t))
-    ∙ rw r (always-first s e covered))
-
--- and which depends on what authorizations there are, not on their order
-pub hop-same : (root : Head → Bool) (xs ys : List Authorization) → SameMembers ys xs → (a : Authorization) →
-    everHop root ys a ≡ everHop root xs a
-hop-same root xs ys s a =
-    always-cong (a .interval .start) (a .interval .end) (hop root ys (a .head)) (hop root xs (a .head))
-    (λ t. ap (λ (b : Bool). root (a .head) || b)
-    (any-live (λ k. supports k (a .head)) t ys
-    ∙ s (λ x. inInterval (x .interval) t && supports (x .head) (a .head))
-    ∙ sym (any-live (λ k. supports k (a .head)) t xs)))
+hop-gap root xs a true r =
+    all-always (a .interval .start) (a .interval .end) (hop root xs (a .head)) (λ t p q. rw r)
+hop-gap root xs a false r =
+    always-cong (a .interval .start) (a .interval .end) (hop root xs (a .head)) (coveredBy (wantOf (a .head)) xs)
+    (λ t. rw r (covered-by xs (a .head) t))
+    ∙ always-first (a .interval .start) (a .interval .end) (coveredBy (wantOf (a .head)) xs)

@@ -1,21 +1,19 @@
--- The bits of words: which are set where one more is set, that the word is larger then, which two words have in
--- common, and between which ends they lie; and what the bits of a place's candidates say (`looker-bit`).
+-- The bits of words: which are set where one more is set, that the word is larger then, and which two words have in
+-- common; and what the bits of a place's candidates say (`looker-bit`).
 use mathlib.Core.Path.{_≡_, refl, sym, ap, ap₂, _∙_}
 use mathlib.Core.Bool.{Bool, true, false, not, Bool·beq, true≢false, false≢true}
 use mathlib.Core.List.{List}
 use Prim.Native.Nat.{ℕ, zero, suc, _+_, _*_, _-_, _/_, _%_, _^_, _≤_, _<_, min, max}
 use native.Mathlib.Nat.{mod-eq-of-lt, pow-succ', one-mul, max-le, max-eq-left, max-eq-right, max-zero, min-le-left}
 use native.Mathlib.Nat.{div-self, div-one, zero-div, div-eq-of-lt, div-div-eq-div-mul}
-use native.Mathlib.Nat.{lt-of-lt-of-le, pow-le-pow-right}
 use native.Mathlib.Omega.{arith}
 use native.Mathlib.Numerals.{one-add}
 use lib.Pow.{pow-lt, pow-pos}
 use lib.Bits.{bitAnd, bitOr, or-step, or-shr, or-disjoint, and-step, and-shr, and-high}
-use lib.Count.{leadingZeros, trailingZeros, under, leading-length}
-use lib.Dec.{eqb, ltb}
+use lib.Dec.{eqb}
 use lib.ListN.{drop, getD}
 use lib.Seq.{getD-drop}
-use Rattle.foundation.specs.Tests.{cases, eq-true, true-eq, false-eq, true-le, false-le}
+use Rattle.foundation.specs.Tests.{cases, eq-true, true-eq, false-eq}
 use Rattle.model.specs.Encoding.{bit}
 use Rattle.rules.proofs.Masks.{mask-at}
 use Rattle.sweep.specs.Sweep.{looksBy, codes, looksFrom, lookersOf}
@@ -111,33 +109,6 @@ bit-both a b i e f =
     let x = true-eq (a / 2 ^ i % 2) 1 e in
     let y = true-eq (b / 2 ^ i % 2) 1 f in
     eq-true (bitAnd a b / 2 ^ i % 2) 1 (and-digit a b i ∙ rw (x, y))
-
--- ---- the ends of a word
-
--- no bit lies below the lowest
-pub lowest-bit : (k x r : ℕ) → bit r x ≡ true → trailingZeros k x ≤ r
-unfolding trailingZeros
-lowest-bit zero x r e = omega arith
-lowest-bit (suc k) x zero e =
-    let d : x % 2 ≡ 1 = ap (λ (n : ℕ). n % 2) (sym (div-one x)) ∙ true-eq (x / 2 ^ 0 % 2) 1 e in
-    rw d (omega arith)
-lowest-bit (suc k) x (suc r) e =
-    let d : bit r (x / 2) ≡ true = rw (div-div-eq-div-mul x 2 (2 ^ r), ← pow-succ' 2 r) e in
-    under-suc (x % 2) (trailingZeros k (x / 2)) r (lowest-bit k (x / 2) r d)
-  where
-    under-suc : (d t r : ℕ) → t ≤ r → under d t ≤ suc r
-    under-suc zero t r h = omega arith
-    under-suc (suc d) t r h = omega arith
-
--- every bit lies below the width without the zeros above the highest
-pub highest-bit : (k x r : ℕ) → x < 2 ^ k → bit r x ≡ true → r < k - leadingZeros k x
-highest-bit k x r h e =
-    let w = leading-length k x h in
-    cases (ltb r (w .0))
-    (λ l. omega (arith, w .1, true-le (suc r) (w .0) l))
-    (λ l. let m : w .0 ≤ r = omega (arith, false-le (suc r) (w .0) l) in
-    let z : x / 2 ^ r ≡ 0 = div-eq-of-lt (lt-of-lt-of-le (w .2) (pow-le-pow-right {n = 2} (omega arith) m)) in
-    absurd (omega (arith, true-eq (x / 2 ^ r % 2) 1 e)))
 
 -- ---- the rules that look at a place
 

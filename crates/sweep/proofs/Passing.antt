@@ -10,15 +10,20 @@ use lib.ListN.{length, getD, set}
 use lib.Seq.{getD-set-same, getD-set-other}
 use Rattle.foundation.specs.Tests.{cases, true-eq, false-eq, or-cases, or-none}
 use Rattle.model.specs.Encoding.{bit}
-use Rattle.sweep.specs.Sweep.{places, looksBy, Plan, linkOf}
-use Rattle.sweep.specs.Progress.{wordBound, Shut, total, Ready, Looking, Span, Visit, Looked, Pass}
+use Rattle.sweep.specs.Sweep.{places, Plan}
+use Rattle.sweep.specs.Progress.{wordBound, Shut, total, Ready, Looking, Candidates, Visit, Looked, Pass}
 use Rattle.sweep.specs.Progress.{Settling, Smallest, left}
 use Rattle.sweep.proofs.Laws.{bit-none, bit-both}
-use Rattle.sweep.proofs.Turn.{given, begin}
+use Rattle.sweep.proofs.Turn.{given}
 
 total-bound : (l : List ℕ) (b : ℕ) → ((i : ℕ) → getD l i 0 < b) → total l ≤ length l * b
 total-bound [] b h = omega arith
 total-bound (x ∷ l) b h = omega (arith, h 0, total-bound l b (λ i. h (suc i)))
+
+-- the active rules that look at a place in use are among its candidates
+pub watched : (pl : Plan) (looks : List ℕ) (p : ℕ) → p < pl .stage .used → Looking pl looks →
+    Candidates pl p (bitAnd (getD looks p 0) (pl .stage .active))
+watched pl looks p h k r l a b = bit-both (getD looks p 0) (pl .stage .active) r (k r p l h b) a
 
 module _ (pl : Plan) (before direct : List ℕ) where
   -- ---- one place
@@ -66,31 +71,6 @@ module _ (pl : Plan) (before direct : List ℕ) where
     where
       cleared : getD (set D₀ p 0) p 0 ≡ 0
       cleared = getD-set-same D₀ p 0 0 (omega (arith, y .flags))
-
-  -- the active candidates of a place in use are the word c
-  module _ (looks : List ℕ) (p c : ℕ) (e : c ≡ bitAnd (getD looks p 0) (pl .stage .active)) (h : p < pl .stage .used)
-      (k : Looking pl looks) where
-    candidate : (r : ℕ) → r < pl .stage .rules → bit r (pl .stage .active) ≡ true →
-        looksBy (linkOf pl r .rsubject) (linkOf pl r .rmode) p ≡ true → bit r c ≡ true
-    candidate r l a b = ap (bit r) e ∙ bit-both (getD looks p 0) (pl .stage .active) r (k r p l h b) a
-
-    -- where there are none, the flag is cleared, and that is all
-    pub unwatched : (T D : List ℕ) → Ready pl before direct T D → c ≡ 0 →
-        Looked pl before direct T D p false T (set D p 0)
-    unwatched T D y z = seen T D p false T (set D p 0) y h (begin pl before direct T D p y (pl .stage .rules)
-        (λ r l f. let g = given pl before direct T r p f in
-        false≢true (sym (ap (bit r) z ∙ bit-none r) ∙ candidate r l (g .0) (g .1))))
-
-    -- else they lie between the ends of c
-    pub spanned : (first last : ℕ) →
-        (first ≤ pl .stage .rules) × ((r : ℕ) → r < pl .stage .rules → bit r c ≡ true → first ≤ r) →
-        (last ≤ pl .stage .rules) × ((r : ℕ) → r < pl .stage .rules → bit r c ≡ true → r < last) →
-        Span pl p first last
-    spanned first last f g = record {
-      starts = f .0;
-      ends = g .0;
-      spans = λ r l a b. let w = candidate r l a b in (f .1 r l w, g .1 r l w);
-    }
 
   -- ---- a pass
 

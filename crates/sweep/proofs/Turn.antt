@@ -1,4 +1,5 @@
--- The loop of `visit`: its start, a turn, where one rule more has looked at the place, and its end.
+-- The loop of `visit`: its start, the rules that it passes over, and a turn, where one rule more has looked at the
+-- place.
 use mathlib.Core.Path.{_≡_, refl, sym, ap, _∙_, subst}
 use mathlib.Core.Bool.{Bool, true, false, not, _&&_, _||_, true≢false, false≢true}
 use mathlib.Core.List.{List, [], _∷_}
@@ -13,7 +14,7 @@ use Rattle.foundation.specs.Tests.{pick, cases, true-eq, false-eq, true-le, fal
 use Rattle.foundation.specs.Tests.{and-true, not-true, or-false, or-true}
 use Rattle.model.specs.Encoding.{bit}
 use Rattle.sweep.specs.Sweep.{places, looksBy, wantsBy, Plan, firesBy, setsBy, linkOf, aim, gives}
-use Rattle.sweep.specs.Progress.{wordBound, Shut, Has, Within, total, Ready, Span, Tried, Visit}
+use Rattle.sweep.specs.Progress.{wordBound, Shut, Has, Within, total, Ready, Candidates, Tried, Visit}
 use Rattle.sweep.proofs.Laws.{bit-same, bit-kept, bit-only, bit-more}
 
 total-set : (l : List ℕ) (i v : ℕ) → i < length l → total (set l i v) + getD l i 0 ≡ total l + v
@@ -32,16 +33,14 @@ given pl before direct T r p f =
     and-true (c .active) l (and-true (c .active && l) g (and-true (c .active && l && g) w f .0) .0)
 
 module _ (pl : Plan) (before direct T₀ D₀ : List ℕ) (p : ℕ) where
-  -- with its flag cleared, the place needs no look for rules that derive nothing by it
-  pub begin : Ready pl before direct T₀ D₀ → (k : ℕ) →
-      ((r : ℕ) → r < k → gives pl before direct T₀ r p ≡ true → ⊥) →
-      Visit pl before direct T₀ (set D₀ p 0) p k false T₀ (set D₀ p 0)
-  begin y k n = record {
+  -- its flag is cleared, and no rule has looked at the place
+  pub begin : Ready pl before direct T₀ D₀ → Visit pl before direct T₀ (set D₀ p 0) p 0 false T₀ (set D₀ p 0)
+  begin y = record {
     size = y .size;
     flags = length-set D₀ p 0 ∙ y .flags;
     words = y .words;
     others = λ i h n e. y .tidy i h (sym (getD-set-other D₀ p i 0 0 n) ∙ e);
-    here = λ d i h f. absurd (n i h f);
+    here = λ d i h f. absurd (omega arith);
     above = λ i j e. e;
     within = λ Q h k. h;
     calm = λ e. (refl, refl);
@@ -49,32 +48,26 @@ module _ (pl : Plan) (before direct T₀ D₀ : List ℕ) (p : ℕ) where
     grown = omega arith;
   }
 
-  module _ (first last : ℕ) (s : Span pl p first last) where
-    -- the rules before the first need no look
-    pub start : Ready pl before direct T₀ D₀ →
-        Visit pl before direct T₀ (set D₀ p 0) p first false T₀ (set D₀ p 0)
-    start y = begin y first (λ r h f.
-        let g = given pl before direct T₀ r p f in
-        omega (arith, s .spans r (omega (arith, s .starts)) (g .0) (g .1) .0))
-
-    -- nor do those from the last on
-    pub end : (r : ℕ) (hit : Bool) (T D : List ℕ) → last ≤ r → Visit pl before direct T₀ D₀ p r hit T D →
-        Visit pl before direct T₀ D₀ p (pl .stage .rules) hit T D
-    end r hit T D h v = record {
-      size = v .size;
-      flags = v .flags;
-      words = v .words;
-      others = v .others;
-      here = λ d i l f. cases (ltb i r)
-          (λ k. v .here d i (true-le (suc i) r k) f)
-          (λ k. let g = given pl before direct T i p f in
-          absurd (omega (arith, false-le (suc i) r k, s .spans i l (g .0) (g .1) .1)));
-      above = v .above;
-      within = v .within;
-      calm = v .calm;
-      more = v .more;
-      grown = v .grown;
-    }
+  -- the rules from r to before k are no candidates, and need no look
+  pub skip : (c : ℕ) → Candidates pl p c → (k : ℕ) → k ≤ pl .stage .rules → (r : ℕ) →
+      ((i : ℕ) → r ≤ i → i < k → bit i c ≡ false) → (hit : Bool) (T D : List ℕ) →
+      Visit pl before direct T₀ D₀ p r hit T D → Visit pl before direct T₀ D₀ p k hit T D
+  skip c w k l r n hit T D v = record {
+    size = v .size;
+    flags = v .flags;
+    words = v .words;
+    others = v .others;
+    here = λ d i h f. cases (ltb i r)
+        (λ b. v .here d i (true-le (suc i) r b) f)
+        (λ b. let g = given pl before direct T i p f in
+        let m : r ≤ i = omega (arith, false-le (suc i) r b) in
+        absurd (true≢false (sym (w i (omega arith) (g .0) (g .1)) ∙ n i m h)));
+    above = v .above;
+    within = v .within;
+    calm = v .calm;
+    more = v .more;
+    grown = v .grown;
+  }
 
   module _ (few : pl .stage .rules ≤ 64)
       (fit : (r p : ℕ) → r < pl .stage .rules → p < pl .stage .used → aim pl r p < pl .stage .used)

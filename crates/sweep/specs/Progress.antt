@@ -57,12 +57,11 @@ Looking pl looks =
     (r p : ℕ) → r < pl .stage .rules → p < pl .stage .used →
     looksBy (linkOf pl r .rsubject) (linkOf pl r .rmode) p ≡ true → bit r (getD looks p 0) ≡ true
 
--- the active rules that look at place p are from `first` to before `last`
-pub record Span (pl : Plan) (p first last : ℕ) : Type 0 where
-  pub starts : first ≤ pl .stage .rules
-  pub ends : last ≤ pl .stage .rules
-  pub spans : (r : ℕ) → r < pl .stage .rules → bit r (pl .stage .active) ≡ true →
-      looksBy (linkOf pl r .rsubject) (linkOf pl r .rmode) p ≡ true → (first ≤ r) × (r < last)
+-- the active rules that look at place p are in the word c
+abbrev pub Candidates : Plan → ℕ → ℕ → Type 0
+Candidates pl p c =
+    (r : ℕ) → r < pl .stage .rules → bit r (pl .stage .active) ≡ true →
+    looksBy (linkOf pl r .rsubject) (linkOf pl r .rmode) p ≡ true → bit r c ≡ true
 
 -- One rule tried at place p: b says whether it set its bit, and T and D are the table and the flags after that
 pub record Tried (k : Link) (before direct T₀ D₀ : List ℕ) (r p : ℕ) (b : Bool) (T D : List ℕ) : Type 0 where

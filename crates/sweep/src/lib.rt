@@ -12,7 +12,8 @@ ghost use lib.Bits.{bitOr};
 ghost use Rattle.foundation.specs.Tests.{pick};
 ghost use Rattle.model.specs.Encoding.{bit};
 ghost use Rattle.sweep.specs.Sweep.{places, looksBy, lookersOf, targetBy, wantsBy, target, plan, linkOf, aim};
-ghost use Rattle.sweep.specs.Progress.{Ready, Looking, Span, Tried, Visit, Looked, Pass, Smallest};
+ghost use Rattle.sweep.specs.Progress.{Ready, Looking, Candidates, Tried, Visit, Looked, Pass, Smallest};
+use rules::next_bit;
 
 // The subjects of a question, the modes, and each subject with each mode. As the code of a subject or a mode of a
 // rule, the number itself is the star.
@@ -60,28 +61,6 @@ pub fn with_bit(x: u64, r: u32) -> u64
     ensures { λ y. ⌜ y ≡ bitOr x (2 ^ r) ⌝ }
 {
     x | (1 << r)
-}
-
-// The number of the lowest bit of x, if it is below n; else n.
-fn lowest(x: u64, n: usize) -> usize
-    ensures { λ k. ⌜ (k ≤ n) × ((r : ℕ) → r < n → bit r x ≡ true → k ≤ r) ⌝ }
-{
-    let k = u64::trailing_zeros(x) as usize;
-    if k < n {
-        return k;
-    }
-    n
-}
-
-// One more than the number of the highest bit of x, if that is below n; else n.
-fn beyond(x: u64, n: usize) -> usize
-    ensures { λ k. ⌜ (k ≤ n) × ((r : ℕ) → r < n → bit r x ≡ true → r < k) ⌝ }
-{
-    let k = 64 - u64::leading_zeros(x) as usize;
-    if k < n {
-        return k;
-    }
-    n
 }
 
 // A byte as a number.
@@ -183,7 +162,8 @@ fn link_of(g: Stage, sides: &[u8; 256], feed: &[u64; 64], r: usize) -> Link
     }
 }
 
-// One rule at one place: sets its bit at its target, if it derives now and the bit is not set.
+// One rule at one place: sets its bit at its target, if it derives now and the bit is not set. Most rules that do not
+// set it have it set already, or find their right side not as they want it.
 fn step(
     k: Link,
     before: &[u64; PLACES],
@@ -201,15 +181,19 @@ fn step(
 {
     let q = target_of(k.lsubject, k.lmode, p);
     let i = r as u32;
+    let v = table[q];
+    if has_bit(v, i) {
+        return false;
+    }
+    let w = table[p];
+    let d = direct[p];
+    if !wanted(k.feed, k.negating, w, d, i) {
+        return false;
+    }
     let l = looks_at(k.rsubject, k.rmode, p);
     let was = before[q];
     let g = has_bit(was, i);
-    let w = table[p];
-    let d = direct[p];
-    let y = wanted(k.feed, k.negating, w, d, i);
-    let v = table[q];
-    let old = has_bit(v, i);
-    if k.active & l & (k.fresh | g) & y & !old {
+    if k.active & l & (k.fresh | g) {
         table[q] = with_bit(v, i);
         changed[q] = 1;
         return true;
@@ -217,7 +201,7 @@ fn step(
     false
 }
 
-// Rule r at one place. Most rules are not active, and are passed over.
+// Rule r at one place.
 fn try_rule(
     g: Stage,
     sides: &[u8; 256],
@@ -235,15 +219,12 @@ fn try_rule(
         (now (table .entry)) (now (changed .entry)) r p b (now (table .exit)) (now (changed .exit))
         ⌝ }
 {
-    if !has_bit(g.active, r as u32) {
-        return false;
-    }
     let k = link_of(g, sides, feed, r);
     step(k, before, direct, table, changed, r, p)
 }
 
-// Looks at place p for the rules from `first` to before `last`; whether a bit was set. The other rules do not look
-// at the place, or are not active.
+// Looks at place p for the rules in c; whether a bit was set. The other rules do not look at the place, or are not
+// active.
 fn visit(
     g: Stage,
     sides: &[u8; 256],
@@ -253,13 +234,12 @@ fn visit(
     table: &mut [u64; PLACES],
     changed: &mut [u8; PLACES],
     p: usize,
-    first: usize,
-    last: usize,
+    c: u64,
 ) -> bool
     requires { ⌜
         (p < g .used)
         × Ready (plan g (now sides) (now feed)) (now before) (now direct) (now table) (now changed)
-        × Span (plan g (now sides) (now feed)) p first last
+        × Candidates (plan g (now sides) (now feed)) p c
         ⌝ }
     ensures { λ b. ⌜
         Visit (plan g (now (sides .entry)) (now (feed .entry))) (now (before .entry)) (now (direct .entry))
@@ -268,17 +248,16 @@ fn visit(
 {
     changed[p] = 0;
     let mut hit = false;
-    let mut r = first;
-    while r < last {
+    let mut r = next_bit(c, 0, g.rules);
+    while r < g.rules {
         let b = try_rule(g, sides, feed, before, direct, table, changed, r, p);
         hit = hit | b;
-        r += 1;
+        r = next_bit(c, r + 1, g.rules);
     }
     hit
 }
 
-// Looks at place p, if it changed since it was looked at; whether a bit was set. Where no active rule looks at the
-// place, its flag is cleared and no rule is tried.
+// Looks at place p, if it changed since it was looked at; whether a bit was set.
 fn look(
     g: Stage,
     sides: &[u8; 256],
@@ -303,24 +282,7 @@ fn look(
     let d = changed[p];
     if d != 0 {
         let c = looks[p] & g.active;
-        if c == 0 {
-            changed[p] = 0;
-            return false;
-        }
-        let first = lowest(c, g.rules);
-        let last = beyond(c, g.rules);
-        return visit(
-            g,
-            sides,
-            feed,
-            before,
-            direct,
-            table,
-            changed,
-            p,
-            first,
-            last,
-        );
+        return visit(g, sides, feed, before, direct, table, changed, p, c);
     }
     false
 }

@@ -32,7 +32,7 @@ served-bytes [] s s′ e = e
 served-bytes (q ∷ rest) s s″ (r, s′, a, w) = served-bytes rest s′ s″ w ∙ ap (requests rest) (a .bytes)
 
 -- a buffer of the right length is made an empty base
-created : (s : List ℕ) → length s ≡ size → create s .lent ≡ encode emptyBase
+pub created : (s : List ℕ) → length s ≡ size → create s .lent ≡ encode emptyBase
 unfolding create
 created s e =
     let given : lowest (row 2 (not (eqb (length s) size)) ∷ []) ≡ 0 = rw (eq-true (length s) size e) in

@@ -106,7 +106,7 @@ module _ (b : Base) (s : sound b ≡ true) where
   same-turn (asksWhen x) = asked-when x
   same-turn unreadable = record { text = refl; bytes = refl; kept = s }
 
-same-transcript : (ls : List (List ℕ)) (b : Base) → sound b ≡ true →
+pub same-transcript : (ls : List (List ℕ)) (b : Base) → sound b ≡ true →
     byteTranscript ls (encode b) ≡ transcript plainly ls b
 same-transcript [] b s = refl
 same-transcript (l ∷ ls) b s =

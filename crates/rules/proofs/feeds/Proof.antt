@@ -1,10 +1,26 @@
 -- `feeds` meets its contract: its tests are the definition's, one by one.
 use borrow.Author.Needs.{needs}
+use mathlib.Core.Path.{_≡_}
+use mathlib.Core.Bool.{false, Bool·beq}
+use Rattle.foundation.specs.Tests.{ne-false, and-false}
+use Rattle.model.specs.declared.Rule.{Rule}
+use Rattle.model.specs.Stratification.{feeds}
 use Rattle.rules.proofs.feeds.Statement.{statement}
 use Rattle.rules.proofs.feeds.Tie as tie
 
+other-object : (q r : Rule) → (q .left .object ≡ r .right .object → ⊥) → false ≡ feeds q r
+other-object q r n = rw (
+  ne-false (q .left .object) (r .right .object) n,
+  and-false (Bool·beq (q .left .negative) (r .right .negative)),
+)
+
 returns : tie.Need-returns
 returns c =
+    let a = c .before .before .before .args in
+    other-object (a .q) (a .r) (c .if1 .taken)
+
+returns-2 : tie.Need-returns-2
+returns-2 c =
     let d = c .before .before .before .before .before in
     rw (
       d .before .before .before .before .before .alike .ensures,
@@ -18,5 +34,5 @@ returns c =
 pub feeds-spec : {M : Type 1} → statement M
 feeds-spec =
     tie.close
-    (tie.spec (λ c κs. search needs) (λ c κs. search needs) (λ c κs. search needs) (λ c κs. search needs)
-    (λ c κs. search needs) (λ c κs. search needs) returns)
+    (tie.spec returns (λ c κs. search needs) (λ c κs. search needs) (λ c κs. search needs) (λ c κs. search needs)
+    (λ c κs. search needs) (λ c κs. search needs) returns-2)

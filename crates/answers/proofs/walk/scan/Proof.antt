@@ -16,13 +16,13 @@ use Rattle.answers.proofs.walk.scan.Statement.{statement}
 use Rattle.answers.proofs.walk.scan.Tie as tie
 
 abbrev Inv-loop : tie.InvT-loop
-Inv-loop lines na body n u o levels sides feed masks spots x runs₀ before₀ direct₀ table₀ changed₀ w₀ t₀ runs before direct
+Inv-loop lines na body n u o levels sides feed masks spots looks x runs₀ before₀ direct₀ table₀ changed₀ w₀ t₀ runs before direct
     table changed w t =
     (t ≤ 4294967296) × Serves lines na body n (take (o .subjects) u) t before
     × Reached (λ v. mayIn lines na body n x v) lastInstant t w runs × (length runs ≡ 2200)
 
 abbrev μ-loop : tie.MeasureT-loop
-μ-loop lines na body n u o levels sides feed masks spots x runs₀ before₀ direct₀ table₀ changed₀ w₀ t₀ runs before direct
+μ-loop lines na body n u o levels sides feed masks spots looks x runs₀ before₀ direct₀ table₀ changed₀ w₀ t₀ runs before direct
     table changed w t = 4294967296 - t
 
 loop-holds : tie.Need-loop-holds Inv-loop μ-loop
@@ -51,7 +51,7 @@ note-requires c κs =
     let a = s .args in
     let l = c .before .before .before .before .before .before .before .before .before .loop in
     let r = l .inv .2 in
-    let yes = c .before .verdict .ensures _ _ _ _ _ _ _ _ (s .pre .0) (c .before .before .before .derive .ensures) (s .pre .1 .1) in
+    let yes = c .before .verdict .ensures _ _ _ _ _ _ _ _ _ _ (s .pre .0) (c .before .before .before .derive .ensures) (s .pre .1 .1) in
     let g = s .pre .0 .grounds in
     let f : ℕ → Bool = λ v. mayIn (now (a .lines)) (a .na) (now (a .body)) (a .n) (a .x) v in (
       (λ i y. (
@@ -87,12 +87,12 @@ loop-again c =
     let h : l .t < 4294967296 = omega (arith, c .before .before .before .before .before .before .before .before .before .before .loop-test .taken) in
     let on = ahead (now (a .lines)) (a .na) (now (a .body)) (a .n) (l .t) m (c .next-mark .ensures) h in
     let at = c .before .before .before .before .before .derive .ensures in
-    let yes = c .before .before .before .verdict .ensures _ _ _ _ _ _ _ _ (s .pre .0) at (s .pre .1 .1) in
+    let yes = c .before .before .before .verdict .ensures _ _ _ _ _ _ _ _ _ _ (s .pre .0) at (s .pre .1 .1) in
     let f : ℕ → Bool = λ v. mayIn (now (a .lines)) (a .na) (now (a .body)) (a .n) (a .x) v in
     let noted = c .before .note .ensures in (
       on .1,
       serves-next (now (a .lines)) (a .na) (now (a .body)) (a .n) (take (a .o .subjects) (now (a .u))) (l .t) m
-          (c .before .before .before .before .before .derive .last .1 .1 .1 .1 .1 .1 .1 .1 .1 .1 .1 .1 .1 .1 .0) (on .0) (omega (arith, c .next-mark .ensures)) at,
+          (c .before .before .before .before .before .derive .last .1 .1 .1 .1 .1 .1 .1 .1 .1 .1 .1 .1 .1 .1 .1 .0) (on .0) (omega (arith, c .next-mark .ensures)) at,
       onward f lastInstant (l .t) m (c .before .note .result) _ (on .0)
           (steady (now (a .lines)) (a .na) (now (a .body)) (a .n) (a .x) (l .t) m (c .next-mark .ensures))
           (noted .0 f lastInstant (l .inv .2) yes (omega (arith, h))),

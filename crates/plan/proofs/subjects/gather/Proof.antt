@@ -1,63 +1,75 @@
--- `gather` meets its contract. The loop's invariant: the first `m` of `u` are what the first `i` rules give, and each
--- rule added one at most.
+-- `gather` meets its contract. The loop's invariant: the first `i` of the first `m` of `u` had their turn.
 use borrow.Author.Needs.{needs}
-use mathlib.Core.Path.{_≡_, refl}
-use mathlib.Core.Logic.{_⊎_}
+use mathlib.Core.Path.{_≡_, refl, sym, ap, _∙_}
 use mathlib.Core.List.{List}
-use Prim.Native.Nat.{ℕ, _+_, _-_, _≤_}
+use Prim.Native.Nat.{ℕ, _+_, _-_, _≤_, _<_}
 use native.Mathlib.Omega.{arith}
 use denote.Ref.{now}
-use lib.ListN.{length, take}
-use lib.Seq.{length-take-le}
-use Rattle.foundation.specs.Lists.{Mem, last-mem}
-use Rattle.model.specs.declared.Rule.{Rule}
+use lib.ListN.{length, take, getD}
+use lib.Seq.{length-take-le, getD-take}
 use Rattle.model.specs.Encoding.{ruleOf}
-use Rattle.support.proofs.Parts.{records-split}
-use Rattle.rules.specs.Strata.{rulesIn, ruleAt}
-use Rattle.plan.specs.Scene.{Gathered}
-use Rattle.plan.specs.Indexes.{gather-start, gather-turn}
+use Rattle.rules.specs.Strata.{rulesIn}
+use Rattle.rules.proofs.Records.{length-records}
+use Rattle.plan.specs.Gathering.{leftIs, withRights, howMany, Gathering}
+use Rattle.plan.specs.Gathering.{gather-start, gather-room, gather-turn, gather-end}
 use Rattle.plan.proofs.subjects.gather.Statement.{statement}
 use Rattle.plan.proofs.subjects.gather.Tie as tie
 
--- of one rule more, a rule is one of those before it, or it
-one-more : (i : ℕ) (s : List ℕ) (r : Rule) → Mem r (rulesIn (i + 1) s) → Mem r (rulesIn i s) ⊎ (r ≡ ruleAt s i)
-one-more i s r k = last-mem r (rulesIn i s) (ruleAt s i) (rw (records-split 28 ruleOf i 1 s) at k)
-
 abbrev Inv-loop : tie.InvT-loop
 Inv-loop body n subject u₀ m₀ i₀ u m i =
-    (i ≤ n) × (m ≤ i + 1) × (length u ≡ 65) × Gathered subject (rulesIn i body) m (take m u)
+    (i ≤ m) × (m ≤ 65) × (length u ≡ 65) × Gathering subject (rulesIn n body) m i (take m u)
 
 abbrev μ-loop : tie.MeasureT-loop
-μ-loop body n subject u₀ m₀ i₀ u m i = n - i
+μ-loop body n subject u₀ m₀ i₀ u m i = 65 - i
 
 loop-holds : tie.Need-loop-holds Inv-loop μ-loop
-loop-holds c = (search needs, search needs, refl, gather-start (c .before .before .args .subject))
+loop-holds c =
+    let a = c .before .before .args in
+    (omega arith, omega arith, refl, gather-start (a .subject) (rulesIn (a .n) (now (a .body))))
+
+add-rights-requires : tie.Need-add-rights-requires Inv-loop μ-loop
+add-rights-requires c κs =
+    let s = c .before .before .before .before .before .before in
+    let a = s .args in
+    let l = c .before .before .before .loop in
+    let rules = rulesIn (a .n) (now (a .body)) in
+    let h : l .i < l .m = omega arith in
+    let room = gather-room (a .subject) rules (l .m) (l .i) (take (l .m) (l .u)) (l .inv .3) h in
+    let e = ap (λ (v : ℕ). howMany (leftIs v) rules) (getD-take (l .m) (l .u) (l .i) 0 h) in
+    (s .pre .0, l .inv .2, omega (arith, room, e, s .pre .1, length-records 28 ruleOf (a .n) (now (a .body))))
 
 loop-again : tie.Need-loop-again Inv-loop μ-loop
 loop-again c =
-    let b = c .before .before .before .before .before .before .before in
+    let s = c .before .before .before .before .before .before .before in
+    let a = s .args in
     let l = c .before .before .before .before .loop in
-    let s = now (b .args .body) in
-    let after = c .add-subject .ensures in
-    let m = c .add-subject .result in
-    let u = c .add-subject .last .0 in (
-      search needs,
-      omega (arith, after .0),
-      after .1,
-      gather-turn (b .args .subject) (rulesIn (l .i) s) (rulesIn (l .i + 1) s) (ruleAt s (l .i)) (one-more (l .i) s)
-          (l .m) (take (l .m) (l .u)) (omega (arith, b .pre)) (l .inv .3) m (take m u)
-          (rw (c .before .before .rule-at .ensures) at (after .2))
-          (length-take-le m u (omega (arith, after .0, after .1, b .pre))),
-    )
+    let rules = rulesIn (a .n) (now (a .body)) in
+    let h : l .i < l .m = omega arith in
+    let f = c .add-rights .ensures in
+    let m = c .add-rights .result in
+    let u = c .add-rights .last .1 .1 .1 .0 in
+    let U = take (l .m) (l .u) in
+    let v = getD (l .u) (l .i) 0 in
+    let e : getD U (l .i) 0 ≡ v = getD-take (l .m) (l .u) (l .i) 0 h in
+    let many = ap (λ (v : ℕ). howMany (leftIs v) rules) e in
+    let room = gather-room (a .subject) rules (l .m) (l .i) U (l .inv .3) h in
+    let few : m ≤ 65 =
+    omega (arith, f .0, room, s .pre .1, length-records 28 ruleOf (a .n) (now (a .body))) in
+    let g = gather-turn (a .subject) rules (l .m) (l .i) U (l .inv .3) h m (take m u)
+    (f .2 ∙ ap (λ (v : ℕ). withRights v rules U) (sym e)) (length-take-le m u (omega (arith, f .1)))
+    (omega (arith, f .0)) in
+    (g .reached, few, f .1, g)
 
 returns : tie.Need-returns Inv-loop μ-loop
 returns c =
+    let s = c .before .before .before .before in
+    let a = s .args in
     let l = c .before .loop in
-    let e : l .i ≡ c .before .before .before .before .args .n = omega arith in
-    rw (← e) (l .inv .3)
+    gather-end (a .subject) (rulesIn (a .n) (now (a .body))) (l .m) (l .i) (take (l .m) (l .u)) (l .inv .3)
+    (omega arith) (omega (arith, s .pre .1, length-records 28 ruleOf (a .n) (now (a .body))))
 
 pub gather-spec : {M : Type 1} → statement M
 gather-spec =
     tie.close
-    (tie.spec Inv-loop μ-loop (λ c. search needs) loop-holds (λ c. search needs) (λ c κs. search needs)
-    (λ c κs. search needs) (λ c. search needs) (λ c. search needs) loop-again returns)
+    (tie.spec Inv-loop μ-loop (λ c. search needs) loop-holds (λ c. search needs) (λ c. search needs)
+    add-rights-requires (λ c. search needs) (λ c. search needs) loop-again returns)

@@ -16,11 +16,11 @@ use Rattle.plan.proofs.walk.go_to.Statement.{statement}
 use Rattle.plan.proofs.walk.go_to.Tie as tie
 
 abbrev Inv-loop : tie.InvT-loop
-Inv-loop lines na body n u o levels sides feed masks spots t table₀ direct₀ changed₀ a₀ table direct changed a =
+Inv-loop lines na body n u o levels sides feed masks spots looks t table₀ direct₀ changed₀ a₀ table direct changed a =
     (a ≤ t) × At lines na body n (take (o .subjects) u) a table
 
 abbrev μ-loop : tie.MeasureT-loop
-μ-loop lines na body n u o levels sides feed masks spots t table₀ direct₀ changed₀ a₀ table direct changed a = t - a
+μ-loop lines na body n u o levels sides feed masks spots looks t table₀ direct₀ changed₀ a₀ table direct changed a = t - a
 
 first-look-requires : tie.Need-first-look-requires Inv-loop μ-loop
 first-look-requires c κs = c .before .before .pre .0 .grounds .rules-there

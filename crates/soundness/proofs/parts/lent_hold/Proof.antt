@@ -19,19 +19,14 @@ returns c =
     (now (a .authorizations)) (now (a .rules)) in
     λ k. (sym (not-true _ (c .if1 .taken)) ∙ c .before .bodies-hold .ensures) k && allSupported b && stratified (b .rules)
 
-all-supported-requires : tie.Need-all-supported-requires
-all-supported-requires c κs = search needs
-
-stratify-requires : tie.Need-stratify-requires
-stratify-requires c κs = search needs
-
 returns-2 : tie.Need-returns-2
-returns-2 c = λ k.
-    (sym (not-false _ (c .before .before .before .before .before .before .before .before .before .if1 .left)) ∙ c .before .before .before .before .before .before .before .before .before .before .bodies-hold .ensures) k
-    && c .before .before .before .all-supported .ensures k && c .stratify .ensures .test k
+returns-2 c =
+    let d = c .before .before .before .before .before .before .before in
+    λ k. (sym (not-false _ (d .if1 .left)) ∙ d .before .bodies-hold .ensures) k
+    && c .before .before .all-supported .ensures k && c .stratify .ensures .test k
 
 pub lent-hold-spec : {M : Type 1} → statement M
 lent-hold-spec =
     tie.close
-    (tie.spec (λ c κs. search needs) returns (λ c. search needs) (λ c. search needs) (λ c. search needs) (λ c. search needs)
-    (λ c. search needs) all-supported-requires stratify-requires returns-2)
+    (tie.spec (λ c κs. search needs) returns (λ c. search needs) (λ c. search needs) (λ c. search needs)
+    (λ c. search needs) (λ c κs. search needs) (λ c κs. search needs) returns-2)

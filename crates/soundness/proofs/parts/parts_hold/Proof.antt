@@ -87,7 +87,7 @@ lent-hold-requires c κs =
       referrers-there = rest-long s (d .before .before .referrers-at .result) _ (p .4);
       authorizations-there = rest-long s (d .before .authorizations-at .result) _ (p .6);
       rules-there = rest-long s (d .rules-at .result) _ (p .8);
-      copied = w .authorizations;
+      sorted = w .authorizations;
       ranked = w .rules;
     }
 

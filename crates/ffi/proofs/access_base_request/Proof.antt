@@ -1,0 +1,61 @@
+-- `access_base_request`: the request that base's function answers is the one that the numbers say, field by field.
+use borrow.Author.Needs.{needs}
+use mathlib.Core.Path.{subst}
+use denote.Ref.{now}
+use Rattle.model.specs.declared.Request.{Request}
+use Rattle.model.specs.Answers.{Answered}
+use Rattle.ffi.proofs.access_base_request.Statement.{statement}
+use Rattle.ffi.proofs.access_base_request.Tie as tie
+
+returns : tie.Need-returns
+returns c =
+    let s = c .before .before .before in
+    let o = s .before .before in
+    let g = o .before in
+    let t4 = g .before in
+    let t3 = t4 .before in
+    let t2 = t3 .before in
+    let t1 = t2 .before in
+    let a = t1 .before .before .args in
+    record {
+      reply = s .request .result;
+      answered =
+          subst (λ (q : Request). Answered (now (a .base)) q (s .request .result) (s .request .last .0))
+          (λ k. record {
+            now = a .moment;
+            requester = a .requester;
+            kind = a .kind;
+            label = a .label;
+            mode = a .mode;
+            object = a .object;
+            subject = a .subject;
+            interval = record { start = a .start; end = a .end };
+            option = a .option;
+            rule = record {
+              left = record {
+                subject = t1 .term .ensures k;
+                mode = t2 .term2 .ensures k;
+                object = a .left-object;
+                negative = a .left-negative;
+              };
+              operator = a .operator;
+              right = record {
+                subject = t3 .term3 .ensures k;
+                mode = t4 .term4 .ensures k;
+                object = a .right-object;
+                negative = a .right-negative;
+              };
+              grantor = g .term5 .ensures k;
+              option = o .option-term .ensures k;
+            };
+          })
+          (s .request .ensures);
+      number = c .pack .ensures;
+    }
+
+pub access-base-request-spec : {M : Type 1} → statement M
+access-base-request-spec =
+    tie.close
+    (tie.spec (λ c κs. search needs) (λ c κs. search needs) (λ c κs. search needs) (λ c κs. search needs)
+    (λ c κs. search needs) (λ c κs. search needs) (λ c κs. search needs) (λ c κs. search needs) (λ c. search needs)
+    returns)

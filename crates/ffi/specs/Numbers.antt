@@ -1,0 +1,107 @@
+-- Requests and replies as C passes them: numbers and truth values alone. A star has a truth value of its own beside
+-- its number, so that no number is a star; a reply is one number of 64 bits, in three parts that C takes out by
+-- shifts: `refusal-back`, `label-back` and `number-back` say that it gets what the reply holds.
+use mathlib.Core.Path.{_≡_, refl}
+use mathlib.Core.Bool.{Bool}
+use mathlib.Core.List.{List}
+use Prim.Native.Nat.{ℕ, _+_, _*_, _/_, _%_, _<_}
+use native.Mathlib.Omega.{arith}
+use Rattle.foundation.specs.Tests.{pick}
+use Rattle.model.specs.declared.Reply.{Reply}
+use Rattle.model.specs.declared.Reply.the-variants.{Done, Refused, Unsupported, Yes, No, Runs}
+use Rattle.model.specs.declared.Term.{Term}
+use Rattle.model.specs.declared.Term.the-variants.{Any, Number}
+use Rattle.model.specs.declared.OptionTerm.{OptionTerm}
+use Rattle.model.specs.declared.OptionTerm.the-variants.{With, Without, Either}
+use Rattle.model.specs.declared.SideTerms.{SideTerms}
+use Rattle.model.specs.declared.Request.{Request}
+use Rattle.model.specs.declared.Access.{Access}
+use Rattle.model.specs.declared.Question.{Question}
+use Rattle.model.specs.Answers.{Answered, refusalNumber}
+
+-- ---- requests and questions
+
+-- a star, or else the number
+abbrev pub termOf : Bool → ℕ → Term
+termOf any n = pick any Any (Number n)
+
+-- a starred option, or else whether the right side must have the grant option
+abbrev pub optionOf : Bool → Bool → OptionTerm
+optionOf any with = pick any Either (pick with With Without)
+
+abbrev pub side : Bool → ℕ → Bool → ℕ → ℕ → Bool → SideTerms
+side anySubject subject anyMode mode object negative = record {
+  subject = termOf anySubject subject;
+  mode = termOf anyMode mode;
+  object = object;
+  negative = negative;
+}
+
+abbrev pub access : ℕ → ℕ → ℕ → Access
+access subject mode object = record { subject = subject; mode = mode; object = object }
+
+abbrev pub question : ℕ → ℕ → ℕ → ℕ → Question
+question subject mode object instant = record { access = access subject mode object; instant = instant }
+
+-- ---- replies
+
+-- the refusal's number or 0 in bits 0 to 15; the new label or 0 in bits 16 to 31; from bit 32 on the authorizations
+-- in the base, the uncovered instant that goes with 9, 1 for yes, or the runs
+abbrev pub packed : Reply → ℕ
+packed (Done label count) = count * 4294967296 + label % 65536 * 65536
+packed (Refused n) = n % 65536
+packed (Unsupported t) = t * 4294967296 + 9
+packed Yes = 4294967296
+packed No = 0
+packed (Runs n) = n * 4294967296
+
+-- the new label, or 0 where the reply has none
+abbrev pub labelOf : Reply → ℕ
+labelOf (Done label count) = label
+labelOf (Refused n) = 0
+labelOf (Unsupported t) = 0
+labelOf Yes = 0
+labelOf No = 0
+labelOf (Runs n) = 0
+
+-- the authorizations in the base, the uncovered instant, 1 for yes, the runs, or 0
+abbrev pub numberOf : Reply → ℕ
+numberOf (Done label count) = count
+numberOf (Refused n) = 0
+numberOf (Unsupported t) = t
+numberOf Yes = 1
+numberOf No = 0
+numberOf (Runs n) = n
+
+-- ---- what a caller takes out of a packed reply
+
+pub refusal-back : (r : Reply) → refusalNumber r < 65536 → packed r % 65536 ≡ refusalNumber r
+refusal-back (Done label count) h = omega arith
+refusal-back (Refused n) h = omega arith
+refusal-back (Unsupported t) h = omega arith
+refusal-back Yes h = refl
+refusal-back No h = refl
+refusal-back (Runs n) h = omega arith
+
+pub label-back : (r : Reply) → labelOf r < 65536 → packed r / 65536 % 65536 ≡ labelOf r
+label-back (Done label count) h = omega arith
+label-back (Refused n) h = omega arith
+label-back (Unsupported t) h = omega arith
+label-back Yes h = refl
+label-back No h = refl
+label-back (Runs n) h = omega arith
+
+pub number-back : (r : Reply) → packed r / 4294967296 ≡ numberOf r
+number-back (Done label count) = omega arith
+number-back (Refused n) = omega arith
+number-back (Unsupported t) = omega arith
+number-back Yes = refl
+number-back No = refl
+number-back (Runs n) = omega arith
+
+-- ---- what the contract of the exported request says
+
+pub record AnsweredBy (s : List ℕ) (q : Request) (n : ℕ) (s′ : List ℕ) : Type 0 where
+  pub reply : Reply
+  pub answered : Answered s q reply s′
+  pub number : n ≡ packed reply

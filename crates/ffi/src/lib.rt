@@ -1,0 +1,211 @@
+// The library for C and Rust: the five functions of crate base on numbers, truth values and lent slices. They add
+// nothing but the wording: every contract is that of base's function, on the request or question that the numbers
+// say. What a caller takes out of a packed reply is said in specs/Numbers.antt (`refusal-back`, `label-back`,
+// `number-back`) and specs/Bounds.antt.
+ghost use mathlib.Core.Path.{_≡_};
+ghost use Rattle.foundation.specs.Intervals.{interval};
+ghost use Rattle.model.specs.Soundness.{soundBytes};
+ghost use Rattle.model.specs.Answers.{create, mayAnswer, whenAnswer};
+ghost use Rattle.ffi.specs.Numbers.{termOf, optionOf, side, access, question, packed, AnsweredBy};
+use foundation::Interval;
+use model::Access;
+use model::OptionTerm;
+use model::Question;
+use model::Reply;
+use model::Request;
+use model::RuleTerms;
+use model::SideTerms;
+use model::Term;
+
+// A star, or else the number.
+fn term(any: bool, n: u32) -> Term
+    ensures { λ r. ⌜ r ≡ termOf any n ⌝ }
+{
+    if any {
+        return Term::Any;
+    }
+    Term::Number(n)
+}
+
+// A starred option, or else with or without the grant option.
+fn option_term(any: bool, with: bool) -> OptionTerm
+    ensures { λ r. ⌜ r ≡ optionOf any with ⌝ }
+{
+    if any {
+        return OptionTerm::Either;
+    }
+    if with {
+        return OptionTerm::With;
+    }
+    OptionTerm::Without
+}
+
+// A reply as one number.
+fn pack(r: Reply) -> u64
+    ensures { λ n. ⌜ n ≡ packed r ⌝ }
+{
+    match r {
+        Reply::Done { label, count } => (count as u64) * 4294967296
+            + (label as u64) % 65536 * 65536,
+        Reply::Refused(n) => (n as u64) % 65536,
+        Reply::Unsupported(t) => (t as u64) * 4294967296 + 9,
+        Reply::Yes => 4294967296,
+        Reply::No => 0,
+        Reply::Runs(n) => (n as u64) * 4294967296,
+    }
+}
+
+// Makes an empty base.
+#[no_mangle]
+pub extern "C" fn access_base_create(base: &mut [u8]) -> u64
+    ensures { λ r. ⌜ (r ≡ packed (create (now (base .entry)) .reply))
+        × (now (base .exit) ≡ create (now (base .entry)) .lent) ⌝ }
+{
+    pack(base::create(base))
+}
+
+// Whether the bytes are a sound base.
+#[no_mangle]
+pub extern "C" fn access_base_is_sound(base: &[u8]) -> bool
+    ensures { λ r. ⌜ r ≡ soundBytes (now (base .entry)) ⌝ }
+{
+    base::is_sound(base)
+}
+
+// MAY.
+#[no_mangle]
+pub extern "C" fn access_base_may(
+    base: &[u8],
+    subject: u32,
+    mode: u32,
+    object: u32,
+    instant: u32,
+) -> u64
+    ensures { λ r. ⌜ r ≡ packed (mayAnswer (now (base .entry)) (question subject mode object instant)) ⌝ }
+{
+    let x = Access {
+        subject: subject,
+        mode: mode,
+        object: object,
+    };
+    pack(base::may(
+        base,
+        Question {
+            access: x,
+            instant: instant,
+        },
+    ))
+}
+
+// WHEN.
+#[no_mangle]
+pub extern "C" fn access_base_when(
+    base: &[u8],
+    subject: u32,
+    mode: u32,
+    object: u32,
+    list: &mut [u32],
+) -> u64
+    ensures { λ r. ⌜
+        (r ≡ packed (whenAnswer (now (base .entry)) (access subject mode object) (now (list .entry)) .reply))
+        × (now (list .exit) ≡ whenAnswer (now (base .entry)) (access subject mode object) (now (list .entry)) .lent)
+        ⌝ }
+{
+    let x = Access {
+        subject: subject,
+        mode: mode,
+        object: object,
+    };
+    pack(base::when(base, x, list))
+}
+
+// A request of any kind. A field that the kind does not name is not looked at.
+#[no_mangle]
+pub extern "C" fn access_base_request(
+    base: &mut [u8],
+    kind: u32,
+    moment: u32,
+    requester: u32,
+    label: u32,
+    mode: u32,
+    object: u32,
+    subject: u32,
+    start: u32,
+    end: u32,
+    option: bool,
+    left_any_subject: bool,
+    left_subject: u32,
+    left_any_mode: bool,
+    left_mode: u32,
+    left_object: u32,
+    left_negative: bool,
+    operator: u32,
+    right_any_subject: bool,
+    right_subject: u32,
+    right_any_mode: bool,
+    right_mode: u32,
+    right_object: u32,
+    right_negative: bool,
+    any_grantor: bool,
+    grantor: u32,
+    any_option: bool,
+    with_option: bool,
+) -> u64
+    ensures { λ r. ⌜ AnsweredBy (now (base .entry)) (record {
+      now = moment;
+      requester = requester;
+      kind = kind;
+      label = label;
+      mode = mode;
+      object = object;
+      subject = subject;
+      interval = interval start end;
+      option = option;
+      rule = record {
+        left = side «left_any_subject» «left_subject» «left_any_mode» «left_mode» «left_object» «left_negative»;
+        operator = operator;
+        right =
+            side «right_any_subject» «right_subject» «right_any_mode» «right_mode» «right_object» «right_negative»;
+        grantor = termOf «any_grantor» grantor;
+        option = optionOf «any_option» «with_option»;
+      };
+    }) r (now (base .exit)) ⌝ }
+{
+    let left = SideTerms {
+        subject: term(left_any_subject, left_subject),
+        mode: term(left_any_mode, left_mode),
+        object: left_object,
+        negative: left_negative,
+    };
+    let right = SideTerms {
+        subject: term(right_any_subject, right_subject),
+        mode: term(right_any_mode, right_mode),
+        object: right_object,
+        negative: right_negative,
+    };
+    let rule = RuleTerms {
+        left: left,
+        operator: operator,
+        right: right,
+        grantor: term(any_grantor, grantor),
+        option: option_term(any_option, with_option),
+    };
+    pack(base::request(
+        base,
+        Request {
+            now: moment,
+            requester: requester,
+            kind: kind,
+            label: label,
+            mode: mode,
+            object: object,
+            subject: subject,
+            interval: Interval {
+                start: start,
+                end: end,
+            },
+            option: option,
+            rule: rule,
+        },
+    ))
+}

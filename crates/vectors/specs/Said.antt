@@ -1,0 +1,174 @@
+-- What a transcript that agrees says: in each case the replies are those of the model's session, on an empty base, to
+-- the lines of the case (`case-said`, and `case-behind` for the cases behind a title). For lines and replies in turn
+-- that is `pairs-said`.
+use mathlib.Core.Path.{_≡_, refl, sym, ap, _∙_}
+use Prim.Native.Nat.{ℕ}
+use native.Mathlib.Omega.{arith}
+use mathlib.Core.Bool.{Bool, true, false, _&&_, _||_}
+use mathlib.Core.List.{List, [], _∷_, _++_, append-assoc}
+use lib.Dec.{leb, eqb}
+use lib.ListN.{length, getD}
+use Rattle.foundation.specs.Tests.{cases, pick, le-true, and-true, true-eq, false-eq}
+use Rattle.foundation.specs.Bytes.{eqList-eq}
+use Rattle.model.specs.Base.{emptyBase}
+use Rattle.model.specs.EncodingFacts.{empty-sound}
+use Rattle.model.specs.Means.{plainly}
+use Rattle.model.specs.Text.{newline, space, printReply}
+use Rattle.model.specs.Session.{transcript, byteTranscript}
+use Rattle.theorems.specs.SessionFacts.{same-transcript}
+use Rattle.serving.specs.Turns.{turnOf, replyText}
+use Rattle.vectors.specs.Transcripts.{marked, opens, asks, tells, body, Stage, stage, fresh, stands, next}
+use Rattle.vectors.specs.Transcripts.{agrees}
+
+-- ---- a case
+
+-- the lines of the session before the next title
+abbrev pub asked : List (List ℕ) → List (List ℕ)
+asked [] = []
+asked (l ∷ rest) = let more = asked rest in pick (opens l) [] (pick (asks l) (body l ∷ more) more)
+
+-- the replies before it, each with its newline
+abbrev pub told : List (List ℕ) → List ℕ
+told [] = []
+told (l ∷ rest) =
+    let more = told rest in
+    pick (opens l) [] (pick (tells l) ((body l ++ (newline ∷ [])) ++ more) more)
+
+-- ---- marks part
+
+first-byte : (c : ℕ) (l : List ℕ) → marked c l ≡ true → getD l 0 0 ≡ c
+unfolding marked
+first-byte c l e =
+    let p = and-true (leb 2 (length l)) (eqb (getD l 0 0) c && eqb (getD l 1 0) space) e in
+    true-eq (getD l 0 0) c (and-true (eqb (getD l 0 0) c) (eqb (getD l 1 0) space) (p .1) .0)
+
+-- a line has one mark
+one-mark : (c d : ℕ) (l : List ℕ) → eqb c d ≡ false → marked c l ≡ true → marked d l ≡ false
+one-mark c d l h e = cases (marked d l)
+    (λ q. absurd (false-eq c d h (sym (first-byte c l e) ∙ first-byte d l q)))
+    (λ q. q)
+
+-- ---- one line
+
+no-bytes : (s : List ℕ) → eqb (length s) 0 ≡ true → s ≡ []
+no-bytes [] e = refl
+no-bytes (c ∷ s) e = absurd (omega (arith, true-eq (length (c ∷ s)) 0 e))
+
+module _ (g : Stage) (l : List ℕ) where
+  stands-told : tells l ≡ true → stands g l ≡ true → body l ++ (newline ∷ []) ≡ g .owed
+  unfolding stands
+  stands-told t e = eqList-eq (body l ++ (newline ∷ [])) (g .owed) (rw t at e)
+
+  stands-other : tells l ≡ false → stands g l ≡ true → g .owed ≡ []
+  unfolding stands
+  stands-other t e =
+      no-bytes (g .owed)
+      (and-true (eqb (length (g .owed)) 0) (eqb (length l) 0 || (opens l || asks l)) (rw t at e) .0)
+
+  pub next-opens : opens l ≡ true → next g l ≡ fresh
+  unfolding next
+  next-opens o = rw o
+
+  pub next-asks : opens l ≡ false → asks l ≡ true →
+      next g l ≡ stage (turnOf (g .base) (body l) .lent) (replyText (g .base) (body l))
+  unfolding next
+  next-asks o a = rw (o, a)
+
+  pub next-other : opens l ≡ false → asks l ≡ false → next g l ≡ stage (g .base) []
+  unfolding next
+  next-other o a = rw (o, a)
+
+-- ---- the first case
+
+-- what is owed, and the replies to the lines of the case, on the bytes of the base
+abbrev answers : Stage → List (List ℕ) → List ℕ
+answers g ls = g .owed ++ byteTranscript (asked ls) (g .base)
+
+module _ (g : Stage) (l : List ℕ) (rest : List (List ℕ)) (s : stands g l ≡ true)
+    (more : answers (next g l) rest ≡ told rest) where
+  said-opens : opens l ≡ true → answers g (l ∷ rest) ≡ told (l ∷ rest)
+  said-opens o = rw (o, stands-other g l (one-mark 35 60 l refl o) s)
+
+  said-asks : opens l ≡ false → asks l ≡ true → answers g (l ∷ rest) ≡ told (l ∷ rest)
+  said-asks o a =
+      let t = one-mark 62 60 l refl a in
+      let x = turnOf (g .base) (body l) in
+      rw (o, a, t, stands-other g l t s)
+      (sym (append-assoc (printReply (x .reply) (x .runs)) (newline ∷ []) (byteTranscript (asked rest) (x .lent)))
+      ∙ ap (λ (h : Stage). answers h rest) (sym (next-asks g l o a)) ∙ more)
+
+  said-other : opens l ≡ false → asks l ≡ false → answers g (l ∷ rest) ≡ told (l ∷ rest)
+  said-other o a =
+      let m = ap (λ (h : Stage). answers h rest) (sym (next-other g l o a)) ∙ more in
+      cases (tells l)
+      (λ t. rw (o, a, t) (rw (← stands-told g l t s) (ap (λ (r : List ℕ). (body l ++ (newline ∷ [])) ++ r) m)))
+      (λ t. rw (o, a, t, stands-other g l t s) m)
+
+case-bytes : (g : Stage) (ls : List (List ℕ)) → agrees g ls ≡ true → answers g ls ≡ told ls
+case-bytes g [] e = rw (no-bytes (g .owed) e)
+case-bytes g (l ∷ rest) e =
+    let p = and-true (stands g l) (agrees (next g l) rest) e in
+    let m = case-bytes (next g l) rest (p .1) in
+    cases (opens l)
+    (λ o. said-opens g l rest (p .0) m o)
+    (λ o. cases (asks l) (λ a. said-asks g l rest (p .0) m o a) (λ a. said-other g l rest (p .0) m o a))
+
+-- the replies that a transcript tells before its next title are those of the model's session to the lines there
+pub case-said : (ls : List (List ℕ)) → agrees fresh ls ≡ true → transcript plainly (asked ls) emptyBase ≡ told ls
+case-said ls e = sym (same-transcript (asked ls) emptyBase empty-sound) ∙ case-bytes fresh ls e
+
+-- and behind every title a case begins of which the same holds
+pub case-behind : (g : Stage) (front : List (List ℕ)) (title : List ℕ) (rest : List (List ℕ)) → opens title ≡ true →
+    agrees g (front ++ (title ∷ rest)) ≡ true → agrees fresh rest ≡ true
+case-behind g [] title rest o e =
+    let p = and-true (stands g title) (agrees (next g title) rest) e in
+    ap (λ (h : Stage). agrees h rest) (sym (next-opens g title o)) ∙ p .1
+case-behind g (l ∷ front) title rest o e =
+    let p = and-true (stands g l) (agrees (next g l) (front ++ (title ∷ rest))) e in
+    case-behind (next g l) front title rest o (p .1)
+
+-- ---- lines and replies in turn
+
+pub record Exchange : Type 0 where
+  pub input : List ℕ
+  pub reply : List ℕ
+
+-- `> input` and `< reply` for each
+abbrev pub exchanged : List Exchange → List (List ℕ)
+exchanged [] = []
+exchanged (x ∷ xs) = (62 ∷ space ∷ x .input) ∷ (60 ∷ space ∷ x .reply) ∷ exchanged xs
+
+abbrev pub inputs : List Exchange → List (List ℕ)
+inputs [] = []
+inputs (x ∷ xs) = x .input ∷ inputs xs
+
+-- every reply with its newline
+abbrev pub replies : List Exchange → List ℕ
+replies [] = []
+replies (x ∷ xs) = (x .reply ++ (newline ∷ [])) ++ replies xs
+
+and-one : (a : Bool) → a && true ≡ a
+and-one true = refl
+and-one false = refl
+
+has-mark : (c d : ℕ) (l : List ℕ) → marked d (c ∷ space ∷ l) ≡ eqb c d
+unfolding marked
+has-mark c d l = rw (le-true 2 (length (c ∷ space ∷ l)) (omega arith)) (and-one (eqb c d))
+
+exchanged-asked : (xs : List Exchange) → asked (exchanged xs) ≡ inputs xs
+exchanged-asked [] = refl
+exchanged-asked (x ∷ xs) =
+    rw (has-mark 62 35 (x .input), has-mark 62 62 (x .input), has-mark 60 35 (x .reply), has-mark 60 62 (x .reply))
+    (ap (λ (ls : List (List ℕ)). x .input ∷ ls) (exchanged-asked xs))
+
+exchanged-told : (xs : List Exchange) → told (exchanged xs) ≡ replies xs
+exchanged-told [] = refl
+exchanged-told (x ∷ xs) =
+    rw (has-mark 62 35 (x .input), has-mark 62 60 (x .input), has-mark 60 35 (x .reply), has-mark 60 60 (x .reply))
+    (ap (λ (t : List ℕ). (x .reply ++ (newline ∷ [])) ++ t) (exchanged-told xs))
+
+pub pairs-said : (xs : List Exchange) → agrees fresh (exchanged xs) ≡ true →
+    transcript plainly (inputs xs) emptyBase ≡ replies xs
+pairs-said xs e =
+    ap (λ (ls : List (List ℕ)). transcript plainly ls emptyBase) (sym (exchanged-asked xs))
+    ∙ case-said (exchanged xs) e ∙ exchanged-told xs

@@ -1,0 +1,78 @@
+-- Stored sessions, as the program `vectors` reads them. A transcript is lines: `# title` opens a case on an empty
+-- base, `> line` is a line of the session, `< reply` is what the line before it must get, an empty line parts cases.
+-- Any other line is a fault. What a transcript that agrees says of the model is in Said.
+use Prim.Native.Nat.{ℕ, suc}
+use mathlib.Core.Bool.{Bool, _&&_, _||_}
+use mathlib.Core.List.{List, [], _∷_, _++_}
+use lib.Dec.{leb, eqb}
+use lib.ListN.{length, drop, getD}
+use Rattle.foundation.specs.Tests.{pick}
+use Rattle.foundation.specs.Bytes.{eqList}
+use Rattle.model.specs.Base.{emptyBase}
+use Rattle.model.specs.Encoding.{encode}
+use Rattle.model.specs.Text.{newline, space}
+use Rattle.serving.specs.Turns.{turnOf, replyText}
+
+-- ---- the marks of lines
+
+-- a line begins with c and a space
+unfoldable pub marked : ℕ → List ℕ → Bool
+marked c l = leb 2 (length l) && (eqb (getD l 0 0) c && eqb (getD l 1 0) space)
+
+-- #, > and <
+abbrev pub opens : List ℕ → Bool
+opens l = marked 35 l
+
+abbrev pub asks : List ℕ → Bool
+asks l = marked 62 l
+
+abbrev pub tells : List ℕ → Bool
+tells l = marked 60 l
+
+-- what stands behind the mark
+abbrev pub body : List ℕ → List ℕ
+body l = drop 2 l
+
+-- ---- going through the lines
+
+-- the bytes of the base, and the printed reply, with its newline, that is still to be compared ([] if none)
+pub record Stage : Type 0 where
+  pub base : List ℕ
+  pub owed : List ℕ
+
+abbrev pub stage : List ℕ → List ℕ → Stage
+stage base owed = record { base = base; owed = owed }
+
+abbrev pub fresh : Stage
+fresh = stage (encode emptyBase) []
+
+-- a line stands: it tells the reply that is owed, or none is owed and it is of another known kind
+unfoldable pub stands : Stage → List ℕ → Bool
+stands g l = pick (tells l)
+    (eqList (body l ++ (newline ∷ [])) (g .owed))
+    (eqb (length (g .owed)) 0 && (eqb (length l) 0 || (opens l || asks l)))
+
+-- what is owed of a reply is owed once; a new case forgets the base of the one before
+unfoldable pub next : Stage → List ℕ → Stage
+next g l = pick (opens l) fresh
+    (pick (asks l) (stage (turnOf (g .base) (body l) .lent) (replyText (g .base) (body l))) (stage (g .base) []))
+
+-- every line stands, and no reply is owed at the end
+abbrev pub agrees : Stage → List (List ℕ) → Bool
+agrees g [] = eqb (length (g .owed)) 0
+agrees g (l ∷ rest) = let r = agrees (next g l) rest in stands g l && r
+
+-- how many lines stand before the first that does not
+abbrev pub standing : Stage → List (List ℕ) → ℕ
+standing g [] = 0
+standing g (l ∷ rest) = let n = suc (standing (next g l) rest) in pick (stands g l) n 0
+
+-- where the lines that stand have led
+abbrev pub reached : Stage → List (List ℕ) → Stage
+reached g [] = g
+reached g (l ∷ rest) = let h = reached (next g l) rest in pick (stands g l) h g
+
+-- the lines from the first that does not stand on
+abbrev pub remaining : Stage → List (List ℕ) → List (List ℕ)
+remaining g [] = []
+remaining g (l ∷ rest) = let ls = remaining (next g l) rest in pick (stands g l) ls (l ∷ rest)
