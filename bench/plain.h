@@ -1,0 +1,18 @@
+/* plain.h: the meter access base in plain C, without proofs. The five functions take the structs and constants of
+ * access_base.h and answer as document 01 says. The base is ACCESS_BASE_BYTES lent bytes; nothing is kept between calls,
+ * nothing is allocated, and what is no sound base is answered with 2 and left as it is. */
+#ifndef PLAIN_H
+#define PLAIN_H
+
+#include "../callers/c/access_base.h"
+
+struct access_base_reply plain_create(uint8_t *base, size_t base_length);
+bool plain_is_sound(const uint8_t *base, size_t base_length);
+struct access_base_reply plain_request(uint8_t *base, size_t base_length, const struct access_base_request *q);
+struct access_base_reply plain_may(
+    const uint8_t *base, size_t base_length, uint32_t subject, uint32_t mode, uint32_t object, uint32_t instant);
+struct access_base_reply plain_when(
+    const uint8_t *base, size_t base_length, uint32_t subject, uint32_t mode, uint32_t object, uint32_t *list,
+    size_t list_length);
+
+#endif

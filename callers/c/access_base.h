@@ -1,0 +1,183 @@
+/* The access base for submeters, for C: who may read, switch or configure a meter, from which instant to which.
+ *
+ * Link with target/staticlib/libffi.a, which `rt staticlib ffi` writes. Every function is proved against the
+ * definitions in crates/model/specs (Answers.antt); docs/LIBRARY.md says what each contract rules out.
+ *
+ * The base is ACCESS_BASE_BYTES bytes that the caller lends; nothing else is kept between calls. Any bytes may be lent,
+ * of any length: what is no sound base is refused with 2 and left as it is. No function allocates, and the deepest
+ * takes about 90,000 bytes of stack.
+ *
+ * What the caller owes, since no proof reaches beyond the call: a pointer is not NULL and points to as many elements
+ * as the length beside it says, also where that is 0; base and list do not overlap; nobody else writes to them during
+ * the call.
+ */
+#ifndef ACCESS_BASE_H
+#define ACCESS_BASE_H
+
+#include <stdbool.h>
+#include <stddef.h>
+#include <stdint.h>
+
+#ifdef __cplusplus
+extern "C" {
+#endif
+
+#define ACCESS_BASE_BYTES 27936u
+/* the last instant, which stands for infinity */
+#define ACCESS_BASE_LAST 4294967295u
+/* so many pairs always suffice for WHEN */
+#define ACCESS_BASE_PAIRS 1100u
+
+/* Kinds of requests, and the fields that each names beside now and requester. Other fields are not looked at. */
+enum access_base_kind {
+    ACCESS_BASE_NEW = 1,        /* object */
+    ACCESS_BASE_GRANT = 2,      /* mode, object, subject, start, end, option */
+    ACCESS_BASE_DENY = 3,       /* mode, object, subject, start, end */
+    ACCESS_BASE_REVOKE = 4,     /* label */
+    ACCESS_BASE_REVOKEP = 5,    /* mode, object, subject, start, end */
+    ACCESS_BASE_REVOKEN = 6,    /* mode, object, subject, start, end */
+    ACCESS_BASE_ADDRULE = 7,    /* rule, start, end */
+    ACCESS_BASE_DROPRULE = 8,   /* label */
+    ACCESS_BASE_GRANTADM = 9,   /* object, subject */
+    ACCESS_BASE_REVOKEADM = 10, /* object, subject */
+    ACCESS_BASE_GRANTREF = 11,  /* object, subject */
+    ACCESS_BASE_REVOKEREF = 12  /* object, subject */
+};
+
+enum access_base_operator {
+    ACCESS_BASE_WHENEVER = 1,
+    ACCESS_BASE_ASLONGAS = 2,
+    ACCESS_BASE_WHENEVERNOT = 3,
+    ACCESS_BASE_UNLESS = 4
+};
+
+/* The table of refusals. The lowest number that applies is given, and nothing lent is altered. */
+enum access_base_refusal {
+    ACCESS_BASE_DONE = 0,
+    ACCESS_BASE_INVALID_BASE = 2,  /* wrong length or not sound */
+    ACCESS_BASE_OUT_OF_RANGE = 3,  /* unknown kind, a field outside its range, or a rule's stars or option do not fit */
+    ACCESS_BASE_BEHIND_CLOCK = 4,  /* now is below the clock */
+    ACCESS_BASE_BAD_INTERVAL = 5,  /* end below start; or a grant, denial or rule starts before now */
+    ACCESS_BASE_NO_SUCH_OBJECT = 6,/* the object (for a rule, either one) does not exist */
+    ACCESS_BASE_NO_SUCH_LABEL = 7, /* no line (REVOKE) or rule (DROPRULE) has the label */
+    ACCESS_BASE_NOT_PERMITTED = 8, /* not its granter, author or owner, or without a rule's powers */
+    ACCESS_BASE_NOT_SUPPORTED = 9, /* some instant of the grant or denial is not covered; one such instant is given */
+    ACCESS_BASE_ALREADY_SO = 10,   /* the object exists, or the subject owns it or holds that privilege */
+    ACCESS_BASE_NOT_HELD = 11,     /* the privilege to withdraw is not there */
+    ACCESS_BASE_NOT_STRATIFIED = 12,/* the rule would close a forbidden circle */
+    ACCESS_BASE_FULL = 13          /* a count or the labels would be passed, or the WHEN list is too short */
+};
+
+/* One side of a rule. Where any_subject or any_mode is true the star stands there, and the number is not looked at. */
+struct access_base_side {
+    bool any_subject;
+    uint32_t subject;
+    bool any_mode;
+    uint32_t mode;
+    uint32_t object;
+    bool negative; /* a denial */
+};
+
+/* A rule: the left side is given where the operator says so of the right. Its interval is the request's. */
+struct access_base_rule {
+    struct access_base_side left;
+    uint32_t operation; /* enum access_base_operator */
+    struct access_base_side right;
+    bool any_grantor;
+    uint32_t grantor;
+    bool any_option;
+    bool with_option;
+};
+
+struct access_base_request {
+    uint32_t kind; /* enum access_base_kind */
+    uint32_t now;
+    uint32_t requester;
+    uint32_t label;
+    uint32_t mode;
+    uint32_t object;
+    uint32_t subject;
+    uint32_t start;
+    uint32_t end;
+    bool option; /* transferable */
+    struct access_base_rule rule;
+};
+
+/* A reply. `number` is: for a request done, the lines now in the base; with refusal 9, an uncovered instant of the
+ * span; for MAY, 1 if the answer is yes and 0 if it is no; for WHEN, the number of runs. 0 with any other refusal. */
+struct access_base_reply {
+    uint32_t refusal; /* enum access_base_refusal; 0 if not refused */
+    uint32_t label;   /* the new label of a GRANT, DENY or ADDRULE that was done, or 0 */
+    uint32_t number;
+};
+
+/* ---- what the archive exports: numbers, truth values, and slices as a pointer and a length. A reply is one number:
+ * bits 0 to 15 the refusal, bits 16 to 31 the label, bits 32 to 63 the number. Rather use the functions below. */
+
+uint64_t access_base_create(uint8_t *base, size_t base_length);
+
+/* Whether the bytes are a sound base. */
+bool access_base_is_sound(const uint8_t *base, size_t base_length);
+
+uint64_t access_base_request(
+    uint8_t *base, size_t base_length, uint32_t kind, uint32_t now, uint32_t requester, uint32_t label, uint32_t mode,
+    uint32_t object, uint32_t subject, uint32_t start, uint32_t end, bool option, bool left_any_subject,
+    uint32_t left_subject, bool left_any_mode, uint32_t left_mode, uint32_t left_object, bool left_negative,
+    uint32_t operation, bool right_any_subject, uint32_t right_subject, bool right_any_mode, uint32_t right_mode,
+    uint32_t right_object, bool right_negative, bool any_grantor, uint32_t grantor, bool any_option, bool with_option);
+
+uint64_t access_base_may(
+    const uint8_t *base, size_t base_length, uint32_t subject, uint32_t mode, uint32_t object, uint32_t instant);
+
+uint64_t access_base_when(
+    const uint8_t *base, size_t base_length, uint32_t subject, uint32_t mode, uint32_t object, uint32_t *list,
+    size_t list_length);
+
+/* ---- the same in C's words */
+
+static inline struct access_base_reply access_base_reply_of(uint64_t packed)
+{
+    struct access_base_reply r = {
+        (uint32_t)(packed & 0xffff), (uint32_t)(packed >> 16 & 0xffff), (uint32_t)(packed >> 32)};
+    return r;
+}
+
+/* Makes an empty base: clock 0, last label 0, nothing in it. A buffer of another length is refused with 2. */
+static inline struct access_base_reply access_base_make(uint8_t *base, size_t base_length)
+{
+    return access_base_reply_of(access_base_create(base, base_length));
+}
+
+/* Carries out one request, or refuses it. */
+static inline struct access_base_reply access_base_do(
+    uint8_t *base, size_t base_length, const struct access_base_request *q)
+{
+    const struct access_base_rule *u = &q->rule;
+    return access_base_reply_of(access_base_request(
+        base, base_length, q->kind, q->now, q->requester, q->label, q->mode, q->object, q->subject, q->start, q->end,
+        q->option, u->left.any_subject, u->left.subject, u->left.any_mode, u->left.mode, u->left.object,
+        u->left.negative, u->operation, u->right.any_subject, u->right.subject, u->right.any_mode, u->right.mode,
+        u->right.object, u->right.negative, u->any_grantor, u->grantor, u->any_option, u->with_option));
+}
+
+/* MAY: whether the subject may do it to the object at the instant. Changes nothing. */
+static inline struct access_base_reply access_base_ask_may(
+    const uint8_t *base, size_t base_length, uint32_t subject, uint32_t mode, uint32_t object, uint32_t instant)
+{
+    return access_base_reply_of(access_base_may(base, base_length, subject, mode, object, instant));
+}
+
+/* WHEN: the longest runs of instants where MAY says yes, rising, as pairs (first, last) at the front of the list; the
+ * rest of the list is untouched. list_length counts numbers, two a pair. */
+static inline struct access_base_reply access_base_ask_when(
+    const uint8_t *base, size_t base_length, uint32_t subject, uint32_t mode, uint32_t object, uint32_t *list,
+    size_t list_length)
+{
+    return access_base_reply_of(access_base_when(base, base_length, subject, mode, object, list, list_length));
+}
+
+#ifdef __cplusplus
+}
+#endif
+
+#endif

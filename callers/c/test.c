@@ -1,0 +1,116 @@
+/* Tests of the boundary in C: that every field of the header's structs arrives where the base's bytes have it, that
+ * replies come apart rightly, and that odd lengths and unsound bytes are refused and untouched. Ends with 0 if all
+ * hold. */
+#include <stdio.h>
+#include <string.h>
+
+#include "access_base.h"
+
+static uint8_t base[ACCESS_BASE_BYTES + 1], before[ACCESS_BASE_BYTES + 1];
+static int checks, failures;
+
+static void expect(int holds, const char *what)
+{
+    checks++;
+    if (!holds) {
+        failures++;
+        printf("does not hold: %s\n", what);
+    }
+}
+
+static int is(struct access_base_reply r, uint32_t refusal, uint32_t label, uint32_t number)
+{
+    return r.refusal == refusal && r.label == label && r.number == number;
+}
+
+static int untouched(void)
+{
+    return memcmp(base, before, sizeof base) == 0;
+}
+
+static struct access_base_reply order(struct access_base_request q)
+{
+    return access_base_do(base, ACCESS_BASE_BYTES, &q);
+}
+
+#define ORDER(...) order((struct access_base_request){__VA_ARGS__})
+
+/* Each field of a grant and of a rule is another number, and is found in its own place. */
+static void fields(void)
+{
+    static const uint8_t line[24] = {1, 0, 1, 0, 0x34, 0x02, 7, 0, 5,    2,    0,    0,
+                                     6, 0, 0, 0, 0x11, 0,    0, 0, 0x78, 0x56, 0x34, 0x12};
+    static const uint8_t rule[28] = {2,    0, 1, 0, 0, 0, 7, 0, 0,    0, 8, 0, 0x45, 0x01,
+                                     3,    4, 3, 3, 0, 0, 9, 0, 0, 0, 10, 0, 0, 0};
+    static const uint8_t named[28] = {3,    0, 1, 0, 0x56, 0x01, 8, 0, 0x57, 0x02, 7, 0, 0,    0,
+                                      0,    0, 4, 8, 0,    0,    9, 0, 0,    0,    10, 0, 0,  0};
+    access_base_make(base, ACCESS_BASE_BYTES);
+    expect(is(ORDER(.kind = ACCESS_BASE_NEW, .now = 5, .requester = 1, .object = 7), 0, 0, 0), "NEW 7");
+    expect(is(ORDER(.kind = ACCESS_BASE_NEW, .now = 5, .requester = 1, .object = 8), 0, 0, 0), "NEW 8");
+    expect(is(ORDER(.kind = ACCESS_BASE_GRANT, .now = 6, .requester = 1, .mode = 5, .object = 7, .subject = 0x234,
+                    .start = 0x11, .end = 0x12345678, .option = true), 0, 1, 1), "GRANT");
+    expect(memcmp(base + 40, line, sizeof line) == 0, "the line's bytes");
+    expect(is(ORDER(.kind = ACCESS_BASE_ADDRULE, .now = 8, .requester = 1, .start = 9, .end = 10,
+                    .rule = {.left = {.any_subject = true, .mode = 3, .object = 7, .negative = true},
+                             .operation = ACCESS_BASE_WHENEVERNOT,
+                             .right = {.any_subject = true, .mode = 4, .object = 8, .negative = true},
+                             .grantor = 0x145}), 0, 2, 1), "ADDRULE with starred subjects");
+    expect(memcmp(base + 64, rule, sizeof rule) == 0, "the starred rule's bytes");
+    expect(is(ORDER(.kind = ACCESS_BASE_ADDRULE, .now = 8, .requester = 1, .start = 9, .end = 10,
+                    .rule = {.left = {.subject = 0x156, .any_mode = true, .object = 8},
+                             .operation = ACCESS_BASE_UNLESS,
+                             .right = {.subject = 0x257, .any_mode = true, .object = 7},
+                             .any_grantor = true, .any_option = true}), 0, 3, 1), "ADDRULE with starred modes");
+    expect(memcmp(base + 92, named, sizeof named) == 0, "the other rule's bytes");
+    expect(access_base_is_sound(base, ACCESS_BASE_BYTES), "what requests leave is sound");
+}
+
+/* The instant with 9, the two answers of MAY, the runs of WHEN in lists of several lengths. */
+static void replies(void)
+{
+    uint32_t list[5] = {90, 91, 92, 93, 94};
+    access_base_make(base, ACCESS_BASE_BYTES);
+    ORDER(.kind = ACCESS_BASE_NEW, .now = 5, .requester = 1, .object = 7);
+    ORDER(.kind = ACCESS_BASE_GRANT, .now = 5, .requester = 1, .mode = 1, .object = 7, .subject = 2, .start = 10,
+          .end = 20, .option = true);
+    ORDER(.kind = ACCESS_BASE_GRANT, .now = 5, .requester = 1, .mode = 1, .object = 7, .subject = 2, .start = 30,
+          .end = ACCESS_BASE_LAST, .option = true);
+    expect(is(ORDER(.kind = ACCESS_BASE_GRANT, .now = 6, .requester = 2, .mode = 1, .object = 7, .subject = 3,
+                    .start = 12, .end = 40), ACCESS_BASE_NOT_SUPPORTED, 0, 21), "9 with the first uncovered instant");
+    expect(is(access_base_ask_may(base, ACCESS_BASE_BYTES, 2, 1, 7, 20), 0, 0, 1), "MAY yes");
+    expect(is(access_base_ask_may(base, ACCESS_BASE_BYTES, 2, 1, 7, 21), 0, 0, 0), "MAY no");
+    expect(is(access_base_ask_may(base, ACCESS_BASE_BYTES, 2, 1, 8, 21), ACCESS_BASE_NO_SUCH_OBJECT, 0, 0), "MAY 6");
+    expect(is(access_base_ask_when(base, ACCESS_BASE_BYTES, 2, 1, 7, list, 3), ACCESS_BASE_FULL, 0, 0), "WHEN 13");
+    expect(list[0] == 90 && list[1] == 91 && list[2] == 92, "a short list is untouched");
+    expect(is(access_base_ask_when(base, ACCESS_BASE_BYTES, 2, 1, 7, list, 5), 0, 0, 2), "WHEN");
+    expect(list[0] == 10 && list[1] == 20 && list[2] == 30 && list[3] == ACCESS_BASE_LAST && list[4] == 94, "the runs");
+    expect(is(access_base_ask_when(base, ACCESS_BASE_BYTES, 4, 1, 7, list, 0), 0, 0, 0), "no run needs no list");
+}
+
+/* Bytes of another length or that are no base are refused by all, and untouched. */
+static void unsound(size_t length)
+{
+    uint32_t list[2] = {90, 91};
+    struct access_base_request q = {.kind = ACCESS_BASE_NEW, .requester = 1, .object = 7};
+    memcpy(before, base, sizeof before);
+    expect(!access_base_is_sound(base, length), "such bytes are not sound");
+    expect(is(access_base_do(base, length, &q), ACCESS_BASE_INVALID_BASE, 0, 0), "a request gets 2");
+    expect(is(access_base_ask_may(base, length, 1, 1, 1, 1), ACCESS_BASE_INVALID_BASE, 0, 0), "MAY gets 2");
+    expect(is(access_base_ask_when(base, length, 1, 1, 1, list, 2), ACCESS_BASE_INVALID_BASE, 0, 0), "WHEN gets 2");
+    if (length != ACCESS_BASE_BYTES)
+        expect(is(access_base_make(base, length), ACCESS_BASE_INVALID_BASE, 0, 0), "create gets 2");
+    expect(untouched() && list[0] == 90 && list[1] == 91, "and all is untouched");
+}
+
+int main(void)
+{
+    fields();
+    replies();
+    unsound(ACCESS_BASE_BYTES - 1);
+    unsound(ACCESS_BASE_BYTES + 1);
+    unsound(0);
+    base[0] ^= 1;
+    unsound(ACCESS_BASE_BYTES);
+    printf("C: %d checks, %d do not hold\n", checks, failures);
+    return failures != 0;
+}

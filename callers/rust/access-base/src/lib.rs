@@ -1,0 +1,200 @@
+//! The access base for submeters: who may read, switch or configure a meter, from which instant to which.
+//!
+//! The base is [`BYTES`] bytes that the caller lends; nothing else is kept between calls, and nothing is allocated. Any
+//! bytes may be lent, of any length: what is no sound base is refused with [`Refusal::InvalidBase`] and left as it is.
+//! A refusal alters nothing.
+//!
+//! The functions called here are proved against the definitions in `crates/model/specs`; this crate words their
+//! arguments and replies in types, and is tested, not proved.
+//!
+//! ```
+//! use access_base::{create, may, request, Access, Interval, Order, Request, BYTES};
+//!
+//! let mut base = vec![0; BYTES];
+//! create(&mut base)?;
+//! request(&mut base, &Request { now: 4, requester: 1, order: Order::New { object: 7 } })?;
+//! let access = Access { subject: 2, mode: 1, object: 7 };
+//! let interval = Interval { start: 50, end: 200 };
+//! let grant = Order::Grant { access, interval, option: true };
+//! let done = request(&mut base, &Request { now: 5, requester: 1, order: grant })?;
+//! assert_eq!((done.label, done.lines), (Some(1), 1));
+//! assert!(may(&base, access, 60)?);
+//! # Ok::<(), access_base::Refusal>(())
+//! ```
+#![no_std]
+
+pub mod raw;
+mod refusal;
+
+pub use refusal::Refusal;
+
+/// The length of a base.
+pub const BYTES: usize = 27_936;
+
+/// The last instant, which stands for infinity.
+pub const LAST: u32 = u32::MAX;
+
+/// So many pairs always suffice for [`when`].
+pub const PAIRS: usize = 1_100;
+
+/// Instants from `start` to `end`, both included.
+#[derive(Clone, Copy, Debug, PartialEq, Eq)]
+pub struct Interval {
+    /// The first instant.
+    pub start: u32,
+    /// The last one.
+    pub end: u32,
+}
+
+/// What a subject does to an object: subject 1 to 1,023, mode 1 to 8, object (a meter) 1 to 128.
+#[derive(Clone, Copy, Debug, PartialEq, Eq)]
+pub struct Access {
+    /// Who.
+    pub subject: u32,
+    /// What: read, switch, configure, by number.
+    pub mode: u32,
+    /// The meter.
+    pub object: u32,
+}
+
+/// A number of a rule, or the star. The star is no number, so that 0 stays out of range.
+#[derive(Clone, Copy, Debug, PartialEq, Eq)]
+pub enum Term {
+    /// The star.
+    Any,
+    /// A number.
+    Number(u32),
+}
+
+/// The grant option that a rule's right side asks for.
+#[derive(Clone, Copy, Debug, PartialEq, Eq)]
+pub enum OptionTerm {
+    /// Transferable only.
+    With,
+    /// Not transferable only.
+    Without,
+    /// The star: either.
+    Either,
+}
+
+/// One side of a rule. A star for subject or mode is on both sides or on neither.
+#[derive(Clone, Copy, Debug, PartialEq, Eq)]
+pub struct Side {
+    /// Who, or everyone.
+    pub subject: Term,
+    /// What, or everything.
+    pub mode: Term,
+    /// The meter.
+    pub object: u32,
+    /// Whether it is a denial.
+    pub negative: bool,
+}
+
+/// What a rule asks of its right side.
+#[derive(Clone, Copy, Debug, PartialEq, Eq)]
+pub enum Operator {
+    /// It is held at the instant.
+    Whenever,
+    /// It is held at all instants from the rule's start on.
+    AsLongAs,
+    /// It is not held at the instant.
+    WheneverNot,
+    /// It is held at no instant from the rule's start on.
+    Unless,
+}
+
+/// A derivation rule: in its interval it gives the left side where the operator says so of the right.
+#[derive(Clone, Copy, Debug, PartialEq, Eq)]
+pub struct Rule {
+    /// What it gives.
+    pub left: Side,
+    /// How it looks at the right side.
+    pub operator: Operator,
+    /// What it looks at.
+    pub right: Side,
+    /// Who must have given the right side.
+    pub grantor: Term,
+    /// Whether the right side must be transferable.
+    pub option: OptionTerm,
+    /// Where the rule holds.
+    pub interval: Interval,
+}
+
+/// What a request asks for.
+#[derive(Clone, Copy, Debug, PartialEq, Eq)]
+#[allow(missing_docs)] // the fields are Access, Interval, and numbers that their names say
+pub enum Order {
+    /// NEW: the requester becomes the object's owner.
+    New { object: u32 },
+    /// GRANT, with the option to hand it on.
+    Grant { access: Access, interval: Interval, option: bool },
+    /// DENY.
+    Deny { access: Access, interval: Interval },
+    /// REVOKE: all lines of the label, which the requester gave.
+    Revoke { label: u32 },
+    /// REVOKEP: the interval out of the requester's grants of the access.
+    RevokeGrants { access: Access, interval: Interval },
+    /// REVOKEN: the interval out of the requester's denials of the access.
+    RevokeDenials { access: Access, interval: Interval },
+    /// ADDRULE.
+    AddRule(Rule),
+    /// DROPRULE.
+    DropRule { label: u32 },
+    /// GRANTADM.
+    GrantAdministrator { object: u32, subject: u32 },
+    /// REVOKEADM: with the subject's lines and rules on the object.
+    RevokeAdministrator { object: u32, subject: u32 },
+    /// GRANTREF.
+    GrantReferrer { object: u32, subject: u32 },
+    /// REVOKEREF: with the subject's rules that refer to the object.
+    RevokeReferrer { object: u32, subject: u32 },
+}
+
+/// A request: when, by whom, and what.
+#[derive(Clone, Copy, Debug, PartialEq, Eq)]
+pub struct Request {
+    /// The instant of the request; not below that of the last accepted one.
+    pub now: u32,
+    /// Who asks.
+    pub requester: u32,
+    /// What for.
+    pub order: Order,
+}
+
+/// The reply to a request that was carried out.
+#[derive(Clone, Copy, Debug, PartialEq, Eq)]
+pub struct Done {
+    /// The new label of a grant, denial or rule.
+    pub label: Option<u32>,
+    /// How many lines are now in the base.
+    pub lines: u32,
+}
+
+/// Makes an empty base of the lent bytes: clock 0, no label given, nothing in it.
+pub fn create(base: &mut [u8]) -> Result<(), Refusal> {
+    refusal::checked(raw::create(base)).map(|_| ())
+}
+
+/// Whether the bytes are a sound base.
+pub fn is_sound(base: &[u8]) -> bool {
+    raw::is_sound(base)
+}
+
+/// Carries out a request, or refuses it and leaves the bytes as they are.
+pub fn request(base: &mut [u8], request: &Request) -> Result<Done, Refusal> {
+    let reply = refusal::checked(raw::request(base, &raw::Numbers::from(request)))?;
+    let label = (reply.label != 0).then_some(reply.label);
+    Ok(Done { label, lines: reply.number })
+}
+
+/// Whether the access is allowed at the instant: something grants it, and nothing denies it.
+pub fn may(base: &[u8], access: Access, instant: u32) -> Result<bool, Refusal> {
+    refusal::checked(raw::may(base, access, instant)).map(|reply| reply.number == 1)
+}
+
+/// The longest runs of instants at which the access is allowed, rising: pairs of first and last instant, written to the
+/// front of the list. [`PAIRS`] always suffice; the rest of the list is untouched.
+pub fn when<'l>(base: &[u8], access: Access, list: &'l mut [[u32; 2]]) -> Result<&'l [[u32; 2]], Refusal> {
+    let reply = refusal::checked(raw::when(base, access, list.as_flattened_mut()))?;
+    Ok(&list[..reply.number as usize])
+}

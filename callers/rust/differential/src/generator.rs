@@ -1,0 +1,384 @@
+//! Random requests and questions that fit what is in the base, so that much is accepted, and some that do not.
+use crate::image::{Contents, Holder, Line};
+use crate::pair::Step;
+use crate::random::Random;
+use crate::world::{World, WILD};
+use access_base::raw::Numbers;
+use access_base::{Access, OptionTerm, Side, Term, LAST};
+
+/// The source of a session's requests and questions.
+pub struct Generator<'r> {
+    /// Its chance.
+    pub random: &'r mut Random,
+    /// What it talks about.
+    pub world: World,
+}
+
+// The star is zero in the bytes.
+fn term(number: u32) -> Term {
+    if number == 0 {
+        Term::Any
+    } else {
+        Term::Number(number)
+    }
+}
+
+impl Generator<'_> {
+    /// The next request.
+    pub fn request(&mut self, contents: &Contents) -> Numbers {
+        let mut kind = 1 + self.random.weighted(&self.world.weights) as u32;
+        if contents.owners.len() < self.world.objects.len() && self.random.percent(35) {
+            kind = 1;
+        }
+        // what is to be withdrawn has to be there first
+        let missing = match kind {
+            8 => contents.rules.is_empty(),
+            10 => contents.administrators.is_empty(),
+            12 => contents.referrers.is_empty(),
+            _ => false,
+        };
+        if missing && self.random.percent(70) {
+            kind -= 1;
+        }
+        let now = self.now(contents.clock);
+        let mut q = match kind {
+            1 => self.new_object(contents, now),
+            2 | 3 => self.give(kind, contents, now),
+            4 => self.revoke(contents, now),
+            5 | 6 => self.withdraw(kind, contents, now),
+            7 => self.add_rule(contents, now),
+            8 => self.drop_rule(contents, now),
+            _ => self.privilege(kind, contents, now),
+        };
+        if self.random.percent(8) {
+            self.spoil(&mut q, contents);
+        }
+        self.fit(&mut q);
+        q
+    }
+
+    fn now(&mut self, clock: u32) -> u32 {
+        let clock = clock.max(self.world.first);
+        let step = if self.random.percent(self.world.rise) { self.random.between(1, 2) } else { 0 };
+        if self.random.percent(2) {
+            return clock.saturating_sub(1);
+        }
+        clock.saturating_add(step).min(self.world.last.max(clock))
+    }
+
+    fn subject(&mut self) -> u32 {
+        self.random.pick(&self.world.subjects)
+    }
+
+    fn mode(&mut self) -> u32 {
+        self.random.pick(&self.world.modes)
+    }
+
+    // Mostly one that exists.
+    fn object(&mut self, contents: &Contents) -> u32 {
+        if self.random.percent(96) {
+            if let Some(holder) = self.random.pick_any(&contents.owners) {
+                return holder.object;
+            }
+        }
+        self.random.pick(&self.world.objects)
+    }
+
+    fn owner(&mut self, contents: &Contents, object: u32) -> u32 {
+        let owner = contents.owners.iter().find(|holder| holder.object == object);
+        owner.map_or_else(|| self.subject(), |holder| holder.subject)
+    }
+
+    // Owner or administrator.
+    fn root(&mut self, contents: &Contents, object: u32) -> u32 {
+        let on = |holder: &&Holder| holder.object == object;
+        let all: Vec<u32> =
+            contents.owners.iter().chain(&contents.administrators).filter(on).map(|h| h.subject).collect();
+        self.random.pick_any(&all).unwrap_or_else(|| self.subject())
+    }
+
+    // An interval that starts at or after `low` and ends at or before `high`.
+    fn span(&mut self, low: u32, high: u32) -> (u32, u32) {
+        let top = high.min(self.world.last);
+        let reach = if self.random.percent(50) { 3 } else { 30 };
+        let start = self.random.between(low, low.saturating_add(reach).min(top));
+        if self.world.short && self.random.percent(80) {
+            return (start, self.random.between(start, start.saturating_add(2).min(top)));
+        }
+        let end = match self.random.below(8) {
+            0 | 1 => high,
+            2 => start,
+            3..=5 => self.random.between(start, start.saturating_add(8).min(top)),
+            _ => self.random.between(start, top),
+        };
+        (start, end)
+    }
+
+    fn new_object(&mut self, contents: &Contents, now: u32) -> Numbers {
+        let missing = |object: &u32| !contents.owners.iter().any(|holder| holder.object == *object);
+        let missing: Vec<u32> = self.world.objects.iter().copied().filter(missing).collect();
+        let any = self.random.pick(&self.world.objects);
+        let object = self.random.pick_any(&missing).unwrap_or(any);
+        Numbers { object, ..Numbers::of_kind(1, now, self.subject()) }
+    }
+
+    // By an owner or administrator, by one who holds the option, or by anybody.
+    fn give(&mut self, kind: u32, contents: &Contents, now: u32) -> Numbers {
+        let (object, mode, subject) = (self.object(contents), self.mode(), self.subject());
+        let (start, end) = self.span(now, LAST);
+        let option = self.random.percent(70);
+        let mut q = Numbers { mode, object, subject, start, end, option, ..Numbers::of_kind(kind, now, 0) };
+        let usable = |line: &Line| line.option() && line.end >= now;
+        let held: Vec<Line> = contents.lines.iter().copied().filter(usable).collect();
+        match (self.random.below(100), self.random.pick_any(&held)) {
+            (0..=54, Some(line)) => {
+                // What he holds by several lines together now and then.
+                let whose = |x: &Line| (x.subject, x.object, x.mode);
+                let furthest = held.iter().filter(|other| whose(other) == whose(&line)).map(|other| other.end).max();
+                let high = if self.random.percent(25) { furthest.unwrap_or(line.end) } else { line.end };
+                (q.start, q.end) = self.span(line.start.max(now), high);
+                (q.requester, q.object, q.mode) = (line.subject, line.object, line.mode);
+            }
+            (0..=90, _) => q.requester = self.root(contents, object),
+            _ => q.requester = self.subject(),
+        }
+        q
+    }
+
+    fn revoke(&mut self, contents: &Contents, now: u32) -> Numbers {
+        let mut q = Numbers::of_kind(4, now, self.subject());
+        q.label = self.random.between(1, contents.last_label + 1);
+        let oldest = contents.lines.first().copied(); // others lean on it
+        let any = self.random.pick_any(&contents.lines);
+        if let Some(line) = if self.random.percent(15) { oldest } else { any } {
+            q.label = line.label;
+            if self.random.percent(90) {
+                q.requester = line.grantor;
+            }
+        }
+        q
+    }
+
+    // Out of a line, mostly.
+    fn withdraw(&mut self, kind: u32, contents: &Contents, now: u32) -> Numbers {
+        let (object, mode, subject) = (self.object(contents), self.mode(), self.subject());
+        let (start, end) = self.span(self.world.first, LAST);
+        let mut q = Numbers { mode, object, subject, start, end, ..Numbers::of_kind(kind, now, self.subject()) };
+        let fits: Vec<Line> = contents.lines.iter().copied().filter(|line| line.negative() == (kind == 6)).collect();
+        if let Some(line) = self.random.pick_any(&fits) {
+            (q.mode, q.object, q.subject) = (line.mode, line.object, line.subject);
+            if self.random.percent(92) {
+                q.requester = line.grantor;
+            }
+            if self.random.percent(75) {
+                let inner = line.start.saturating_add(self.random.between(0, 2));
+                (q.start, q.end) = self.span(inner.min(line.end), line.end);
+            }
+        }
+        q
+    }
+
+    // What a rule could be about: a line's access, what a rule gives, or anything.
+    fn access(&mut self, contents: &Contents) -> (u32, u32, u32, bool) {
+        match self.random.below(10) {
+            0..=3 => {
+                if let Some(line) = self.random.pick_any(&contents.lines) {
+                    return (line.subject, line.mode, line.object, line.negative());
+                }
+            }
+            4..=6 => {
+                if let Some(rule) = self.random.pick_any(&contents.rules) {
+                    return (rule.left_subject, rule.left_mode, rule.left_object, rule.flags & 1 == 1);
+                }
+            }
+            _ => {}
+        }
+        (self.subject(), self.mode(), self.object(contents), self.random.percent(20))
+    }
+
+    // By one who has the powers, mostly.
+    fn add_rule(&mut self, contents: &Contents, now: u32) -> Numbers {
+        let (subject, mode, object, negative) = self.access(contents);
+        let right = Side { subject: term(subject), mode: term(mode), object, negative };
+        let left_object = self.object(contents);
+        let author = self.author(contents, left_object, object);
+        let (subject, mode) = (self.subject(), self.mode());
+        let negative = self.random.percent(25);
+        let left = Side { subject: term(subject), mode: term(mode), object: left_object, negative };
+        let (start, end) = self.span(now, LAST);
+        let mut q = Numbers { start, end, left, right, ..Numbers::of_kind(7, now, author) };
+        q.operator = 1 + self.random.weighted(&[32, 26, 24, 18]) as u32;
+        self.stars(&mut q);
+        let any = self.subject();
+        q.grantor = if self.random.percent(60) { Term::Any } else { Term::Number(any) };
+        if self.random.percent(15) {
+            q.grantor = Term::Number(author);
+        }
+        q.right_option = match self.random.below(100) {
+            0..=49 => OptionTerm::Either,
+            50..=64 if !right.negative || self.random.percent(15) => OptionTerm::With,
+            _ => OptionTerm::Without,
+        };
+        q
+    }
+
+    // Stars on both sides or on neither, but on one side now and then.
+    fn stars(&mut self, q: &mut Numbers) {
+        let (subject, mode) = (self.subject(), self.mode());
+        if self.random.percent(30) {
+            (q.left.subject, q.right.subject) = (Term::Any, Term::Any);
+        } else if q.right.subject == Term::Any {
+            q.right.subject = Term::Number(subject);
+        }
+        if self.random.percent(25) {
+            (q.left.mode, q.right.mode) = (Term::Any, Term::Any);
+        } else if q.right.mode == Term::Any {
+            q.right.mode = Term::Number(mode);
+        }
+        if self.random.percent(3) {
+            match self.random.below(4) {
+                0 => q.left.subject = Term::Any,
+                1 => q.left.mode = Term::Any,
+                2 => q.right.subject = Term::Any,
+                _ => q.right.mode = Term::Any,
+            }
+        }
+    }
+
+    // One with the powers on the left, preferably on the right too, a referrer there among them.
+    fn author(&mut self, contents: &Contents, left: u32, right: u32) -> u32 {
+        let on = |holders: &[Holder], object: u32| -> Vec<u32> {
+            holders.iter().filter(|holder| holder.object == object).map(|holder| holder.subject).collect()
+        };
+        let mut able = on(&contents.owners, left);
+        able.extend(on(&contents.administrators, left));
+        let mut seeing = on(&contents.owners, right);
+        seeing.extend(on(&contents.administrators, right));
+        seeing.extend(on(&contents.referrers, right));
+        let both: Vec<u32> = able.iter().copied().filter(|subject| seeing.contains(subject)).collect();
+        let any = self.subject();
+        let able = self.random.pick_any(&able).unwrap_or(any);
+        match self.random.below(100) {
+            0..=89 => self.random.pick_any(&both).unwrap_or(able),
+            90..=94 => able,
+            _ => any,
+        }
+    }
+
+    fn drop_rule(&mut self, contents: &Contents, now: u32) -> Numbers {
+        let mut q = Numbers::of_kind(8, now, self.subject());
+        q.label = self.random.between(1, contents.last_label + 1);
+        if let Some(rule) = self.random.pick_any(&contents.rules) {
+            q.label = rule.label;
+            if self.random.percent(85) {
+                q.requester = rule.author;
+            }
+        }
+        q
+    }
+
+    // By the owner, mostly; a privilege to withdraw is mostly there.
+    fn privilege(&mut self, kind: u32, contents: &Contents, now: u32) -> Numbers {
+        let holders = if kind <= 10 { &contents.administrators } else { &contents.referrers };
+        let (mut object, mut subject) = (self.object(contents), self.subject());
+        if kind % 2 == 0 && self.random.percent(85) {
+            if let Some(holder) = self.random.pick_any(holders) {
+                (object, subject) = (holder.object, holder.subject);
+            }
+        }
+        let already = |x: &Holder| (x.object, x.subject) == (object, subject);
+        if kind % 2 == 1 && contents.owners.iter().chain(holders).any(already) && self.random.percent(60) {
+            subject = self.subject();
+        }
+        let requester = if self.random.percent(93) { self.owner(contents, object) } else { self.subject() };
+        Numbers { object, subject, ..Numbers::of_kind(kind, now, requester) }
+    }
+
+    // One thing that is not as it should be.
+    fn spoil(&mut self, q: &mut Numbers, contents: &Contents) {
+        let wild = self.random.pick(&WILD);
+        match self.random.below(20) {
+            0 => q.kind = self.random.pick(&[0, 13, u32::MAX, 256, 65_537]),
+            1 => q.now = wild,
+            2 => q.requester = wild,
+            3 => q.label = wild,
+            4 => q.mode = wild,
+            5 => q.object = wild,
+            6 => q.subject = wild,
+            7 => q.start = wild,
+            8 => q.end = wild,
+            9 => (q.start, q.end) = (q.end, q.start),
+            10 => q.start = q.now.saturating_sub(1),
+            11 => q.requester = self.subject(),
+            12 => q.object = self.random.pick(&self.world.objects),
+            13 => q.operator = self.random.pick(&[0, 5, u32::MAX, 257]),
+            14 => q.left.object = wild,
+            15 => q.right.object = wild,
+            16 => q.left.subject = Term::Number(wild),
+            17 => q.right.mode = Term::Number(wild),
+            18 => q.grantor = Term::Number(wild),
+            _ => q.label = self.random.between(1, contents.last_label + 1),
+        }
+    }
+
+    // The oracle knows only the ends that it was told beforehand.
+    fn fit(&mut self, q: &mut Numbers) {
+        if !self.world.is_start(q.start) {
+            q.start = self.random.between(self.world.first, self.world.last);
+        }
+        if !self.world.is_end(q.end) {
+            q.end = self.random.between(self.world.first, self.world.last);
+        }
+    }
+
+    fn question(&mut self, contents: &Contents) -> Access {
+        let mut x = Access { subject: self.subject(), mode: self.mode(), object: self.object(contents) };
+        if self.random.percent(40) {
+            let (subject, mode, object, _) = self.access(contents);
+            let kept = x;
+            x = Access { subject, mode, object };
+            x.subject = if subject == 0 { kept.subject } else { subject };
+            x.mode = if mode == 0 { kept.mode } else { mode };
+        }
+        if self.random.percent(4) {
+            let wild = self.random.pick(&WILD);
+            match self.random.below(3) {
+                0 => x.subject = wild,
+                1 => x.mode = wild,
+                _ => x.object = wild,
+            }
+        }
+        x
+    }
+
+    // Anywhere in the window, just inside or outside of a line or rule, or at an end of the timeline.
+    fn instant(&mut self, contents: &Contents) -> u32 {
+        let line = self.random.pick_any(&contents.lines).map(|line| (line.start, line.end));
+        let rule = self.random.pick_any(&contents.rules).map(|rule| (rule.start, rule.end));
+        let ends = if self.random.percent(60) { line.or(rule) } else { rule.or(line) };
+        match (self.random.below(12), ends) {
+            (0..=3, _) | (_, None) => self.random.between(self.world.first, self.world.last),
+            (4, _) => self.random.pick(&WILD),
+            (5, _) => self.random.any() as u32,
+            (6, Some((start, _))) => start.saturating_sub(1),
+            (7 | 8, Some((start, _))) => start,
+            (9 | 10, Some((_, end))) => end,
+            (_, Some((_, end))) => end.saturating_add(1),
+        }
+    }
+
+    /// The question MAY.
+    pub fn may(&mut self, contents: &Contents) -> Step {
+        let access = self.question(contents);
+        Step::May(access, self.instant(contents))
+    }
+
+    /// The question WHEN, with lists that just suffice or just do not.
+    pub fn when(&mut self, contents: &Contents, runs: impl Fn(Access) -> Option<usize>) -> Vec<Step> {
+        let access = self.question(contents);
+        let exact = 2 * runs(access).unwrap_or(0);
+        let lengths = [exact, exact.saturating_sub(2), exact.saturating_sub(1), exact + 1, exact + 2, 0, 2_200];
+        let lengths = [self.random.pick(&lengths), self.random.pick(&lengths[..4])];
+        lengths.map(|length| Step::When { access, length, pattern: self.random.any() }).to_vec()
+    }
+}

@@ -1,0 +1,263 @@
+//! The library and the oracle side by side: every step is taken on both, and every reply, every byte of the base and
+//! every number of the list are compared.
+use crate::random::Random;
+use crate::tally::Tally;
+use access_base::raw::{self, Numbers};
+use access_base::{Access, OptionTerm, Side, Term, BYTES};
+use oracle::{Cells, Oracle};
+
+/// What is done to both.
+#[derive(Clone, Debug)]
+pub enum Step {
+    /// These bytes are lent from now on; both say whether they are a sound base.
+    Lend(Vec<u8>),
+    /// An empty base is made in the lent bytes.
+    Create,
+    /// A request.
+    Request(Numbers),
+    /// The question MAY.
+    May(Access, u32),
+    /// The question WHEN.
+    When {
+        /// Whose access is asked about.
+        access: Access,
+        /// How many numbers the list has, two a pair.
+        length: usize,
+        /// The seed of what is in the list before.
+        pattern: u64,
+    },
+}
+
+/// What the library replied where the oracle replies something else.
+#[derive(Clone, Debug)]
+pub struct Difference {
+    /// The library's reply.
+    pub library: String,
+    /// The oracle's.
+    pub oracle: String,
+}
+
+/// A base at the library, and the same at the oracle.
+pub struct Pair {
+    base: Vec<u8>,
+    before: Vec<u8>,
+    oracle: Option<Oracle>, // none where the lent bytes are no sound base
+    boundaries: Vec<u32>,
+    steps: Vec<Step>,
+    /// What was compared so far.
+    pub tally: Tally,
+}
+
+fn same<T: PartialEq + core::fmt::Debug>(library: T, oracle: T) -> Result<(), Difference> {
+    if library == oracle {
+        return Ok(());
+    }
+    Err(Difference { library: format!("{library:?}"), oracle: format!("{oracle:?}") })
+}
+
+fn same_bytes(library: &[u8], oracle: &[u8]) -> Result<(), Difference> {
+    if library == oracle {
+        return Ok(());
+    }
+    let at = library.iter().zip(oracle).position(|(a, b)| a != b).unwrap_or(library.len().min(oracle.len()));
+    let shown = |bytes: &[u8]| {
+        let end = bytes.len().min(at + 16);
+        format!("{} bytes, from byte {at}: {:02x?}", bytes.len(), &bytes[at.min(end)..end])
+    };
+    Err(Difference { library: shown(library), oracle: shown(oracle) })
+}
+
+// A reply of the library in parts.
+fn parts(reply: raw::Reply) -> (u32, u32, u32) {
+    (reply.refusal, reply.label, reply.number)
+}
+
+// "all other refusals give only the number"
+fn refused(row: u32) -> (u32, u32, u32) {
+    (row, 0, 0)
+}
+
+impl Pair {
+    /// Nothing is lent yet. The boundaries are the instants at which what the steps name may start; an end is the
+    /// instant before one, or the last instant.
+    pub fn new(boundaries: &[u32]) -> Pair {
+        Pair {
+            base: Vec::new(),
+            before: Vec::new(),
+            oracle: None,
+            boundaries: boundaries.to_vec(),
+            steps: Vec::new(),
+            tally: Tally::default(),
+        }
+    }
+
+    /// The lent bytes.
+    pub fn base(&self) -> &[u8] {
+        &self.base
+    }
+
+    /// The instants at which what the steps name may start.
+    pub fn boundaries(&self) -> &[u32] {
+        &self.boundaries
+    }
+
+    /// All steps so far.
+    pub fn steps(&self) -> &[Step] {
+        &self.steps
+    }
+
+    /// Whether the lent bytes are a sound base.
+    pub fn is_sound(&self) -> bool {
+        self.oracle.is_some()
+    }
+
+    /// How many runs WHEN has, by the oracle; none where it refuses.
+    pub fn runs(&self, x: Access) -> Option<usize> {
+        let oracle = self.oracle.as_ref()?;
+        oracle.when(x.subject, x.mode, x.object, usize::MAX).ok().map(|runs| runs.len())
+    }
+
+    /// Takes a step on both. The refusal's number, or 0.
+    pub fn take(&mut self, step: Step) -> Result<u32, Difference> {
+        self.steps.push(step.clone());
+        self.before.clone_from(&self.base);
+        match step {
+            Step::Lend(bytes) => self.lend(bytes),
+            Step::Create => self.create(),
+            Step::Request(q) => self.request(&q),
+            Step::May(access, instant) => self.may(access, instant),
+            Step::When { access, length, pattern } => self.when(access, length, pattern),
+        }
+    }
+
+    fn lend(&mut self, bytes: Vec<u8>) -> Result<u32, Difference> {
+        let sound = raw::is_sound(&bytes);
+        self.oracle = Oracle::from_bytes(&bytes, &self.boundaries);
+        self.base = bytes;
+        self.tally.judged += 1;
+        self.tally.sound += u64::from(self.oracle.is_some());
+        same(sound, self.oracle.is_some())?;
+        if let Some(oracle) = &self.oracle {
+            same_bytes(&self.base, &oracle.to_bytes())?;
+        }
+        Ok(if sound { 0 } else { 2 })
+    }
+
+    // "making one in a buffer of another length is refused with 2"
+    fn create(&mut self) -> Result<u32, Difference> {
+        let reply = parts(raw::create(&mut self.base));
+        if self.base.len() != BYTES {
+            same(reply, refused(2))?;
+            same_bytes(&self.base, &self.before)?;
+            return Ok(2);
+        }
+        let empty = Oracle::empty(Cells::from_boundaries(self.boundaries.clone()));
+        same(reply, (0, 0, 0))?;
+        same_bytes(&self.base, &empty.to_bytes())?;
+        same(raw::is_sound(&self.base), true)?;
+        self.oracle = Some(empty);
+        Ok(0)
+    }
+
+    fn request(&mut self, q: &Numbers) -> Result<u32, Difference> {
+        let reply = parts(raw::request(&mut self.base, q));
+        let asked = in_oracle_words(q);
+        let expected = match &mut self.oracle {
+            None => oracle::Reply::Refused(2),
+            Some(oracle) => oracle.request(&asked),
+        };
+        self.tally.request(q.kind, if let oracle::Reply::Refused(row) = expected { row } else { 0 });
+        match (expected, &self.oracle) {
+            (oracle::Reply::Done { label, lines }, Some(oracle)) => {
+                same(reply, (0, label, lines))?;
+                same_bytes(&self.base, &oracle.to_bytes())?;
+                self.tally.sizes(oracle.lines(), oracle.rules());
+                return Ok(0);
+            }
+            (oracle::Reply::Refused(9), Some(oracle)) => {
+                // "With 9 the library also gives one uncovered instant"
+                same(reply, (9, 0, reply.2))?;
+                let in_span = q.start <= reply.2 && reply.2 <= q.end;
+                if !in_span || !oracle.is_uncovered(&asked, reply.2) {
+                    let oracle = "9, but this instant is covered or outside the span".to_string();
+                    return Err(Difference { library: format!("9 with instant {}", reply.2), oracle });
+                }
+            }
+            (oracle::Reply::Refused(row), _) => same(reply, refused(row))?,
+            (done, None) => unreachable!("{done:?} without a sound base"),
+        }
+        same_bytes(&self.base, &self.before)?;
+        Ok(reply.0)
+    }
+
+    fn may(&mut self, x: Access, instant: u32) -> Result<u32, Difference> {
+        let reply = parts(raw::may(&self.base, x, instant));
+        let expected = match &self.oracle {
+            None => Err(2),
+            Some(oracle) => oracle.may(x.subject, x.mode, x.object, instant),
+        };
+        self.tally.may(expected);
+        same(reply, expected.map_or_else(refused, |yes| (0, 0, u32::from(yes))))?;
+        same_bytes(&self.base, &self.before)?;
+        Ok(reply.0)
+    }
+
+    // "the reply is the number of runs, and the rest of the list is untouched"
+    fn when(&mut self, x: Access, length: usize, pattern: u64) -> Result<u32, Difference> {
+        let mut random = Random::new(pattern);
+        let mut list: Vec<u32> = (0..length).map(|_| random.any() as u32).collect();
+        let mut expected_list = list.clone();
+        let reply = parts(raw::when(&self.base, x, &mut list));
+        let expected = match &self.oracle {
+            None => Err(2),
+            Some(oracle) => oracle.when(x.subject, x.mode, x.object, length / 2),
+        };
+        self.tally.when(expected.as_ref().map(Vec::len).map_err(|row| *row));
+        if let Ok(runs) = &expected {
+            for (pair, run) in expected_list.chunks_exact_mut(2).zip(runs) {
+                pair.copy_from_slice(&[run.0, run.1]);
+            }
+        }
+        same(reply, expected.map_or_else(refused, |runs| (0, 0, runs.len() as u32)))?;
+        same(list, expected_list)?;
+        same_bytes(&self.base, &self.before)?;
+        Ok(reply.0)
+    }
+}
+
+fn term(term: Term) -> oracle::Term {
+    match term {
+        Term::Any => oracle::Term::Any,
+        Term::Number(n) => oracle::Term::Number(n),
+    }
+}
+
+fn side(side: Side) -> oracle::Side {
+    oracle::Side { subject: term(side.subject), mode: term(side.mode), object: side.object, negative: side.negative }
+}
+
+fn in_oracle_words(q: &Numbers) -> oracle::Request {
+    oracle::Request {
+        now: q.now,
+        requester: q.requester,
+        kind: q.kind,
+        label: q.label,
+        mode: q.mode,
+        object: q.object,
+        subject: q.subject,
+        start: q.start,
+        end: q.end,
+        option: q.option,
+        rule: oracle::Rule {
+            left: side(q.left),
+            operator: q.operator,
+            right: side(q.right),
+            grantor: term(q.grantor),
+            option: match q.right_option {
+                OptionTerm::With => oracle::OptionTerm::With,
+                OptionTerm::Without => oracle::OptionTerm::Without,
+                OptionTerm::Either => oracle::OptionTerm::Either,
+            },
+        },
+    }
+}

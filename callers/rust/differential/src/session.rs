@@ -1,0 +1,173 @@
+//! Random sessions, and what is printed when library and oracle differ.
+use crate::damage::{composed, crowded, cut, damaged};
+use crate::generator::Generator;
+use crate::image::{Contents, Image};
+use crate::pair::{Difference, Pair, Step};
+use crate::random::Random;
+use crate::tally::Tally;
+use crate::text;
+use crate::world::World;
+use access_base::BYTES;
+use core::fmt;
+
+/// A session in which library and oracle differ.
+pub struct Failure {
+    name: String,
+    steps: Vec<Step>,
+    difference: Difference,
+    short: Vec<Step>,
+}
+
+impl Failure {
+    /// The failure of a pair's last step, with a session as short as can be found that fails too.
+    pub fn new(name: &str, pair: &Pair, difference: Difference) -> Failure {
+        let steps = pair.steps().to_vec();
+        let short = if steps.len() > 2_000 { Vec::new() } else { shortened(pair.boundaries(), &steps) };
+        Failure { name: name.to_string(), steps, difference, short }
+    }
+}
+
+impl fmt::Debug for Failure {
+    fn fmt(&self, f: &mut fmt::Formatter) -> fmt::Result {
+        let lines = |steps: &[Step]| steps.iter().map(text::step).collect::<Vec<_>>().join("\n");
+        writeln!(f, "{}: library and oracle differ at step {}", self.name, self.steps.len())?;
+        writeln!(f, "library: {}\noracle:  {}", self.difference.library, self.difference.oracle)?;
+        let shown = self.steps.len().saturating_sub(2_000);
+        writeln!(f, "the session so far, from step {} on:\n{}", shown + 1, lines(&self.steps[shown..]))?;
+        write!(f, "a shorter one that differs too:\n{}", lines(&self.short))
+    }
+}
+
+fn differs(boundaries: &[u32], steps: &[Step]) -> bool {
+    let mut pair = Pair::new(boundaries);
+    steps.iter().any(|step| pair.take(step.clone()).is_err())
+}
+
+// Leaves out steps, many at a time and then one by one, as long as it still differs.
+fn shortened(boundaries: &[u32], steps: &[Step]) -> Vec<Step> {
+    let mut short = steps.to_vec();
+    let mut size = short.len().div_ceil(2);
+    while size > 0 {
+        let mut at = 0;
+        while at < short.len() {
+            let mut fewer = short.clone();
+            fewer.drain(at..(at + size).min(short.len()));
+            if differs(boundaries, &fewer) {
+                short = fewer;
+            } else {
+                at += size;
+            }
+        }
+        size = if size == 1 { 0 } else { size.div_ceil(2) };
+    }
+    short
+}
+
+/// One random session from its seed, with a few damaged bases that come of it.
+pub fn session(seed: u64) -> Result<Tally, Box<Failure>> {
+    play(seed, |_, generator| generator.random.below(8), |base, _, generator| other_base(base, generator))
+}
+
+/// A random session, and many damaged bases that come of it.
+pub fn damaged_session(seed: u64, count: usize) -> Result<Tally, Box<Failure>> {
+    play(seed, |_, _| count, |base, _, generator| other_base(base, generator))
+}
+
+/// A random session, and its last base with each bit of the records and of some bytes behind them flipped in turn.
+pub fn flipped_session(seed: u64) -> Result<Tally, Box<Failure>> {
+    let bits = |base: &[u8]| {
+        let used = 40 + Image::read(base).bodies.iter().flatten().map(Vec::len).sum::<usize>();
+        8 * used.min(BYTES)
+    };
+    let flipped = |base: &[u8], bit: usize| {
+        let mut bytes = base.to_vec();
+        bytes[bit / 8] ^= 1 << (bit % 8);
+        bytes
+    };
+    play(seed, |base, _| bits(base), |base, bit, _| flipped(base, bit))
+}
+
+// A session, and then what follows from so many bases that are made of its last one.
+fn play(
+    seed: u64,
+    count: impl Fn(&[u8], &mut Generator) -> usize,
+    other: impl Fn(&[u8], usize, &mut Generator) -> Vec<u8>,
+) -> Result<Tally, Box<Failure>> {
+    let mut random = Random::new(seed);
+    let world = World::random(&mut random);
+    let name = format!("session {seed}");
+    let mut pair = Pair::new(world.boundaries());
+    let mut generator = Generator { random: &mut random, world };
+    let ran = begin(&mut pair, &mut generator).and_then(|length| run(&mut pair, &mut generator, length));
+    ran.map_err(|difference| Box::new(Failure::new(&name, &pair, difference)))?;
+    let mut tally = pair.tally.clone();
+    for i in 0..count(pair.base(), &mut generator) {
+        let bytes = other(pair.base(), i, &mut generator);
+        let mut other = Pair::new(pair.boundaries());
+        let lent = lend(&mut other, &mut generator, bytes);
+        lent.map_err(|difference| Box::new(Failure::new(&name, &other, difference)))?;
+        tally.add(&other.tally);
+    }
+    Ok(tally)
+}
+
+// An empty base in random bytes, or one that is nearly full. How many requests are to follow.
+fn begin(pair: &mut Pair, generator: &mut Generator) -> Result<usize, Difference> {
+    if generator.random.percent(5) {
+        let bytes = crowded(&generator.world, generator.random, 0);
+        pair.take(Step::Lend(bytes))?;
+        assert!(pair.is_sound(), "a crowded base is sound");
+        return Ok(generator.world.length);
+    }
+    pair.take(Step::Lend(generator.random.bytes(BYTES)))?;
+    pair.take(Step::Create)?;
+    Ok(generator.world.length)
+}
+
+fn run(pair: &mut Pair, generator: &mut Generator, length: usize) -> Result<(), Difference> {
+    let mut contents = Contents::read(pair.base());
+    for _ in 0..length {
+        let request = generator.request(&contents);
+        if pair.take(Step::Request(request))? == 0 {
+            contents = Contents::read(pair.base());
+        }
+        if generator.random.percent(30) {
+            ask(pair, generator, &contents)?;
+        }
+    }
+    (0..3).try_for_each(|_| ask(pair, generator, &contents))
+}
+
+fn ask(pair: &mut Pair, generator: &mut Generator, contents: &Contents) -> Result<(), Difference> {
+    for _ in 0..2 {
+        pair.take(generator.may(contents))?;
+    }
+    for step in generator.when(contents, |access| pair.runs(access)) {
+        pair.take(step)?;
+    }
+    Ok(())
+}
+
+fn other_base(base: &[u8], generator: &mut Generator) -> Vec<u8> {
+    match generator.random.below(20) {
+        0 => generator.random.bytes(BYTES),
+        1 => cut(base, generator.random),
+        2 => crowded(&generator.world, generator.random, 1),
+        3..=7 => composed(&generator.world, generator.random),
+        _ => damaged(base, generator.random),
+    }
+}
+
+// Lends any bytes. If sound, goes on with them; if not, all functions have to refuse.
+fn lend(pair: &mut Pair, generator: &mut Generator, bytes: Vec<u8>) -> Result<(), Difference> {
+    let contents = Contents::read(&bytes);
+    pair.take(Step::Lend(bytes))?;
+    if pair.is_sound() {
+        return run(pair, generator, 4);
+    }
+    let request = generator.request(&contents);
+    pair.take(Step::Request(request))?;
+    ask(pair, generator, &contents)?;
+    pair.take(Step::Create)?;
+    Ok(())
+}

@@ -1,0 +1,106 @@
+//! What was compared, counted by kind and reply.
+use crate::text::{place, WORDS};
+use core::fmt;
+
+/// The counts.
+#[derive(Clone, Debug, Default)]
+pub struct Tally {
+    by_kind: [[u64; 14]; 13], // index 0 of a row is for accepted requests, others for the refusal's number
+    may: [u64; 2],
+    may_refused: [u64; 14],
+    when: u64,
+    runs: u64,
+    most_runs: u64,
+    when_refused: [u64; 14],
+    /// Bases judged: composed, damaged or cut.
+    pub judged: u64,
+    /// How many of them were sound.
+    pub sound: u64,
+    most_lines: usize,
+    most_rules: usize,
+}
+
+impl Tally {
+    pub(crate) fn request(&mut self, kind: u32, row: u32) {
+        self.by_kind[place(kind)][row as usize] += 1;
+    }
+
+    pub(crate) fn may(&mut self, reply: Result<bool, u32>) {
+        match reply {
+            Ok(yes) => self.may[usize::from(yes)] += 1,
+            Err(row) => self.may_refused[row as usize] += 1,
+        }
+    }
+
+    pub(crate) fn when(&mut self, reply: Result<usize, u32>) {
+        match reply {
+            Ok(runs) => {
+                self.when += 1;
+                self.runs += runs as u64;
+                self.most_runs = self.most_runs.max(runs as u64);
+            }
+            Err(row) => self.when_refused[row as usize] += 1,
+        }
+    }
+
+    pub(crate) fn sizes(&mut self, lines: usize, rules: usize) {
+        self.most_lines = self.most_lines.max(lines);
+        self.most_rules = self.most_rules.max(rules);
+    }
+
+    /// How many requests were compared.
+    pub fn requests(&self) -> u64 {
+        self.by_kind.iter().flatten().sum()
+    }
+
+    /// How many requests of the kind got the refusal, or were accepted (0).
+    pub fn count(&self, kind: u32, row: usize) -> u64 {
+        self.by_kind[place(kind)][row]
+    }
+
+    /// How many questions were compared.
+    pub fn questions(&self) -> u64 {
+        self.may.iter().chain(&self.may_refused).chain(&self.when_refused).sum::<u64>() + self.when
+    }
+
+    /// Adds another's counts.
+    pub fn add(&mut self, other: &Tally) {
+        let sum = |mine: &mut [u64], others: &[u64]| mine.iter_mut().zip(others).for_each(|(a, b)| *a += b);
+        for (mine, others) in self.by_kind.iter_mut().zip(&other.by_kind) {
+            sum(mine, others);
+        }
+        sum(&mut self.may, &other.may);
+        sum(&mut self.may_refused, &other.may_refused);
+        sum(&mut self.when_refused, &other.when_refused);
+        self.when += other.when;
+        self.runs += other.runs;
+        self.most_runs = self.most_runs.max(other.most_runs);
+        self.judged += other.judged;
+        self.sound += other.sound;
+        self.sizes(other.most_lines, other.most_rules);
+    }
+}
+
+impl fmt::Display for Tally {
+    fn fmt(&self, f: &mut fmt::Formatter) -> fmt::Result {
+        write!(f, "{:<10}{:>9}", "kind", "accepted")?;
+        (2..14).try_for_each(|row| write!(f, "{row:>8}"))?;
+        writeln!(f)?;
+        for (word, counts) in WORDS.iter().zip(&self.by_kind) {
+            write!(f, "{word:<10}{:>9}", counts[0])?;
+            counts[2..].iter().try_for_each(|count| write!(f, "{count:>8}"))?;
+            writeln!(f)?;
+        }
+        for (word, answered, counts) in
+            [("MAY", self.may[0] + self.may[1], &self.may_refused), ("WHEN", self.when, &self.when_refused)]
+        {
+            write!(f, "{word:<10}{answered:>9}")?;
+            counts[2..].iter().try_for_each(|count| write!(f, "{count:>8}"))?;
+            writeln!(f)?;
+        }
+        writeln!(f, "{} requests, at most {} lines and {} rules", self.requests(), self.most_lines, self.most_rules)?;
+        let [no, yes] = self.may;
+        writeln!(f, "MAY: {yes} yes, {no} no; WHEN: {} runs, at most {}", self.runs, self.most_runs)?;
+        write!(f, "{} bases lent and judged, {} of them sound", self.judged, self.sound)
+    }
+}

@@ -1,0 +1,167 @@
+//! What is held, a second time and without ranks: lines and rules are read from the bytes, every star is
+//! expanded over all subjects and modes of the world, and the negated rules are settled by an alternating
+//! fixed point (if nothing is on a forbidden circle, it ends in one set, which is the one built by ranks).
+
+mod common;
+use common::*;
+use oracle::*;
+use std::collections::BTreeSet;
+
+/// subject, mode, object, denial, granter, transferable, instant
+type Fact = (u32, u32, u32, bool, u32, bool, u32);
+
+struct Single {
+    operator: u32,
+    start: u32,
+    end: u32,
+    author: u32,
+    left: (u32, u32, u32, bool),
+    right: (u32, u32, u32, bool),
+    granter: u32, // 0 is the star
+    option: Option<bool>,
+}
+
+fn read(bytes: &[u8], world: &World) -> (BTreeSet<Fact>, Vec<Single>) {
+    let two = |at: usize| u32::from(bytes[at]) + 256 * u32::from(bytes[at + 1]);
+    let four = |at: usize| two(at) + 65536 * two(at + 2);
+    let subjects = world.subjects + 1;
+    let modes = world.modes + 1;
+    let mut facts = BTreeSet::new();
+    for i in 0..two(26) as usize {
+        let at = two(24) as usize + 24 * i;
+        let flags = bytes[at + 9];
+        for t in world.first..world.first + world.cells {
+            if four(at + 16) <= t && t <= four(at + 20) {
+                let (negative, option) = (flags & 1 != 0, flags & 2 != 0);
+                let mode = u32::from(bytes[at + 8]);
+                facts.insert((two(at + 4), mode, two(at + 6), negative, two(at + 2), option, t));
+            }
+        }
+    }
+    let mut singles = Vec::new();
+    for i in 0..two(30) as usize {
+        let at = two(28) as usize + 28 * i;
+        let flags = bytes[at + 17];
+        let (ls, rs) = (two(at + 4), two(at + 8));
+        let (lm, rm) = (u32::from(bytes[at + 14]), u32::from(bytes[at + 15]));
+        for s in 1..=subjects {
+            for m in 1..=modes {
+                // an unstarred rule once only
+                if (ls != 0 && s > 1) || (lm != 0 && m > 1) {
+                    continue;
+                }
+                let put = |number: u32, star: u32| if number == 0 { star } else { number };
+                singles.push(Single {
+                    operator: u32::from(bytes[at + 16]),
+                    start: four(at + 20),
+                    end: four(at + 24),
+                    author: two(at + 2),
+                    left: (put(ls, s), put(lm, m), two(at + 6), flags & 1 != 0),
+                    right: (put(rs, s), put(rm, m), two(at + 10), flags & 2 != 0),
+                    granter: two(at + 12),
+                    option: if flags & 8 != 0 { None } else { Some(flags & 4 != 0) },
+                });
+            }
+        }
+    }
+    (facts, singles)
+}
+
+fn holds(facts: &BTreeSet<Fact>, rule: &Single, t: u32) -> bool {
+    let (subject, mode, object, negative) = rule.right;
+    let low = (subject, mode, object, negative, 0, false, 0);
+    let high = (subject, mode, object, negative, u32::MAX, true, u32::MAX);
+    facts.range(low..=high).any(|&(_, _, _, _, granter, option, at)| {
+        at == t
+            && (rule.granter == 0 || rule.granter == granter)
+            && (rule.option.is_none() || rule.option == Some(option))
+    })
+}
+
+/// The smallest set with the lines, closed under the rules, where "not held" is asked of `other`.
+fn closure(lines: &BTreeSet<Fact>, rules: &[Single], other: &BTreeSet<Fact>, world: &World) -> BTreeSet<Fact> {
+    let mut facts = lines.clone();
+    loop {
+        let mut new = Vec::new();
+        for rule in rules {
+            for t in world.first..world.first + world.cells {
+                if t < rule.start || t > rule.end {
+                    continue;
+                }
+                let gives = match rule.operator {
+                    WHENEVER => holds(&facts, rule, t),
+                    ASLONGAS => (rule.start..=t).all(|u| holds(&facts, rule, u)),
+                    WHENEVERNOT => !holds(other, rule, t),
+                    _ => (rule.start..=t).all(|u| !holds(other, rule, u)),
+                };
+                let (subject, mode, object, negative) = rule.left;
+                let fact = (subject, mode, object, negative, rule.author, false, t);
+                if gives && !facts.contains(&fact) {
+                    new.push(fact);
+                }
+            }
+        }
+        if new.is_empty() {
+            return facts;
+        }
+        facts.extend(new);
+    }
+}
+
+#[test]
+fn held_without_ranks() {
+    let (mut bases, mut questions, mut yes, mut negated) = (0, 0, 0, 0);
+    for seed in 0..700u64 {
+        let mut world = [SMALL, MIDDLE, TOP][seed as usize % 3];
+        world.cells = 10;
+        if world.first > 0 {
+            world.first = LAST - 10; // the loops above add one to the last instant
+        }
+        world.wild = 100_000;
+        let mut dice = Dice(2024 + seed);
+        let mut base = begun(&world, &mut dice);
+        for step in 0..120 {
+            let mut q = world.request(&mut dice, &base);
+            q.end = if q.end == LAST { LAST } else { q.end };
+            if base.rules() >= 8 && q.kind == ADDRULE {
+                continue;
+            }
+            base.request(&q);
+            if step % 40 != 39 {
+                continue;
+            }
+            let (lines, rules) = read(&base.to_bytes(), &world);
+            bases += 1;
+            negated += rules.iter().filter(|rule| rule.operator > 2).count();
+            let mut low = lines.clone();
+            let held = loop {
+                let high = closure(&lines, &rules, &low, &world);
+                let next = closure(&lines, &rules, &high, &world);
+                if next == low {
+                    assert_eq!(low, high);
+                    break low;
+                }
+                low = next;
+            };
+            for subject in 1..=world.subjects + 1 {
+                for mode in 1..=world.modes + 1 {
+                    for object in 1..=world.objects {
+                        for t in world.first..world.first + world.cells {
+                            let Ok(answer) = base.may(subject, mode, object, t) else { continue };
+                            let any = |negative: bool| {
+                                let low = (subject, mode, object, negative, 0, false, 0);
+                                let high = (subject, mode, object, negative, u32::MAX, true, u32::MAX);
+                                held.range(low..=high).any(|fact| fact.6 == t)
+                            };
+                            assert_eq!(answer, any(false) && !any(true));
+                            questions += 1;
+                            yes += u32::from(answer);
+                        }
+                    }
+                }
+            }
+        }
+    }
+    println!("{bases} bases, {negated} single negated rules, {questions} questions, {yes} yes");
+    assert!(bases > 1000 && yes > 10_000);
+}
