@@ -2,36 +2,9 @@
  * functions (plain.c), and as text through the program `session`. Prints a table in Markdown: microseconds a call, the
  * ratio to plain C, and the growth from the row with a quarter of the lines. Before anything is timed, both must answer
  * alike and leave the same bytes. */
-#define _POSIX_C_SOURCE 200809L
-#include <inttypes.h>
-#include <stdio.h>
-#include <stdlib.h>
-#include <string.h>
-#include <time.h>
-
-#include "../callers/c/access_base.h"
-#include "plain.h"
+#include "harness.h"
 
 enum { MAX_REQUESTS = 2048, ROUNDS = 5 };
-
-typedef struct access_base_request request;
-typedef struct access_base_reply reply;
-
-/* ---- what is compared: five functions */
-
-struct library {
-    const char *name;
-    reply (*create)(uint8_t *, size_t);
-    bool (*is_sound)(const uint8_t *, size_t);
-    reply (*request)(uint8_t *, size_t, const request *);
-    reply (*may)(const uint8_t *, size_t, uint32_t, uint32_t, uint32_t, uint32_t);
-    reply (*when)(const uint8_t *, size_t, uint32_t, uint32_t, uint32_t, uint32_t *, size_t);
-};
-
-static const struct library proved = {
-    "proved", access_base_make, access_base_is_sound, access_base_do, access_base_ask_may, access_base_ask_when};
-static const struct library plain = {
-    "plain C", plain_create, plain_is_sound, plain_request, plain_may, plain_when};
 
 /* ---- generated sessions */
 
@@ -198,13 +171,6 @@ static reply run(const struct library *l, enum call call, const request *q, uint
         memcpy(lent, kept, ACCESS_BASE_BYTES);
         return l->request(lent, ACCESS_BASE_BYTES, q);
     }
-}
-
-static double seconds(void)
-{
-    struct timespec t;
-    clock_gettime(CLOCK_MONOTONIC, &t);
-    return (double)t.tv_sec + 1e-9 * (double)t.tv_nsec;
 }
 
 /* Microseconds a call: the best of some rounds of equally many calls. What copying the base takes is left out. */

@@ -103,8 +103,9 @@ struct access_base_request {
     struct access_base_rule rule;
 };
 
-/* A reply. `number` is: for a request done, the lines now in the base; with refusal 9, an uncovered instant of the
- * span; for MAY, 1 if the answer is yes and 0 if it is no; for WHEN, the number of runs. 0 with any other refusal. */
+/* A reply. `number` is: for a request done, the authorizations (lines) now in the base; with refusal 9, an uncovered
+ * instant of the span; for MAY, 1 if the answer is yes and 0 if it is no; for WHEN, the number of runs. 0 with any other
+ * refusal. */
 struct access_base_reply {
     uint32_t refusal; /* enum access_base_refusal; 0 if not refused */
     uint32_t label;   /* the new label of a GRANT, DENY or ADDRULE that was done, or 0 */

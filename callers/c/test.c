@@ -44,6 +44,8 @@ static void fields(void)
                                      3,    4, 3, 3, 0, 0, 9, 0, 0, 0, 10, 0, 0, 0};
     static const uint8_t named[28] = {3,    0, 1, 0, 0x56, 0x01, 8, 0, 0x57, 0x02, 7, 0, 0,    0,
                                       0,    0, 4, 8, 0,    0,    9, 0, 0,    0,    10, 0, 0,  0};
+    static const uint8_t option[28] = {4, 0, 1, 0, 2, 0, 7, 0, 3, 0, 8, 0, 0,  0,
+                                       1, 1, 1, 4, 0, 0, 9, 0, 0, 0, 10, 0, 0, 0};
     access_base_make(base, ACCESS_BASE_BYTES);
     expect(is(ORDER(.kind = ACCESS_BASE_NEW, .now = 5, .requester = 1, .object = 7), 0, 0, 0), "NEW 7");
     expect(is(ORDER(.kind = ACCESS_BASE_NEW, .now = 5, .requester = 1, .object = 8), 0, 0, 0), "NEW 8");
@@ -62,7 +64,14 @@ static void fields(void)
                              .right = {.subject = 0x257, .any_mode = true, .object = 7},
                              .any_grantor = true, .any_option = true}), 0, 3, 1), "ADDRULE with starred modes");
     expect(memcmp(base + 92, named, sizeof named) == 0, "the other rule's bytes");
+    expect(is(ORDER(.kind = ACCESS_BASE_ADDRULE, .now = 8, .requester = 1, .start = 9, .end = 10,
+                    .rule = {.left = {.subject = 2, .mode = 1, .object = 7},
+                             .operation = ACCESS_BASE_WHENEVER,
+                             .right = {.subject = 3, .mode = 1, .object = 8},
+                             .any_grantor = true, .with_option = true}), 0, 4, 1), "ADDRULE with the option");
+    expect(memcmp(base + 120, option, sizeof option) == 0, "the rule with the option");
     expect(access_base_is_sound(base, ACCESS_BASE_BYTES), "what requests leave is sound");
+    expect(is(ORDER(.kind = ACCESS_BASE_DROPRULE, .now = 8, .requester = 1, .label = 4), 0, 0, 1), "DROPRULE 4");
 }
 
 /* The instant with 9, the two answers of MAY, the runs of WHEN in lists of several lengths. */

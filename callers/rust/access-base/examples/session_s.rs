@@ -7,7 +7,7 @@ fn print(reply: Result<String, Refusal>) {
 
 fn order(base: &mut [u8], now: u32, requester: u32, order: Order) {
     let reply = request(base, &Request { now, requester, order });
-    print(reply.map(|done| format!("done {} {}", done.label.unwrap_or(0), done.lines)));
+    print(reply.map(|done| format!("done {} {}", done.label.unwrap_or(0), done.authorizations)));
 }
 
 fn ask_may(base: &[u8], access: Access, instant: u32) {

@@ -17,7 +17,7 @@
 //! let interval = Interval { start: 50, end: 200 };
 //! let grant = Order::Grant { access, interval, option: true };
 //! let done = request(&mut base, &Request { now: 5, requester: 1, order: grant })?;
-//! assert_eq!((done.label, done.lines), (Some(1), 1));
+//! assert_eq!((done.label, done.authorizations), (Some(1), 1));
 //! assert!(may(&base, access, 60)?);
 //! # Ok::<(), access_base::Refusal>(())
 //! ```
@@ -166,8 +166,8 @@ pub struct Request {
 pub struct Done {
     /// The new label of a grant, denial or rule.
     pub label: Option<u32>,
-    /// How many lines are now in the base.
-    pub lines: u32,
+    /// How many authorizations are now in the base (in the scope: lines).
+    pub authorizations: u32,
 }
 
 /// Makes an empty base of the lent bytes: clock 0, no label given, nothing in it.
@@ -184,7 +184,7 @@ pub fn is_sound(base: &[u8]) -> bool {
 pub fn request(base: &mut [u8], request: &Request) -> Result<Done, Refusal> {
     let reply = refusal::checked(raw::request(base, &raw::Numbers::from(request)))?;
     let label = (reply.label != 0).then_some(reply.label);
-    Ok(Done { label, lines: reply.number })
+    Ok(Done { label, authorizations: reply.number })
 }
 
 /// Whether the access is allowed at the instant: something grants it, and nothing denies it.

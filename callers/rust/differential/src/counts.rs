@@ -140,10 +140,10 @@ pub fn splits() -> Outcome {
 }
 
 // What 2 gave over the whole span rests on one line, and at both ends on two others.
-fn resting(c: &mut Course, giver: u32, count: u32) -> Result<(), Box<Failure>> {
+fn resting(c: &mut Course, grantor: u32, count: u32) -> Result<(), Box<Failure>> {
     c.ask(0, 1, Order::New { object: 7 }, 0)?;
     c.ask(0, 1, Order::GrantAdministrator { object: 7, subject: 5 }, 0)?;
-    c.ask(0, giver, grant(2, 10, 40), 0)?;
+    c.ask(0, grantor, grant(2, 10, 40), 0)?;
     c.ask(0, 1, grant(2, 10, 20), 0)?;
     c.ask(0, 1, grant(2, 30, 40), 0)?;
     for i in 0..count {
@@ -159,12 +159,12 @@ pub fn cascades() -> Outcome {
     let by_label = (1, Order::Revoke { label: 1 });
     let by_interval = (1, cut_grant(2, 25, 25));
     let by_privilege = (5, Order::RevokeAdministrator { object: 7, subject: 5 });
-    for (giver, order) in [by_label, by_interval, by_privilege] {
+    for (grantor, order) in [by_label, by_interval, by_privilege] {
         for (count, wanted) in [(511, 0), (512, FULL)] {
             let mut c = Course::new("cascades", 64)?;
             // the cut leaves two pieces of the first line, the others leave none
             let count = if order == by_interval.1 { count - 1 } else { count };
-            resting(&mut c, giver, count)?;
+            resting(&mut c, grantor, count)?;
             c.ask(2, 1, order, wanted)?;
             c.when(to(5), if wanted == 0 { 2 } else { 1 })?;
             tally.add(&c.pair.tally);
@@ -177,8 +177,8 @@ pub fn cascades() -> Outcome {
 pub fn chain() -> Outcome {
     let mut c = Course::new("chain", 1_200)?;
     c.ask(0, 1, Order::New { object: 7 }, 0)?;
-    for giver in 1..1_023 {
-        c.ask(giver, giver, grant(giver + 1, 1_100, 1_150), 0)?;
+    for grantor in 1..1_023 {
+        c.ask(grantor, grantor, grant(grantor + 1, 1_100, 1_150), 0)?;
     }
     c.ask(1_023, 500, grant(4, 1_100, 1_150), 0)?; // to one before him: no one leans on it
     c.ask(1_024, 1_023, deny(1, 1_120, 1_130), 0)?;
@@ -203,9 +203,9 @@ pub fn ladder() -> Outcome {
     c.ask(0, 1, grant(3, 310, 340), 0)?;
     for rung in 1..=250 {
         let (left, right) = (2 * rung, 2 * rung + 1);
-        for (giver, start, end) in [(left, 300, 320), (right, 310, 340)] {
-            c.ask(rung, giver, grant(left + 2, start, end), 0)?;
-            c.ask(rung, giver, grant(right + 2, start, end), 0)?;
+        for (grantor, start, end) in [(left, 300, 320), (right, 310, 340)] {
+            c.ask(rung, grantor, grant(left + 2, start, end), 0)?;
+            c.ask(rung, grantor, grant(right + 2, start, end), 0)?;
         }
     }
     c.ask(260, 1, cut_grant(2, 315, 320), 0)?;

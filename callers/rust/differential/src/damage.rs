@@ -267,9 +267,9 @@ fn leaning(image: &mut Image, world: &World, random: &mut Random) {
     image.bodies[1] = vec![administrator.write()];
     image.clock = world.first + 1;
     let holder = random.pick(&world.subjects);
-    let first_giver = random.pick(&[APART, administrator]).subject;
+    let first_grantor = random.pick(&[APART, administrator]).subject;
     let (start, end) = (world.first + 2, world.first + 12);
-    let whole = Line { grantor: first_giver, subject: holder, flags: 2, start, end, ..apart_line(1, world, random) };
+    let whole = Line { grantor: first_grantor, subject: holder, flags: 2, start, end, ..apart_line(1, world, random) };
     let front = Line { label: 2, grantor: APART.subject, end: start + 3, ..whole };
     let back = Line { label: 3, grantor: APART.subject, start: end - 3, ..whole };
     image.bodies[LINES] = [whole, front, back].iter().map(Line::write).collect();

@@ -1,7 +1,7 @@
 //! 01, "The base as bytes": writing, and reading with every sentence of soundness on its own.
 
-use crate::backing::unbacked;
-use crate::held::forbidden_circle;
+use crate::held::cycle_through_negation;
+use crate::support::unsupported;
 use crate::*;
 
 // ---- writing -------------------------------------------------------------------------------------
@@ -476,9 +476,9 @@ fn right_options_good(raw: &Raw) -> bool {
 // ---- soundness, on the state ---------------------------------------------------------------------
 
 /// "each line is backed at each of its instants"
-fn every_line_backed(base: &Oracle) -> bool {
+fn every_line_supported(base: &Oracle) -> bool {
     let asked: BTreeSet<(u32, u32)> = base.entries.values().map(|entry| (entry.object, entry.mode)).collect();
-    asked.into_iter().all(|(object, mode)| unbacked(&base.entries, base, object, mode).is_empty())
+    asked.into_iter().all(|(object, mode)| unsupported(&base.entries, base, object, mode).is_empty())
 }
 
 /// "each author has the powers that ADDRULE needs"
@@ -487,9 +487,9 @@ fn authors_have_powers(base: &Oracle) -> bool {
 }
 
 /// "the rules have no forbidden circle"
-fn no_forbidden_circle(base: &Oracle) -> bool {
+fn is_stratified(base: &Oracle) -> bool {
     let rules: Vec<&StandingRule> = base.rules.values().collect();
-    !forbidden_circle(&rules)
+    !cycle_through_negation(&rules)
 }
 
 impl Oracle {
@@ -536,7 +536,7 @@ impl Oracle {
             return None;
         }
         let base = state(&raw, cut(&raw, cells_extra));
-        let state_good = every_line_backed(&base) && authors_have_powers(&base) && no_forbidden_circle(&base);
+        let state_good = every_line_supported(&base) && authors_have_powers(&base) && is_stratified(&base);
         if !state_good {
             return None;
         }

@@ -27,7 +27,7 @@ pub(crate) fn feeds(q: &StandingRule, r: &StandingRule) -> bool {
 
 /// "A circle of feeding with a WHENEVERNOT or UNLESS in it is forbidden; a rule that feeds itself is a
 /// circle." From each such rule a path of feeding is searched that comes back to it.
-pub(crate) fn forbidden_circle(rules: &[&StandingRule]) -> bool {
+pub(crate) fn cycle_through_negation(rules: &[&StandingRule]) -> bool {
     (0..rules.len()).any(|i| negated(rules[i]) && comes_back(rules, i))
 }
 
@@ -53,21 +53,21 @@ fn comes_back(rules: &[&StandingRule], home: usize) -> bool {
 /// "A rule's rank is the most WHENEVERNOT and UNLESS rules on a feeding path that ends in it, itself
 /// included." Paths are lengthened by one rule at a time until no rank rises any more; that ends, since
 /// without a forbidden circle going round a circle adds nothing.
-pub(crate) fn ranks(rules: &[&StandingRule]) -> Vec<u32> {
+pub(crate) fn strata(rules: &[&StandingRule]) -> Vec<u32> {
     let own: Vec<u32> = rules.iter().map(|rule| u32::from(negated(rule))).collect();
-    let mut ranks = own.clone();
+    let mut strata = own.clone();
     loop {
         let mut risen = false;
         for r in 0..rules.len() {
             for q in 0..rules.len() {
-                if ranks[q] + own[r] > ranks[r] && feeds(rules[q], rules[r]) {
-                    ranks[r] = ranks[q] + own[r];
+                if strata[q] + own[r] > strata[r] && feeds(rules[q], rules[r]) {
+                    strata[r] = strata[q] + own[r];
                     risen = true;
                 }
             }
         }
         if !risen {
-            return ranks;
+            return strata;
         }
     }
 }
@@ -122,7 +122,7 @@ struct Single {
     operator: u32,
     first: usize,
     last: usize,
-    rank: u32,
+    stratum: u32,
     wanted: Wanted,
     /// The cells where the right side is held, as far as is known: by lines from the outset.
     right: Set,
@@ -175,9 +175,9 @@ impl Oracle {
             return Vec::new();
         }
         let rules: Vec<&StandingRule> = self.rules.values().collect();
-        let ranks = ranks(&rules);
+        let strata = strata(&rules);
         let mut singles = Vec::new();
-        for (standing, rank) in rules.into_iter().zip(ranks) {
+        for (standing, stratum) in rules.into_iter().zip(strata) {
             let rule = &standing.rule;
             for &(subject, mode) in pairs {
                 if !left_can_be(rule, subject, mode) {
@@ -200,7 +200,7 @@ impl Oracle {
                     operator: rule.operator,
                     first: standing.first,
                     last: standing.last,
-                    rank,
+                    stratum,
                     wanted,
                     right: self.held_by_lines(&wanted),
                     gives: Set::empty(&self.cells),
@@ -224,13 +224,13 @@ impl Oracle {
     /// "What is held is built rank by rank, each the smallest set closed under its rules."
     fn build(&self, pairs: &[(u32, u32)]) -> Vec<Single> {
         let mut singles = self.singles(pairs);
-        let highest = singles.iter().map(|single| single.rank).max().unwrap_or(0);
-        for rank in 0..=highest {
+        let highest = singles.iter().map(|single| single.stratum).max().unwrap_or(0);
+        for stratum in 0..=highest {
             // Add what the rules of this rank give until nothing is added any more.
             loop {
                 let mut added = false;
                 for r in 0..singles.len() {
-                    if singles[r].rank == rank {
+                    if singles[r].stratum == stratum {
                         added |= apply(&mut singles, r);
                     }
                 }

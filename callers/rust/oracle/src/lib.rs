@@ -2,12 +2,12 @@
 //! from the text of 01 and the readings A1 to A85, by brute force over cells of time, to be compared
 //! with the real library. Comments quote the sentence of 01 that a function transcribes.
 
-mod backing;
 mod bytes;
 mod cells;
 mod held;
 mod requests;
 pub mod session;
+mod support;
 
 pub use cells::Cells;
 use cells::Set;

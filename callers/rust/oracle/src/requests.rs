@@ -1,31 +1,31 @@
 //! 01, "Requests" and "Replies that refuse", rows 3 to 13.
 
-use crate::backing::take_out_unbacked;
-use crate::held::forbidden_circle;
+use crate::held::cycle_through_negation;
+use crate::support::restrict_to_supported;
 use crate::*;
 
 impl Oracle {
     /// "The lowest number that applies is given. Nothing lent is altered."
     pub fn request(&mut self, q: &Request) -> Reply {
-        if self.off_the_scale(q) {
+        if self.out_of_range(q) {
             return Reply::Refused(3);
         }
-        if self.clock_behind(q) {
+        if self.behind_clock(q) {
             return Reply::Refused(4);
         }
-        if self.bad_span(q) {
+        if self.bad_interval(q) {
             return Reply::Refused(5);
         }
-        if self.no_such_meter(q) {
+        if self.no_such_object(q) {
             return Reply::Refused(6);
         }
-        if self.no_such_entry(q) {
+        if self.no_such_label(q) {
             return Reply::Refused(7);
         }
-        if self.not_yours(q) {
+        if self.not_permitted(q) {
             return Reply::Refused(8);
         }
-        if self.no_backing(q) {
+        if self.not_supported(q) {
             return Reply::Refused(9);
         }
         if self.already_so(q) {
@@ -34,7 +34,7 @@ impl Oracle {
         if self.not_held(q) {
             return Reply::Refused(11);
         }
-        if self.circle(q) {
+        if self.not_stratified(q) {
             return Reply::Refused(12);
         }
         match self.carry_out(q) {
@@ -48,7 +48,7 @@ impl Oracle {
     }
 
     /// 3: "unknown kind, a field outside its range, or a sound rule's star or option rule broken"
-    fn off_the_scale(&self, q: &Request) -> bool {
+    fn out_of_range(&self, q: &Request) -> bool {
         let fields_good = match q.kind {
             NEW => in_range(q.object, OBJECTS),
             GRANT | DENY | REVOKEP | REVOKEN => {
@@ -63,12 +63,12 @@ impl Oracle {
     }
 
     /// 4: "now is below the clock"
-    fn clock_behind(&self, q: &Request) -> bool {
+    fn behind_clock(&self, q: &Request) -> bool {
         q.now < self.clock
     }
 
     /// 5: "end below start; or a grant, denial or rule starts before now"
-    fn bad_span(&self, q: &Request) -> bool {
+    fn bad_interval(&self, q: &Request) -> bool {
         match q.kind {
             GRANT | DENY | ADDRULE => q.end < q.start || q.start < q.now,
             REVOKEP | REVOKEN => q.end < q.start,
@@ -77,7 +77,7 @@ impl Oracle {
     }
 
     /// 6: "the object (for a rule, either one) does not exist, NEW excepted"
-    fn no_such_meter(&self, q: &Request) -> bool {
+    fn no_such_object(&self, q: &Request) -> bool {
         match q.kind {
             GRANT | DENY | REVOKEP | REVOKEN | GRANTADM | REVOKEADM | GRANTREF | REVOKEREF => !self.exists(q.object),
             ADDRULE => !self.exists(q.rule.left.object) || !self.exists(q.rule.right.object),
@@ -86,7 +86,7 @@ impl Oracle {
     }
 
     /// 7: "no line (REVOKE) or rule (DROPRULE) has the label"
-    fn no_such_entry(&self, q: &Request) -> bool {
+    fn no_such_label(&self, q: &Request) -> bool {
         match q.kind {
             REVOKE => !self.entries.contains_key(&q.label),
             DROPRULE => !self.rules.contains_key(&q.label),
@@ -96,7 +96,7 @@ impl Oracle {
 
     /// 8: "requester is not its granter (REVOKE) or author (DROPRULE), not the owner (the four privilege
     /// requests), or lacks a rule's powers (ADDRULE)"
-    fn not_yours(&self, q: &Request) -> bool {
+    fn not_permitted(&self, q: &Request) -> bool {
         match q.kind {
             REVOKE => self.entries[&q.label].grantor != q.requester,
             DROPRULE => self.rules[&q.label].author != q.requester,
@@ -108,7 +108,7 @@ impl Oracle {
 
     /// 9: "the giver of a grant or denial is neither owner nor administrator, and some instant of it is
     /// not covered"
-    fn no_backing(&self, q: &Request) -> bool {
+    fn not_supported(&self, q: &Request) -> bool {
         matches!(q.kind, GRANT | DENY)
             && !self.owns_or_administers(q.requester, q.object)
             && !self.uncovered_cells(q).is_empty()
@@ -134,14 +134,14 @@ impl Oracle {
     }
 
     /// 12: "the rule would close a forbidden circle"
-    fn circle(&self, q: &Request) -> bool {
+    fn not_stratified(&self, q: &Request) -> bool {
         if q.kind != ADDRULE {
             return false;
         }
         let new = self.new_rule(q);
         let mut rules: Vec<&StandingRule> = self.rules.values().collect();
         rules.push(&new);
-        forbidden_circle(&rules)
+        cycle_through_negation(&rules)
     }
 
     /// The first and last cell of the interval that a request names.
@@ -220,7 +220,7 @@ impl Oracle {
                 let gone = entries.remove(&q.label).expect("row 7 let it through");
                 // "All three then take out of the lines on that object and mode every instant that is
                 // not backed."
-                take_out_unbacked(&mut entries, self, gone.object, gone.mode);
+                restrict_to_supported(&mut entries, self, gone.object, gone.mode);
                 self.settle(entries)
             }
             REVOKEP | REVOKEN => {
@@ -241,7 +241,7 @@ impl Oracle {
                     }
                 }
                 entries.retain(|_, entry| !entry.when.is_empty());
-                take_out_unbacked(&mut entries, self, q.object, q.mode);
+                restrict_to_supported(&mut entries, self, q.object, q.mode);
                 self.settle(entries)
             }
             ADDRULE => {
@@ -278,7 +278,7 @@ impl Oracle {
                 let mut entries = self.entries.clone();
                 entries.retain(|_, entry| !(entry.object == q.object && entry.grantor == q.subject));
                 for mode in 1..=MODES {
-                    take_out_unbacked(&mut entries, self, q.object, mode);
+                    restrict_to_supported(&mut entries, self, q.object, mode);
                 }
                 if self.settle(entries).is_none() {
                     self.administrators.insert((q.object, q.subject));

@@ -178,14 +178,14 @@ fn request(fields: &[&[u8]]) -> Option<Request> {
         ADDRULE => {
             // "ADDRULE: left subject, mode, object, sign; operator; right subject, mode, object, sign,
             // granter, option; start end."
-            let &[ls, lm, lo, lsign, op, rs, rm, ro, rsign, granter, opt, start, end] = rest else {
+            let &[ls, lm, lo, lsign, op, rs, rm, ro, rsign, grantor, opt, start, end] = rest else {
                 return None;
             };
             q.rule = Rule {
                 left: Side { subject: term(ls)?, mode: term(lm)?, object: number(lo)?, negative: sign(lsign)? },
                 operator: operator(op)?,
                 right: Side { subject: term(rs)?, mode: term(rm)?, object: number(ro)?, negative: sign(rsign)? },
-                grantor: term(granter)?,
+                grantor: term(grantor)?,
                 option: option_term(opt)?,
             };
             q.start = instant(start)?;

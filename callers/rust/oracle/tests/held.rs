@@ -17,7 +17,7 @@ struct Single {
     author: u32,
     left: (u32, u32, u32, bool),
     right: (u32, u32, u32, bool),
-    granter: u32, // 0 is the star
+    grantor: u32, // 0 is the star
     option: Option<bool>,
 }
 
@@ -58,7 +58,7 @@ fn read(bytes: &[u8], world: &World) -> (BTreeSet<Fact>, Vec<Single>) {
                     author: two(at + 2),
                     left: (put(ls, s), put(lm, m), two(at + 6), flags & 1 != 0),
                     right: (put(rs, s), put(rm, m), two(at + 10), flags & 2 != 0),
-                    granter: two(at + 12),
+                    grantor: two(at + 12),
                     option: if flags & 8 != 0 { None } else { Some(flags & 4 != 0) },
                 });
             }
@@ -71,9 +71,9 @@ fn holds(facts: &BTreeSet<Fact>, rule: &Single, t: u32) -> bool {
     let (subject, mode, object, negative) = rule.right;
     let low = (subject, mode, object, negative, 0, false, 0);
     let high = (subject, mode, object, negative, u32::MAX, true, u32::MAX);
-    facts.range(low..=high).any(|&(_, _, _, _, granter, option, at)| {
+    facts.range(low..=high).any(|&(_, _, _, _, grantor, option, at)| {
         at == t
-            && (rule.granter == 0 || rule.granter == granter)
+            && (rule.grantor == 0 || rule.grantor == grantor)
             && (rule.option.is_none() || rule.option == Some(option))
     })
 }
@@ -109,7 +109,7 @@ fn closure(lines: &BTreeSet<Fact>, rules: &[Single], other: &BTreeSet<Fact>, wor
 }
 
 #[test]
-fn held_without_ranks() {
+fn held_without_strata() {
     let (mut bases, mut questions, mut yes, mut negated) = (0, 0, 0, 0);
     for seed in 0..700u64 {
         let mut world = [SMALL, MIDDLE, TOP][seed as usize % 3];

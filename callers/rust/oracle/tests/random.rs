@@ -233,12 +233,12 @@ impl Account {
         let mut order: Vec<usize> = (0..self.entries.len()).collect();
         order.sort_by_key(|&i| self.entries[i].1.now);
         for cell in 0..cells.count() {
-            let mut backed: Vec<usize> = Vec::new();
+            let mut supported: Vec<usize> = Vec::new();
             for &i in &order {
                 let (_, line, when) = &self.entries[i];
                 let privileged = self.owners.get(&line.object) == Some(&line.requester)
                     || self.administrators.contains(&(line.object, line.requester));
-                let carried = backed.iter().any(|&j| {
+                let carried = supported.iter().any(|&j| {
                     let from = &self.entries[j].1;
                     from.kind == GRANT
                         && from.option
@@ -248,7 +248,7 @@ impl Account {
                         && from.now < line.now
                 });
                 if when[cell] && (privileged || carried) {
-                    backed.push(i);
+                    supported.push(i);
                 } else {
                     self.entries[i].2[cell] = false;
                 }

@@ -48,12 +48,12 @@ impl<'a> Chains<'a> {
     ///
     /// Depth-first search backwards from the last line. It ends, since granted-at falls strictly on the
     /// way. `known` remembers what was found at this cell.
-    fn backed(&self, i: usize, cell: usize, known: &mut [Option<bool>]) -> bool {
+    fn supported(&self, i: usize, cell: usize, known: &mut [Option<bool>]) -> bool {
         if let Some(answer) = known[i] {
             return answer;
         }
         let answer = self.entries[i].when.has(cell)
-            && (self.may_be_first[i] || self.before[i].iter().any(|&j| self.backed(j, cell, known)));
+            && (self.may_be_first[i] || self.before[i].iter().any(|&j| self.supported(j, cell, known)));
         known[i] = Some(answer);
         answer
     }
@@ -62,14 +62,14 @@ impl<'a> Chains<'a> {
 /// Every (label, cell) on an object and mode where the entry covers the cell and is not backed. The
 /// entries are given apart from the base (owners and administrators are the base's), so that a withdrawal
 /// can be judged before it is accepted.
-pub(crate) fn unbacked(entries: &BTreeMap<u32, Entry>, base: &Oracle, object: u32, mode: u32) -> Vec<(u32, usize)> {
+pub(crate) fn unsupported(entries: &BTreeMap<u32, Entry>, base: &Oracle, object: u32, mode: u32) -> Vec<(u32, usize)> {
     let (labels, chains) = Chains::new(entries, base, object, mode);
     let mut found = Vec::new();
     let mut known = vec![None; labels.len()];
     for cell in 0..base.cells.count() {
         known.fill(None);
         for i in 0..labels.len() {
-            if chains.entries[i].when.has(cell) && !chains.backed(i, cell, &mut known) {
+            if chains.entries[i].when.has(cell) && !chains.supported(i, cell, &mut known) {
                 found.push((labels[i], cell));
             }
         }
@@ -78,8 +78,8 @@ pub(crate) fn unbacked(entries: &BTreeMap<u32, Entry>, base: &Oracle, object: u3
 }
 
 /// "take out of the lines on that object and mode every instant that is not backed"
-pub(crate) fn take_out_unbacked(entries: &mut BTreeMap<u32, Entry>, base: &Oracle, object: u32, mode: u32) {
-    for (label, cell) in unbacked(entries, base, object, mode) {
+pub(crate) fn restrict_to_supported(entries: &mut BTreeMap<u32, Entry>, base: &Oracle, object: u32, mode: u32) {
+    for (label, cell) in unsupported(entries, base, object, mode) {
         if let Some(entry) = entries.get_mut(&label) {
             entry.when.drop(cell);
         }
