@@ -4,7 +4,7 @@
  * alike and leave the same bytes. */
 #include "harness.h"
 
-enum { MAX_REQUESTS = 2048, ROUNDS = 5 };
+enum { MAX_REQUESTS = 2048, ROUNDS = 15 };
 
 /* ---- generated sessions */
 
@@ -173,38 +173,56 @@ static reply run(const struct library *l, enum call call, const request *q, uint
     }
 }
 
-/* Microseconds a call: the best of some rounds of equally many calls. What copying the base takes is left out. */
-static double timed(const struct library *l, enum call call, const request *q)
+/* Seconds that so many calls take. */
+static double seconds_for(const struct library *l, enum call call, const request *q, uint32_t count)
 {
-    uint32_t count = 1;
-    double took = 0;
-    for (; count < 1u << 20; count *= 2) {
-        double from = seconds();
-        for (uint32_t i = 0; i < count; i++)
-            run(l, call, q, i);
-        took = seconds() - from;
-        if (took > 0.02)
-            break;
+    double from = seconds();
+    for (uint32_t i = 0; i < count; i++)
+        run(l, call, q, i);
+    return seconds() - from;
+}
+
+/* Seconds that copying the base so often takes. */
+static double seconds_to_copy(uint32_t count)
+{
+    double from = seconds();
+    for (uint32_t i = 0; i < count; i++) {
+        memcpy(lent, kept, ACCESS_BASE_BYTES);
+        __asm__ volatile("" : : "r"(lent) : "memory");
     }
-    if (count < 40)
-        count = 40; /* every question at least once */
-    double best = 1e9, copying = 0;
+    return seconds() - from;
+}
+
+/* How many calls make a round: some milliseconds of them, and every question at least once. */
+static uint32_t round_of(const struct library *l, enum call call, const request *q)
+{
+    uint32_t count = 40;
+    while (count < 1u << 20 && seconds_for(l, call, q, count) < 0.005)
+        count *= 2;
+    return count;
+}
+
+static double lesser(double a, double b)
+{
+    return a < b ? a : b;
+}
+
+/* Microseconds a call in both libraries: the best of rounds that take turns, so that what disturbs the machine for a
+ * while disturbs both. What copying the base takes is left out. */
+static void timed(enum call call, const request *q, double *m, double *p)
+{
+    uint32_t nm = round_of(&proved, call, q), np = round_of(&plain, call, q);
+    double copying = 1e9;
+    *m = *p = 1e9;
     for (int round = 0; round < ROUNDS; round++) {
-        double from = seconds();
-        for (uint32_t i = 0; i < count; i++)
-            run(l, call, q, i);
-        took = seconds() - from;
-        best = took < best ? took : best;
+        *p = lesser(*p, seconds_for(&plain, call, q, np) / np);
+        *m = lesser(*m, seconds_for(&proved, call, q, nm) / nm);
+        copying = lesser(copying, seconds_to_copy(np) / np);
     }
-    if (call >= GRANT) {
-        double from = seconds();
-        for (uint32_t i = 0; i < count; i++) {
-            memcpy(lent, kept, ACCESS_BASE_BYTES);
-            __asm__ volatile("" : : "r"(lent) : "memory");
-        }
-        copying = seconds() - from;
-    }
-    return 1e6 * (best - copying) / count;
+    if (call < GRANT)
+        copying = 0;
+    *m = 1e6 * (*m - copying);
+    *p = 1e6 * (*p - copying);
 }
 
 /* Both answer alike, on 80 calls, and leave the same bytes. */
@@ -273,12 +291,11 @@ static double session_seconds(const char *program, const char *file)
     char command[512];
     snprintf(command, sizeof command, "'%s' < '%s' > /dev/null", program, file);
     double best = 1e9;
-    for (int round = 0; round < ROUNDS; round++) {
+    for (int round = 0; round < 5; round++) {
         double from = seconds();
         if (system(command) != 0)
             exit(1);
-        double took = seconds() - from;
-        best = took < best ? took : best;
+        best = lesser(best, seconds() - from);
     }
     return best;
 }
@@ -376,7 +393,8 @@ static void row(const char *program, enum call call, int lines, int rules, doubl
     }
     request q = call == CASCADE ? revoke_first(&s) : one_more(&s);
     compare(call, &q);
-    double p = timed(&plain, call, &q), m = timed(&proved, call, &q);
+    double m, p;
+    timed(call, &q, &m, &p);
     printf("| %s | %d | %d | %.2f | %.2f | %.2f |", call_names[call], built, rules, m, p, m / p);
     if (*last > 0)
         printf(" %.1f |", m / *last);

@@ -9,7 +9,7 @@
  *
  * What the caller owes, since no proof reaches beyond the call: a pointer is not NULL and points to as many elements
  * as the length beside it says, also where that is 0; base and list do not overlap; nobody else writes to them during
- * the call.
+ * the call; a bool is 0 or 1.
  */
 #ifndef ACCESS_BASE_H
 #define ACCESS_BASE_H
