@@ -24,7 +24,8 @@ use Rattle.model.specs.Base.{Base}
 use Rattle.model.specs.Stratification.{stratum}
 use Rattle.model.specs.Rules.{Pattern, Fact, fact, rightOf, operate, holdsBy, rightBy, round, enough}
 use Rattle.model.specs.Rules.{derivedBelow, holds, asked, may, when}
-use Rattle.model.specs.Means.{marksOf, ruleMarks, allMarks, alwaysAt, mayAtMarks, whenAtMarks}
+use Rattle.model.specs.Means.{marksOf, ruleMarks, allMarks}
+use Rattle.model.specs.Questions.{alwaysAt, mayAtMarks, whenAtMarks}
 use Rattle.model.specs.RightFacts.{right-cong}
 use Rattle.model.specs.HoldsSteady.{marks-length, rule-marks-length, marks, Stead, holds-cong, holds-steady}
 use Rattle.model.specs.HoldsSteady.{right-by-steady}

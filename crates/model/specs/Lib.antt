@@ -6,7 +6,9 @@ pub mod Stratification
 pub mod Rules
 pub mod Requests
 pub mod Means
+pub mod Questions
 pub mod Step
+pub mod Effects
 pub mod Encoding
 pub mod Soundness
 pub mod SoundnessFacts

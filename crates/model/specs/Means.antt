@@ -1,22 +1,18 @@
--- The answers that speak of every instant, in two readings: `plainly`, which is the definition, and `atMarks`, which asks
--- only where something can change and can therefore be computed. `same-means` (MeansFacts) proves that they agree.
+-- What requests ask of every instant, in two readings: `plainly`, which is the definition, and `atMarks`, which asks only
+-- where something can change and can therefore be computed. `same-means` (MeansFacts) proves that they agree.
 use Prim.Native.Nat.{ℕ, suc}
 use mathlib.Core.Bool.{Bool, not, _||_}
 use mathlib.Core.List.{List, [], _∷_, _++_}
 use Rattle.foundation.specs.declared.Interval.{Interval}
-use Rattle.foundation.specs.Intervals.{none?}
 use Rattle.foundation.specs.Marks.{walk}
 use Rattle.model.specs.declared.Head.{Head}
 use Rattle.model.specs.declared.Authorization.{Authorization}
 use Rattle.model.specs.declared.Rule.{Rule}
-use Rattle.model.specs.declared.Access.{Access}
 use Rattle.model.specs.declared.Request.{Request}
-use Rattle.model.specs.Ranges.{lastInstant}
 use Rattle.model.specs.Base.{Base}
 use Rattle.model.specs.Support.{supported, live, coveredFor, gaps}
 use Rattle.model.specs.Withdrawal.{pieces, restrict}
 use Rattle.model.specs.Requests.{takes, leave}
-use Rattle.model.specs.Rules.{mayWith, may, when}
 
 pub record Means : Type 0 where
   -- the authorizations without what the request takes
@@ -25,12 +21,10 @@ pub record Means : Type 0 where
   pub restricted : (Head → Bool) → (Head → Bool) → List Authorization → List Authorization
   -- the maximal intervals that nothing covers for an authorization with that head
   pub uncovered : List Authorization → Head → Interval → List Interval
-  pub mayAt : Base → Access → ℕ → Bool
-  pub whenIn : Base → Access → List Interval
 
 -- the definition
 abbrev pub plainly : Means
-plainly = record { left = leave; restricted = restrict; uncovered = gaps; mayAt = may; whenIn = when }
+plainly = record { left = leave; restricted = restrict; uncovered = gaps }
 
 -- ---- at marks. The first argument is fuel, the most marks that a walk meets; it is a variable in every proof
 
@@ -66,24 +60,5 @@ unfoldable pub gapsAt : ℕ → List Authorization → Head → Interval → Lis
 unfolding walk coveredFor
 gapsAt n xs h i = walk (λ t. not (coveredFor xs h t)) (marksOf xs) (i .end) n (i .start)
 
--- f holds at every instant from a to t, asked at a and at marks
-unfoldable pub alwaysAt : ℕ → List ℕ → ℕ → ℕ → (ℕ → Bool) → Bool
-unfolding walk
-alwaysAt n marks a t f = none? (walk (λ u. not (f u)) marks t n a)
-
-unfoldable pub mayAtMarks : ℕ → Base → Access → ℕ → Bool
-unfolding mayWith alwaysAt
-mayAtMarks n b x t = mayWith (alwaysAt n (allMarks b)) b x t
-
-unfoldable pub whenAtMarks : ℕ → Base → Access → List Interval
-unfolding walk mayAtMarks
-whenAtMarks n b x = walk (λ t. mayAtMarks n b x t) (allMarks b) lastInstant n 0
-
 abbrev pub atMarks : ℕ → Means
-atMarks n = record {
-  left = leaveAt n;
-  restricted = restrictAt n;
-  uncovered = gapsAt n;
-  mayAt = mayAtMarks n;
-  whenIn = whenAtMarks n;
-}
+atMarks n = record { left = leaveAt n; restricted = restrictAt n; uncovered = gapsAt n }

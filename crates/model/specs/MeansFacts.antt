@@ -1,5 +1,5 @@
--- The two readings agree: what is found at marks is the definition's (`same-means`), and so is the outcome of a
--- request (`step-marks`), for every fuel.
+-- The two readings agree: what is found at marks is the definition's (`same-means`, `same-questions`), and so is the
+-- outcome of a request (`step-marks`), for every fuel.
 use mathlib.Core.Path.{_≡_, refl, sym, ap, fun-ext}
 use Prim.Native.Nat.{ℕ}
 use mathlib.Core.Bool.{Bool, false, not, _&&_, _||_}
@@ -17,6 +17,7 @@ use Rattle.model.specs.Support.{supports, supported, live, coveredFor, g
 use Rattle.model.specs.Withdrawal.{keep, restrict}
 use Rattle.model.specs.Requests.{REVOKE, REVOKEP, REVOKEN, REVOKEADM, is, names, takes, leave}
 use Rattle.model.specs.Means.{Means, plainly, atMarks, boundaries, marksOf, keepAt, leaveAt, restrictAt, gapsAt}
+use Rattle.model.specs.Questions.{asDefined, readAtMarks}
 use Rattle.model.specs.Step.{stepBy, step}
 use Rattle.model.specs.SupportMarks.{interval-steady, live-steady, supported-steady}
 use Rattle.model.specs.HoldsMarks.{may-marks, when-marks}
@@ -71,6 +72,10 @@ same-means n = λ i. record {
   left = fun-ext (λ q. fun-ext (λ xs. leave-marks n q xs)) i;
   restricted = fun-ext (λ root. fun-ext (λ affected. fun-ext (λ xs. restrict-marks n root affected xs))) i;
   uncovered = fun-ext (λ xs. fun-ext (λ h. fun-ext (λ j. gaps-marks n xs h j))) i;
+}
+
+pub same-questions : (n : ℕ) → asDefined ≡ readAtMarks n
+same-questions n = λ i. record {
   mayAt = fun-ext (λ b. fun-ext (λ x. fun-ext (λ t. may-marks n b x t))) i;
   whenIn = fun-ext (λ b. fun-ext (λ x. when-marks n b x)) i;
 }

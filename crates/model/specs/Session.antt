@@ -8,6 +8,7 @@ use Rattle.model.specs.declared.Reply.{Reply}
 use Rattle.model.specs.declared.Reply.the-variants.{Done, Refused, Unsupported, Yes, No, Runs}
 use Rattle.model.specs.Base.{Base, emptyBase}
 use Rattle.model.specs.Means.{Means, plainly}
+use Rattle.model.specs.Questions.{Questions, asDefined}
 use Rattle.model.specs.Step.{refusedOr, stepBy}
 use Rattle.model.specs.Encoding.{encode}
 use Rattle.model.specs.Answers.{mayTable, whenTable, mayReply, request, mayAnswer, whenAnswer}
@@ -23,15 +24,15 @@ pub record Turn : Type 0 where
 abbrev pub pairs : ℕ
 pairs = 1100
 
-module _ (M : Means) where
+module _ (M : Means) (Q : Questions) where
   -- "A line that cannot be read is answered with 1 and reading goes on"
   abbrev pub turn : Base → Line → Turn
   turn b (order q) = let x = stepBy M b q in record { reply = x .reply; runs = []; base = x .base }
   turn b (asksMay q) =
-      let r = mayReply (M .mayAt b (q .access) (q .instant)) in
+      let r = mayReply (Q .mayAt b (q .access) (q .instant)) in
       record { reply = refusedOr (mayTable b q) Refused r; runs = []; base = b }
   turn b (asksWhen x) =
-      let runs = M .whenIn b x in
+      let runs = Q .whenIn b x in
       let n = length runs in
       record { reply = refusedOr (whenTable b x pairs n) Refused (Runs n); runs = runs; base = b }
   turn b unreadable = record { reply = Refused 1; runs = []; base = b }
@@ -45,7 +46,7 @@ module _ (M : Means) where
 
 -- "The program starts with an empty base"
 unfoldable pub session : List ℕ → List ℕ
-session input = transcript plainly (lines input) emptyBase
+session input = transcript plainly asDefined (lines input) emptyBase
 
 -- ---- the same through the library's answers over lent bytes (`session-bytes` in crate theorems, SessionFacts)
 

@@ -1,6 +1,6 @@
 -- The twelve cases of 01 ("Session S" and "More pairs to prove") as one table of text in and text out, and one
 -- theorem over its rows about the definitions: `twelve`.
-use mathlib.Core.Path.{_≡_, refl, sym, ap, _∙_, subst}
+use mathlib.Core.Path.{_≡_, refl, sym, ap₂, _∙_, subst}
 use mathlib.Core.Logic.{inl, inr}
 use Prim.Native.Nat.{ℕ, zero, suc}
 use Prim.Native.String.{String}
@@ -14,8 +14,9 @@ use Rattle.model.specs.Base.{emptyBase}
 use Rattle.model.specs.Support.{supports, supportedIn, supported, coveredFor}
 use Rattle.model.specs.Stratification.{stratified, stratum}
 use Rattle.model.specs.Rules.{derivedBelow, holds, mayWith}
-use Rattle.model.specs.Means.{Means, atMarks, keepAt, leaveAt, restrictAt, gapsAt, alwaysAt, mayAtMarks, whenAtMarks}
-use Rattle.model.specs.MeansFacts.{same-means}
+use Rattle.model.specs.Means.{Means, atMarks, keepAt, leaveAt, restrictAt, gapsAt}
+use Rattle.model.specs.Questions.{Questions, readAtMarks, alwaysAt, mayAtMarks, whenAtMarks}
+use Rattle.model.specs.MeansFacts.{same-means, same-questions}
 use Rattle.model.specs.Text.{ascii, decimal, lines, readLine}
 use Rattle.model.specs.Session.{transcript, session}
 
@@ -117,7 +118,7 @@ table =
 -- computed once over the whole table, by asking at marks
 abbrev Passes : List Case → Type 0
 Passes [] = Unit {0}
-Passes (c ∷ rest) = (transcript (atMarks 64) (lines (c .input)) emptyBase ≡ c .output) × Passes rest
+Passes (c ∷ rest) = (transcript (atMarks 64) (readAtMarks 64) (lines (c .input)) emptyBase ≡ c .output) × Passes rest
 
 computed : Passes table
 unfolding iter reaches cyclic rankIn rank prepend next walk supports supportedIn supported coveredFor stratified holds
@@ -125,13 +126,15 @@ unfolding iter reaches cyclic rankIn rank prepend next walk supports supportedIn
 computed = (refl, (refl, (refl, (refl, (refl, (refl, (refl, (refl, (refl, (refl, (refl, (refl, tt))))))))))))
 
 at : (cs : List Case) → Passes cs → (c : Case) → Mem c cs →
-    transcript (atMarks 64) (lines (c .input)) emptyBase ≡ c .output
+    transcript (atMarks 64) (readAtMarks 64) (lines (c .input)) emptyBase ≡ c .output
 at [] p c m = absurd (m .lower)
 at (d ∷ cs) p c (inl e) =
-    subst (λ (x : Case). transcript (atMarks 64) (lines (x .input)) emptyBase ≡ x .output) (sym e) (p .0)
+    subst (λ (x : Case). transcript (atMarks 64) (readAtMarks 64) (lines (x .input)) emptyBase ≡ x .output) (sym e) (p .0)
 at (d ∷ cs) p c (inr m) = at cs (p .1) c m
 
 -- THEOREM 10: every row of the table is what the definitions say
 pub twelve : (c : Case) → Mem c table → session (c .input) ≡ c .output
 unfolding session
-twelve c m = ap (λ (M : Means). transcript M (lines (c .input)) emptyBase) (same-means 64) ∙ at table computed c m
+twelve c m =
+    ap₂ (λ (M : Means) (Q : Questions). transcript M Q (lines (c .input)) emptyBase) (same-means 64) (same-questions 64)
+    ∙ at table computed c m

@@ -18,6 +18,7 @@ use Rattle.model.specs.Base.{Base, emptyBase}
 use Rattle.model.specs.Rules.{may, when}
 use Rattle.model.specs.HoldsMarks.{when-count}
 use Rattle.model.specs.Means.{plainly}
+use Rattle.model.specs.Questions.{asDefined}
 use Rattle.model.specs.Step.{lowest, refusedOr, Outcome, refusal, step}
 use Rattle.model.specs.StepFacts.{answered, turned-away, step-accepted, step-refused}
 use Rattle.model.specs.Encoding.{encode}
@@ -54,7 +55,7 @@ module _ (b : Base) (s : sound b ≡ true) where
   Both a o = Same (record { reply = a .reply; runs = []; lent = a .lent })
       (record { reply = o .reply; runs = []; base = o .base })
 
-  ordered : (q : Request) → Same (byteTurn (encode b) (order q)) (turn plainly b (order q))
+  ordered : (q : Request) → Same (byteTurn (encode b) (order q)) (turn plainly asDefined b (order q))
   unfolding step
   ordered q = cases (eqb (refusal plainly b q) 0)
       (λ e. let z = true-eq (refusal plainly b q) 0 e in
@@ -64,7 +65,7 @@ module _ (b : Base) (s : sound b ≡ true) where
       subst₂ Both (sym (request-refused b q s n)) (sym (step-refused b q n))
       (record { text = refl; bytes = refl; kept = s }))
 
-  asked-may : (q : Question) → Same (byteTurn (encode b) (asksMay q)) (turn plainly b (asksMay q))
+  asked-may : (q : Question) → Same (byteTurn (encode b) (asksMay q)) (turn plainly asDefined b (asksMay q))
   unfolding mayAnswer
   asked-may q =
       let e : mayAnswer (encode b) q ≡ refusedOr (mayTable b q) Refused (mayReply (may b (q .access) (q .instant))) =
@@ -78,7 +79,7 @@ module _ (b : Base) (s : sound b ≡ true) where
   unfolding whenAnswer
   when-answer x = rw (encode-sound b s, decode-encode b s, list-pairs)
 
-  asked-when : (x : Access) → Same (byteTurn (encode b) (asksWhen x)) (turn plainly b (asksWhen x))
+  asked-when : (x : Access) → Same (byteTurn (encode b) (asksWhen x)) (turn plainly asDefined b (asksWhen x))
   asked-when x =
       let rows = whenTable b x pairs (length (when b x)) in
       let a = answering (Runs (length (when b x))) (words (when b x) ++ drop (2 * length (when b x)) whenList) in
@@ -100,19 +101,19 @@ module _ (b : Base) (s : sound b ≡ true) where
       shownRuns : Answer → List ℕ
       shownRuns a = printReply (a .reply) (runsOf (a .reply) (a .lent))
 
-  same-turn : (l : Line) → Same (byteTurn (encode b) l) (turn plainly b l)
+  same-turn : (l : Line) → Same (byteTurn (encode b) l) (turn plainly asDefined b l)
   same-turn (order q) = ordered q
   same-turn (asksMay q) = asked-may q
   same-turn (asksWhen x) = asked-when x
   same-turn unreadable = record { text = refl; bytes = refl; kept = s }
 
 pub same-transcript : (ls : List (List ℕ)) (b : Base) → sound b ≡ true →
-    byteTranscript ls (encode b) ≡ transcript plainly ls b
+    byteTranscript ls (encode b) ≡ transcript plainly asDefined ls b
 same-transcript [] b s = refl
 same-transcript (l ∷ ls) b s =
     let w = same-turn b s (readLine l) in
     ap₂ (λ (x y : List ℕ). x ++ (newline ∷ y)) (w .text)
-    (ap (byteTranscript ls) (w .bytes) ∙ same-transcript ls (turn plainly b (readLine l) .base) (w .kept))
+    (ap (byteTranscript ls) (w .bytes) ∙ same-transcript ls (turn plainly asDefined b (readLine l) .base) (w .kept))
 
 -- the program may keep its base as bytes and ask the library
 pub session-bytes : (input : List ℕ) → byteSession input ≡ session input

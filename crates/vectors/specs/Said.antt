@@ -13,6 +13,7 @@ use Rattle.foundation.specs.Bytes.{eqList-eq}
 use Rattle.model.specs.Base.{emptyBase}
 use Rattle.model.specs.EncodingFacts.{empty-sound}
 use Rattle.model.specs.Means.{plainly}
+use Rattle.model.specs.Questions.{asDefined}
 use Rattle.model.specs.Text.{newline, space, printReply}
 use Rattle.model.specs.Session.{transcript, byteTranscript}
 use Rattle.theorems.specs.SessionFacts.{same-transcript}
@@ -114,7 +115,7 @@ case-bytes g (l ∷ rest) e =
     (λ o. cases (asks l) (λ a. said-asks g l rest (p .0) m o a) (λ a. said-other g l rest (p .0) m o a))
 
 -- the replies that a transcript tells before its next title are those of the model's session to the lines there
-pub case-said : (ls : List (List ℕ)) → agrees fresh ls ≡ true → transcript plainly (asked ls) emptyBase ≡ told ls
+pub case-said : (ls : List (List ℕ)) → agrees fresh ls ≡ true → transcript plainly asDefined (asked ls) emptyBase ≡ told ls
 case-said ls e = sym (same-transcript (asked ls) emptyBase empty-sound) ∙ case-bytes fresh ls e
 
 -- and behind every title a case begins of which the same holds
@@ -168,7 +169,7 @@ exchanged-told (x ∷ xs) =
     (ap (λ (t : List ℕ). (x .reply ++ (newline ∷ [])) ++ t) (exchanged-told xs))
 
 pub pairs-said : (xs : List Exchange) → agrees fresh (exchanged xs) ≡ true →
-    transcript plainly (inputs xs) emptyBase ≡ replies xs
+    transcript plainly asDefined (inputs xs) emptyBase ≡ replies xs
 pairs-said xs e =
     ap (λ (ls : List (List ℕ)). transcript plainly ls emptyBase) (sym (exchanged-asked xs))
     ∙ case-said (exchanged xs) e ∙ exchanged-told xs
