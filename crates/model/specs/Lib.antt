@@ -4,6 +4,7 @@ pub mod Support
 pub mod Withdrawal
 pub mod Stratification
 pub mod Rules
+pub mod Held
 pub mod Requests
 pub mod Means
 pub mod Step
@@ -29,4 +30,5 @@ pub mod FlagFacts
 pub mod FitsFacts
 pub mod EncodingFacts
 pub mod HoldsLaws
+pub mod HeldFacts
 pub mod TextFacts
