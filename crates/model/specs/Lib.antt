@@ -9,6 +9,7 @@ pub mod Requests
 pub mod Means
 pub mod Step
 pub mod Encoding
+pub mod Layout
 pub mod Soundness
 pub mod SoundnessFacts
 pub mod SoundTests
@@ -31,4 +32,6 @@ pub mod FitsFacts
 pub mod EncodingFacts
 pub mod HoldsLaws
 pub mod HeldFacts
+pub mod LayoutRecords
+pub mod LayoutFacts
 pub mod TextFacts
