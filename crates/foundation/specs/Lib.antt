@@ -8,4 +8,5 @@ pub mod Intervals
 pub mod Marks
 pub mod Counting
 pub mod Bytes
+pub mod BytesFacts
 pub mod Runs

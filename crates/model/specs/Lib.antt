@@ -4,12 +4,14 @@ pub mod Support
 pub mod Withdrawal
 pub mod Stratification
 pub mod Rules
+pub mod Held
 pub mod Requests
 pub mod Means
 pub mod Questions
 pub mod Step
 pub mod Effects
 pub mod Encoding
+pub mod Layout
 pub mod Soundness
 pub mod SoundnessFacts
 pub mod SoundTests
@@ -31,4 +33,7 @@ pub mod FlagFacts
 pub mod FitsFacts
 pub mod EncodingFacts
 pub mod HoldsLaws
+pub mod HeldFacts
+pub mod LayoutRecords
+pub mod LayoutFacts
 pub mod TextFacts

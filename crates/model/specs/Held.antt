@@ -1,0 +1,60 @@
+-- What is held, in 01's words ("Rules"): an inductive reading of `holds` in Rules, with no rounds and no fuel in it.
+-- An inductive type is the smallest set closed under its constructors.
+-- THEOREM `held` in HeldFacts: with stratified rules `holds always auths rules t p ≡ true` exactly if
+-- `Held auths rules t p`. THEOREM `may-held` there: MAY says yes exactly if the access is held and its denial is not.
+use mathlib.Core.Path.{_≡_}
+use Prim.Native.Nat.{ℕ, zero, suc, _≤_}
+use mathlib.Core.Bool.{true}
+use mathlib.Core.List.{List}
+use Rattle.foundation.specs.Lists.{Mem}
+use Rattle.foundation.specs.Intervals.{inInterval}
+use Rattle.model.specs.declared.Authorization.{Authorization}
+use Rattle.model.specs.declared.Rule.{Rule}
+use Rattle.model.specs.declared.Operator.{Operator}
+use Rattle.model.specs.declared.Operator.the-variants.{Whenever, AsLongAs, WheneverNot, Unless}
+use Rattle.model.specs.Stratification.{stratum}
+use Rattle.model.specs.Rules.{Pattern, fits, derivesFor, rightOf}
+
+-- 01: "given by a line": an authorization that covers t is what is looked for
+pub record Given (auths : List Authorization) (t : ℕ) (p : Pattern) : Type 0 where
+  pub authorization : Authorization
+  pub listed : Mem authorization auths
+  pub covers : inInterval (authorization .interval) t ≡ true
+  pub fitting : fits p (authorization .head) ≡ true
+
+module _ (rules : List Rule) (k : ℕ) where
+  -- 01: "In its interval": r is a rule of rank k with the operator o, its left side is what is looked for, and its
+  -- interval has t
+  pub record Applies (o : Operator) (r : Rule) (t : ℕ) (p : Pattern) : Type 0 where
+    pub listed : Mem r rules
+    pub rank : stratum rules r ≡ k
+    pub operator : r .operator ≡ o
+    pub left : derivesFor p r ≡ true
+    pub inside : inInterval (r .interval) t ≡ true
+
+  -- 01: "What is held is built rank by rank, each the smallest set closed under its rules": what is held up to rank
+  -- k, `Lower` being what is held by the ranks below
+  pub data HeldUpTo (Lower : ℕ → Pattern → Type 0) : ℕ → Pattern → Type 0 where
+    -- what the ranks below hold stays
+    lower : {t : ℕ} {p : Pattern} → Lower t p → HeldUpTo Lower t p
+    -- 01: "WHENEVER gives the left side at t if the right is held at t"
+    whenever : {t : ℕ} {p : Pattern} (r : Rule) → Applies Whenever r t p →
+        HeldUpTo Lower t (rightOf r (p .access)) → HeldUpTo Lower t p
+    -- 01: "ASLONGAS if held at all instants from the rule's start to t"
+    asLongAs : {t : ℕ} {p : Pattern} (r : Rule) → Applies AsLongAs r t p →
+        ((u : ℕ) → r .interval .start ≤ u → u ≤ t → HeldUpTo Lower u (rightOf r (p .access))) → HeldUpTo Lower t p
+    -- 01: "WHENEVERNOT and UNLESS likewise with 'not held'": not held by the ranks below
+    wheneverNot : {t : ℕ} {p : Pattern} (r : Rule) → Applies WheneverNot r t p →
+        (Lower t (rightOf r (p .access)) → ⊥) → HeldUpTo Lower t p
+    unless : {t : ℕ} {p : Pattern} (r : Rule) → Applies Unless r t p →
+        ((u : ℕ) → r .interval .start ≤ u → u ≤ t → Lower u (rightOf r (p .access)) → ⊥) → HeldUpTo Lower t p
+
+-- 01: "Held means given by a line or by a rule, denied or not": what is held by authorizations and by the rules of
+-- the ranks below k
+abbrev pub HeldBelow : List Authorization → List Rule → ℕ → ℕ → Pattern → Type 0
+HeldBelow auths rules zero t p = Given auths t p
+HeldBelow auths rules (suc k) t p = HeldUpTo rules k (HeldBelow auths rules k) t p
+
+-- held by the ranks below some k
+abbrev pub Held : List Authorization → List Rule → ℕ → Pattern → Type 0
+Held auths rules t p = (k : ℕ) × HeldBelow auths rules k t p

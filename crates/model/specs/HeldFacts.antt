@@ -1,0 +1,191 @@
+-- What holds is what is held in 01's words: `held`, and `may-held` for the question MAY. Rank by rank: `held-below`.
+use mathlib.Core.Path.{_≡_, refl, sym, ap, _∙_}
+use mathlib.Core.Logic.{_↔_}
+use Prim.Native.Nat.{ℕ, zero, suc, _≤_}
+use native.Mathlib.Omega.{arith}
+use mathlib.Core.Bool.{Bool, true, false, not, _&&_, true≢false, false≢true}
+use mathlib.Core.List.{List}
+use lib.Dec.{leb, ltb, eqb}
+use lib.ListN.{length}
+use Rattle.foundation.specs.Tests.{cases, le-true, true-le, false-le, true-eq, not-true}
+use Rattle.foundation.specs.Tests.{and-true, and-intro, or-intro-left, or-true-right, or-cases}
+use Rattle.foundation.specs.Lists.{anyb, Mem, any-mem, mem-any}
+use Rattle.foundation.specs.Closure.{iter}
+use Rattle.foundation.specs.Intervals.{inInterval, always, always-all, all-always}
+use Rattle.model.specs.declared.Authorization.{Authorization}
+use Rattle.model.specs.declared.Rule.{Rule}
+use Rattle.model.specs.declared.Operator.{Operator}
+use Rattle.model.specs.declared.Operator.the-variants.{Whenever, AsLongAs, WheneverNot, Unless}
+use Rattle.model.specs.declared.Access.{Access}
+use Rattle.model.specs.Base.{Base}
+use Rattle.model.specs.Support.{live}
+use Rattle.model.specs.SupportFacts.{mem-live, live-mem}
+use Rattle.model.specs.Stratification.{stratified, stratum}
+use Rattle.model.specs.StratificationFacts.{stratum-few}
+use Rattle.model.specs.Rules.{Pattern, Fact, fact, fits, derivesFor, rightOf, operate, holdsBy}
+use Rattle.model.specs.Rules.{derives, enough, derivedBelow, holds, asked, mayWith, may}
+use Rattle.model.specs.HoldsFacts.{rounds, rounds-below, below-stratum, closed}
+use Rattle.model.specs.HoldsLaws.{settled-at, at-stratum}
+use Rattle.model.specs.Held.{Given, Applies, HeldUpTo, HeldBelow, Held}
+use Rattle.model.specs.Held.{lower, whenever, asLongAs, wheneverNot, unless}
+
+module _ (auths : List Authorization) (rules : List Rule) where
+  -- the definitions for these authorizations and rules, in short
+  abbrev below : ℕ → Fact → Bool
+  below = derivedBelow always auths rules
+
+  abbrev holding : (Fact → Bool) → ℕ → Pattern → Bool
+  holding = holdsBy always auths rules
+
+  abbrev Below : ℕ → ℕ → Pattern → Type 0
+  Below = HeldBelow auths rules
+
+  abbrev UpTo : ℕ → ℕ → Pattern → Type 0
+  UpTo k = HeldUpTo rules k (Below k)
+
+  -- ---- by an authorization or by a rule
+
+  by-given : (S : Fact → Bool) (t : ℕ) (p : Pattern) → Given auths t p → holding S t p ≡ true
+  by-given S t p g =
+      or-intro-left (anyb (fits p) (live t auths)) (anyb (λ r. derivesFor p r && S (fact r (p .access) t)) rules)
+      (mem-any (fits p) (live t auths) (g .authorization .head)
+      (mem-live t auths (g .authorization) (g .listed) (g .covers)) (g .fitting))
+
+  by-rule : (S : Fact → Bool) (t : ℕ) (p : Pattern) (r : Rule) → Mem r rules → derivesFor p r ≡ true →
+      S (fact r (p .access) t) ≡ true → holding S t p ≡ true
+  by-rule S t p r m d e =
+      or-true-right (anyb (fits p) (live t auths)) (anyb (λ r. derivesFor p r && S (fact r (p .access) t)) rules)
+      (mem-any (λ r. derivesFor p r && S (fact r (p .access) t)) rules r m
+      (and-intro (derivesFor p r) (S (fact r (p .access) t)) d e))
+
+  -- and in no other way
+  either : {X : Type 0} (S : Fact → Bool) (t : ℕ) (p : Pattern) → holding S t p ≡ true → (Given auths t p → X) →
+      ((r : Rule) → Mem r rules → derivesFor p r ≡ true → S (fact r (p .access) t) ≡ true → X) → X
+  either S t p e f g =
+      or-cases (anyb (fits p) (live t auths)) (anyb (λ r. derivesFor p r && S (fact r (p .access) t)) rules) e
+      (λ a. let m = any-mem (fits p) (live t auths) a in
+      let l = live-mem t auths (m .0) (m .1) in
+      f (record { authorization = l .0; listed = l .1; covers = l .3; fitting = ap (fits p) (l .2) ∙ m .2 }))
+      (λ a. let m = any-mem (λ r. derivesFor p r && S (fact r (p .access) t)) rules a in
+      let w = and-true (derivesFor p (m .0)) (S (fact (m .0) (p .access) t)) (m .2) in
+      g (m .0) (m .1) (w .0) (w .1))
+
+  -- what an authorization gives is held by every rank
+  given-below : (k : ℕ) {t : ℕ} {p : Pattern} → Given auths t p → Below k t p
+  given-below zero g = g
+  given-below (suc k) g = lower (given-below k g)
+
+  -- ---- one rank, the ranks below it being settled
+
+  module _ (k : ℕ) (settled : (t : ℕ) (p : Pattern) → (holding (below k) t p ≡ true) ↔ Below k t p) where
+    -- what the operator of a rule allows, from what rounds have found
+    allowed : (S : Fact → Bool) → ((u : ℕ) (q : Pattern) → holding S u q ≡ true → UpTo k u q) →
+        (o : Operator) (r : Rule) (t : ℕ) (p : Pattern) → Applies rules k o r t p →
+        operate always o (λ u. holding S u (rightOf r (p .access))) (λ u. holding (below k) u (rightOf r (p .access)))
+        (r .interval .start) t ≡ true → UpTo k t p
+    allowed S h Whenever r t p a e = whenever r a (h t (rightOf r (p .access)) e)
+    allowed S h AsLongAs r t p a e =
+        let q = rightOf r (p .access) in
+        asLongAs r a (λ u i j. h u q (always-all (r .interval .start) t (λ u. holding S u q) e u i j))
+    allowed S h WheneverNot r t p a e =
+        let q = rightOf r (p .access) in
+        wheneverNot r a (λ b. true≢false (sym (settled t q .1 b) ∙ not-true (holding (below k) t q) e))
+    allowed S h Unless r t p a e =
+        let q = rightOf r (p .access) in
+        unless r a (λ u i j b. true≢false (sym (settled u q .1 b) ∙ not-true (holding (below k) u q)
+        (always-all (r .interval .start) t (λ u. not (holding (below k) u q)) e u i j)))
+
+    -- what rounds find is held
+    rounds-held : (n t : ℕ) (p : Pattern) → holding (rounds auths rules k n) t p ≡ true → UpTo k t p
+    unfolding iter
+    rounds-held zero t p e = lower (settled t p .0 e)
+    rounds-held (suc n) t p e = either (rounds auths rules k (suc n)) t p e (λ g. lower (given-below k g))
+        (λ r m d s.
+        let S = rounds auths rules k n in
+        let i = stratum rules r in
+        let x = fact r (p .access) t in
+        cases (ltb i k)
+        (λ l. lower (settled t p .0 (by-rule (below k) t p r m d (rw l at s))))
+        (λ l. let w = and-true (eqb i k) (derives always auths rules (below k) S x) (rw l at s) in
+        let q = rightOf r (p .access) in
+        let v = and-true (inInterval (r .interval) t) (operate always (r .operator) (λ u. holding S u q)
+        (λ u. holding (below k) u q) (r .interval .start) t) (w .1) in
+        allowed S (rounds-held n) (r .operator) r t p
+        (record { listed = m; rank = true-eq i k (w .0); operator = refl; left = d; inside = v .0 }) (v .1)))
+
+    -- what a rule of the rank gives holds
+    gives : {t : ℕ} {p : Pattern} (o : Operator) (r : Rule) → Applies rules k o r t p →
+        operate always o (λ u. holding (below (suc k)) u (rightOf r (p .access)))
+        (λ u. holding (below k) u (rightOf r (p .access))) (r .interval .start) t ≡ true →
+        holding (below (suc k)) t p ≡ true
+    gives {t} {p} o r a e = by-rule (below (suc k)) t p r (a .listed) (a .left)
+        (at-stratum auths rules k (fact r (p .access) t) (a .listed) (a .rank)
+        ∙ rw (a .operator) (and-intro (inInterval (r .interval) t) _ (a .inside) e))
+
+    not-below : (u : ℕ) (q : Pattern) → (Below k u q → ⊥) → not (holding (below k) u q) ≡ true
+    not-below u q h = cases (holding (below k) u q) (λ e. absurd (h (settled u q .0 e))) (λ e. rw e)
+
+    -- what is held is found by enough rounds
+    held-found : {t : ℕ} {p : Pattern} → UpTo k t p → holding (below (suc k)) t p ≡ true
+    unfolding iter
+    held-found {t} {p} (lower h) = either (below k) t p (settled t p .1 h) (by-given (below (suc k)) t p)
+        (λ r m d e. by-rule (below (suc k)) t p r m d
+        (rounds-below auths rules k 0 (omega arith) (fact r (p .access) t) e))
+    held-found (whenever r a h) = gives Whenever r a (held-found h)
+    held-found {t} {p} (asLongAs r a h) = gives AsLongAs r a
+        (all-always (r .interval .start) t (λ u. holding (below (suc k)) u (rightOf r (p .access)))
+        (λ u i j. held-found (h u i j)))
+    held-found {t} {p} (wheneverNot r a h) = gives WheneverNot r a (not-below t (rightOf r (p .access)) h)
+    held-found {t} {p} (unless r a h) = gives Unless r a
+        (all-always (r .interval .start) t (λ u. not (holding (below k) u (rightOf r (p .access))))
+        (λ u i j. not-below u (rightOf r (p .access)) (h u i j)))
+
+  -- ---- rank by rank
+
+  -- what holds by the strata below k is what is held below rank k
+  pub held-below : (k t : ℕ) (p : Pattern) →
+      (holdsBy always auths rules (derivedBelow always auths rules k) t p ≡ true) ↔ HeldBelow auths rules k t p
+  unfolding derivedBelow
+  held-below zero t p = (
+    (λ e. either (below 0) t p e (λ g. g) (λ r m d s. absurd (false≢true s))),
+    by-given (below 0) t p,
+  )
+  held-below (suc k) t p =
+      (rounds-held k (held-below k) (enough always auths rules) t p, held-found k (held-below k))
+
+  module _ (s : stratified rules ≡ true) where
+    -- no rule's rank is above their number: further ranks add nothing
+    ranks-end : (k : ℕ) (x : Fact) → Mem (x .rule) rules → below k x ≡ true → below (suc (length rules)) x ≡ true
+    ranks-end zero x m e = settled-at auths rules 0 x m (below-stratum auths rules 0 x e) (omega arith) ∙ e
+    ranks-end (suc k) x m e = cases (leb (suc k) (suc (length rules)))
+        (λ l. settled-at auths rules (suc k) x m (below-stratum auths rules (suc k) x e)
+        (true-le (suc k) (suc (length rules)) l) ∙ e)
+        (λ l. let i = stratum rules (x .rule) in
+        let b : suc i ≤ k =
+        omega (arith, stratum-few rules s (x .rule) m, false-le (suc k) (suc (length rules)) l) in
+        ranks-end k x m (rw (le-true (suc i) k b) at (closed auths rules k x m ∙ e)))
+
+    -- THEOREM: what holds is what is held
+    pub held : (t : ℕ) (p : Pattern) → (holds always auths rules t p ≡ true) ↔ Held auths rules t p
+    unfolding holds
+    held t p = (
+      (λ e. (suc (length rules), held-below (suc (length rules)) t p .0 e)),
+      (λ h. either (below (h .0)) t p (held-below (h .0) t p .1 (h .1)) (by-given (below (suc (length rules))) t p)
+          (λ r m d e. by-rule (below (suc (length rules))) t p r m d (ranks-end (h .0) (fact r (p .access) t) m e))),
+    )
+
+-- THEOREM. 01: "MAY is yes exactly if a positive authorization is held and no denial is"
+pub may-held : (b : Base) → stratified (b .rules) ≡ true → (x : Access) (t : ℕ) → (may b x t ≡ true)
+    ↔ (Held (b .authorizations) (b .rules) t (asked x false)
+    × (Held (b .authorizations) (b .rules) t (asked x true) → ⊥))
+unfolding may mayWith
+may-held b s x t =
+    let positive = holds always (b .authorizations) (b .rules) t (asked x false) in
+    let denial = holds always (b .authorizations) (b .rules) t (asked x true) in
+    let positively = held (b .authorizations) (b .rules) s t (asked x false) in
+    let denied = held (b .authorizations) (b .rules) s t (asked x true) in (
+      (λ e. let w = and-true positive (not denial) e in
+          (positively .0 (w .0), λ h. true≢false (sym (denied .1 h) ∙ not-true denial (w .1)))),
+      (λ h. and-intro positive (not denial) (positively .1 (h .0))
+          (cases denial (λ e. absurd (h .1 (denied .0 e))) (λ e. ap not e))),
+    )
