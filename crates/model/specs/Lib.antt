@@ -30,3 +30,5 @@ pub mod FitsFacts
 pub mod EncodingFacts
 pub mod HoldsLaws
 pub mod TextFacts
+pub mod Survival
+pub mod SurvivalFacts

@@ -1,0 +1,84 @@
+-- What demand 3 speaks of, in the fields of the requests: who takes an instant back, who loses the administration, when
+-- an instant stands, what is behind it, and when it survives the later requests of a list. A reader of demand 3 has to
+-- believe this file; it leans on no definition of what a withdrawal takes (`taken` in SurvivalFacts compares the two).
+use mathlib.Core.Path.{_≡_}
+use mathlib.Core.Logic.{_≢_}
+use Prim.Native.Nat.{ℕ, _≤_}
+use mathlib.Core.Bool.{Bool, true, false}
+use mathlib.Core.List.{List, [], _∷_}
+use Rattle.foundation.specs.Lists.{Mem}
+use Rattle.model.specs.declared.Head.{Head}
+use Rattle.model.specs.declared.Request.{Request}
+use Rattle.model.specs.Base.{Base}
+use Rattle.model.specs.Support.{Chain, live, root}
+use Rattle.model.specs.Requests.{GRANT, DENY, REVOKE, REVOKEP, REVOKEN, REVOKEADM}
+use Rattle.model.specs.Means.{plainly}
+use Rattle.model.specs.Step.{refusal, effect}
+
+-- ---- what a grant or denial gives
+
+-- "with its giver, receiver, meter, mode, sign, option and time", and "its own label"
+abbrev pub headOf : Request → ℕ → Bool → Bool → Head
+headOf g label negative option = record {
+  label = label;
+  grantor = g .requester;
+  subject = g .subject;
+  object = g .object;
+  mode = g .mode;
+  negative = negative;
+  option = option;
+  granted = g .now;
+}
+
+-- the request g, accepted with that label, gives the head h to each instant of its interval
+pub data Gives (g : Request) (label : ℕ) (h : Head) : Type 0 where
+  grant : g .kind ≡ GRANT → h ≡ headOf g label false (g .option) → Gives g label h
+  denial : g .kind ≡ DENY → h ≡ headOf g label true false → Gives g label h
+
+-- ---- what takes it away
+
+-- "its giver has ... taken it back": by its label, or by naming what was given and an interval with the instant
+pub data TakesBack (q : Request) (h : Head) (t : ℕ) : Type 0 where
+  label : q .kind ≡ REVOKE → q .requester ≡ h .grantor → q .label ≡ h .label → TakesBack q h t
+  grant :
+      q .kind ≡ REVOKEP → q .requester ≡ h .grantor →
+      q .subject ≡ h .subject → q .object ≡ h .object → q .mode ≡ h .mode → h .negative ≡ false →
+      q .interval .start ≤ t → t ≤ q .interval .end →
+      TakesBack q h t
+  denial :
+      q .kind ≡ REVOKEN → q .requester ≡ h .grantor →
+      q .subject ≡ h .subject → q .object ≡ h .object → q .mode ≡ h .mode → h .negative ≡ true →
+      q .interval .start ≤ t → t ≤ q .interval .end →
+      TakesBack q h t
+
+-- "nor lost the meter's administration": it is withdrawn from the giver
+pub data LosesAdministration (q : Request) (h : Head) : Type 0 where
+  administration :
+      q .kind ≡ REVOKEADM → q .subject ≡ h .grantor → q .object ≡ h .object → LosesAdministration q h
+
+-- ---- what remains
+
+-- the instant stands in an authorization with that head
+abbrev pub Stands : Base → Head → ℕ → Type 0
+Stands b h t = Mem h (live t (b .authorizations))
+
+-- "a chain behind it: transferable grants for that meter and mode, times strictly rising up to its own, each still
+-- covering the instant, leading from the owner or an administrator to the giver, or none where the giver is one"
+abbrev pub Behind : Base → Head → ℕ → Type 0
+Behind b h t = Chain (root b) (live t (b .authorizations)) h
+
+-- "its giver has neither taken it back nor lost the meter's administration since, and ... after ... every later accepted
+-- request it had a chain behind it", from the base b on; a refused request is passed over
+pub data Survives (h : Head) (t : ℕ) : List Request → Base → Type 0 where
+  end : {b : Base} → Survives h t [] b
+  refused : {q : Request} {later : List Request} {b : Base} →
+      refusal plainly b q ≢ 0 →
+      Survives h t later b →
+      Survives h t (q ∷ later) b
+  accepted : {q : Request} {later : List Request} {b : Base} →
+      refusal plainly b q ≡ 0 →
+      ¬ TakesBack q h t →
+      ¬ LosesAdministration q h →
+      Behind (effect plainly b q) h t →
+      Survives h t later (effect plainly b q) →
+      Survives h t (q ∷ later) b
