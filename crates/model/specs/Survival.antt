@@ -5,15 +5,18 @@ use mathlib.Core.Path.{_≡_}
 use mathlib.Core.Logic.{_≢_}
 use Prim.Native.Nat.{ℕ, _≤_}
 use mathlib.Core.Bool.{Bool, true, false}
-use mathlib.Core.List.{List, [], _∷_}
+use mathlib.Core.List.{List, [], _∷_, _++_}
 use Rattle.foundation.specs.Lists.{Mem}
 use Rattle.model.specs.declared.Head.{Head}
 use Rattle.model.specs.declared.Request.{Request}
-use Rattle.model.specs.Base.{Base}
+use Rattle.model.specs.declared.Reply.the-variants.{Done}
+use Rattle.model.specs.Base.{Base, emptyBase}
 use Rattle.model.specs.Support.{Chain, live, root}
 use Rattle.model.specs.Requests.{GRANT, DENY, REVOKE, REVOKEP, REVOKEN, REVOKEADM}
 use Rattle.model.specs.Means.{plainly}
 use Rattle.model.specs.Step.{refusal, effect}
+use Rattle.model.specs.Encoding.{encode}
+use Rattle.model.specs.Answers.{request, requests}
 
 -- ---- what a grant or denial gives
 
@@ -34,6 +37,22 @@ headOf g label negative option = record {
 pub data Gives (g : Request) (label : ℕ) (h : Head) : Type 0 where
   grant : g .kind ≡ GRANT → h ≡ headOf g label false (g .option) → Gives g label h
   denial : g .kind ≡ DENY → h ≡ headOf g label true false → Gives g label h
+
+-- the bytes after a list of requests from an empty base, "where each gets the base that the one before left and nobody
+-- else writes to it"
+abbrev pub after : List Request → List ℕ
+after qs = requests qs (encode emptyBase)
+
+-- In the list qs the grant or denial g, with `earlier` before it and `later` behind it, is accepted, and t is one of its
+-- instants, to which it gives the head h
+pub record Given (qs earlier : List Request) (g : Request) (later : List Request) (h : Head) (t : ℕ) : Type 0 where
+  pub place : qs ≡ earlier ++ (g ∷ later)
+  pub label : ℕ
+  pub count : ℕ
+  pub done : request (after earlier) g .reply ≡ Done label count
+  pub gives : Gives g label h
+  pub starts : g .interval .start ≤ t
+  pub ends : t ≤ g .interval .end
 
 -- ---- what takes it away
 

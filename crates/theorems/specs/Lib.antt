@@ -15,9 +15,12 @@ pub mod SoundAuthorizations
 pub mod SoundSupport
 pub mod Preservation
 pub mod RequestFacts
+pub mod PlayFacts
 pub mod LedgerFacts
-pub mod Demand3
+pub mod LedgerLines
 pub mod Served
 pub mod Remains
+pub mod Labels
+pub mod Demand3
 pub mod SessionFacts
 pub mod Cases

@@ -19,7 +19,7 @@ use Rattle.model.specs.Step.{row, lowest}
 use Rattle.model.specs.StepFacts.{answered}
 use Rattle.model.specs.Answers.{Answer, answering, refusing, create, requests, Answered}
 use Rattle.model.specs.Ledger.{ledger, linesOf}
-use Rattle.theorems.specs.Demand3.{demand3}
+use Rattle.theorems.specs.LedgerLines.{ledger-lines}
 
 -- the bytes s′ are left in the place of s by requests that were answered one after the other
 abbrev pub Served : List Request → List ℕ → List ℕ → Type 0
@@ -44,5 +44,5 @@ pub demand3-code : (qs : List Request) (lent s s′ : List ℕ) → length lent 
     (soundBytes s′ ≡ true) × (decode s′ .authorizations ≡ linesOf (ledger qs .entries))
 demand3-code qs lent s s′ n e w =
     let z : s′ ≡ requests qs (encode emptyBase) = served-bytes qs s s′ w ∙ ap (requests qs) (e ∙ created lent n) in
-    let d = demand3 qs in
+    let d = ledger-lines qs in
     (ap soundBytes z ∙ d .0, ap (λ (x : List ℕ). decode x .authorizations) z ∙ d .1)
