@@ -1,6 +1,6 @@
--- What demand 3 speaks of, in the fields of the requests: who takes an instant back, who loses the administration, when
--- an instant stands, what is behind it, and when it survives the later requests of a list. A reader of demand 3 has to
--- believe this file; it leans on no definition of what a withdrawal takes (`taken` in SurvivalFacts compares the two).
+-- The words of demand 3, in the fields of the requests: what a grant or denial gives, what takes an instant back or
+-- the administration away, when an instant stands, what is behind it, and when it survives the later requests of a
+-- list. They do not lean on `takes`, which says what a withdrawal takes (`taken` in SurvivalFacts compares the two).
 use mathlib.Core.Path.{_≡_}
 use mathlib.Core.Logic.{_≢_}
 use Prim.Native.Nat.{ℕ, _≤_}
@@ -38,13 +38,13 @@ pub data Gives (g : Request) (label : ℕ) (h : Head) : Type 0 where
   grant : g .kind ≡ GRANT → h ≡ headOf g label false (g .option) → Gives g label h
   denial : g .kind ≡ DENY → h ≡ headOf g label true false → Gives g label h
 
--- the bytes after a list of requests from an empty base, "where each gets the base that the one before left and nobody
--- else writes to it"
+-- "from an empty base, where each gets the base that the one before left and nobody else writes to it": the bytes
+-- after a list of requests
 abbrev pub after : List Request → List ℕ
 after qs = requests qs (encode emptyBase)
 
--- In the list qs the grant or denial g, with `earlier` before it and `later` behind it, is accepted, and t is one of its
--- instants, to which it gives the head h
+-- "each instant of an accepted grant or denial": in the list qs the request g, with `earlier` before it and `later`
+-- behind it, is accepted, and t is one of its instants, to which it gives the head h
 pub record Given (qs earlier : List Request) (g : Request) (later : List Request) (h : Head) (t : ℕ) : Type 0 where
   pub place : qs ≡ earlier ++ (g ∷ later)
   pub label : ℕ
@@ -77,7 +77,7 @@ pub data LosesAdministration (q : Request) (h : Head) : Type 0 where
 
 -- ---- what remains
 
--- the instant stands in an authorization with that head
+-- the instant stands in an authorization (01: a line) with that head
 abbrev pub Stands : Base → Head → ℕ → Type 0
 Stands b h t = Mem h (live t (b .authorizations))
 
@@ -86,8 +86,8 @@ Stands b h t = Mem h (live t (b .authorizations))
 abbrev pub Behind : Base → Head → ℕ → Type 0
 Behind b h t = Chain (root b) (live t (b .authorizations)) h
 
--- "its giver has neither taken it back nor lost the meter's administration since, and ... after ... every later accepted
--- request it had a chain behind it", from the base b on; a refused request is passed over
+-- "its giver has neither taken it back nor lost the meter's administration since, and ... after ... every later
+-- accepted request it had a chain behind it", from the base on; a refused request is passed over
 pub data Survives (h : Head) (t : ℕ) : List Request → Base → Type 0 where
   end : {b : Base} → Survives h t [] b
   refused : {q : Request} {later : List Request} {b : Base} →

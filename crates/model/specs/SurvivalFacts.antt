@@ -1,12 +1,13 @@
--- What an accepted request takes out of an authorization (`takes`) is what its giver takes back, or gave while he
--- administered the object: `taken`.
+-- What an accepted request takes out of an authorization (`takes`) is what its giver takes back or loses with the
+-- administration of the object: `taken`.
 use mathlib.Core.Path.{_≡_, refl, sym, ap, _∙_}
 use mathlib.Core.Logic.{_⊎_, inl, inr, _↔_, ⊎-elim}
 use Prim.Native.Nat.{ℕ, _≤_}
-use mathlib.Core.Bool.{Bool, true, false, not, _&&_, false≢true}
+use mathlib.Core.Bool.{Bool, true, not, _&&_, false≢true}
 use mathlib.Core.List.{List, [], _∷_}
 use lib.Dec.{eqb}
-use Rattle.foundation.specs.Tests.{cases, must-fail, le-true, eq-true, true-eq, not-false, not-true, and-true, and-intro}
+use Rattle.foundation.specs.Tests.{cases, must-fail, le-true, eq-true, true-eq, not-false, not-true, and-true}
+use Rattle.foundation.specs.Tests.{and-intro}
 use Rattle.foundation.specs.Lists.{anyb, any-false, conjunction, conjunct}
 use Rattle.foundation.specs.Intervals.{inInterval, inInterval-true}
 use Rattle.model.specs.declared.Head.{Head}
@@ -100,16 +101,16 @@ module _ (b : Base) (q : Request) (g : Accepted b q) (h : Head) (t : ℕ) (m : S
   giver k e =
       let w = live-mem t (b .authorizations) h m in
       let a = w .0 in
-      let other : Authorization → Bool =
-      λ a. eqb (a .head .label) (q .label) && not (eqb (a .head .grantor) (q .requester)) in
+      let his : Authorization → Bool = λ a. eqb (a .head .grantor) (q .requester) in
+      let other : Authorization → Bool = λ a. eqb (a .head .label) (q .label) && not (his a) in
       let none = any-false other (b .authorizations)
       (must-fail (notPermitted b q) (anyb other (b .authorizations)) (g .permitted) (λ x. rw (k, x))) a (w .1) in
       let same : eqb (a .head .label) (q .label) ≡ true =
       eq-true (a .head .label) (q .label) (ap (λ (x : Head). x .label) (w .2) ∙ sym e) in
-      sym (true-eq (a .head .grantor) (q .requester) (not-false (eqb (a .head .grantor) (q .requester)) (rw same at none)))
+      sym (true-eq (a .head .grantor) (q .requester) (not-false (his a) (rw same at none)))
       ∙ ap (λ (x : Head). x .grantor) (w .2)
 
-  -- THEOREM: what an accepted request takes of what stands is what its giver takes back or loses with the administration
+  -- what an accepted request takes of what stands is what its giver takes back or loses with the administration
   pub taken : (takes q h t ≡ true) ↔ (TakesBack q h t ⊎ LosesAdministration q h)
   taken = (forth, ⊎-elim (back q h t) (lost q h t))
     where
@@ -140,10 +141,10 @@ module _ (b : Base) (q : Request) (g : Accepted b q) (h : Head) (t : ℕ) (m : S
       forth : takes q h t ≡ true → TakesBack q h t ⊎ LosesAdministration q h
       forth e = cases (eqb (q .kind) REVOKE)
           (λ k. labelled (true-eq (q .kind) REVOKE k) e)
-          (λ a. cases (eqb (q .kind) REVOKEP)
+          (λ w. cases (eqb (q .kind) REVOKEP)
           (λ k. granted (true-eq (q .kind) REVOKEP k) e)
-          (λ b. cases (eqb (q .kind) REVOKEN)
+          (λ x. cases (eqb (q .kind) REVOKEN)
           (λ k. denied (true-eq (q .kind) REVOKEN k) e)
-          (λ c. cases (eqb (q .kind) REVOKEADM)
+          (λ y. cases (eqb (q .kind) REVOKEADM)
           (λ k. administered (true-eq (q .kind) REVOKEADM k) e)
-          (λ d. absurd (false≢true (rw (a, b, c, d) at e))))))
+          (λ z. absurd (false≢true (rw (w, x, y, z) at e))))))

@@ -1,6 +1,6 @@
--- DEMAND 3, in the order of the request's own words: `demand3`. The words are in the model's Survival: `after`, `Given`,
--- `Stands`, `Behind`, `Survives`, `TakesBack`, `LosesAdministration`.
-use mathlib.Core.Path.{_≡_, sym, ap, _∙_, subst}
+-- DEMAND 3, in the order of the request's own words: `demand3`. The words `after`, `Given`, `Stands`, `Behind` and
+-- `Survives` are in the model's Survival.
+use mathlib.Core.Path.{_≡_, subst}
 use mathlib.Core.Logic.{_↔_, ⊎-elim}
 use Prim.Native.Nat.{ℕ, suc}
 use mathlib.Core.Bool.{true}
@@ -9,14 +9,12 @@ use lib.ListN.{length}
 use Rattle.foundation.specs.Intervals.{inInterval-true}
 use Rattle.model.specs.declared.Head.{Head}
 use Rattle.model.specs.declared.Request.{Request}
-use Rattle.model.specs.declared.Reply.the-variants.{Done}
 use Rattle.model.specs.Base.{Base, emptyBase}
 use Rattle.model.specs.Means.{plainly}
 use Rattle.model.specs.Step.{effect}
 use Rattle.model.specs.Encoding.{decode}
 use Rattle.model.specs.EncodingFacts.{empty-sound}
 use Rattle.model.specs.Soundness.{soundBytes}
-use Rattle.model.specs.Answers.{request}
 use Rattle.model.specs.Ledger.{ledger, linesOf}
 use Rattle.model.specs.Survival.{after, Given, Stands, Behind, Survives}
 use Rattle.theorems.specs.LedgerLines.{ledger-lines}

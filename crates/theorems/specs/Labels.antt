@@ -1,10 +1,9 @@
--- Labels: the later of two accepted requests has the greater one (`labels-differ`), so that a label has one place in a
--- list (`one-place`).
+-- Labels: of two accepted requests the later one has the greater label (`labels-differ`), so that a label has one
+-- place in a list (`one-place`).
 use mathlib.Core.Path.{_≡_, refl, sym, ap, ap₂, _∙_, subst}
 use mathlib.Core.Logic.{_⊎_, inl, inr, _≢_, ⊎-elim}
 use Prim.Native.Nat.{ℕ, suc, _≤_, _<_}
 use native.Mathlib.Omega.{arith}
-use mathlib.Core.Bool.{true, false}
 use mathlib.Core.List.{List, [], _∷_, _++_, head-eq-of-cons-eq, tail-eq-of-cons-eq}
 use Rattle.foundation.specs.Tests.{cases}
 use Rattle.model.specs.declared.Head.{Head}
@@ -13,13 +12,13 @@ use Rattle.model.specs.declared.Reply.the-variants.{Done}
 use Rattle.model.specs.Base.{Base}
 use Rattle.model.specs.Requests.{labels}
 use Rattle.model.specs.Means.{plainly}
-use Rattle.model.specs.Step.{effect, play}
+use Rattle.model.specs.Step.{effect}
 use Rattle.model.specs.Answers.{request}
 use Rattle.model.specs.Survival.{Gives, grant, denial, after, Given}
 use Rattle.theorems.specs.PlayFacts.{baseAfter, play-last, after-more, done-accepted, done-label}
 use Rattle.theorems.specs.Remains.{given-head}
 
--- the request q is accepted after `earlier`, and r after q and those between: r's label, if it is given one, is greater
+-- q is accepted after `earlier`, and r after q and those between: r's label, if it takes one, is greater
 pub labels-differ : (earlier : List Request) (q : Request) (between : List Request) (r : Request)
     (label count label′ count′ : ℕ) →
     request (after earlier) q .reply ≡ Done label count →

@@ -18,9 +18,11 @@ pub mod RequestFacts
 pub mod PlayFacts
 pub mod LedgerFacts
 pub mod LedgerLines
-pub mod Served
 pub mod Remains
 pub mod Labels
 pub mod Demand3
+pub mod Served
+pub mod Orders
 pub mod SessionFacts
+pub mod Refusals
 pub mod Cases

@@ -1,8 +1,8 @@
 -- The base after a list of requests: it is sound, its bytes are what the list leaves of an empty base's, and a reply
 -- `Done` over those bytes says that the table lets the request pass and which label it takes.
 use mathlib.Core.Path.{_≡_, refl, sym, ap, _∙_, subst}
-use mathlib.Core.Logic.{_≢_}
-use Prim.Native.Nat.{ℕ, suc, _≤_, _<_}
+use mathlib.Core.Logic.{_≢_, _↔_}
+use Prim.Native.Nat.{ℕ, suc, _≤_}
 use native.Mathlib.Omega.{arith}
 use mathlib.Core.Bool.{true}
 use mathlib.Core.List.{List, [], _∷_, _++_}
@@ -15,7 +15,7 @@ use Rattle.model.specs.declared.Reply.the-variants.{Done, Refused, Unsupported,
 use Rattle.model.specs.Base.{Base, emptyBase}
 use Rattle.model.specs.Requests.{grants, labels}
 use Rattle.model.specs.Means.{plainly}
-use Rattle.model.specs.Step.{Outcome, refusal, effect, step, play}
+use Rattle.model.specs.Step.{accepting, Outcome, refusal, effect, step, play}
 use Rattle.model.specs.StepFacts.{step-accepted, step-refused}
 use Rattle.model.specs.Encoding.{encode, decode}
 use Rattle.model.specs.EncodingFacts.{decode-encode, empty-sound}
@@ -133,13 +133,26 @@ module _ (earlier : List Request) (q : Request) (label count : ℕ)
       sym (ap labelIn reply)
       ∙ ap (λ (a : Answer). labelIn (a .reply)) (request-accepted base q (after-sound earlier) done-accepted)
 
--- a grant or denial that the table lets pass is answered with the next label
+-- what the table lets pass is answered with the next label, or 0
+accepted-reply : (qs : List Request) (q : Request) → refusal plainly (baseAfter qs) q ≡ 0 →
+    request (after qs) q .reply ≡ accepting (baseAfter qs) q (effect plainly (baseAfter qs) q)
+accepted-reply qs q z =
+    ap (λ (s : List ℕ). request s q .reply) (after-bytes qs)
+    ∙ ap (λ (a : Answer). a .reply) (request-accepted (baseAfter qs) q (after-sound qs) z)
+
+-- so that the table lets a request pass on the base after a list exactly if the reply over its bytes is `Done`
+pub passes-done : (qs : List Request) (q : Request) →
+    (refusal plainly (decode (after qs)) q ≡ 0)
+    ↔ ((label : ℕ) × (count : ℕ) × (request (after qs) q .reply ≡ Done label count))
+passes-done qs q = (
+  (λ z. (_, _, accepted-reply qs q (subst (λ (b : Base). refusal plainly b q ≡ 0) (after-base qs) z))),
+  (λ w. subst (λ (b : Base). refusal plainly b q ≡ 0) (sym (after-base qs))
+      (done-accepted qs q (w .0) (w .1) (w .2))),
+)
+
+-- a grant or denial takes the next label
 pub accepted-done : (earlier : List Request) (g : Request) → refusal plainly (baseAfter earlier) g ≡ 0 →
     grants g ≡ true →
     request (after earlier) g .reply
     ≡ Done (suc (baseAfter earlier .last)) (length (effect plainly (baseAfter earlier) g .authorizations))
-accepted-done earlier g z e =
-    let b = baseAfter earlier in
-    ap (λ (s : List ℕ). request s g .reply) (after-bytes earlier)
-    ∙ ap (λ (a : Answer). a .reply) (request-accepted b g (after-sound earlier) z)
-    ∙ rw (is-kinds g grantKinds labelKinds refl e)
+accepted-done earlier g z e = accepted-reply earlier g z ∙ rw (is-kinds g grantKinds labelKinds refl e)

@@ -1,6 +1,6 @@
--- An instant of an accepted grant or denial remains in the bytes after a list exactly if a chain stood behind it right
--- after that request, and it survives the later ones: `remains`. Whatever stands after a list was given by one of its
--- requests: `origin`.
+-- An instant of an accepted grant or denial remains in the bytes after a list exactly if a chain was behind it right
+-- after that request, and it survives the later ones (theorem 9): `remains`. What stands after a list was given by
+-- one of its requests: `origin`.
 use mathlib.Core.Path.{_≡_, refl, sym, ap, _∙_, subst, subst₂}
 use mathlib.Core.Logic.{_⊎_, inl, inr, _↔_, ⊎-elim}
 use Prim.Native.Nat.{ℕ, suc, _≤_}
@@ -8,14 +8,13 @@ use native.Mathlib.Omega.{arith}
 use mathlib.Core.Bool.{Bool, true, false, not, true≢false}
 use mathlib.Core.List.{List, [], _∷_, _++_}
 use lib.Dec.{leb, eqb}
-use Rattle.foundation.specs.Tests.{cases, not-true, le-true, true-eq, false-eq, or-cases, and-intro}
+use Rattle.foundation.specs.Tests.{cases, not-true, le-true, true-eq, false-eq, and-intro}
 use Rattle.foundation.specs.Lists.{Mem, keepIf, keepIf-mem, kept}
-use Rattle.foundation.specs.Intervals.{inInterval, inInterval-true}
+use Rattle.foundation.specs.Intervals.{inInterval}
 use Rattle.model.specs.declared.Head.{Head}
 use Rattle.model.specs.declared.Authorization.{Authorization}
 use Rattle.model.specs.declared.Request.{Request}
-use Rattle.model.specs.declared.Reply.the-variants.{Done}
-use Rattle.model.specs.Base.{Base, emptyBase}
+use Rattle.model.specs.Base.{Base}
 use Rattle.model.specs.Support.{supported, supported-chain, live, root}
 use Rattle.model.specs.Withdrawal.{restrict}
 use Rattle.model.specs.Requests.{GRANT, DENY, grants, withdraws, newHead, takes, leave, rootAfter}
@@ -37,8 +36,8 @@ use Rattle.theorems.specs.AuthorizationsAfter.{newAuthorization, no-take
 use Rattle.theorems.specs.AuthorizationsAfter.{same-authorizations}
 use Rattle.theorems.specs.Restriction.{withdrawn-all}
 use Rattle.theorems.specs.Preservation.{sound-after, effect-sound}
-use Rattle.theorems.specs.PlayFacts.{base-accepted, base-refused, step-sound, baseAfter, after-sound, after-base}
-use Rattle.theorems.specs.PlayFacts.{after-one, after-more, done-accepted, done-label}
+use Rattle.theorems.specs.PlayFacts.{base-accepted, base-refused, step-sound, baseAfter, after-sound}
+use Rattle.theorems.specs.PlayFacts.{after-base, after-one, after-more, done-accepted, done-label}
 
 -- ---- one accepted request
 
@@ -133,11 +132,11 @@ module _ (h : Head) (t : ℕ) where
       subst (λ (c : Base). Stands (play later c) h t) (sym (base-refused b q n)) (surviving later b s m v)
   surviving (q ∷ later) b s m (accepted z back lost c v) =
       let g = passed b q z in
-      let untouched : takes q h t ≡ false = cases (takes q h t)
-      (λ e. absurd (⊎-elim back lost (taken b q g h t m .0 e)))
-      (λ e. e) in
+      let untouched : takes q h t ≡ false =
+      cases (takes q h t) (λ e. absurd (⊎-elim back lost (taken b q g h t m .0 e))) (λ e. e) in
+      let still = stands b q (sound-tests b s) g h t m untouched c in
       subst (λ (c : Base). Stands (play later c) h t) (sym (base-accepted b q z))
-      (surviving later (effect plainly b q) (effect-sound b q s z) (stands b q (sound-tests b s) g h t m untouched c) v)
+      (surviving later (effect plainly b q) (effect-sound b q s z) still v)
 
   -- a grant or denial of the list, which the table let pass, gave the instant
   pub record Entered (qs : List Request) (b : Base) : Type 0 where
@@ -240,12 +239,12 @@ module _ (qs earlier : List Request) (g : Request) (later : List Request) (h : H
   remains =
       let b = effect plainly base g in
       let s = after-sound earlier in
-      let after-g : sound b ≡ true = effect-sound base g s passes in
-      let l : h .label ≤ b .last = subst (λ (k : Head). k .label ≤ b .last) (sym given-head) (given-label base g is-grant) in
+      let s′ = effect-sound base g s passes in
+      let l : h .label ≤ b .last =
+      subst (λ (k : Head). k .label ≤ b .last) (sym given-head) (given-label base g is-grant) in
       let now : Stands b h t = subst (λ (k : Head). Stands b k t) (sym given-head) (fresh base g t is-grant inside) in
+      let now-behind = behind base g (sound-tests base s) (passed base g passes) h t now in
       subst₂ (λ (c d : Base). Stands c h t ↔ (Behind d h t × Survives h t later d))
       (sym (after-base qs ∙ ap baseAfter (given .place) ∙ after-more earlier g later passes))
-      (sym (after-base (earlier ++ (g ∷ [])) ∙ after-one earlier g passes)) (
-        (λ m. (behind base g (sound-tests base s) (passed base g passes) h t now, survived h t later b after-g l m .1)),
-        (λ p. surviving h t later b after-g now (p .1)),
-      )
+      (sym (after-base (earlier ++ (g ∷ [])) ∙ after-one earlier g passes))
+      ((λ m. (now-behind, survived h t later b s′ l m .1)), (λ p. surviving h t later b s′ now (p .1)))
