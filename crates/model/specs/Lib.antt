@@ -37,3 +37,5 @@ pub mod HeldFacts
 pub mod LayoutRecords
 pub mod LayoutFacts
 pub mod TextFacts
+pub mod Survival
+pub mod SurvivalFacts

@@ -1,192 +1,78 @@
--- DEMAND 3 (theorem 8): after every list of requests from the empty base, wild kinds and numbers included, the bytes
--- are sound and their authorizations are exactly the maximal intervals of the ledger's entries: `demand3` at the end.
-use mathlib.Core.Path.{_≡_, refl, sym, ap, ap₂, _∙_, subst, subst₂}
-use mathlib.Core.Logic.{_≢_}
-use Prim.Native.Nat.{ℕ, suc, _≤_}
-use native.Mathlib.Omega.{arith}
-use mathlib.Core.Bool.{Bool, true, false, not}
-use mathlib.Core.List.{List, [], _∷_, _++_, append-nil}
-use lib.Dec.{eqb}
-use Rattle.foundation.specs.Tests.{pick, cases, eq-true, ne-false, true-eq, false-eq, true-le, and-true}
-use Rattle.foundation.specs.Lists.{Mem}
-use Rattle.foundation.specs.Intervals.{inInterval, inInterval-true}
-use Rattle.model.specs.declared.Privilege.{Privilege}
+-- DEMAND 3, in the order of the request's own words: `demand3`. The words `after`, `Given`, `Stands`, `Behind` and
+-- `Survives` are in the model's Survival.
+use mathlib.Core.Path.{_≡_, subst}
+use mathlib.Core.Logic.{_↔_, ⊎-elim}
+use Prim.Native.Nat.{ℕ, suc}
+use mathlib.Core.Bool.{true}
+use mathlib.Core.List.{List, [], _∷_, _++_}
+use lib.ListN.{length}
+use Rattle.foundation.specs.Intervals.{inInterval-true}
 use Rattle.model.specs.declared.Head.{Head}
-use Rattle.model.specs.declared.Authorization.{Authorization}
 use Rattle.model.specs.declared.Request.{Request}
-use Rattle.model.specs.Ranges.{lastInstant, isInstant}
 use Rattle.model.specs.Base.{Base, emptyBase}
-use Rattle.model.specs.Support.{supported, live, rootIn, root}
-use Rattle.model.specs.Withdrawal.{authorization, restrict}
-use Rattle.model.specs.Requests.{grants, labels, withdraws, objectsAfter, administratorsAfter, newHead, takes, leave}
-use Rattle.model.specs.Requests.{rootAfter}
 use Rattle.model.specs.Means.{plainly}
-use Rattle.model.specs.Step.{refusal, effect}
-use Rattle.model.specs.StepFacts.{Accepted, accepted}
-use Rattle.model.specs.Encoding.{encode, decode}
-use Rattle.model.specs.EncodingFacts.{decode-encode, encode-sound, empty-sound}
-use Rattle.model.specs.Soundness.{sound, soundBytes}
-use Rattle.model.specs.SoundnessFacts.{Sound, sound-tests}
-use Rattle.model.specs.Answers.{Answer, requests}
-use Rattle.model.specs.Ledger.{Entry, entry, Ledger, emptyLedger, standing, keepEntries, settle, newEntry, enter}
-use Rattle.model.specs.Ledger.{follow, ledger, linesOf}
-use Rattle.theorems.specs.LedgerFacts.{Framed, framed-keep, framed-append, live-lines, keep-lines}
-use Rattle.theorems.specs.LedgerFacts.{restrict-settle, keep-all, linesOf-append, linesOf-one}
-use Rattle.theorems.specs.Kinds.{grantKinds, intervalKinds, withdrawalKinds, is-kinds, is-apart}
-use Rattle.theorems.specs.SoundFacts.{all-supported}
-use Rattle.theorems.specs.Rows.{starts-first, interval-in}
-use Rattle.theorems.specs.AuthorizationsAfter.{no-takes}
-use Rattle.theorems.specs.Restriction.{withdrawn-all}
-use Rattle.theorems.specs.Preservation.{sound-after, effect-sound}
-use Rattle.theorems.specs.RequestFacts.{request-accepted, request-refused}
+use Rattle.model.specs.Step.{effect}
+use Rattle.model.specs.Encoding.{decode}
+use Rattle.model.specs.EncodingFacts.{empty-sound}
+use Rattle.model.specs.Soundness.{soundBytes}
+use Rattle.model.specs.Ledger.{ledger, linesOf}
+use Rattle.model.specs.Survival.{after, Given, Stands, Behind, Survives}
+use Rattle.theorems.specs.LedgerLines.{ledger-lines}
+use Rattle.theorems.specs.PlayFacts.{baseAfter, after-base, accepted-done}
+use Rattle.theorems.specs.Remains.{Entered, origin, head-gives, remains}
+use Rattle.theorems.specs.Labels.{one-place}
 
--- the base and the ledger say the same
-pub record Agrees (b : Base) (a : Ledger) : Type 0 where
-  pub owners : b .objects ≡ a .owners
-  pub administrators : b .administrators ≡ a .administrators
-  pub last : b .last ≡ a .last
-  pub lines : b .authorizations ≡ linesOf (a .entries)
-  pub framed : Framed (a .entries)
+-- what demand 3 says of a list of requests and the bytes s after it
+pub record Demand3 (qs : List Request) (s : List ℕ) : Type 0 where
+  -- "each instant of an accepted grant or denial remains exactly if its giver has neither taken it back nor lost the
+  -- meter's administration since, and if after that and every later accepted request it had a chain behind it"; "what
+  -- remains stands ... with its giver, receiver, meter, mode, sign, option and time": the head h
+  pub instants : {earlier : List Request} {g : Request} {later : List Request} {h : Head} {t : ℕ} →
+      Given qs earlier g later h t →
+      let b = decode (after (earlier ++ (g ∷ []))) in
+      Stands (decode s) h t ↔ (Behind b h t × Survives h t later b)
+  -- "in lines of its own label": a label has one place in the list
+  pub own-label : {earlier earlier′ : List Request} {g g′ : Request} {later later′ : List Request} {h h′ : Head}
+      {t t′ : ℕ} →
+      Given qs earlier g later h t → Given qs earlier′ g′ later′ h′ t′ → h .label ≡ h′ .label →
+      (earlier ≡ earlier′) × (g ≡ g′) × (later ≡ later′)
+  -- the lines of a label are the longest runs of the instants that remain of it (01: the account)
+  pub lines : decode s .authorizations ≡ linesOf (ledger qs .entries)
+  -- "and the base is sound"
+  pub base-sound : soundBytes s ≡ true
+  -- "and has no other lines": whatever stands was given by a request of the list (by one, as `own-label` says)
+  pub no-other : {h : Head} {t : ℕ} → Stands (decode s) h t →
+      (earlier : List Request) × (g : Request) × (later : List Request) × Given qs earlier g later h t
 
--- ---- one accepted request
+-- what stands after a list is given by it
+gives-all : (qs : List Request) (h : Head) (t : ℕ) → Stands (decode (after qs)) h t →
+    (earlier : List Request) × (g : Request) × (later : List Request) × Given qs earlier g later h t
+gives-all qs h t m = ⊎-elim
+    (λ n. absurd (n .lower))
+    (λ (w : Entered h t qs emptyBase).
+    let i = inInterval-true (w .giving .interval) t (w .inside) in (
+      w .earlier,
+      w .giving,
+      w .later,
+      record {
+        place = w .place;
+        label = suc (baseAfter (w .earlier) .last);
+        count = length (effect plainly (baseAfter (w .earlier)) (w .giving) .authorizations);
+        done = accepted-done (w .earlier) (w .giving) (w .passes) (w .is-grant);
+        gives = head-gives (w .giving) (suc (baseAfter (w .earlier) .last)) h (w .is-grant) (w .head);
+        starts = i .0;
+        ends = i .1;
+      },
+    ))
+    (origin h t qs emptyBase empty-sound (subst (λ (b : Base). Stands b h t) (after-base qs) m))
 
--- entries whose authorizations are all supported lose nothing
-settled : (b : Base) (es : List Entry) → Sound b → Framed es → b .authorizations ≡ linesOf es →
-    settle (root b) es ≡ es
-settled b es s f e = keep-all (λ h t. supported (root b) (standing t es) h) es
-    (λ t h m. subst (λ (hs : List Head). supported (root b) hs h ≡ true) (same t)
-    (all-supported b s t h (subst (λ (hs : List Head). Mem h hs) (sym (same t)) m)))
-  where
-    same : (t : ℕ) → live t (b .authorizations) ≡ standing t es
-    same t = ap (live t) e ∙ live-lines es f t
-
-module _ (b : Base) (a : Ledger) (q : Request) (s : Sound b) (g : Accepted b q) (agrees : Agrees b a) where
-  abbrev after : Base
-  after = effect plainly b q
-
-  -- what the request leaves of the entries, before unsupported instants go
-  abbrev taken : List Entry
-  taken = keepEntries (λ h t. not (takes q h t)) (a .entries)
-
-  taken-framed : Framed taken
-  taken-framed = framed-keep (λ h t. not (takes q h t)) (a .entries) (agrees .framed)
-
-  roots : rootIn (objectsAfter q (a .owners)) (administratorsAfter q (a .administrators)) ≡ root after
-  roots = ap₂ (λ (x y : List Privilege). rootIn (objectsAfter q x) (administratorsAfter q y))
-      (sym (agrees .owners)) (sym (agrees .administrators))
-
-  -- what rows 3 and 5 say of a grant's interval
-  rising : grants q ≡ true → q .interval .start ≤ q .interval .end
-  rising e =
-      true-le (q .interval .start) (q .interval .end)
-      (starts-first b q g (is-kinds q grantKinds intervalKinds refl e))
-
-  fitting : grants q ≡ true → q .interval .end ≤ lastInstant
-  fitting e =
-      true-le (q .interval .end) lastInstant
-      (and-true (isInstant (q .interval .start)) (isInstant (q .interval .end))
-      (interval-in b q g (is-kinds q grantKinds intervalKinds refl e)) .1)
-
-  new-framed : Framed (newEntry a q)
-  new-framed = cases (grants q)
-      (λ e. rw e ((λ t h. let w = inInterval-true (q .interval) t h in let l = fitting e in omega arith), tt))
-      (λ e. rw e tt)
-
-  -- a request that withdraws nothing takes nothing
-  none-taken : withdraws q ≡ false → taken ≡ a .entries
-  none-taken w = keep-all (λ h t. not (takes q h t)) (a .entries) (λ t h m. rw (no-takes q w h t))
-
-  -- then the authorizations are those of the entries with the new one,
-  new-lines : withdraws q ≡ false → after .authorizations ≡ linesOf (a .entries ++ newEntry a q)
-  new-lines w = cases (grants q)
-      (λ e. rw e (
-      ap₂ (λ (xs : List Authorization) (n : ℕ). xs ++ (authorization (newHead (suc n) q) (q .interval) ∷ []))
-      (agrees .lines) (agrees .last)
-      ∙ sym (linesOf-append (a .entries) (entry (newHead (suc (a .last)) q) (inInterval (q .interval)) ∷ [])
-      ∙ ap (λ (xs : List Authorization). linesOf (a .entries) ++ xs)
-      (linesOf-one (newHead (suc (a .last)) q) (q .interval) (rising e) (fitting e)))))
-      (λ e. rw (e, w) (agrees .lines ∙ ap linesOf (sym (append-nil (a .entries)))))
-
-  -- and all of them are supported
-  quiet : withdraws q ≡ false → after .authorizations ≡ linesOf (settle (root after) (taken ++ newEntry a q))
-  quiet w =
-      let f = framed-append (a .entries) (newEntry a q) (agrees .framed) new-framed in
-      new-lines w ∙ ap linesOf (sym (
-      ap (λ (xs : List Entry). settle (root after) (xs ++ newEntry a q)) (none-taken w)
-      ∙ settled after (a .entries ++ newEntry a q) (sound-after b q s g) f (new-lines w)))
-
-  -- a withdrawal enters nothing, and restricts what it leaves
-  withdrawn : withdraws q ≡ true → after .authorizations ≡ linesOf (settle (root after) (taken ++ newEntry a q))
-  unfolding leave
-  withdrawn w =
-      let none : newEntry a q ≡ [] = rw (is-apart q withdrawalKinds grantKinds refl w) in
-      withdrawn-all b q s w
-      ∙ ap (λ (xs : List Authorization). restrict (rootAfter b q) (λ h. true) xs)
-      (ap (leave q) (agrees .lines) ∙ keep-lines (λ h t. not (takes q h t)) (a .entries))
-      ∙ restrict-settle (rootAfter b q) taken taken-framed
-      ∙ ap (λ (xs : List Entry). linesOf (settle (rootAfter b q) xs))
-      (sym (append-nil taken) ∙ ap (λ (xs : List Entry). taken ++ xs) (sym none))
-
-  after-lines : after .authorizations ≡ linesOf (settle (root after) (taken ++ newEntry a q))
-  after-lines = cases (withdraws q) withdrawn quiet
-
-  pub agrees-after : Agrees after (enter a q)
-  agrees-after = record {
-    owners = ap (objectsAfter q) (agrees .owners);
-    administrators = ap (administratorsAfter q) (agrees .administrators);
-    last = ap (λ (n : ℕ). pick (labels q) (suc n) n) (agrees .last);
-    lines = after-lines ∙ ap (λ (r : Head → Bool). linesOf (settle r (taken ++ newEntry a q))) (sym roots);
-    framed = framed-keep _ (taken ++ newEntry a q) (framed-append taken (newEntry a q) taken-framed new-framed);
-  }
-
--- ---- a list of requests
-
--- what a list leaves: bytes that encode a sound base which says what the ledger says
-pub record Left (s : List ℕ) (a : Ledger) : Type 0 where
-  pub base : Base
-  pub encoded : s ≡ encode base
-  pub sound-base : sound base ≡ true
-  pub agrees : Agrees base a
-
-follow-accepted : (q : Request) (qs : List Request) (b : Base) (a : Ledger) → refusal plainly b q ≡ 0 →
-    follow (q ∷ qs) b a ≡ follow qs (effect plainly b q) (enter a q)
-follow-accepted q qs b a z = rw (eq-true (refusal plainly b q) 0 z, follow)
-
-follow-refused : (q : Request) (qs : List Request) (b : Base) (a : Ledger) → refusal plainly b q ≢ 0 →
-    follow (q ∷ qs) b a ≡ follow qs b a
-follow-refused q qs b a n = rw (ne-false (refusal plainly b q) 0 n, follow)
-
--- from any sound base and a ledger that agrees with it
-pub demand3-from : (qs : List Request) (b : Base) (a : Ledger) → sound b ≡ true → Agrees b a →
-    Left (requests qs (encode b)) (follow qs b a)
-demand3-from [] b a s g = record { base = b; encoded = refl; sound-base = s; agrees = g }
-demand3-from (q ∷ qs) b a s g = cases (eqb (refusal plainly b q) 0)
-    (λ e. let z = true-eq (refusal plainly b q) 0 e in
-    subst₂ Left (ap (λ (x : Answer). requests qs (x .lent)) (sym (request-accepted b q s z)))
-    (sym (follow-accepted q qs b a z))
-    (demand3-from qs (effect plainly b q) (enter a q) (effect-sound b q s z)
-    (agrees-after b a q (sound-tests b s) (accepted b q z) g)))
-    (λ e. let n = false-eq (refusal plainly b q) 0 e in
-    subst₂ Left (ap (λ (x : Answer). requests qs (x .lent)) (sym (request-refused b q s n)))
-    (sym (follow-refused q qs b a n))
-    (demand3-from qs b a s g))
-
-empty-agrees : Agrees emptyBase emptyLedger
-unfolding linesOf
-empty-agrees = record { owners = refl; administrators = refl; last = refl; lines = refl; framed = tt }
-
-pub demand3-left : (qs : List Request) → Left (requests qs (encode emptyBase)) (ledger qs)
-unfolding ledger
-demand3-left qs = demand3-from qs emptyBase emptyLedger empty-sound empty-agrees
-
--- DEMAND 3
-pub demand3 : (qs : List Request) →
-    (soundBytes (requests qs (encode emptyBase)) ≡ true)
-    × (decode (requests qs (encode emptyBase)) .authorizations ≡ linesOf (ledger qs .entries))
-demand3 qs =
-    let l = demand3-left qs in (
-      ap soundBytes (l .encoded) ∙ encode-sound (l .base) (l .sound-base),
-      ap (λ (x : List ℕ). decode x .authorizations) (l .encoded)
-          ∙ ap (λ (b : Base). b .authorizations) (decode-encode (l .base) (l .sound-base))
-          ∙ l .agrees .lines,
-    )
+-- DEMAND 3: for every list of requests, malformed or refused ones included, from an empty base
+pub demand3 : (qs : List Request) → Demand3 qs (after qs)
+demand3 qs = record {
+  instants = λ {earlier} {g} {later} {h} {t} x. remains qs earlier g later h t x;
+  own-label = λ {earlier} {earlier′} {g} {g′} {later} {later′} {h} {h′} {t} {t′} x y e.
+      one-place qs earlier g later h t earlier′ g′ later′ h′ t′ x y e;
+  lines = ledger-lines qs .1;
+  base-sound = ledger-lines qs .0;
+  no-other = λ {h} {t} m. gives-all qs h t m;
+}

@@ -15,9 +15,14 @@ pub mod SoundAuthorizations
 pub mod SoundSupport
 pub mod Preservation
 pub mod RequestFacts
+pub mod PlayFacts
 pub mod LedgerFacts
+pub mod LedgerLines
+pub mod Remains
+pub mod Labels
 pub mod Demand3
 pub mod Served
-pub mod Remains
+pub mod Orders
 pub mod SessionFacts
+pub mod Refusals
 pub mod Cases

@@ -1,32 +1,33 @@
--- DEMAND 3 in the request's own words (theorem 9): an instant of an accepted grant or denial remains exactly if no
--- later accepted request took it out, and after that grant and every later accepted request a chain stood behind it:
--- `remains`.
+-- An instant of an accepted grant or denial remains in the bytes after a list exactly if a chain was behind it right
+-- after that request, and it survives the later ones (theorem 9): `remains`. What stands after a list was given by
+-- one of its requests: `origin`.
 use mathlib.Core.Path.{_≡_, refl, sym, ap, _∙_, subst, subst₂}
-use mathlib.Core.Logic.{_≢_, _↔_, ⊎-elim}
+use mathlib.Core.Logic.{_⊎_, inl, inr, _↔_, ⊎-elim}
 use Prim.Native.Nat.{ℕ, suc, _≤_}
 use native.Mathlib.Omega.{arith}
-use mathlib.Core.Bool.{Bool, true, false, not}
+use mathlib.Core.Bool.{Bool, true, false, not, true≢false}
 use mathlib.Core.List.{List, [], _∷_, _++_}
-use lib.Dec.{eqb}
-use Rattle.foundation.specs.Tests.{cases, not-true, eq-true, ne-false, true-eq, false-eq}
+use lib.Dec.{leb, eqb}
+use Rattle.foundation.specs.Tests.{cases, not-true, le-true, true-eq, false-eq, and-intro}
 use Rattle.foundation.specs.Lists.{Mem, keepIf, keepIf-mem, kept}
 use Rattle.foundation.specs.Intervals.{inInterval}
 use Rattle.model.specs.declared.Head.{Head}
 use Rattle.model.specs.declared.Authorization.{Authorization}
 use Rattle.model.specs.declared.Request.{Request}
-use Rattle.model.specs.Base.{Base, emptyBase}
-use Rattle.model.specs.Support.{supported, supported-chain, Chain, live, root}
+use Rattle.model.specs.Base.{Base}
+use Rattle.model.specs.Support.{supported, supported-chain, live, root}
 use Rattle.model.specs.Withdrawal.{restrict}
-use Rattle.model.specs.Requests.{grants, withdraws, newHead, takes, leave, rootAfter}
+use Rattle.model.specs.Requests.{GRANT, DENY, grants, withdraws, newHead, takes, leave, rootAfter}
 use Rattle.model.specs.Means.{plainly}
-use Rattle.model.specs.Step.{Outcome, refusal, effect, step, play}
-use Rattle.model.specs.StepFacts.{Accepted, accepted, step-accepted, step-refused}
-use Rattle.model.specs.Encoding.{encode, decode}
-use Rattle.model.specs.EncodingFacts.{decode-encode, empty-sound}
+use Rattle.model.specs.Step.{refusal, effect, step, play}
+use Rattle.model.specs.StepFacts.{Accepted, accepted as passed}
+use Rattle.model.specs.Encoding.{decode}
 use Rattle.model.specs.Soundness.{sound}
 use Rattle.model.specs.SoundnessFacts.{Sound, sound-tests}
 use Rattle.model.specs.SupportFacts.{live-last, live-old, live-new, chain-more}
-use Rattle.model.specs.Answers.{Answer, requests}
+use Rattle.model.specs.Survival.{Gives, grant, denial, after, Given, TakesBack, LosesAdministration, Stands, Behind}
+use Rattle.model.specs.Survival.{Survives, end, refused, accepted}
+use Rattle.model.specs.SurvivalFacts.{taken}
 use Rattle.theorems.specs.Kinds.{grantKinds, labelKinds, is-kinds}
 use Rattle.theorems.specs.KeepFacts.{live-keep}
 use Rattle.theorems.specs.SoundFacts.{all-supported}
@@ -35,36 +36,19 @@ use Rattle.theorems.specs.AuthorizationsAfter.{newAuthorization, no-take
 use Rattle.theorems.specs.AuthorizationsAfter.{same-authorizations}
 use Rattle.theorems.specs.Restriction.{withdrawn-all}
 use Rattle.theorems.specs.Preservation.{sound-after, effect-sound}
-use Rattle.theorems.specs.RequestFacts.{request-accepted, request-refused}
-
--- "transferable grants for that meter and mode, times strictly rising up to its own, each still covering the instant,
--- leading from the owner or an administrator to the giver, or none where the giver is one"
-abbrev pub Behind : Base → Head → ℕ → Type 0
-Behind b h t = Chain (root b) (live t (b .authorizations)) h
-
--- the instant stands in an authorization "with its giver, receiver, meter, mode, sign, option and time"
-abbrev pub Stands : Base → Head → ℕ → Type 0
-Stands b h t = Mem h (live t (b .authorizations))
-
--- "its giver has neither taken it back nor lost the meter's administration since, and ... after ... every later
--- accepted request it had a chain behind it"
-abbrev pub Survives : Head → ℕ → List Request → Base → Type 0
-Survives h t [] b = Unit {0}
-Survives h t (q ∷ later) b = elim (eqb (refusal plainly b q) 0) [
-  | true ↦ (takes q h t ≡ false) × Behind (effect plainly b q) h t × Survives h t later (effect plainly b q)
-  | false ↦ Survives h t later b
-]
+use Rattle.theorems.specs.PlayFacts.{base-accepted, base-refused, step-sound, baseAfter, after-sound}
+use Rattle.theorems.specs.PlayFacts.{after-base, after-one, after-more, done-accepted, done-label}
 
 -- ---- one accepted request
 
 module _ (b : Base) (q : Request) (s : Sound b) (g : Accepted b q) (h : Head) (t : ℕ) where
-  abbrev after : Base
-  after = effect plainly b q
+  abbrev next : Base
+  next = effect plainly b q
 
   -- what stands has a chain behind it
-  pub behind : Stands after h t → Behind after h t
-  behind m = supported-chain (root after) (live t (after .authorizations)) h .0
-      (all-supported after (sound-after b q s g) t h m)
+  pub behind : Stands next h t → Behind next h t
+  behind m = supported-chain (root next) (live t (next .authorizations)) h .0
+      (all-supported next (sound-after b q s g) t h m)
 
   -- what the request leaves, before unsupported instants go
   abbrev remaining : List Authorization
@@ -75,7 +59,7 @@ module _ (b : Base) (q : Request) (s : Sound b) (g : Accepted b q) (h : Head) (t
   stays k = supported (rootAfter b q) (live t remaining) k
 
   -- what a withdrawal leaves standing
-  withdrawn : withdraws q ≡ true → live t (after .authorizations) ≡ keepIf stays (live t remaining)
+  withdrawn : withdraws q ≡ true → live t (next .authorizations) ≡ keepIf stays (live t remaining)
   unfolding restrict
   withdrawn w = ap (live t) (withdrawn-all b q s w)
       ∙ live-keep (λ k u. supported (rootAfter b q) (live u remaining) k) remaining t
@@ -84,30 +68,36 @@ module _ (b : Base) (q : Request) (s : Sound b) (g : Accepted b q) (h : Head) (t
   unfolding leave
   left = live-keep (λ k u. not (takes q k u)) (b .authorizations) t
 
-  -- what stands stood before and was not taken, unless it is new
-  pub stood : h .label ≤ b .last → Stands after h t → Stands b h t × (takes q h t ≡ false)
-  stood l m = cases (withdraws q)
+  -- what stands is new, or stood before and was not taken
+  pub entered : Stands next h t →
+      (Stands b h t × (takes q h t ≡ false))
+      ⊎ ((grants q ≡ true) × (h ≡ newHead (suc (b .last)) q) × (inInterval (q .interval) t ≡ true))
+  entered m = cases (withdraws q)
       (λ w. let x = kept stays (live t remaining) h (rw (withdrawn w) at m) .0 in
       let y = kept (λ k. not (takes q k t)) (live t (b .authorizations)) h (rw left at x) in
-      (y .0, not-true (takes q h t) (y .1)))
-      (λ w. (quiet w m, no-takes q w h t))
-    where
-      quiet : withdraws q ≡ false → Stands after h t → Stands b h t
-      quiet w x = cases (grants q)
-          (λ e. ⊎-elim
-          (λ y. y)
-          (λ v. let z : h .label ≡ suc (b .last) = ap (λ (k : Head). k .label) (v .0) in absurd (omega arith))
-          (live-last t (b .authorizations) (newAuthorization b q) h (rw (granted-authorizations b q e) at x)))
-          (λ e. rw (same-authorizations b q e w) at x)
+      inl (y .0, not-true (takes q h t) (y .1)))
+      (λ w. cases (grants q)
+      (λ e. ⊎-elim
+      (λ y. inl (y, no-takes q w h t))
+      (λ v. inr (e, v .0, v .1))
+      (live-last t (b .authorizations) (newAuthorization b q) h (rw (granted-authorizations b q e) at m)))
+      (λ e. inl (rw (same-authorizations b q e w) at m, no-takes q w h t)))
+
+  -- what has an old label is not new
+  pub stood : h .label ≤ b .last → Stands next h t → Stands b h t × (takes q h t ≡ false)
+  stood l m = ⊎-elim
+      (λ y. y)
+      (λ v. let z : h .label ≡ suc (b .last) = ap (λ (k : Head). k .label) (v .1) in absurd (omega arith))
+      (entered m)
 
   -- what stood, was not taken and has a chain behind it stands
-  pub stands : Stands b h t → takes q h t ≡ false → Behind after h t → Stands after h t
+  pub stands : Stands b h t → takes q h t ≡ false → Behind next h t → Stands next h t
   stands m e c = cases (withdraws q)
       (λ w. let x : Mem h (live t remaining) = rw left
       (keepIf-mem (λ k. not (takes q k t)) (live t (b .authorizations)) h m (ap not e)) in
       rw (withdrawn w) (keepIf-mem stays (live t remaining) h x
       (supported-chain (rootAfter b q) (live t remaining) h .1
-      (chain-more (root after) (rootAfter b q) (live t (after .authorizations)) (live t remaining) (λ k r. r)
+      (chain-more (root next) (rootAfter b q) (live t (next .authorizations)) (live t remaining) (λ k r. r)
       (λ k n. kept stays (live t remaining) k (rw (withdrawn w) at n) .0) h c))))
       (λ w. cases (grants q)
       (λ f. rw (granted-authorizations b q f) (live-old t (b .authorizations) (newAuthorization b q) h m))
@@ -115,82 +105,101 @@ module _ (b : Base) (q : Request) (s : Sound b) (g : Accepted b q) (h : Head) (t
 
 -- ---- a list of requests
 
--- the base after one request
-base-accepted : (b : Base) (q : Request) → refusal plainly b q ≡ 0 → step b q .base ≡ effect plainly b q
-base-accepted b q z = ap (λ (x : Outcome). x .base) (step-accepted b q z)
-
-base-refused : (b : Base) (q : Request) → refusal plainly b q ≢ 0 → step b q .base ≡ b
-base-refused b q n = ap (λ (x : Outcome). x .base) (step-refused b q n)
-
 module _ (h : Head) (t : ℕ) where
-  survives-accepted : (q : Request) (later : List Request) (b : Base) → refusal plainly b q ≡ 0 →
-      Survives h t (q ∷ later) b
-      ≡ ((takes q h t ≡ false) × Behind (effect plainly b q) h t × Survives h t later (effect plainly b q))
-  survives-accepted q later b z = rw (eq-true (refusal plainly b q) 0 z, Survives)
-
-  survives-refused : (q : Request) (later : List Request) (b : Base) → refusal plainly b q ≢ 0 →
-      Survives h t (q ∷ later) b ≡ Survives h t later b
-  survives-refused q later b n = rw (ne-false (refusal plainly b q) 0 n, Survives)
-
-  module _ (b : Base) (q : Request) (later : List Request) (s : sound b ≡ true) (l : h .label ≤ b .last) where
-    -- over a refused request
-    over : refusal plainly b q ≢ 0 → Stands (play later b) h t ↔ (Stands b h t × Survives h t later b) →
-        Stands (play (q ∷ later) b) h t ↔ (Stands b h t × Survives h t (q ∷ later) b)
-    over n ih =
-        subst₂ (λ (c : Base) (X : Type 0). Stands (play later c) h t ↔ (Stands b h t × X))
-        (sym (base-refused b q n)) (sym (survives-refused q later b n)) ih
-
-    -- over an accepted one
-    on : (z : refusal plainly b q ≡ 0) →
-        Stands (play later (effect plainly b q)) h t
-        ↔ (Stands (effect plainly b q) h t × Survives h t later (effect plainly b q)) →
-        Stands (play (q ∷ later) b) h t ↔ (Stands b h t × Survives h t (q ∷ later) b)
-    on z ih =
-        let k = sound-tests b s in
-        let g = accepted b q z in
-        subst₂ (λ (c : Base) (X : Type 0). Stands (play later c) h t ↔ (Stands b h t × X))
-        (sym (base-accepted b q z)) (sym (survives-accepted q later b z)) (
-          (λ m. let p = ih .0 m in let w = stood b q k g h t l (p .0) in
-              (w .0, (w .1, behind b q k g h t (p .0), p .1))),
-          (λ p. ih .1 (stands b q k g h t (p .0) (p .1 .0) (p .1 .1), p .1 .2)),
-        )
-
-  -- what stands in a sound base stands after a list exactly if it survives it
-  pub survives : (later : List Request) (b : Base) → sound b ≡ true → h .label ≤ b .last →
-      Stands (play later b) h t ↔ (Stands b h t × Survives h t later b)
-  survives [] b s l = ((λ m. (m, tt)), (λ p. p .0))
-  survives (q ∷ later) b s l = cases (eqb (refusal plainly b q) 0)
+  -- what stands after a list, and has a label from before it, stood before and survived
+  survived : (later : List Request) (b : Base) → sound b ≡ true → h .label ≤ b .last → Stands (play later b) h t →
+      Stands b h t × Survives h t later b
+  survived [] b s l m = (m, end)
+  survived (q ∷ later) b s l m = cases (eqb (refusal plainly b q) 0)
       (λ e. let z = true-eq (refusal plainly b q) 0 e in
-      on b q later s l z (survives later (effect plainly b q) (effect-sound b q s z) (omega (arith, last-stays b q))))
-      (λ e. over b q later s l (false-eq (refusal plainly b q) 0 e) (survives later b s l))
+      let k = sound-tests b s in
+      let g = passed b q z in
+      let p = survived later (effect plainly b q) (effect-sound b q s z) (omega (arith, last-stays b q))
+      (subst (λ (c : Base). Stands (play later c) h t) (base-accepted b q z) m) in
+      let w = stood b q k g h t l (p .0) in
+      let none : ¬ (TakesBack q h t ⊎ LosesAdministration q h) =
+      λ x. true≢false (sym (taken b q g h t (w .0) .1 x) ∙ w .1) in
+      (w .0, accepted z (λ x. none (inl x)) (λ x. none (inr x)) (behind b q k g h t (p .0)) (p .1)))
+      (λ e. let n = false-eq (refusal plainly b q) 0 e in
+      let p = survived later b s l (subst (λ (c : Base). Stands (play later c) h t) (base-refused b q n) m) in
+      (p .0, refused n (p .1)))
+
+  -- what stands and survives the list stands after it
+  surviving : (later : List Request) (b : Base) → sound b ≡ true → Stands b h t → Survives h t later b →
+      Stands (play later b) h t
+  surviving [] b s m end = m
+  surviving (q ∷ later) b s m (refused n v) =
+      subst (λ (c : Base). Stands (play later c) h t) (sym (base-refused b q n)) (surviving later b s m v)
+  surviving (q ∷ later) b s m (accepted z back lost c v) =
+      let g = passed b q z in
+      let untouched : takes q h t ≡ false =
+      cases (takes q h t) (λ e. absurd (⊎-elim back lost (taken b q g h t m .0 e))) (λ e. e) in
+      let still = stands b q (sound-tests b s) g h t m untouched c in
+      subst (λ (c : Base). Stands (play later c) h t) (sym (base-accepted b q z))
+      (surviving later (effect plainly b q) (effect-sound b q s z) still v)
+
+  -- a grant or denial of the list, which the table let pass, gave the instant
+  pub record Entered (qs : List Request) (b : Base) : Type 0 where
+    pub earlier : List Request
+    pub giving : Request
+    pub later : List Request
+    pub place : qs ≡ earlier ++ (giving ∷ later)
+    pub passes : refusal plainly (play earlier b) giving ≡ 0
+    pub is-grant : grants giving ≡ true
+    pub head : h ≡ newHead (suc (play earlier b .last)) giving
+    pub inside : inInterval (giving .interval) t ≡ true
+
+  -- what stands after a list stood before it, or the list gave it
+  pub origin : (qs : List Request) (b : Base) → sound b ≡ true → Stands (play qs b) h t →
+      Stands b h t ⊎ Entered qs b
+  origin [] b s m = inl m
+  origin (q ∷ qs) b s m = ⊎-elim now later-on (origin qs (step b q .base) (step-sound b q s) m)
+    where
+      now : Stands (step b q .base) h t → Stands b h t ⊎ Entered (q ∷ qs) b
+      now n = cases (eqb (refusal plainly b q) 0)
+          (λ e. let z = true-eq (refusal plainly b q) 0 e in ⊎-elim
+          (λ w. inl (w .0))
+          (λ w. inr (record {
+            earlier = [];
+            giving = q;
+            later = qs;
+            place = refl;
+            passes = z;
+            is-grant = w .0;
+            head = w .1;
+            inside = w .2;
+          }))
+          (entered b q (sound-tests b s) (passed b q z) h t
+          (subst (λ (c : Base). Stands c h t) (base-accepted b q z) n)))
+          (λ e. inl (subst (λ (c : Base). Stands c h t) (base-refused b q (false-eq (refusal plainly b q) 0 e)) n))
+
+      later-on : Entered qs (step b q .base) → Stands b h t ⊎ Entered (q ∷ qs) b
+      later-on w = inr (record {
+        earlier = q ∷ w .earlier;
+        giving = w .giving;
+        later = w .later;
+        place = ap (λ (xs : List Request). q ∷ xs) (w .place);
+        passes = w .passes;
+        is-grant = w .is-grant;
+        head = w .head;
+        inside = w .inside;
+      })
+
+-- ---- what a grant or denial gives
+
+module _ (g : Request) (label : ℕ) (h : Head) where
+  pub gives-head : Gives g label h → (grants g ≡ true) × (h ≡ newHead label g)
+  gives-head (grant k e) = (rw k, e ∙ rw k)
+  gives-head (denial k e) = (rw k, e ∙ rw k)
+
+  pub head-gives : grants g ≡ true → h ≡ newHead label g → Gives g label h
+  head-gives e w = cases (eqb (g .kind) GRANT)
+      (λ x. let k = true-eq (g .kind) GRANT x in grant k (w ∙ rw k))
+      (λ x. cases (eqb (g .kind) DENY)
+      (λ y. let k = true-eq (g .kind) DENY y in denial k (w ∙ rw k))
+      (λ y. absurd (true≢false (sym e ∙ rw (x, y)))))
 
 -- ---- the claim
-
-play-sound : (qs : List Request) (b : Base) → sound b ≡ true → sound (play qs b) ≡ true
-play-sound [] b s = s
-play-sound (q ∷ qs) b s = cases (eqb (refusal plainly b q) 0)
-    (λ e. let z = true-eq (refusal plainly b q) 0 e in
-    subst (λ (c : Base). sound (play qs c) ≡ true) (sym (base-accepted b q z))
-    (play-sound qs (effect plainly b q) (effect-sound b q s z)))
-    (λ e. subst (λ (c : Base). sound (play qs c) ≡ true) (sym (base-refused b q (false-eq (refusal plainly b q) 0 e)))
-    (play-sound qs b s))
-
-play-append : (xs ys : List Request) (b : Base) → play (xs ++ ys) b ≡ play ys (play xs b)
-play-append [] ys b = refl
-play-append (x ∷ xs) ys b = play-append xs ys (step b x .base)
-
--- the bytes after a list encode the base after it
-pub requests-play : (qs : List Request) (b : Base) → sound b ≡ true → requests qs (encode b) ≡ encode (play qs b)
-requests-play [] b s = refl
-requests-play (q ∷ qs) b s = cases (eqb (refusal plainly b q) 0)
-    (λ e. let z = true-eq (refusal plainly b q) 0 e in
-    ap (λ (x : Answer). requests qs (x .lent)) (request-accepted b q s z)
-    ∙ requests-play qs (effect plainly b q) (effect-sound b q s z)
-    ∙ ap (λ (c : Base). encode (play qs c)) (sym (base-accepted b q z)))
-    (λ e. let n = false-eq (refusal plainly b q) 0 e in
-    ap (λ (x : Answer). requests qs (x .lent)) (request-refused b q s n)
-    ∙ requests-play qs b s
-    ∙ ap (λ (c : Base). encode (play qs c)) (sym (base-refused b q n)))
 
 -- the instants of an accepted grant stand right after it
 fresh : (b : Base) (g : Request) (t : ℕ) → grants g ≡ true → inInterval (g .interval) t ≡ true →
@@ -200,32 +209,42 @@ fresh b g t e i = rw (granted-authorizations b g e) (live-new t (b .authorizatio
 given-label : (b : Base) (g : Request) → grants g ≡ true → newHead (suc (b .last)) g .label ≤ effect plainly b g .last
 given-label b g e = rw (is-kinds g grantKinds labelKinds refl e) (omega arith)
 
--- the base after the whole list, from the one that g leaves
-last-base : (earlier : List Request) (g : Request) (later : List Request) →
-    refusal plainly (play earlier emptyBase) g ≡ 0 →
-    decode (requests (earlier ++ (g ∷ later)) (encode emptyBase))
-    ≡ play later (effect plainly (play earlier emptyBase) g)
-last-base earlier g later z =
-    let qs = earlier ++ (g ∷ later) in
-    ap decode (requests-play qs emptyBase empty-sound)
-    ∙ decode-encode (play qs emptyBase) (play-sound qs emptyBase empty-sound)
-    ∙ play-append earlier (g ∷ later) emptyBase
-    ∙ ap (λ (x : Outcome). play later (x .base)) (step-accepted (play earlier emptyBase) g z)
+module _ (qs earlier : List Request) (g : Request) (later : List Request) (h : Head) (t : ℕ)
+    (given : Given qs earlier g later h t) where
+  abbrev base : Base
+  base = baseAfter earlier
 
--- A grant or denial g is accepted after the requests `earlier`, and `later` ones follow: its instant t stands in the
--- bytes after them all exactly if a chain stood behind it after g, and it survives the later ones
-pub remains : (earlier : List Request) (g : Request) (later : List Request) →
-    refusal plainly (play earlier emptyBase) g ≡ 0 → grants g ≡ true → (t : ℕ) → inInterval (g .interval) t ≡ true →
-    let b = play earlier emptyBase in
-    let h = newHead (suc (b .last)) g in
-    Stands (decode (requests (earlier ++ (g ∷ later)) (encode emptyBase))) h t
-    ↔ (Behind (effect plainly b g) h t × Survives h t later (effect plainly b g))
-remains earlier g later z e t i =
-    let b = play earlier emptyBase in
-    let h = newHead (suc (b .last)) g in
-    let s = play-sound earlier emptyBase empty-sound in
-    let now = fresh b g t e i in
-    let w = survives h t later (effect plainly b g) (effect-sound b g s z) (given-label b g e) in
-    subst (λ (c : Base). Stands c h t ↔ (Behind (effect plainly b g) h t × Survives h t later (effect plainly b g)))
-    (sym (last-base earlier g later z))
-    ((λ m. (behind b g (sound-tests b s) (accepted b g z) h t now, w .0 m .1)), (λ p. w .1 (now, p .1)))
+  passes : refusal plainly base g ≡ 0
+  passes = done-accepted earlier g (given .label) (given .count) (given .done)
+
+  is-grant : grants g ≡ true
+  is-grant = gives-head g (given .label) h (given .gives) .0
+
+  pub given-head : h ≡ newHead (suc (base .last)) g
+  given-head =
+      gives-head g (given .label) h (given .gives) .1
+      ∙ ap (λ (l : ℕ). newHead l g)
+      (done-label earlier g (given .label) (given .count) (given .done)
+      ∙ rw (is-kinds g grantKinds labelKinds refl is-grant))
+
+  inside : inInterval (g .interval) t ≡ true
+  inside = and-intro (leb (g .interval .start) t) (leb t (g .interval .end))
+      (le-true (g .interval .start) t (given .starts)) (le-true t (g .interval .end) (given .ends))
+
+  -- An instant that a grant or denial of the list gives remains in the bytes after the list exactly if a chain was
+  -- behind it after that request, and it survives the later ones
+  pub remains :
+      let b = decode (after (earlier ++ (g ∷ []))) in
+      Stands (decode (after qs)) h t ↔ (Behind b h t × Survives h t later b)
+  remains =
+      let b = effect plainly base g in
+      let s = after-sound earlier in
+      let s′ = effect-sound base g s passes in
+      let l : h .label ≤ b .last =
+      subst (λ (k : Head). k .label ≤ b .last) (sym given-head) (given-label base g is-grant) in
+      let now : Stands b h t = subst (λ (k : Head). Stands b k t) (sym given-head) (fresh base g t is-grant inside) in
+      let now-behind = behind base g (sound-tests base s) (passed base g passes) h t now in
+      subst₂ (λ (c d : Base). Stands c h t ↔ (Behind d h t × Survives h t later d))
+      (sym (after-base qs ∙ ap baseAfter (given .place) ∙ after-more earlier g later passes))
+      (sym (after-base (earlier ++ (g ∷ [])) ∙ after-one earlier g passes))
+      ((λ m. (now-behind, survived h t later b s′ l m .1)), (λ p. surviving h t later b s′ now (p .1)))

@@ -17,7 +17,7 @@ use Rattle.model.specs.Encoding.{encode, decode}
 use Rattle.model.specs.EncodingFacts.{decode-encode, encode-sound}
 use Rattle.model.specs.Soundness.{sound, soundBytes}
 use Rattle.model.specs.SoundnessFacts.{sound-bytes}
-use Rattle.model.specs.Answers.{Answer, answering, refusing, requestTable, request, refusalNumber}
+use Rattle.model.specs.Answers.{Answer, answering, refusing, requestTable, request}
 use Rattle.theorems.specs.Preservation.{effect-sound}
 
 -- ---- on unsound bytes
@@ -56,16 +56,7 @@ module _ (b : Base) (q : Request) (s : sound b ≡ true) where
       (λ z. n (sym encoded-table ∙ z))
       ∙ ap (λ (k : ℕ). answering (Refused k) (encode b)) encoded-table
 
--- ---- THEOREM 7
-
--- a refused request leaves the bytes
-pub refused-leaves : (s : List ℕ) (q : Request) → refusalNumber (request s q .reply) ≢ 0 → request s q .lent ≡ s
-unfolding request
-refused-leaves s q n = cases (eqb (lowest (requestTable s q)) 0)
-    (λ e. absurd (n (ap (λ (a : Answer). refusalNumber (a .reply))
-    (answered (requestTable s q) (refusing s) _ (true-eq (lowest (requestTable s q)) 0 e)))))
-    (λ e. ap (λ (a : Answer). a .lent)
-    (turned-away (requestTable s q) (refusing s) _ (false-eq (lowest (requestTable s q)) 0 e)))
+-- ---- THEOREM 7 (that a refused request leaves the bytes: `request-refuses` in Refusals)
 
 -- a request on sound bytes leaves sound bytes
 pub request-sound : (s : List ℕ) (q : Request) → soundBytes s ≡ true → soundBytes (request s q .lent) ≡ true

@@ -1,8 +1,7 @@
--- DEMAND 3 ABOUT THE CODE: it cites the contract of the library's request alone (`Answered`), and that of create. A
--- program that answers one request after the other, each on the bytes that the one before left, and the first on those
--- that create left, leaves bytes that are sound, whose authorizations are exactly the maximal intervals of the ledger's
--- entries: `demand3-code`.
-use mathlib.Core.Path.{_≡_, ap, _∙_}
+-- DEMAND 3 ABOUT THE CODE: it cites the contract of the library's request alone (`Answered`), and that of create. Of
+-- the bytes that a program leaves which answers one request after the other, each on the bytes that the one before
+-- left, and the first on those that create left, demand 3 holds: `demand3-code`.
+use mathlib.Core.Path.{_≡_, sym, ap, _∙_, subst}
 use Prim.Native.Nat.{ℕ}
 use mathlib.Core.Bool.{true, not}
 use mathlib.Core.List.{List, [], _∷_}
@@ -13,13 +12,13 @@ use Rattle.model.specs.declared.Request.{Request}
 use Rattle.model.specs.declared.Reply.{Reply}
 use Rattle.model.specs.declared.Reply.the-variants.{Done}
 use Rattle.model.specs.Base.{emptyBase}
-use Rattle.model.specs.Encoding.{size, encode, decode}
+use Rattle.model.specs.Encoding.{size, encode}
+use Rattle.model.specs.EncodingFacts.{encode-sound, empty-sound}
 use Rattle.model.specs.Soundness.{soundBytes}
 use Rattle.model.specs.Step.{row, lowest}
 use Rattle.model.specs.StepFacts.{answered}
 use Rattle.model.specs.Answers.{Answer, answering, refusing, create, requests, Answered}
-use Rattle.model.specs.Ledger.{ledger, linesOf}
-use Rattle.theorems.specs.Demand3.{demand3}
+use Rattle.theorems.specs.Demand3.{Demand3, demand3}
 
 -- the bytes s′ are left in the place of s by requests that were answered one after the other
 abbrev pub Served : List Request → List ℕ → List ℕ → Type 0
@@ -39,10 +38,11 @@ created s e =
     ap (λ (a : Answer). a .lent) (answered (row 2 (not (eqb (length s) size)) ∷ []) (refusing s)
     (answering (Done 0 0) (encode emptyBase)) given)
 
+-- and that is sound
+pub created-sound : (lent s : List ℕ) → length lent ≡ size → s ≡ create lent .lent → soundBytes s ≡ true
+created-sound lent s n e = ap soundBytes (e ∙ created lent n) ∙ encode-sound emptyBase empty-sound
+
 pub demand3-code : (qs : List Request) (lent s s′ : List ℕ) → length lent ≡ size → s ≡ create lent .lent →
-    Served qs s s′ →
-    (soundBytes s′ ≡ true) × (decode s′ .authorizations ≡ linesOf (ledger qs .entries))
+    Served qs s s′ → Demand3 qs s′
 demand3-code qs lent s s′ n e w =
-    let z : s′ ≡ requests qs (encode emptyBase) = served-bytes qs s s′ w ∙ ap (requests qs) (e ∙ created lent n) in
-    let d = demand3 qs in
-    (ap soundBytes z ∙ d .0, ap (λ (x : List ℕ). decode x .authorizations) z ∙ d .1)
+    subst (Demand3 qs) (sym (served-bytes qs s s′ w ∙ ap (requests qs) (e ∙ created lent n))) (demand3 qs)

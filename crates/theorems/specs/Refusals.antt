@@ -1,0 +1,113 @@
+-- Which numbers each public function refuses with, and that a refusal leaves what was lent (demand 1): one theorem a
+-- function, each an instance of `refused`.
+use mathlib.Core.Path.{_≡_, refl, sym, ap, _∙_, subst}
+use mathlib.Core.Logic.{_≢_}
+use Prim.Native.Nat.{ℕ, _*_, _/_}
+use mathlib.Core.Bool.{Bool, true, false, not}
+use mathlib.Core.List.{List, [], _∷_, _++_, map}
+use lib.Dec.{eqb}
+use lib.ListN.{length, drop}
+use Rattle.foundation.specs.Tests.{cases, true-eq, false-eq}
+use Rattle.foundation.specs.Lists.{Mem, mem-map}
+use Rattle.model.specs.declared.Request.{Request}
+use Rattle.model.specs.declared.Access.{Access}
+use Rattle.model.specs.declared.Question.{Question}
+use Rattle.model.specs.declared.Reply.{Reply}
+use Rattle.model.specs.declared.Reply.the-variants.{Done, Refused, Unsupported, Yes, No, Runs}
+use Rattle.model.specs.Base.{emptyBase}
+use Rattle.model.specs.Rules.{may, when}
+use Rattle.model.specs.Means.{plainly}
+use Rattle.model.specs.Step.{Row, row, lowest, refusedOr, accepting, effect}
+use Rattle.model.specs.StepFacts.{lowest-given, answered, turned-away}
+use Rattle.model.specs.Encoding.{size, encode, decode}
+use Rattle.model.specs.Soundness.{soundBytes}
+use Rattle.model.specs.Answers.{Answer, answering, refusing, refusalNumber, shown, create, requestTable, request}
+use Rattle.model.specs.Answers.{Answered, mayTable, whenTable, words, mayReply, mayAnswer, whenAnswer}
+
+-- an answer with a number that is not 0 is the refusal by a row, and the number is that row's
+refused : {A : Type 0} (rows : List Row) (refuse : ℕ → A) (answer : A) (number : A → ℕ) →
+    ((n : ℕ) → number (refuse n) ≡ n) → number answer ≡ 0 →
+    let a = refusedOr rows refuse answer in
+    number a ≢ 0 → Mem (number a) (map (λ r. r .number) rows) × (a ≡ refuse (lowest rows))
+refused {A} rows refuse answer number as-refused as-answered n = cases (eqb (lowest rows) 0)
+    (λ e. absurd (n (ap number (answered rows refuse answer (true-eq (lowest rows) 0 e)) ∙ as-answered)))
+    (λ e. let k = false-eq (lowest rows) 0 e in
+    let same : refusedOr rows refuse answer ≡ refuse (lowest rows) = turned-away rows refuse answer k in
+    let w = lowest-given rows k in
+    let given : number (refusedOr rows refuse answer) ≡ w .0 .number =
+    ap number same ∙ as-refused (lowest rows) ∙ sym (w .3) in (
+      subst (λ (x : ℕ). Mem x (map (λ r. r .number) rows)) (sym given) (mem-map (λ r. r .number) rows (w .0) (w .1)),
+      same,
+    ))
+
+abbrev number : Answer → ℕ
+number a = refusalNumber (a .reply)
+
+-- where the reply is a refusal, the bytes or the list are as before
+kept : (a : Answer) (s : List ℕ) (n : ℕ) → a ≡ refusing s n → a .lent ≡ s
+kept a s n e = ap (λ (x : Answer). x .lent) e
+
+-- the table's numbers for a request; 1 is a line's that cannot be read
+abbrev pub requestNumbers : List ℕ
+requestNumbers = 2 ∷ 3 ∷ 4 ∷ 5 ∷ 6 ∷ 7 ∷ 8 ∷ 9 ∷ 10 ∷ 11 ∷ 12 ∷ 13 ∷ []
+
+pub create-refuses : (s : List ℕ) → refusalNumber (create s .reply) ≢ 0 →
+    Mem (refusalNumber (create s .reply)) (2 ∷ []) × (create s .lent ≡ s)
+unfolding create
+create-refuses s n =
+    let rows = row 2 (not (eqb (length s) size)) ∷ [] in
+    let w = refused rows (refusing s) (answering (Done 0 0) (encode emptyBase)) number (λ k. refl) refl n in
+    (w .0, kept (create s) s (lowest rows) (w .1))
+
+pub request-refuses : (s : List ℕ) (q : Request) → refusalNumber (request s q .reply) ≢ 0 →
+    Mem (refusalNumber (request s q .reply)) requestNumbers × (request s q .lent ≡ s)
+unfolding request
+request-refuses s q n =
+    let after = effect plainly (decode s) q in
+    let w = refused (requestTable s q) (refusing s) (answering (accepting (decode s) q after) (encode after)) number
+    (λ k. refl) refl n in
+    (w .0, kept (request s q) s (lowest (requestTable s q)) (w .1))
+
+-- MAY gets nothing that it could alter
+pub may-refuses : (s : List ℕ) (q : Question) → refusalNumber (mayAnswer s q) ≢ 0 →
+    Mem (refusalNumber (mayAnswer s q)) (2 ∷ 3 ∷ 6 ∷ [])
+unfolding mayAnswer
+may-refuses s q n =
+    let yes? = may (decode s) (q .access) (q .instant) in
+    refused (row 2 (not (soundBytes s)) ∷ mayTable (decode s) q) Refused (mayReply yes?) refusalNumber
+    (λ k. refl) (answers yes?) n .0
+  where
+    answers : (yes? : Bool) → refusalNumber (mayReply yes?) ≡ 0
+    answers true = refl
+    answers false = refl
+
+pub when-refuses : (s : List ℕ) (x : Access) (list : List ℕ) → refusalNumber (whenAnswer s x list .reply) ≢ 0 →
+    Mem (refusalNumber (whenAnswer s x list .reply)) (2 ∷ 3 ∷ 6 ∷ 13 ∷ []) × (whenAnswer s x list .lent ≡ list)
+unfolding whenAnswer
+when-refuses s x list n =
+    let runs = when (decode s) x in
+    let k = length runs in
+    let rows = row 2 (not (soundBytes s)) ∷ whenTable (decode s) x (length list / 2) k in
+    let w = refused rows (refusing list) (answering (Runs k) (words runs ++ drop (2 * k) list)) number
+    (λ k. refl) refl n in
+    (w .0, kept (whenAnswer s x list) list (lowest rows) (w .1))
+
+-- ---- the same about the code
+
+-- the number does not depend on the instant that goes with 9
+shown-number : (r : Reply) → refusalNumber (shown r) ≡ refusalNumber r
+shown-number (Done label count) = refl
+shown-number (Refused n) = refl
+shown-number (Unsupported t) = refl
+shown-number Yes = refl
+shown-number No = refl
+shown-number (Runs n) = refl
+
+-- by the contract of the library's request
+pub answered-refuses : (s : List ℕ) (q : Request) (r : Reply) (s′ : List ℕ) → Answered s q r s′ →
+    refusalNumber r ≢ 0 → Mem (refusalNumber r) requestNumbers × (s′ ≡ s)
+answered-refuses s q r s′ a n =
+    let same : refusalNumber (request s q .reply) ≡ refusalNumber r =
+    ap refusalNumber (sym (a .reply)) ∙ shown-number r in
+    let w = request-refuses s q (λ z. n (sym same ∙ z)) in
+    (subst (λ (k : ℕ). Mem k requestNumbers) same (w .0), a .bytes ∙ w .1)
