@@ -139,7 +139,7 @@ fn decimal_length(n: u32) -> usize
 {
     let mut i = 9;
     let mut rest = n;
-    while 10 <= rest {
+    while 9 < rest {
         rest = rest / 10;
         i -= 1;
     }
