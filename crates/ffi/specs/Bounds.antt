@@ -152,5 +152,5 @@ pub text-parts : (s line out : List ℕ) → TextParts (textAnswer s line out) (
 text-parts s line out =
     let w = textAnswer s line out in
     let h : w .refusal < 65536 = ⊎-elim (λ e. omega (arith, e))
-        (λ e. omega (arith, ap (λ (x : Written). x .refusal) e)) (refused-untouched s line out) in
+    (λ e. omega (arith, ap (λ (x : Written). x .refusal) e)) (refused-untouched s line out) in
     record { refusal = omega arith; label = omega arith; count = omega arith }

@@ -1,5 +1,5 @@
 -- Texts printed at a place, and one behind the other.
-use mathlib.Core.Path.{_≡_, refl, sym, ap, ap₂, subst, _∙_}
+use mathlib.Core.Path.{_≡_, sym, ap, ap₂, subst, _∙_}
 use mathlib.Core.List.{List, [], _++_, append-nil}
 use Prim.Native.Nat.{ℕ, _+_, _≤_}
 use native.Mathlib.Omega.{arith}
@@ -46,7 +46,8 @@ module _ {at n₁ : ℕ} {t a b : List ℕ} (p : Printed at t a b n₁) (h : at 
 -- at the front of a buffer
 pub printed-front : {n : ℕ} {t a b : List ℕ} → Printed 0 t a b n → take n b ≡ t
 unfolding splice
-printed-front {t = t} {a = a} p = ap₂ take (p .ends) (p .bytes) ∙ take-at t (drop (0 + length t) a) (0 + length t) (omega arith)
+printed-front {t = t} {a = a} p =
+    ap₂ take (p .ends) (p .bytes) ∙ take-at t (drop (0 + length t) a) (0 + length t) (omega arith)
 
 -- ---- by what a reply is
 

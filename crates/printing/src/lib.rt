@@ -59,7 +59,8 @@ fn put_run(out: &mut [u8], at: usize, start: u32, end: u32) -> usize
 
 // Prints the first n intervals of a list, each behind a space.
 fn put_more(out: &mut [u8], at: usize, list: &[u32], n: usize) -> usize
-    requires { ⌜ (at + length (printMore (pairsOf n (now list))) ≤ length (now out)) × (2 * n ≤ length (now list)) ⌝ }
+    requires { ⌜ (at + length (printMore (pairsOf n (now list))) ≤ length (now out))
+        × (2 * n ≤ length (now list)) ⌝ }
     ensures { λ e. ⌜ Printed at (printMore (pairsOf n (now (list .entry)))) (now (out .entry))
         (now (out .exit)) e ⌝ }
 {
@@ -75,7 +76,8 @@ fn put_more(out: &mut [u8], at: usize, list: &[u32], n: usize) -> usize
 
 // Prints the first n intervals of a list, or `none`.
 fn put_runs(out: &mut [u8], at: usize, list: &[u32], n: usize) -> usize
-    requires { ⌜ (at + length (printRuns (pairsOf n (now list))) ≤ length (now out)) × (2 * n ≤ length (now list)) ⌝ }
+    requires { ⌜ (at + length (printRuns (pairsOf n (now list))) ≤ length (now out))
+        × (2 * n ≤ length (now list)) ⌝ }
     ensures { λ e. ⌜ Printed at (printRuns (pairsOf n (now (list .entry)))) (now (out .entry))
         (now (out .exit)) e ⌝ }
 {
@@ -111,7 +113,8 @@ fn put_refused(out: &mut [u8], at: usize, k: u32) -> usize
 // is.
 pub fn put_reply(out: &mut [u8], r: Reply, list: &[u32]) -> usize
     requires { ⌜ (length (printReply r (runsOf r (now list))) ≤ length (now out)) × RunsIn r (now list) ⌝ }
-    ensures { λ n. ⌜ Printed 0 (printReply r (runsOf r (now (list .entry)))) (now (out .entry)) (now (out .exit)) n ⌝ }
+    ensures { λ n. ⌜ Printed 0 (printReply r (runsOf r (now (list .entry)))) (now (out .entry))
+        (now (out .exit)) n ⌝ }
 {
     match r {
         Reply::Done { label, count } => put_done(out, 0, label, count),

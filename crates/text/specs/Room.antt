@@ -1,5 +1,5 @@
 -- When a buffer suffices, and that a refusal alters nothing: the theorems on `textAnswer`.
-use mathlib.Core.Path.{_≡_, refl, ap, _∙_}
+use mathlib.Core.Path.{_≡_, ap, _∙_}
 use mathlib.Core.Logic.{_⊎_, inl, inr}
 use mathlib.Core.List.{List, []}
 use Prim.Native.Nat.{ℕ, _≤_, _<_}
@@ -15,13 +15,14 @@ use Rattle.model.specs.Session.{byteTurn, whenList, Written, shortestBuffer, te
 use Rattle.printing.specs.Print.{longestReply}
 use Rattle.printing.specs.Lengths.{reply-most}
 use Rattle.text.specs.Short.{short-length, request-short, may-short, when-fits}
-use Rattle.text.specs.Writing.{turnText, refusing, answering, answerTo, too-short, no-room, has-room, text-answer}
+use Rattle.text.specs.Writing.{turnText, answerTo, too-short, no-room, has-room, text-answer}
 
 -- no text of a reply is longer than 24,000 bytes
 pub turn-most : (s : List ℕ) (l : Line) → length (turnText (byteTurn s l)) ≤ longestReply
 turn-most s (order q) = omega (arith, short-length (request s q .reply) [] (request-short s q))
 turn-most s (asksMay q) = omega (arith, short-length (mayAnswer s q) [] (may-short s q))
-turn-most s (asksWhen x) = let a = whenAnswer s x whenList in reply-most (a .reply) (a .lent) (when-fits s x whenList)
+turn-most s (asksWhen x) =
+    let a = whenAnswer s x whenList in reply-most (a .reply) (a .lent) (when-fits s x whenList)
 turn-most s unreadable = omega (arith, short-length (Refused 1) [] (omega arith))
 
 -- a buffer of 24,001 bytes is never refused

@@ -1,7 +1,7 @@
 -- The replies to requests and to MAY are short: with its newline none is longer than 16 bytes. Those to WHEN fit the
 -- list of 1,100 pairs.
 use mathlib.Core.Path.{_≡_, refl, sym, subst}
-use mathlib.Core.Bool.{Bool, true, false, not, false≢true}
+use mathlib.Core.Bool.{Bool, true, false, not}
 use mathlib.Core.List.{List, [], _∷_, _++_}
 use Prim.Native.Nat.{ℕ, suc, _*_, _/_, _<_, _≤_}
 use native.Mathlib.Omega.{arith}
@@ -17,12 +17,12 @@ use Rattle.model.specs.declared.Reply.the-variants.{Done, Refused, Unsupported,
 use Rattle.model.specs.Ranges.{mostAuthorizations}
 use Rattle.model.specs.Rules.{may, when}
 use Rattle.model.specs.Means.{plainly}
-use Rattle.model.specs.Step.{Row, row, lowest, refusedOr, refusal, accepting, effect}
+use Rattle.model.specs.Step.{Row, row, lowest, refusedOr, refusal, accepting, table, effect}
 use Rattle.model.specs.Requests.{labels}
 use Rattle.model.specs.StepFacts.{accepted, answered, turned-away}
 use Rattle.model.specs.Encoding.{encode, decode}
 use Rattle.model.specs.FitsFacts.{counts-fit}
-use Rattle.model.specs.Soundness.{soundBytes}
+use Rattle.model.specs.Soundness.{sound, soundBytes}
 use Rattle.model.specs.SoundnessFacts.{sound-tests, sound-bytes}
 use Rattle.model.specs.Answers.{Answer, answering, refusing, shown, requestTable, mayTable, whenTable, mayReply}
 use Rattle.model.specs.Answers.{words, request, mayAnswer, whenAnswer}
@@ -127,15 +127,15 @@ refused-short rows w = omega (arith, lowest-below 14 rows (omega arith) w)
 -- a request that is accepted is given a label of 16 bits, and leaves at most 1,024 authorizations
 accepting-short : (s : List ℕ) (q : Request) → lowest (requestTable s q) ≡ 0 →
     Short (accepting (decode s) q (effect plainly (decode s) q))
-accepting-short s q z = (label (labels q) refl, counts-fit after (sound-tests after kept .counts) .authorizations)
+accepting-short s q z =
+    let passed = sound-passed s (table plainly (decode s) q) z in
+    let after = effect plainly (decode s) q in
+    let kept : sound after ≡ true = effect-sound (decode s) q (sound-bytes s (passed .0) .1) (passed .1) in
+    (label (labels q) refl (passed .1), counts-fit after (sound-tests after kept .counts) .authorizations)
   where
-    after = effect plainly (decode s) q
-    passed = sound-passed s _ z
-    kept = effect-sound (decode s) q (sound-bytes s (passed .0) .1) (passed .1)
-
-    label : (x : Bool) → labels q ≡ x → pick x (suc (decode s .last)) 0 < 65536
-    label true e = omega (arith, label-left (decode s) q (accepted (decode s) q (passed .1)) e)
-    label false e = omega arith
+    label : (x : Bool) → labels q ≡ x → refusal plainly (decode s) q ≡ 0 → pick x (suc (decode s .last)) 0 < 65536
+    label true e z = omega (arith, label-left (decode s) q (accepted (decode s) q z) e)
+    label false e z = omega arith
 
 pub request-short : (s : List ℕ) (q : Request) → Short (request s q .reply)
 unfolding request

@@ -1,5 +1,5 @@
 -- What the functions of this crate write, and the definition's answer by cases: refused, or written.
-use mathlib.Core.Path.{_≡_, refl, sym, ap, ap₂, _∙_}
+use mathlib.Core.Path.{_≡_, refl, sym, ap, _∙_}
 use mathlib.Core.Bool.{Bool, true, false, _||_}
 use mathlib.Core.List.{List, [], _∷_, _++_}
 use Prim.Native.Nat.{ℕ, suc, _+_, _≤_, _<_}
@@ -70,10 +70,12 @@ module _ (s : List ℕ) (l : Line) (out : List ℕ) where
 
   -- a buffer that has no room for the text and its newline
   pub no-room : length out ≤ length (turnText (byteTurn s l)) → answerTo ≡ refusing 13
-  no-room h = refused-rows (or-true-right (ltb (length out) shortestBuffer) _ (le-true _ _ (omega (
-    arith,
-    length-append (turnText (byteTurn s l)) (newline ∷ []),
-  ))))
+  no-room h =
+      let text = turnText (byteTurn s l) in
+      let long : ltb (length out) (length (text ++ (newline ∷ []))) ≡ true =
+      le-true (suc (length out)) (length (text ++ (newline ∷ [])))
+      (omega (arith, length-append text (newline ∷ []))) in
+      refused-rows (or-true-right (ltb (length out) shortestBuffer) _ long)
 
   module _ (h : shortestBuffer ≤ length out) (room : length (turnText (byteTurn s l)) < length out) where
     -- a buffer that has
@@ -99,3 +101,8 @@ module _ (s : List ℕ) (l : Line) (out : List ℕ) where
 pub text-answer : (s line out : List ℕ) → textAnswer s line out ≡ answerTo s (readLine line) out
 unfolding textAnswer answerTo
 text-answer s line out = refl
+
+-- so what answers what it says answers it
+pub answers-line : {x : Written} (s line out : List ℕ) (l : Line) → l ≡ readLine line → x ≡ answerTo s l out →
+    x ≡ textAnswer s line out
+answers-line s line out l e w = w ∙ ap (λ (l : Line). answerTo s l out) e ∙ sym (text-answer s line out)

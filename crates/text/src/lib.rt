@@ -78,8 +78,8 @@ fn text_when(base: &[u8], x: Access, out: &mut [u8]) -> TextReply
     put_line(out, r, &list)
 }
 
-// Answers one line of text, which has no newline, on a base of any bytes: the reply's text with its newline stands at
-// the front of the buffer after it, and the rest of the buffer is as it was. A buffer that is too short is refused
+// Answers one line of text, which has no newline, on a base of any bytes: the reply's text with its newline stands
+// at the front of the buffer after it, and the rest of the buffer is as it was. A buffer that is too short is refused
 // with 13, before a request is carried out; 24,001 bytes always suffice.
 pub fn text(base: &mut [u8], line: &[u8], out: &mut [u8]) -> TextReply
     ensures { λ w. ⌜ written w (now (base .exit)) (now (out .exit))

@@ -55,8 +55,11 @@ returns c =
     (printed-then
     (printed-then (c₁ .put-bytes .ensures) (omega arith) (c₂ .put-decimal .ensures))
     (omega (arith, length-append (ascii "done ") (decimal (a .label)))) (c₃ .put-bytes2 .ensures))
-    (omega (arith, length-append (ascii "done " ++ decimal (a .label)) (ascii " "),
-      length-append (ascii "done ") (decimal (a .label))))
+    (omega (
+      arith,
+      length-append (ascii "done " ++ decimal (a .label)) (ascii " "),
+      length-append (ascii "done ") (decimal (a .label)),
+    ))
     (c₄ .put-decimal2 .ensures)
 
 pub put-done-spec : {M : Type 1} → statement M

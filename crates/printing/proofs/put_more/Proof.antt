@@ -53,7 +53,8 @@ put-run-requires : tie.Need-put-run-requires Inv-loop μ-loop
 put-run-requires c κs =
     let c₁ = c .before .before .before .before .before in
     let w = room (c₁ .before .before .before) in
-    omega (arith, printed-room (c₁ .put-bytes .ensures) (omega (arith, w .next)), w .next, c₁ .put-bytes .ensures .ends)
+    let r = printed-room (c₁ .put-bytes .ensures) (omega (arith, w .next)) in
+    omega (arith, w .next, c₁ .put-bytes .ensures .ends)
 
 loop-again : tie.Need-loop-again Inv-loop μ-loop
 loop-again c =
