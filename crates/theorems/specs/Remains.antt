@@ -125,10 +125,12 @@ module _ (h : Head) (t : ℕ) where
       λ x. true≢false (sym (taken b q g h t (w .0) .1 x) ∙ w .1) in
       let bytes : request (encode b) q .lent ≡ encode c = ap (λ (a : Answer). a .lent) (request-accepted b q s z) in
       let base : decode (request (encode b) q .lent) ≡ c =
-      ap decode bytes ∙ decode-encode c (effect-sound b q s z) in
-      (w .0, accepted (ap (λ (a : Answer). a .reply) (request-accepted b q s z)) (λ x. none (inl x)) (λ x. none (inr x))
-      (subst (λ (d : Base). Behind d h t) (sym base) (behind b q k g h t (p .0)))
-      (subst (λ (x : List ℕ). Survives h t later x) (sym bytes) (p .1))))
+      ap decode bytes ∙ decode-encode c (effect-sound b q s z) in (
+        w .0,
+        accepted (ap (λ (a : Answer). a .reply) (request-accepted b q s z)) (λ x. none (inl x)) (λ x. none (inr x))
+            (subst (λ (d : Base). Behind d h t) (sym base) (behind b q k g h t (p .0)))
+            (subst (λ (x : List ℕ). Survives h t later x) (sym bytes) (p .1)),
+      ))
       (λ e. let n = false-eq (refusal plainly b q) 0 e in
       let p = survived later b s l (subst (λ (c : Base). Stands (play later c) h t) (base-refused b q n) m) in
       (p .0, refused (refused-number b q s n) (p .1)))
