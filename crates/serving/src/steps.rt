@@ -6,7 +6,7 @@ ghost use Prim.Native.Nat.{ℕ, _≤_};
 ghost use lib.ListN.{length, take};
 ghost use Rattle.model.specs.Soundness.{soundBytes};
 ghost use Rattle.serving.specs.Turns.{Kept, Turned};
-ghost use Rattle.serving.specs.Stream.{finish};
+ghost use Rattle.serving.specs.Stream.{finish, finishBytes};
 ghost use Rattle.serving.specs.Steps.{Steps};
 use crate::pieces::take_line;
 use crate::turns::serve_line;
@@ -68,7 +68,8 @@ pub fn serve_piece_step(
 pub fn serve_end(s: &mut [u8], line: &[u8; 97], len: usize, out: &mut [u8]) -> usize
     requires { ⌜ (soundBytes (now s) ≡ true) × (24001 ≤ length (now out)) × (len ≤ 97) × (length (now line) ≡ 97) ⌝ }
     ensures { λ n. ⌜ ((pending : List ℕ) → Kept pending len (now (line .entry)) →
-        take n (now (out .exit)) ≡ finish (now (s .entry)) pending)
+        (take n (now (out .exit)) ≡ finish (now (s .entry)) pending)
+        × (now (s .exit) ≡ finishBytes (now (s .entry)) pending))
         × (n ≤ 24001) × (length (now (out .exit)) ≡ length (now (out .entry)))
         × (soundBytes (now (s .exit)) ≡ true) ⌝ }
 {
