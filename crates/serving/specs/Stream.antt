@@ -90,14 +90,25 @@ pub record Feeds (s pending input rest text s′ left : List ℕ) : Type 0 where
 pub feeds-none : (s pending input : List ℕ) → Feeds s pending input input [] s pending
 feeds-none s pending input = record { done = []; parts = refl; fed = refl }
 
--- input that comes behind it is still to be fed
-pub feeds-more : {s pending input text s′ left : List ℕ} (more : List ℕ) → Feeds s pending input [] text s′ left →
-    Feeds s pending (input ++ more) more text s′ left
-feeds-more more f = record {
-  done = f .done;
-  parts = ap (λ (v : List ℕ). v ++ more) (sym (append-nil (f .done)) ∙ f .parts);
-  fed = f .fed;
-}
+module _ {s pending input rest text s′ left : List ℕ} (f : Feeds s pending input rest text s′ left) where
+  through : rest ≡ [] → f .done ≡ input
+  through e = sym (append-nil (f .done)) ∙ ap (λ (v : List ℕ). f .done ++ v) (sym e) ∙ f .parts
+
+  -- where nothing is left over
+  pub feeds-all : rest ≡ [] → feed s pending input ≡ record { text = text; lent = s′; pending = left }
+  feeds-all e = ap (feed s pending) (sym (through e)) ∙ f .fed
+
+  -- input that comes behind it is still to be fed
+  pub feeds-more : (more : List ℕ) → rest ≡ [] → Feeds s pending (input ++ more) more text s′ left
+  feeds-more more e = record { done = f .done; parts = ap (λ (v : List ℕ). v ++ more) (through e); fed = f .fed }
+
+  -- what was printed comes first of all that is to be printed
+  pub feeds-front : ending (feed s pending input) ≡ text ++ ending (feed s′ left rest)
+  feeds-front =
+      let g = feed s′ left rest in
+      let e : feed s pending (f .done ++ rest) ≡ printed text g = feed-append s pending (f .done) rest ∙ rw (f .fed) in
+      ap (λ (v : List ℕ). ending (feed s pending v)) (sym (f .parts)) ∙ ap ending e
+      ∙ append-assoc text (g .text) (finish (g .lent) (g .pending))
 
 pub feeds-then : {s pending input middle text s′ left rest text′ s″ left′ : List ℕ} →
     Feeds s pending input middle text s′ left → Feeds s′ left middle rest text′ s″ left′ →
