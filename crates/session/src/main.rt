@@ -171,18 +171,12 @@ fn run(s: &mut [u8]) -> Going
     serve_input(s, &mut line, 0, &mut buf, &mut out)
 }
 
-// Says on standard error why the program ended before its input did.
+// Says on standard error why the program ended before its input did, and what to do.
 fn tell(g: Going) {
     if !g.ok {
-        io::write_all(
-            STDERR_FILENO,
-            b"session: a reply could not be written; run it again with an output that takes all\n",
-        );
+        io::write_all(STDERR_FILENO, b"session: a reply could not be written, run the session again\n");
     } else if g.got != 0 {
-        io::write_all(
-            STDERR_FILENO,
-            b"session: the input could not be read to its end; the last line was not answered if it had no newline\n",
-        );
+        io::write_all(STDERR_FILENO, b"session: reading failed, send again what has no reply\n");
     }
 }
 
