@@ -3,7 +3,7 @@
 use mathlib.Core.Path.{_≡_, refl, sym, ap, _∙_, subst}
 use Prim.Native.Nat.{ℕ, _≤_, _<_}
 use native.Mathlib.Omega.{arith}
-use mathlib.Core.Bool.{true, false, true≢false, false≢true}
+use mathlib.Core.Bool.{true, false}
 use mathlib.Core.List.{List, [], _∷_, _++_, append-nil}
 use lib.ListN.{length, take, drop}
 use lib.Seq.{drop-length, append-snoc}
@@ -22,16 +22,15 @@ pub record Steps (s pending piece : List ℕ) (from : ℕ) (r : Stepped) (s′ l
   pub kept : Kept left (r .len) line′
   pub feeds : Feeds s pending (drop from piece) (drop (r .at) piece) (take (r .n) out) s′ left
   pub sound : soundBytes s′ ≡ true
-  pub few : r .n ≤ 24001
+  pub few : r .n ≤ length out
   pub within : r .at ≤ length piece
-  pub further : r .ended ≡ true → from < r .at
-  pub whole : r .ended ≡ false → r .at ≡ length piece
+  pub further : from < length piece → from < r .at
 
 -- a line was answered
 pub step-ended : {s pending piece : List ℕ} {from : ℕ} {r : Reached} {line′ : List ℕ} {n : ℕ} {out s′ : List ℕ} →
     Took pending piece from r line′ → r .ended ≡ true → Turned s (take (r .len) line′) n out s′ →
-    Steps s pending piece from (record { n = n; len = 0; at = r .at; ended = true }) s′ line′ out
-step-ended {s} {pending} {piece} {from} {r} {line′} {n} {out} {s′} k e t =
+    24001 ≤ length out → Steps s pending piece from (record { n = n; len = 0; at = r .at }) s′ line′ out
+step-ended {s} {pending} {piece} {from} {r} {line′} {n} {out} {s′} k e t room =
     let u = kept-turned (k .kept) t in
     let w = drop from piece in
     record {
@@ -44,16 +43,15 @@ step-ended {s} {pending} {piece} {from} {r} {line′} {n} {out} {s′} k e t =
         fed = feed-line s pending (before w) (before-none w) ∙ rw (u .text, u .bytes);
       };
       sound = t .sound;
-      few = t .few;
+      few = omega (arith, t .few);
       within = k .within;
-      further = λ q. k .further e;
-      whole = λ q. absurd (true≢false q);
+      further = λ h. k .further e;
     }
 
 -- the piece ended before the line
 pub step-goes-on : {s pending piece : List ℕ} {from : ℕ} {r : Reached} {line′ out : List ℕ} →
     Took pending piece from r line′ → r .ended ≡ false → soundBytes s ≡ true →
-    Steps s pending piece from (record { n = 0; len = r .len; at = r .at; ended = false }) s line′ out
+    Steps s pending piece from (record { n = 0; len = r .len; at = r .at }) s line′ out
 step-goes-on {s} {pending} {piece} {from} {r} {line′} {out} k e h =
     let w = drop from piece in
     let none = sym (k .ended) ∙ e in
@@ -68,8 +66,7 @@ step-goes-on {s} {pending} {piece} {from} {r} {line′} {out} k e h =
       sound = h;
       few = omega arith;
       within = k .within;
-      further = λ q. absurd (false≢true q);
-      whole = λ q. k .whole e;
+      further = λ h. omega (arith, k .whole e);
     }
 
 -- ---- the end of the input

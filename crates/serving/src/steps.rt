@@ -11,13 +11,11 @@ ghost use Rattle.serving.specs.Steps.{Steps};
 use crate::pieces::take_line;
 use crate::turns::serve_line;
 
-// Where a step has come to: how many bytes it printed, how many of the line are kept, the place in the piece, and
-// whether a line was answered.
+// Where a step has come to: how many bytes it printed, how many of the line are kept, and the place in the piece.
 pub struct Stepped {
     pub n: usize,
     pub len: usize,
     pub at: usize,
-    pub ended: bool,
 }
 
 // Answers the line in the first `len` bytes.
@@ -53,14 +51,12 @@ pub fn serve_piece_step(
             n: n,
             len: 0,
             at: r.at,
-            ended: true,
         };
     }
     Stepped {
         n: 0,
         len: r.len,
         at: r.at,
-        ended: false,
     }
 }
 
