@@ -81,7 +81,7 @@ pub feed-line : (s pending l : List ℕ) → ends l ≡ false →
 feed-line s pending l e =
     feed-append s pending l (newline ∷ []) ∙ rw (feed-goes-on s pending l e, append-nil (replyText s (pending ++ l)))
 
--- all of `input` but `rest` was fed: `text` was printed, the bytes are s′, and `left` is the line that is not ended yet
+-- all of `input` but `rest` was fed: `text` was printed, the bytes are s′, and `left` is the line that is not ended
 pub record Feeds (s pending input rest text s′ left : List ℕ) : Type 0 where
   pub done : List ℕ
   pub parts : done ++ rest ≡ input
@@ -106,7 +106,8 @@ module _ {s pending input rest text s′ left : List ℕ} (f : Feeds s pending i
   pub feeds-front : ending (feed s pending input) ≡ text ++ ending (feed s′ left rest)
   feeds-front =
       let g = feed s′ left rest in
-      let e : feed s pending (f .done ++ rest) ≡ printed text g = feed-append s pending (f .done) rest ∙ rw (f .fed) in
+      let e : feed s pending (f .done ++ rest) ≡ printed text g =
+      feed-append s pending (f .done) rest ∙ rw (f .fed) in
       ap (λ (v : List ℕ). ending (feed s pending v)) (sym (f .parts)) ∙ ap ending e
       ∙ append-assoc text (g .text) (finish (g .lent) (g .pending))
 

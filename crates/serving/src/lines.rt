@@ -7,11 +7,17 @@ ghost use lib.ListN.{length, take, drop};
 ghost use Rattle.model.specs.Soundness.{soundBytes};
 ghost use Rattle.serving.specs.Turns.{Kept};
 ghost use Rattle.serving.specs.Steps.{Steps};
-use crate::steps::serve_piece_step;
 use crate::steps::Stepped;
+use crate::steps::serve_piece_step;
 
 // Goes on with a piece from where `g` has come to, and prints behind what it has printed.
-fn serve_behind(s: &mut [u8], line: &mut [u8; 97], g: Stepped, piece: &[u8], out: &mut [u8]) -> Stepped
+fn serve_behind(
+    s: &mut [u8],
+    line: &mut [u8; 97],
+    g: Stepped,
+    piece: &[u8],
+    out: &mut [u8],
+) -> Stepped
     requires { ⌜ (soundBytes (now s) ≡ true) × (g .n + 24001 ≤ length (now out)) × (g .at ≤ length (now piece))
         × (g .len ≤ 97) × (length (now line) ≡ 97) ⌝ }
     ensures { λ r. ⌜ ((pending : List ℕ) → Kept pending (g .len) (now (line .entry)) →

@@ -1,11 +1,10 @@
 -- What the program has done with its input: which bytes of the base and which line are there, and how many bytes were
--- handed to be written. That these bytes reach the descriptor, and that what was read is what was sent, is left to trust.
-use mathlib.Core.Path.{_≡_, refl, sym, ap, _∙_, subst}
-use Prim.Native.Nat.{ℕ, _+_, _%_, _^_, _<_}
+-- handed to be written. That a read gives what was sent, and that what is handed over is written, is left to trust.
+use mathlib.Core.Path.{_≡_, sym, ap, _∙_}
+use Prim.Native.Nat.{ℕ, _+_, _%_, _^_, _≤_, _<_}
 use native.Mathlib.Nat.{add-zero, add-assoc, mod-add-mod, mod-eq-of-lt}
-use native.Mathlib.Omega.{arith}
 use mathlib.Core.Bool.{true}
-use mathlib.Core.List.{List, [], _∷_, _++_, append-assoc, append-nil}
+use mathlib.Core.List.{List, [], _++_, append-nil}
 use lib.IntN.{ℤ, pos}
 use lib.ListN.{length, take, drop, length-append}
 use Rattle.io.specs.Counts.{clamped}
@@ -20,6 +19,10 @@ use Rattle.serving.specs.Stream.{feeds-none, feeds-all, feeds-more, feeds-front
 use Rattle.serving.specs.Steps.{Steps}
 use Rattle.session.specs.declared.Going.{Going}
 
+-- a sound base, room for a reply of any length, and of a line at most the first 97 bytes
+abbrev pub Ready : List ℕ → List ℕ → ℕ → List ℕ → Type 0
+Ready s line len out = (soundBytes s ≡ true) × (24001 ≤ length out) × (len ≤ 97) × (length line ≡ 97)
+
 -- a text more was handed to be written: the count goes on modulo 2 ^ 64
 abbrev pub counted : ℕ → List ℕ → ℕ
 counted sent text = (sent + length text) % 2 ^ 64
@@ -28,8 +31,8 @@ counted sent text = (sent + length text) % 2 ^ 64
 abbrev pub arrived : ℤ → List ℕ → List ℕ
 arrived got buf = take (clamped got (length buf)) buf
 
--- of `input`, behind the line `pending`, all but `rest` is answered: what was printed is counted, and what is kept of
--- the line that is not ended yet is the front of `line′`
+-- of `input`, behind the line `pending`, all but `rest` is answered: the bytes of the base are s′, `left` is the line
+-- that is not ended yet, and its first bytes are kept; `text` was handed to be written, and is counted
 pub record Answers (s pending input rest : List ℕ) (sent len sent′ : ℕ) (s′ line′ : List ℕ) : Type 0 where
   pub text : List ℕ
   pub left : List ℕ
@@ -37,7 +40,7 @@ pub record Answers (s pending input rest : List ℕ) (sent len sent′ : ℕ) (s
   pub kept : Kept left len line′
   pub count : sent′ ≡ counted sent text
 
--- a part of the input was answered: all of it, where every write worked
+-- the front of the input is answered, and all of it where every write worked
 pub record Answered (s pending input : List ℕ) (sent : ℕ) (r : Going) (s′ line′ : List ℕ) : Type 0 where
   pub rest : List ℕ
   pub answers : Answers s pending input rest sent (r .len) (r .sent) s′ line′
@@ -49,10 +52,10 @@ pub record Served (s pending input : List ℕ) (r : Going) (s′ : List ℕ) : T
   pub ended : r .ok ≡ true → r .got ≡ pos 0 →
       (let f = feed s pending input in
       (s′ ≡ finishBytes (f .lent) (f .pending)) × (r .sent ≡ counted 0 (ending f)))
-  -- a read failed: the line that is not ended is not answered
+  -- a read failed, or the turns were used up: the line that is not ended is not answered
   pub cut : r .ok ≡ true → (r .got ≡ pos 0 → ⊥) →
       (let f = feed s pending input in (s′ ≡ f .lent) × (r .sent ≡ counted 0 (f .text)))
-  -- a write failed: no more was handed over than the front of what is to be answered
+  -- in any case, where a write failed too, what was handed over is the front of what is to be answered
   pub text : List ℕ
   pub rest : List ℕ
   pub front : ending (feed s pending input) ≡ text ++ rest
@@ -63,7 +66,7 @@ pub record Served (s pending input : List ℕ) (r : Going) (s′ : List ℕ) : T
 pub record Ran (input : List ℕ) (r : Going) : Type 0 where
   -- the input ended: as many bytes were handed over as the session over it has
   pub ended : r .ok ≡ true → r .got ≡ pos 0 → r .sent ≡ counted 0 (session input)
-  -- in any case no more than its front
+  -- in any case they are those of its front
   pub text : List ℕ
   pub rest : List ℕ
   pub front : session input ≡ text ++ rest

@@ -7,19 +7,18 @@ ghost use mathlib.Core.Bool.{true};
 ghost use mathlib.Core.List.{List};
 ghost use Prim.Native.Nat.{ℕ, _≤_};
 ghost use lib.IntN.{pos};
-ghost use lib.ListN.{length};
 ghost use Rattle.model.specs.Soundness.{soundBytes};
 ghost use Rattle.model.specs.Base.{emptyBase};
 ghost use Rattle.model.specs.Encoding.{encode};
 ghost use Rattle.serving.specs.Turns.{Kept};
 ghost use Rattle.serving.specs.Stream.{finish, finishBytes};
-ghost use Rattle.session.specs.Input.{counted, arrived, Answered, Served, Ran};
+ghost use Rattle.session.specs.Input.{Ready, counted, arrived, Answered, Served, Ran};
 use libc::STDERR_FILENO;
 use libc::STDIN_FILENO;
 use libc::STDOUT_FILENO;
 
-// How many bytes are kept of the line that is not ended yet, how many were handed to be written (modulo 2^64), what the
-// last read answered, and whether every write worked.
+// How many bytes are kept of the line that is not ended yet, how many were handed to be written (modulo 2^64), what
+// the last read answered, and whether every write worked.
 struct Going {
     len: usize,
     sent: u64,
@@ -44,9 +43,9 @@ fn put(bytes: &[u8], sent: u64) -> Written
     }
 }
 
-// Answers the lines that end in a piece of input, and writes each reply as it comes.
+// Answers the lines that end in a piece of input, and writes the replies, as many at a time as there is room for.
 fn serve_piece(s: &mut [u8], line: &mut [u8; 97], g: Going, piece: &[u8], out: &mut [u8]) -> Going
-    requires { ⌜ (soundBytes (now s) ≡ true) × (24001 ≤ length (now out)) × (g .len ≤ 97) × (length (now line) ≡ 97) ⌝ }
+    requires { ⌜ Ready (now s) (now line) (g .len) (now out) ⌝ }
     ensures { λ r. ⌜ ((pending : List ℕ) → Kept pending (g .len) (now (line .entry)) →
         Answered (now (s .entry)) pending (now (piece .entry)) (g .sent) r (now (s .exit)) (now (line .exit)))
         × (r .got ≡ g .got) × (r .len ≤ 97) × (soundBytes (now (s .exit)) ≡ true) ⌝ }
@@ -55,7 +54,7 @@ fn serve_piece(s: &mut [u8], line: &mut [u8; 97], g: Going, piece: &[u8], out: &
     let mut sent = g.sent;
     let mut at = 0;
     while at < piece.len() {
-        let r = serving::serve_piece_step(s, line, len, piece, at, out);
+        let r = serving::serve_lines(s, line, len, piece, at, out);
         let w = put(&out[..r.n], sent);
         len = r.len;
         sent = w.sent;
@@ -79,7 +78,7 @@ fn serve_piece(s: &mut [u8], line: &mut [u8; 97], g: Going, piece: &[u8], out: &
 
 // Reads a piece into `buf` and answers its lines. At the end of the input, and where the read fails, there is none.
 fn serve_some(s: &mut [u8], line: &mut [u8; 97], g: Going, buf: &mut [u8], out: &mut [u8]) -> Going
-    requires { ⌜ (soundBytes (now s) ≡ true) × (24001 ≤ length (now out)) × (g .len ≤ 97) × (length (now line) ≡ 97) ⌝ }
+    requires { ⌜ Ready (now s) (now line) (g .len) (now out) ⌝ }
     ensures { λ r. ⌜ ((pending : List ℕ) → Kept pending (g .len) (now (line .entry)) →
         Answered (now (s .entry)) pending (arrived (r .got) (now (buf .exit))) (g .sent) r (now (s .exit))
         (now (line .exit)))
@@ -98,7 +97,7 @@ fn serve_some(s: &mut [u8], line: &mut [u8; 97], g: Going, buf: &mut [u8], out: 
 
 // Answers the line that the end of the input ends.
 fn serve_last(s: &mut [u8], line: &[u8; 97], g: Going, out: &mut [u8]) -> Going
-    requires { ⌜ (soundBytes (now s) ≡ true) × (24001 ≤ length (now out)) × (g .len ≤ 97) × (length (now line) ≡ 97) ⌝ }
+    requires { ⌜ Ready (now s) (now line) (g .len) (now out) ⌝ }
     ensures { λ r. ⌜ ((pending : List ℕ) → Kept pending (g .len) (now (line .entry)) →
         (now (s .exit) ≡ finishBytes (now (s .entry)) pending)
         × (r .sent ≡ counted (g .sent) (finish (now (s .entry)) pending)))
@@ -130,8 +129,8 @@ fn has_ended(g: Going) -> bool
 }
 
 // Answers line after line until the input ends, or a read or a write fails, and then the end of the input, if it is
-// one. A proved loop has to end, and nothing says that the input does: so it counts its turns down, from a number that
-// no run uses up.
+// one. A proved loop has to end, and nothing says that the input does: so it counts its turns down, from a number
+// that no run uses up.
 fn serve_input(
     s: &mut [u8],
     line: &mut [u8; 97],
@@ -139,7 +138,7 @@ fn serve_input(
     buf: &mut [u8],
     out: &mut [u8],
 ) -> Going
-    requires { ⌜ (soundBytes (now s) ≡ true) × (24001 ≤ length (now out)) × (len ≤ 97) × (length (now line) ≡ 97) ⌝ }
+    requires { ⌜ Ready (now s) (now line) len (now out) ⌝ }
     ensures { λ r. ⌜ ((input : List ℕ) × ((pending : List ℕ) → Kept pending len (now (line .entry)) →
         Served (now (s .entry)) pending input r (now (s .exit)))) ⌝ }
 {
@@ -167,16 +166,22 @@ fn run(s: &mut [u8]) -> Going
 {
     let mut line = [0u8; 97];
     let mut buf = [0u8; 4096];
-    let mut out = [0u8; 24576];
+    let mut out = [0u8; 32768];
     serve_input(s, &mut line, 0, &mut buf, &mut out)
 }
 
 // Says on standard error why the program ended before its input did, and what to do.
 fn tell(g: Going) {
     if !g.ok {
-        io::write_all(STDERR_FILENO, b"session: a reply could not be written, run the session again\n");
+        io::write_all(
+            STDERR_FILENO,
+            b"session: a reply could not be written, run the session again\n",
+        );
     } else if g.got != 0 {
-        io::write_all(STDERR_FILENO, b"session: reading failed, send again what has no reply\n");
+        io::write_all(
+            STDERR_FILENO,
+            b"session: reading failed, send again what has no reply\n",
+        );
     }
 }
 

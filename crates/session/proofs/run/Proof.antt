@@ -1,10 +1,10 @@
 -- `run` meets its contract: at the start no line is kept.
 use borrow.Author.Needs.{needs}
 use native.Mathlib.Omega.{arith}
-use mathlib.Core.Path.{_≡_, ap, _∙_}
+use mathlib.Core.Path.{ap, _∙_}
 use mathlib.Core.List.{[]}
 use Prim.Native.Nat.{ℕ}
-use lib.ListN.{length, replicate, length-replicate}
+use lib.ListN.{replicate, length-replicate}
 use Rattle.model.specs.Base.{emptyBase}
 use Rattle.model.specs.Soundness.{soundBytes}
 use Rattle.model.specs.EncodingFacts.{encode-sound, empty-sound}
@@ -16,7 +16,7 @@ use Rattle.session.proofs.run.Tie as tie
 serve-input-requires : tie.Need-serve-input-requires
 serve-input-requires c κs =
     let d = c .before .before .before .before .before in
-    let room = length-replicate {A = ℕ} 24576 0 in (
+    let room = length-replicate {A = ℕ} 32768 0 in (
       ap soundBytes (d .pre) ∙ encode-sound emptyBase empty-sound,
       omega (arith, room),
       omega arith,

@@ -99,10 +99,14 @@ same-length c =
     sound-length _ (t .serve-last .ensures .2) ∙ sym (sound-length (now (d .args .s)) (d .pre .0))
 
 same-length-2 : tie.Need-same-length-2 Inv-loop μ-loop
-same-length-2 c = c .before .before .before .before .before .before .before .before .before .before .before .before .loop .inv .same
+same-length-2 c =
+    let t = c .before .before .before .before in
+    t .before .before .before .before .before .before .before .before .loop .inv .same
 
 same-length-3 : tie.Need-same-length-3 Inv-loop μ-loop
-same-length-3 c = let t = c .before .before .before .before in t .serve-last .kept .1 .1 .1 .0 ∙ t .before .before .before .before .before .before .before .before .loop .inv .room
+same-length-3 c =
+    let t = c .before .before .before .before in
+    t .serve-last .kept .1 .1 .1 .0 ∙ t .before .before .before .before .before .before .before .before .loop .inv .room
 
 returns : tie.Need-returns Inv-loop μ-loop
 returns c =
@@ -134,7 +138,7 @@ returns-2 c =
     let i = c .before .before .before .before .loop .inv in
     let n = c .before .has-ended .ensures .1 in (
       i .input,
-      λ q h. served-cut (i .answered q h) (λ ok zero. absurd (true≢false (sym (n ok zero) ∙ c .if2 .left))) (i .sound),
+      λ q h. served-cut (i .answered q h) (λ ok zero. true≢false (sym (n ok zero) ∙ c .if2 .left)) (i .sound),
     )
 
 pub serve-input-spec : {M : Type 1} → statement M

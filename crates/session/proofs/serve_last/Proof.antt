@@ -1,9 +1,6 @@
 -- `serve_last` meets its contract: what `serve_end` printed is handed over.
 use borrow.Author.Needs.{needs}
-use mathlib.Core.Path.{refl, sym, ap, _∙_}
-use native.Mathlib.Omega.{arith}
-use mathlib.Core.List.{List}
-use Prim.Native.Nat.{ℕ}
+use mathlib.Core.Path.{sym, ap, _∙_}
 use lib.Seq.{length-take-le}
 use Rattle.session.specs.Input.{counted}
 use Rattle.session.proofs.serve_last.Statement.{statement}
@@ -24,5 +21,5 @@ returns c =
 pub serve-last-spec : {M : Type 1} → statement M
 serve-last-spec =
     tie.close
-    (tie.spec (λ c κs. search needs) (λ c. search needs) slice-aggregate-put (λ c κs. search needs) (λ c. search needs)
-    (λ c. search needs) returns)
+    (tie.spec (λ c κs. search needs) (λ c. search needs) slice-aggregate-put (λ c κs. search needs)
+    (λ c. search needs) (λ c. search needs) returns)

@@ -1,14 +1,13 @@
 -- `serve_piece` meets its contract. The invariant: of the piece all before the place `at` is answered.
 use borrow.Author.Needs.{needs}
 use native.Mathlib.Omega.{arith}
-use mathlib.Core.Path.{_≡_, refl, sym, ap, _∙_}
-use mathlib.Core.Bool.{true, false, false≢true}
-use mathlib.Core.List.{List, []}
+use mathlib.Core.Path.{_≡_, refl, sym, _∙_}
+use mathlib.Core.Bool.{true, false≢true}
+use mathlib.Core.List.{List}
 use Prim.Native.Nat.{ℕ, _-_, _≤_, _<_, _^_}
 use denote.Ref.{now}
-use lib.ListN.{length, take, drop}
+use lib.ListN.{length, drop}
 use lib.Seq.{length-take-le, drop-length}
-use Rattle.foundation.specs.Tests.{cases}
 use Rattle.model.specs.Soundness.{soundBytes}
 use Rattle.model.specs.EncodingFacts.{sound-length}
 use Rattle.serving.specs.Turns.{Kept}
@@ -46,8 +45,8 @@ loop-holds c =
       within = omega arith;
     }
 
-serve-piece-step-requires : tie.Need-serve-piece-step-requires Inv-loop μ-loop
-serve-piece-step-requires c κs =
+serve-lines-requires : tie.Need-serve-lines-requires Inv-loop μ-loop
+serve-lines-requires c κs =
     let i = c .before .before .before .before .loop .inv in
     let d = c .before .before .before .before .before .before .before .before in
     (i .sound, omega (arith, i .room, d .pre .1), i .within, i .few, i .size)
@@ -55,33 +54,29 @@ serve-piece-step-requires c κs =
 slice-reshare-prefix-put : tie.Need-slice-reshare-prefix-put Inv-loop μ-loop
 slice-reshare-prefix-put c =
     let t = c .before .before .before .before in
-    let l = t .before .before .before .before .before in
-    let i = l .loop .inv in
-    let k = t .serve-piece-step .ensures .0 _ (kept-front (i .few) (i .size)) in
-    omega (arith, k .few, t .serve-piece-step .ensures .3, i .room, l .before .before .before .before .pre .1)
+    let i = t .before .before .before .before .before .loop .inv in
+    t .serve-lines .ensures .0 _ (kept-front (i .few) (i .size)) .few
 
 slice-aggregate-put : tie.Need-slice-aggregate-put Inv-loop μ-loop
 slice-aggregate-put c =
     let t = c .before .before .before .before .before in
-    let l = t .before .before .before .before .before in
-    let i = l .loop .inv in
-    let k = t .serve-piece-step .ensures .0 _ (kept-front (i .few) (i .size)) in
-    sym (length-take-le (t .serve-piece-step .result .n) (t .serve-piece-step .last .1 .1 .1 .1 .1 .0)
-    (omega (arith, k .few, t .serve-piece-step .ensures .3, i .room, l .before .before .before .before .pre .1)))
+    let i = t .before .before .before .before .before .loop .inv in
+    let k = t .serve-lines .ensures .0 _ (kept-front (i .few) (i .size)) in
+    sym (length-take-le (t .serve-lines .result .n) (t .serve-lines .last .1 .1 .1 .1 .1 .0) (k .few))
 
 same-length : tie.Need-same-length Inv-loop μ-loop
 same-length c =
     let t = c .before .before .before .before .before .before .before .before .before in
     let l = t .before .before .before .before .before in
     let i = l .loop .inv in
-    let k = t .serve-piece-step .ensures .0 _ (kept-front (i .few) (i .size)) in
+    let k = t .serve-lines .ensures .0 _ (kept-front (i .few) (i .size)) in
     let d = l .before .before .before .before in
     sound-length _ (k .sound) ∙ sym (sound-length (now (d .args .s)) (d .pre .0))
 
 same-length-2 : tie.Need-same-length-2 Inv-loop μ-loop
 same-length-2 c =
     let t = c .before .before .before .before .before .before .before .before .before in
-    t .serve-piece-step .ensures .3 ∙ t .before .before .before .before .before .loop .inv .room
+    t .serve-lines .ensures .3 ∙ t .before .before .before .before .before .loop .inv .room
 
 returns : tie.Need-returns Inv-loop μ-loop
 returns c =
@@ -89,9 +84,9 @@ returns c =
     let t = p .before .before .before .before .before .before in
     let l = t .before .before .before .before .before in
     let i = l .loop .inv in
-    let e = t .serve-piece-step .ensures in (
+    let e = t .serve-lines .ensures in (
       λ q h. let a = i .answers q h in record {
-        rest = drop (t .serve-piece-step .result .at) (now (l .before .before .before .before .args .piece));
+        rest = drop (t .serve-lines .result .at) (now (l .before .before .before .before .args .piece));
         answers = answers-step a (e .0 (a .left) (a .kept)) (p .put .ensures);
         all = λ z. absurd (false≢true z);
       },
@@ -103,20 +98,17 @@ returns c =
 loop-less : tie.Need-loop-less Inv-loop μ-loop
 loop-less c =
     let t = c .before .before .before .before .before .before .before .before in
-    let l = t .before .before .before .before .before in
-    let i = l .loop .inv in
-    let k = t .serve-piece-step .ensures .0 _ (kept-front (i .few) (i .size)) in
+    let i = t .before .before .before .before .before .loop .inv in
+    let k = t .serve-lines .ensures .0 _ (kept-front (i .few) (i .size)) in
     let h = t .before .before .before .before .loop-test .taken in
-    cases (t .serve-piece-step .result .ended)
-    (λ q. omega (arith, h, k .further q, k .within))
-    (λ q. omega (arith, h, k .whole q))
+    omega (arith, h, k .further h, k .within)
 
 loop-again : tie.Need-loop-again Inv-loop μ-loop
 loop-again c =
     let p = c .before .before in
     let t = p .before .before .before .before .before .before in
     let i = t .before .before .before .before .before .loop .inv in
-    let e = t .serve-piece-step .ensures in
+    let e = t .serve-lines .ensures in
     let k = e .0 _ (kept-front (i .few) (i .size)) in
     record {
       answers = λ q h. let a = i .answers q h in answers-step a (e .0 (a .left) (a .kept)) (p .put .ensures);
@@ -155,6 +147,6 @@ same-length-4 c = c .before .before .loop .inv .room
 pub serve-piece-spec : {M : Type 1} → statement M
 serve-piece-spec =
     tie.close
-    (tie.spec Inv-loop μ-loop loop-holds serve-piece-step-requires slice-reshare-prefix-put slice-aggregate-put
+    (tie.spec Inv-loop μ-loop loop-holds serve-lines-requires slice-reshare-prefix-put slice-aggregate-put
     (λ c κs. search needs) same-length same-length-2 returns loop-less loop-again same-length-3
     same-length-4 returns-2)

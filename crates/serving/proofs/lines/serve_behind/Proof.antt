@@ -23,8 +23,7 @@ returns c =
     let back = end-back out ys n fits in
     let front = length-take-le n out fits in
     let end : drop n (take n out ++ (ys ++ drop (length out - n) (drop n out))) ≡ ys =
-    ap (drop n) back ∙ drop-at (take n out) ys n front in
-    (
+    ap (drop n) back ∙ drop-at (take n out) ys n front in (
       λ q h. rw end (e .0 q h),
       e .1,
       e .2,

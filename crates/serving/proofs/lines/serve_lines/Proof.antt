@@ -67,8 +67,7 @@ returns c =
     let d = l .before .before .before .before in
     let i = l .loop .inv in
     let g = l .loop .g in
-    let some : 0 < g .n = omega (arith, i .room, d .pre .1, c .if2 .taken) in
-    (
+    let some : 0 < g .n = omega (arith, i .room, d .pre .1, c .if2 .taken) in (
       λ q k. let a = i .stands q k in record {
         left = a .left;
         kept = a .kept;
@@ -95,7 +94,8 @@ add-t9 c =
     let i = l .loop .inv in
     let e = t .serve-behind .ensures in
     let k = e .0 _ (kept-front (i .few) (i .size)) in
-    omega (arith, k .few, length-drop (l .loop .g .n) (t .serve-behind .last .1 .1 .1 .1 .0), e .4, i .room, i .fits, l .before .before .before .before .good)
+    let end = length-drop (l .loop .g .n) (t .serve-behind .last .1 .1 .1 .1 .0) in
+    omega (arith, k .few, end, e .4, i .room, i .fits, l .before .before .before .before .good)
 
 loop-less : tie.Need-loop-less Inv-loop μ-loop
 loop-less c =
@@ -136,8 +136,7 @@ same-length-4 c = c .before .before .loop .inv .room
 
 returns-2 : tie.Need-returns-2 Inv-loop μ-loop
 returns-2 c =
-    let i = c .before .before .loop .inv in
-    (
+    let i = c .before .before .loop .inv in (
       λ q k. let a = i .stands q k in record {
         left = a .left;
         kept = a .kept;
