@@ -7,9 +7,10 @@ use mathlib.Core.Bool.{Bool, true, false, not, false≢true}
 use mathlib.Core.List.{List, [], _∷_, _++_}
 use Prim.Native.Nat.{ℕ, suc, _*_, _/_, _%_, _<_}
 use native.Mathlib.Omega.{arith}
-use lib.Dec.{eqb}
+use lib.Dec.{eqb, ltb}
 use lib.ListN.{length, drop}
-use Rattle.foundation.specs.Tests.{cases, pick, true-eq, false-eq, eq-true}
+use Rattle.foundation.specs.Tests.{pick, eq-true, true-le}
+use Rattle.foundation.specs.Lists.{allb}
 use Rattle.model.specs.declared.Request.{Request}
 use Rattle.model.specs.declared.Access.{Access}
 use Rattle.model.specs.declared.Question.{Question}
@@ -18,9 +19,9 @@ use Rattle.model.specs.declared.Reply.the-variants.{Done, Refused, Unsupported,
 use Rattle.model.specs.Base.{emptyBase}
 use Rattle.model.specs.Rules.{may, when}
 use Rattle.model.specs.Means.{plainly}
-use Rattle.model.specs.Step.{Row, row, lowest, refusedOr, refusal, accepting, isGap, effect}
+use Rattle.model.specs.Step.{Row, row, firstNumber, refusal, accepting, isGap, effect}
 use Rattle.model.specs.Requests.{labels}
-use Rattle.model.specs.StepFacts.{accepted, answered, turned-away}
+use Rattle.model.specs.StepFacts.{accepted, first-all, by-rows}
 use Rattle.model.specs.Encoding.{size, encode, decode}
 use Rattle.model.specs.Soundness.{soundBytes}
 use Rattle.model.specs.Answers.{Answer, Answered, answering, refusing, refusalNumber, shown, create, request}
@@ -35,24 +36,11 @@ pub record Small (r : Reply) : Type 0 where
 
 -- ---- the numbers of rows
 
-abbrev Below : ℕ → List Row → Type 0
-Below n [] = Unit {0}
-Below n (r ∷ rest) = (r .number < n) × Below n rest
-
-lowest-below : (n : ℕ) (rows : List Row) → 0 < n → Below n rows → lowest rows < n
-lowest-below n [] z w = z
-lowest-below n (r ∷ rest) z w = cases (r .given) (λ g. rw g (w .0)) (λ g. rw g (lowest-below n rest z (w .1)))
-
-refused-small : (rows : List Row) → Below 14 rows → Small (Refused (lowest rows))
-refused-small rows w =
-    record { refusal = omega (arith, lowest-below 14 rows (omega arith) w); label = omega arith }
-
--- what the refusal by rows and the answer have, the outcome has
-by-rows : {A : Type 0} (P : A → Type 0) (rows : List Row) (refuse : ℕ → A) (a : A) → P (refuse (lowest rows)) →
-    (lowest rows ≡ 0 → P a) → P (refusedOr rows refuse a)
-by-rows P rows refuse a r p = cases (eqb (lowest rows) 0)
-    (λ e. let z = true-eq (lowest rows) 0 e in subst P (sym (answered rows refuse a z)) (p z))
-    (λ e. subst P (sym (turned-away rows refuse a (false-eq (lowest rows) 0 e))) r)
+-- the refusal by rows is small if a test over them says so
+refused-small : (rows : List Row) → allb (λ r. ltb (r .number) 65536) rows ≡ true → Small (Refused (firstNumber rows))
+refused-small rows e =
+    let w : ltb (firstNumber rows) 65536 ≡ true = first-all (λ n. ltb n 65536) rows refl e in
+    record { refusal = true-le (suc (firstNumber rows)) 65536 w; label = omega arith }
 
 -- ---- every reply is small
 
@@ -60,16 +48,15 @@ pub create-small : (s : List ℕ) → Small (create s .reply)
 unfolding create
 create-small s =
     let rows = row 2 (not (eqb (length s) size)) ∷ [] in
-    by-rows (λ (a : Answer). Small (a .reply)) rows (refusing s) (answering (Done 0 0) (encode emptyBase))
-    (refused-small rows (omega arith, tt)) (λ z. record { refusal = omega arith; label = omega arith })
+    by-rows rows (refusing s) (answering (Done 0 0) (encode emptyBase)) (λ (a : Answer). Small (a .reply))
+    (refused-small rows refl) (λ z. record { refusal = omega arith; label = omega arith })
 
 pub may-small : (s : List ℕ) (q : Question) → Small (mayAnswer s q)
 unfolding mayAnswer
 may-small s q =
     let yes? = may (decode s) (q .access) (q .instant) in
     let rows = row 2 (not (soundBytes s)) ∷ mayTable (decode s) q in
-    by-rows Small rows Refused (mayReply yes?) (refused-small rows (omega arith, (omega arith, (omega arith, tt))))
-    (λ z. said yes?)
+    by-rows rows Refused (mayReply yes?) Small (refused-small rows refl) (λ z. said yes?)
   where
     said : (yes? : Bool) → Small (mayReply yes?)
     said true = record { refusal = omega arith; label = omega arith }
@@ -81,13 +68,12 @@ when-small s x list =
     let runs = when (decode s) x in
     let n = length runs in
     let rows = row 2 (not (soundBytes s)) ∷ whenTable (decode s) x (length list / 2) n in
-    by-rows (λ (a : Answer). Small (a .reply)) rows (refusing list)
-    (answering (Runs n) (words runs ++ drop (2 * n) list))
-    (refused-small rows (omega arith, (omega arith, (omega arith, (omega arith, tt)))))
+    by-rows rows (refusing list) (answering (Runs n) (words runs ++ drop (2 * n) list))
+    (λ (a : Answer). Small (a .reply)) (refused-small rows refl)
     (λ z. record { refusal = omega arith; label = omega arith })
 
 -- a request that is accepted is given a label of 16 bits
-accepting-small : (s : List ℕ) (q : Request) → lowest (requestTable s q) ≡ 0 →
+accepting-small : (s : List ℕ) (q : Request) → firstNumber (requestTable s q) ≡ 0 →
     Small (accepting (decode s) q (effect plainly (decode s) q))
 accepting-small s q z = record { refusal = omega arith; label = label (labels q) refl }
   where
@@ -103,28 +89,8 @@ pub request-small : (s : List ℕ) (q : Request) → Small (request s q .reply)
 unfolding request
 request-small s q =
     let after = effect plainly (decode s) q in
-    by-rows (λ (a : Answer). Small (a .reply)) (requestTable s q) (refusing s)
-    (answering (accepting (decode s) q after) (encode after))
-    (refused-small (requestTable s q) (
-      omega arith,
-      (
-        omega arith,
-        (
-          omega arith,
-          (
-            omega arith,
-            (
-              omega arith,
-              (
-                omega arith,
-                (omega arith, (omega arith, (omega arith, (omega arith, (omega arith, (omega arith, tt)))))),
-              ),
-            ),
-          ),
-        ),
-      ),
-    ))
-    (accepting-small s q)
+    by-rows (requestTable s q) (refusing s) (answering (accepting (decode s) q after) (encode after))
+    (λ (a : Answer). Small (a .reply)) (refused-small (requestTable s q) refl) (accepting-small s q)
 
 -- ---- the parts of a reply to a request
 
