@@ -15,7 +15,7 @@ use Rattle.model.specs.declared.Reply.the-variants.{Refused, Runs}
 use Rattle.model.specs.Ranges.{isInstant}
 use Rattle.model.specs.Base.{Base, exists}
 use Rattle.model.specs.Rules.{may, when}
-use Rattle.model.specs.Step.{Row, row, lowest, refusedOr}
+use Rattle.model.specs.Step.{Row, row, firstNumber, refusedOr}
 use Rattle.model.specs.StepFacts.{answered, turned-away}
 use Rattle.model.specs.Encoding.{decode}
 use Rattle.model.specs.Soundness.{soundBytes}
@@ -24,10 +24,10 @@ use Rattle.model.specs.Answers.{mayAnswer, whenAnswer}
 use Rattle.answers.specs.Asking.{accessRows, roomRows, replyRuns}
 
 -- where neither row 3 nor row 6 applies, what is asked about is in range
-pub asked-in : (b : Base) (x : Access) → lowest (accessRows b x) ≡ 0 → accessIn x ≡ true
+pub asked-in : (b : Base) (x : Access) → firstNumber (accessRows b x) ≡ 0 → accessIn x ≡ true
 asked-in b x z = in-range (accessIn x) (not (exists b (x .object))) z
   where
-    in-range : (g h : Bool) → lowest (row 3 (not g) ∷ row 6 h ∷ []) ≡ 0 → g ≡ true
+    in-range : (g h : Bool) → firstNumber (row 3 (not g) ∷ row 6 h ∷ []) ≡ 0 → g ≡ true
     in-range true h z = refl
     in-range false h z = absurd (omega (arith, z))
 
@@ -80,12 +80,12 @@ module _ (s : List ℕ) (q : Question) where
       (λ z. and-intro (accessIn x) (isInstant (q .instant)) z i))
 
   pub may-refused : soundBytes s ≡ true → isInstant (q .instant) ≡ true →
-      lowest (accessRows (decode s) (q .access)) ≢ 0 →
-      mayAnswer s q ≡ Refused (lowest (accessRows (decode s) (q .access)))
+      firstNumber (accessRows (decode s) (q .access)) ≢ 0 →
+      mayAnswer s q ≡ Refused (firstNumber (accessRows (decode s) (q .access)))
   may-refused e i n = may-rows e i ∙ turned-away (accessRows (decode s) (q .access)) Refused said n
 
   pub may-answered : soundBytes s ≡ true → isInstant (q .instant) ≡ true →
-      lowest (accessRows (decode s) (q .access)) ≡ 0 → mayAnswer s q ≡ said
+      firstNumber (accessRows (decode s) (q .access)) ≡ 0 → mayAnswer s q ≡ said
   may-answered e i z = may-rows e i ∙ answered (accessRows (decode s) (q .access)) Refused said z
 
 -- ---- WHEN
@@ -117,12 +117,12 @@ module _ (s : List ℕ) (x : Access) (list : List ℕ) where
       ∙ behind (not (accessIn x)) (not (exists (decode s) (x .object))) (roomRows list n) (refusing list)
       (answering (Runs n) (words (when (decode s) x) ++ drop (2 * n) list))
 
-  pub when-refused : soundBytes s ≡ true → lowest (accessRows (decode s) x) ≢ 0 →
-      whenAnswer s x list ≡ refusing list (lowest (accessRows (decode s) x))
+  pub when-refused : soundBytes s ≡ true → firstNumber (accessRows (decode s) x) ≢ 0 →
+      whenAnswer s x list ≡ refusing list (firstNumber (accessRows (decode s) x))
   when-refused e n = when-rows e ∙ turned-away (accessRows (decode s) x) (refusing list) all n
 
   -- n and the first pairs of `runs` are as many as there are, and those
-  pub when-answered : soundBytes s ≡ true → lowest (accessRows (decode s) x) ≡ 0 → (n : ℕ) (runs : List ℕ) →
+  pub when-answered : soundBytes s ≡ true → firstNumber (accessRows (decode s) x) ≡ 0 → (n : ℕ) (runs : List ℕ) →
       n ≡ length (when (decode s) x) → take (2 * n) runs ≡ words (when (decode s) x) →
       whenAnswer s x list ≡ replyRuns runs n list
   when-answered e z n runs c w =

@@ -6,7 +6,7 @@ ghost use Prim.Native.Nat.{_≤_};
 ghost use lib.ListN.{length, take, drop};
 ghost use Rattle.model.specs.Encoding.{decode};
 ghost use Rattle.model.specs.Soundness.{soundBytes};
-ghost use Rattle.model.specs.Step.{lowest};
+ghost use Rattle.model.specs.Step.{firstNumber};
 ghost use Rattle.model.specs.Answers.{answering, accessIn, mayReply, mayAnswer, whenAnswer};
 ghost use Rattle.answers.specs.Asking.{accessRows, replyRuns};
 use crate::walk::holds_at;
@@ -25,7 +25,7 @@ fn access_in(x: Access) -> bool
 // The first of rows 3 and 6 that applies, or 0.
 fn refusal_of(s: &[u8], x: Access) -> u32
     requires { ⌜ soundBytes (now s) ≡ true ⌝ }
-    ensures { λ r. ⌜ r ≡ lowest (accessRows (decode (now (s .entry))) x) ⌝ }
+    ensures { λ r. ⌜ r ≡ firstNumber (accessRows (decode (now (s .entry))) x) ⌝ }
 {
     if !access_in(x) {
         return 3;

@@ -5,11 +5,12 @@ use mathlib.Core.Path.{_≡_, refl, sym, ap, subst, _∙_}
 use mathlib.Core.Logic.{_≢_, ⊎-elim}
 use mathlib.Core.Bool.{true, not, false≢true}
 use mathlib.Core.List.{List, [], _∷_, _++_}
-use Prim.Native.Nat.{ℕ, _*_, _/_, _%_, _<_}
+use Prim.Native.Nat.{ℕ, suc, _*_, _/_, _%_, _<_}
 use native.Mathlib.Omega.{arith}
-use lib.Dec.{eqb}
+use lib.Dec.{ltb, eqb}
 use lib.ListN.{length, drop}
-use Rattle.foundation.specs.Tests.{eq-true}
+use Rattle.foundation.specs.Tests.{eq-true, true-le}
+use Rattle.foundation.specs.Lists.{allb}
 use Rattle.model.specs.declared.Request.{Request}
 use Rattle.model.specs.declared.Access.{Access}
 use Rattle.model.specs.declared.Question.{Question}
@@ -17,13 +18,14 @@ use Rattle.model.specs.declared.Reply.{Reply}
 use Rattle.model.specs.declared.Reply.the-variants.{Done, Refused, Unsupported, Yes, No, Runs}
 use Rattle.model.specs.Base.{emptyBase}
 use Rattle.model.specs.Rules.{when}
-use Rattle.model.specs.Step.{Row, row, lowest, isGap}
+use Rattle.model.specs.Step.{Row, row, firstNumber, isGap}
+use Rattle.model.specs.StepFacts.{first-all, by-rows}
 use Rattle.model.specs.Encoding.{size, encode, decode}
 use Rattle.model.specs.Soundness.{soundBytes}
 use Rattle.model.specs.Answers.{Answer, Answered, answering, refusing, refusalNumber, shown, create, request}
 use Rattle.model.specs.Answers.{whenTable, mayAnswer, whenAnswer, words}
 use Rattle.model.specs.Session.{Written, textAnswer}
-use Rattle.text.specs.Short.{Below, lowest-below, by-rows, Short, request-short, may-short}
+use Rattle.text.specs.Short.{Short, request-short, may-short}
 use Rattle.text.specs.Room.{refused-untouched}
 use Rattle.ffi.specs.Numbers.{labelOf, numberOf, packedText, refusal-back, label-back, number-back, AnsweredBy}
 
@@ -32,9 +34,11 @@ pub record Small (r : Reply) : Type 0 where
   pub refusal : refusalNumber r < 65536
   pub label : labelOf r < 65536
 
-refused-small : (rows : List Row) → Below 14 rows → Small (Refused (lowest rows))
-refused-small rows w =
-    record { refusal = omega (arith, lowest-below 14 rows (omega arith) w); label = omega arith }
+-- the refusal by rows is small if a test over them says so
+refused-small : (rows : List Row) → allb (λ r. ltb (r .number) 65536) rows ≡ true → Small (Refused (firstNumber rows))
+refused-small rows e =
+    let w : ltb (firstNumber rows) 65536 ≡ true = first-all (λ n. ltb n 65536) rows refl e in
+    record { refusal = true-le (suc (firstNumber rows)) 65536 w; label = omega arith }
 
 -- the replies that a text of 16 bytes has room for
 short-small : (r : Reply) → Short r → Small r
@@ -51,8 +55,8 @@ pub create-small : (s : List ℕ) → Small (create s .reply)
 unfolding create
 create-small s =
     let rows = row 2 (not (eqb (length s) size)) ∷ [] in
-    by-rows (λ (a : Answer). Small (a .reply)) rows (refusing s) (answering (Done 0 0) (encode emptyBase))
-    (refused-small rows (omega arith, tt)) (λ z. record { refusal = omega arith; label = omega arith })
+    by-rows rows (refusing s) (answering (Done 0 0) (encode emptyBase)) (λ (a : Answer). Small (a .reply))
+    (refused-small rows refl) (λ z. record { refusal = omega arith; label = omega arith })
 
 pub may-small : (s : List ℕ) (q : Question) → Small (mayAnswer s q)
 may-small s q = short-small (mayAnswer s q) (may-short s q)
@@ -63,9 +67,8 @@ when-small s x list =
     let runs = when (decode s) x in
     let n = length runs in
     let rows = row 2 (not (soundBytes s)) ∷ whenTable (decode s) x (length list / 2) n in
-    by-rows (λ (a : Answer). Small (a .reply)) rows (refusing list)
-    (answering (Runs n) (words runs ++ drop (2 * n) list))
-    (refused-small rows (omega arith, (omega arith, (omega arith, (omega arith, tt)))))
+    by-rows rows (refusing list) (answering (Runs n) (words runs ++ drop (2 * n) list))
+    (λ (a : Answer). Small (a .reply)) (refused-small rows refl)
     (λ z. record { refusal = omega arith; label = omega arith })
 
 pub request-small : (s : List ℕ) (q : Request) → Small (request s q .reply)

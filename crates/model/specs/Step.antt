@@ -175,15 +175,16 @@ pub record Row : Type 0 where
 abbrev pub row : ℕ → Bool → Row
 row n g = record { number = n; given = g }
 
--- 01: "The lowest number that applies is given": the first row of the table whose condition holds, or 0
--- (`lowest-given`, `lowest-least` and `lowest-none` in StepFacts)
-abbrev pub lowest : List Row → ℕ
-lowest [] = 0
-lowest (r ∷ rest) = let n = lowest rest in pick (r .given) (r .number) n
+-- The number of the first row whose condition holds, or 0. 01: "The lowest number that applies is given": the rows
+-- stand in the order of their numbers, so the first that applies is it (StepFacts: `first-given`, `first-applies`,
+-- `first-none`).
+abbrev pub firstNumber : List Row → ℕ
+firstNumber [] = 0
+firstNumber (r ∷ rest) = let n = firstNumber rest in pick (r .given) (r .number) n
 
 -- refused by the first row that applies, or answered
 abbrev pub refusedOr : {A : Type 0} → List Row → (ℕ → A) → A → A
-refusedOr rows refuse answer = let n = lowest rows in elim (eqb n 0) [ true ↦ answer | false ↦ refuse n ]
+refusedOr rows refuse answer = let n = firstNumber rows in elim (eqb n 0) [ true ↦ answer | false ↦ refuse n ]
 
 -- The outcome of a request: the reply and the base after it
 pub record Outcome : Type 0 where
@@ -242,7 +243,7 @@ module _ (M : Means) where
       ∷ [])
 
   abbrev pub refusal : Base → Request → ℕ
-  refusal b q = lowest (table b q)
+  refusal b q = firstNumber (table b q)
 
   -- 01: "Nothing lent is altered" by a refusal
   abbrev pub stepBy : Base → Request → Outcome

@@ -1,81 +1,81 @@
--- What the table says: a refusal's number is the lowest that applies, and an accepted request passes every row.
-use mathlib.Core.Path.{_≡_, refl, sym, ap, _∙_}
+-- What the table says: a refusal's number is that of the first row that applies, and an accepted request passes every
+-- row.
+use mathlib.Core.Path.{_≡_, refl, sym, subst, _∙_}
 use mathlib.Core.Logic.{inl, inr, _≢_, ⊎-elim}
-use mathlib.Core.Bool.{Bool, true, false, false≢true}
-use mathlib.Core.List.{List, [], _∷_}
-use Prim.Native.Nat.{ℕ, _≤_, _<_}
+use mathlib.Core.Bool.{Bool, true, false}
+use mathlib.Core.List.{List, [], _∷_, _++_}
+use Prim.Native.Nat.{ℕ, _<_}
 use native.Mathlib.Omega.{arith}
-use Rattle.foundation.specs.Tests.{cases, eq-true, ne-false}
-use Rattle.foundation.specs.Lists.{Mem, any-false}
+use lib.Dec.{ltb, eqb}
+use Rattle.foundation.specs.Tests.{pick, cases, eq-true, ne-false, true-eq, false-eq, true-le, and-true}
+use Rattle.foundation.specs.Lists.{Mem, allb, any-false}
 use Rattle.model.specs.declared.Request.{Request}
 use Rattle.model.specs.declared.Reply.the-variants.{Refused}
 use Rattle.model.specs.Base.{Base}
 use Rattle.model.specs.Means.{Means, plainly}
-use Rattle.model.specs.Step.{Row, lowest, rangeTests, outOfRange, behindClock, badInterval, noObject, noLabel}
-use Rattle.model.specs.Step.{notPermitted, notSupported, alreadyThere, notHeld, notStratified, full, table}
-use Rattle.model.specs.Step.{refusal, refusedOr, accepting, effect, Outcome, step}
+use Rattle.model.specs.Step.{Row, firstNumber, rangeTests, outOfRange, behindClock, badInterval, noObject}
+use Rattle.model.specs.Step.{noLabel, notPermitted, notSupported, alreadyThere, notHeld, notStratified, full}
+use Rattle.model.specs.Step.{table, refusal, refusedOr, accepting, effect, Outcome, step}
 
--- ---- the lowest number of rows that rise
+-- ---- the first row that applies
 
--- the numbers rise from n on
-abbrev pub Rising : ℕ → List Row → Type 0
-Rising n [] = Unit {0}
-Rising n (r ∷ rest) = (n < r .number) × Rising (r .number) rest
+-- every row has a number
+abbrev pub Numbered : List Row → Type 0
+Numbered [] = Unit {0}
+Numbered (r ∷ rest) = (0 < r .number) × Numbered rest
 
 -- a number that is given is a row's whose condition holds
-pub lowest-given : (rows : List Row) → lowest rows ≢ 0 →
-    (r : Row) × Mem r rows × (r .given ≡ true) × (r .number ≡ lowest rows)
-lowest-given [] n = absurd (n refl)
-lowest-given (r ∷ rest) n = cases (r .given)
+pub first-given : (rows : List Row) → firstNumber rows ≢ 0 →
+    (r : Row) × Mem r rows × (r .given ≡ true) × (r .number ≡ firstNumber rows)
+first-given [] n = absurd (n refl)
+first-given (r ∷ rest) n = cases (r .given)
     (λ g. (r, inl refl, g, sym (rw g)))
-    (λ g. let w = lowest-given rest (λ z. n (rw g z)) in (w .0, inr (w .1), w .2, w .3 ∙ sym (rw g)))
+    (λ g. let w = first-given rest (λ z. n (rw g z)) in (w .0, inr (w .1), w .2, w .3 ∙ sym (rw g)))
 
--- where a row's condition holds, a number is given, and none above that row's
-pub lowest-least : (n : ℕ) (rows : List Row) → Rising n rows → (r : Row) → Mem r rows → r .given ≡ true →
-    (n < lowest rows) × (lowest rows ≤ r .number)
-lowest-least n [] up r m g = absurd (m .lower)
-lowest-least n (s ∷ rest) up r m g = cases (s .given)
-    (λ h. rw h (up .0, ⊎-elim (λ e. rw e (omega arith)) (λ k. omega (arith, past (s .number) rest (up .1) k)) m))
-    (λ h. let k = ⊎-elim (λ e. absurd (false≢true (sym h ∙ sym (ap (λ (x : Row). x .given) e) ∙ g))) (λ k. k) m in
-    let w = lowest-least (s .number) rest (up .1) r k g in
-    rw h (omega (arith, w .0, up .0), w .1))
-  where
-    past : (m : ℕ) (rows : List Row) → Rising m rows → Mem r rows → m < r .number
-    past m [] u k = absurd (k .lower)
-    past m (x ∷ xs) u (inl e) = rw e (u .0)
-    past m (x ∷ xs) u (inr k) = let i = past (x .number) xs (u .1) k in omega (arith, u .0)
+-- where a row's condition holds and that of none before it, its number is given
+pub first-applies : (front : List Row) (r : Row) (rest : List Row) → ((s : Row) → Mem s front → s .given ≡ false) →
+    r .given ≡ true → firstNumber (front ++ (r ∷ rest)) ≡ r .number
+first-applies [] r rest h g = rw g
+first-applies (s ∷ front) r rest h g = rw (h s (inl refl)) (first-applies front r rest (λ x m. h x (inr m)) g)
 
 -- where none is given, no row's condition holds
-pub lowest-none : (n : ℕ) (rows : List Row) → Rising n rows → lowest rows ≡ 0 → (r : Row) → Mem r rows →
+pub first-none : (rows : List Row) → Numbered rows → firstNumber rows ≡ 0 → (r : Row) → Mem r rows →
     r .given ≡ false
-lowest-none n rows up z r m = cases (r .given) (λ g. absurd (omega (arith, lowest-least n rows up r m g .0))) (λ g. g)
+first-none [] up z r m = absurd (m .lower)
+first-none (s ∷ rest) up z r m = cases (s .given)
+    (λ g. let w : s .number ≡ 0 = rw g at z in absurd (omega (arith, up .0)))
+    (λ g. ⊎-elim (λ e. rw e g) (λ k. first-none rest (up .1) (rw g at z) r k) m)
+
+-- rows behind others count where none of those applies
+pub first-append : (front rest : List Row) → Numbered front →
+    firstNumber (front ++ rest) ≡ pick (eqb (firstNumber front) 0) (firstNumber rest) (firstNumber front)
+first-append [] rest up = refl
+first-append (x ∷ front) rest up = cases (x .given)
+    (λ e. let f : eqb (x .number) 0 ≡ false = ne-false (x .number) 0 (λ z. omega (arith, up .0)) in rw (e, f))
+    (λ e. rw e (first-append front rest (up .1)))
+
+-- what 0 and the number of every row have, the number that is given has
+pub first-all : (p : ℕ → Bool) (rows : List Row) → p 0 ≡ true → allb (λ r. p (r .number)) rows ≡ true →
+    p (firstNumber rows) ≡ true
+first-all p [] z e = z
+first-all p (r ∷ rest) z e =
+    let w = and-true (p (r .number)) (allb (λ s. p (s .number)) rest) e in
+    cases (r .given) (λ g. rw g (w .0)) (λ g. rw g (first-all p rest z (w .1)))
+
+-- rows are numbered if a test over them says so
+abbrev pub numbered? : List Row → Bool
+numbered? rows = allb (λ r. ltb 0 (r .number)) rows
+
+pub numbered : (rows : List Row) → numbered? rows ≡ true → Numbered rows
+numbered [] e = tt
+numbered (r ∷ rest) e =
+    let w = and-true (ltb 0 (r .number)) (numbered? rest) e in
+    (true-le 1 (r .number) (w .0), numbered rest (w .1))
 
 -- ---- the table
 
-module _ (M : Means) (b : Base) (q : Request) where
-  pub table-rises : Rising 2 (table M b q)
-  table-rises = (
-    omega arith,
-    (
-      omega arith,
-      (
-        omega arith,
-        (
-          omega arith,
-          (
-            omega arith,
-            (
-              omega arith,
-              (
-                omega arith,
-                (omega arith, (omega arith, (omega arith, (omega arith, tt)))),
-              ),
-            ),
-          ),
-        ),
-      ),
-    ),
-  )
+pub table-numbered : (M : Means) (b : Base) (q : Request) → Numbered (table M b q)
+table-numbered M b q = numbered (table M b q) refl
 
 -- every row passed
 pub record Accepted (b : Base) (q : Request) : Type 0 where
@@ -94,7 +94,7 @@ pub record Accepted (b : Base) (q : Request) : Type 0 where
 pub accepted : (b : Base) (q : Request) → refusal plainly b q ≡ 0 → Accepted b q
 accepted b q z =
     let t : (r : Row) → Mem r (table plainly b q) → r .given ≡ false =
-    lowest-none 2 (table plainly b q) (table-rises plainly b q) z in
+    first-none (table plainly b q) (table-numbered plainly b q) z in
     record {
       range = t _ (inl refl);
       clock = t _ (inr (inl refl));
@@ -116,11 +116,18 @@ in-range q = any-false (λ y. y) (rangeTests q)
 -- ---- the outcome
 
 module _ {A : Type 0} (rows : List Row) (refuse : ℕ → A) (answer : A) where
-  pub answered : lowest rows ≡ 0 → refusedOr rows refuse answer ≡ answer
-  answered z = rw (eq-true (lowest rows) 0 z, refusedOr)
+  pub answered : firstNumber rows ≡ 0 → refusedOr rows refuse answer ≡ answer
+  answered z = rw (eq-true (firstNumber rows) 0 z, refusedOr)
 
-  pub turned-away : lowest rows ≢ 0 → refusedOr rows refuse answer ≡ refuse (lowest rows)
-  turned-away n = rw (ne-false (lowest rows) 0 n, refusedOr)
+  pub turned-away : firstNumber rows ≢ 0 → refusedOr rows refuse answer ≡ refuse (firstNumber rows)
+  turned-away n = rw (ne-false (firstNumber rows) 0 n, refusedOr)
+
+  -- what the refusal by rows and the answer have, the outcome has
+  pub by-rows : (P : A → Type 0) → P (refuse (firstNumber rows)) → (firstNumber rows ≡ 0 → P answer) →
+      P (refusedOr rows refuse answer)
+  by-rows P r p = cases (eqb (firstNumber rows) 0)
+      (λ e. let z = true-eq (firstNumber rows) 0 e in subst P (sym (answered z)) (p z))
+      (λ e. subst P (sym (turned-away (false-eq (firstNumber rows) 0 e))) r)
 
 module _ (b : Base) (q : Request) where
   abbrev refusing : ℕ → Outcome

@@ -1,110 +1,157 @@
--- Rows 3 to 12 of the table of refusals, and what the code answers of them. Row 13 is asked of the effect.
--- `early-strata` and `refusal-early` say how the rows go on.
-use mathlib.Core.Path.{_≡_, refl, sym, ap, _∙_}
+-- Rows 3 to 12 of the table of refusals, and what the code answers of them. Row 13 is asked of the effect. The code
+-- asks them in four parts: those before row 9, row 9, which gives an instant too, those behind it, and row 12.
+use mathlib.Core.Path.{_≡_, refl, sym, _∙_}
 use mathlib.Core.Logic.{_≢_, inl}
-use Prim.Native.Nat.{ℕ, _<_}
+use Prim.Native.Nat.{ℕ}
 use native.Mathlib.Omega.{arith}
-use mathlib.Core.Bool.{Bool, true, false}
+use mathlib.Core.Bool.{Bool, true, false, not, _&&_, false≢true}
 use mathlib.Core.List.{List, [], _∷_, _++_}
 use lib.Dec.{eqb}
-use Rattle.foundation.specs.Tests.{pick, cases, ne-false}
+use Rattle.foundation.specs.Tests.{pick, cases, true-eq, ne-false}
+use Rattle.foundation.specs.Lists.{allb}
 use Rattle.model.specs.declared.Request.{Request}
 use Rattle.model.specs.Base.{Base}
 use Rattle.model.specs.Means.{plainly}
-use Rattle.model.specs.Step.{Row, row, lowest, outOfRange, behindClock, badInterval, noObject, noLabel, notPermitted}
-use Rattle.model.specs.Step.{notSupported, isGap, alreadyThere, notHeld, notStratified, full, refusal}
-use Rattle.model.specs.StepFacts.{Rising, lowest-none}
+use Rattle.model.specs.Step.{Row, row, firstNumber, outOfRange, behindClock, badInterval, noObject, noLabel}
+use Rattle.model.specs.Step.{notPermitted, notSupported, isGap, alreadyThere, notHeld, notStratified, full, refusal}
+use Rattle.model.specs.StepFacts.{Numbered, numbered, first-none, first-append, first-all}
 use Rattle.refusals.specs.declared.Early.{Early}
 use Rattle.refusals.specs.declared.Early.the-variants.{Passed, Number, Uncovered}
 
 module _ (b : Base) (q : Request) where
-  -- rows 3 to 11
-  abbrev pub rowsBeforeStrata : List Row
-  rowsBeforeStrata =
+  -- the rows before row 9
+  abbrev pub rowsBeforeCover : List Row
+  rowsBeforeCover =
       (row 3 (outOfRange q)
       ∷ row 4 (behindClock b q)
       ∷ row 5 (badInterval q)
       ∷ row 6 (noObject b q)
       ∷ row 7 (noLabel b q)
       ∷ row 8 (notPermitted b q)
-      ∷ row 9 (notSupported plainly b q)
-      ∷ row 10 (alreadyThere b q)
-      ∷ row 11 (notHeld b q)
       ∷ [])
+
+  -- the rows between row 9 and row 12
+  abbrev pub rowsBehindCover : List Row
+  rowsBehindCover = row 10 (alreadyThere b q) ∷ row 11 (notHeld b q) ∷ []
+
+  -- the rows before row 12
+  abbrev pub rowsBeforeStrata : List Row
+  rowsBeforeStrata = rowsBeforeCover ++ (row 9 (notSupported plainly b q) ∷ rowsBehindCover)
 
   -- rows 3 to 12: the table without its last row
   abbrev pub earlyRows : List Row
   earlyRows = rowsBeforeStrata ++ (row 12 (notStratified b q) ∷ [])
 
-  -- what an answer says where the lowest number that applies is n
+  -- what an answer says where n is the number of the first row that applies
   abbrev pub saysOf : ℕ → Early → Type 0
   saysOf n Passed = n ≡ 0
   saysOf n (Number m) = (n ≡ m) × (m ≢ 0) × (m ≢ 9)
   saysOf n (Uncovered t) = (n ≡ 9) × (isGap b q t ≡ true)
 
   abbrev pub earlyIs : Early → Type 0
-  earlyIs = saysOf (lowest earlyRows)
+  earlyIs = saysOf (firstNumber earlyRows)
 
--- ---- one more row
+-- ---- rows asked one after another
 
--- behind rows whose numbers rise, one more counts where none of those applies
-lowest-more : (n : ℕ) (rows : List Row) (r : Row) → Rising n rows →
-    lowest (rows ++ (r ∷ [])) ≡ pick (eqb (lowest rows) 0) (pick (r .given) (r .number) 0) (lowest rows)
-lowest-more n [] r up = refl
-lowest-more n (x ∷ rows) r up = cases (x .given)
-    (λ e. let f : eqb (x .number) 0 ≡ false = ne-false (x .number) 0 (λ z. omega (arith, up .0)) in rw (e, f))
-    (λ e. rw e (lowest-more (x .number) rows r (up .1)))
+-- the number so far, or else that of a row that applies
+unfoldable pub orElse : ℕ → Bool → ℕ → ℕ
+orElse n applies number = pick (eqb n 0 && applies) number n
+
+-- one row more
+pub next : (n k j number : ℕ) (g h : Bool) → n ≡ orElse k g number → k ≡ j → g ≡ h → n ≡ orElse j h number
+next n k j number g h e p q = rw (e, p, q)
+
+-- after a number, each row in turn
+abbrev pub chain : ℕ → List Row → ℕ
+chain n [] = n
+chain n (r ∷ rest) = chain (orElse n (r .given) (r .number)) rest
+
+chain-after : (rows : List Row) → Numbered rows → (n : ℕ) → chain n rows ≡ pick (eqb n 0) (firstNumber rows) n
+unfolding orElse
+chain-after [] up n = cases (eqb n 0) (λ z. rw z (true-eq n 0 z)) (λ z. rw z)
+chain-after (r ∷ rest) up n = cases (eqb n 0)
+    (λ z. cases (r .given)
+    (λ e. rw (z, e) (chain-after rest (up .1) (r .number) ∙ rw (ne-false (r .number) 0 (λ y. omega (arith, up .0)))))
+    (λ e. rw (z, e) (chain-after rest (up .1) n ∙ rw z)))
+    (λ z. rw z (chain-after rest (up .1) n ∙ rw z))
+
+-- which gives the first that applies
+pub chained : (rows : List Row) → Numbered rows → chain 0 rows ≡ firstNumber rows
+chained rows up = chain-after rows up 0
+
+-- ---- rows behind others
+
+module _ (front rest : List Row) (up : Numbered front) where
+  -- a number that is given stands
+  stands : (n : ℕ) → firstNumber front ≡ n → n ≢ 0 → firstNumber (front ++ rest) ≡ n
+  stands n e f = first-append front rest up ∙ rw (e, ne-false n 0 f)
+
+  -- where none is, the rows behind decide
+  goes-on : firstNumber front ≡ 0 → firstNumber (front ++ rest) ≡ firstNumber rest
+  goes-on z = first-append front rest up ∙ rw z
+
+-- no number is 9 where no row has it
+not-nine : (rows : List Row) → allb (λ r. not (eqb (r .number) 9)) rows ≡ true → firstNumber rows ≢ 9
+not-nine rows e z =
+    let w : not (eqb (firstNumber rows) 9) ≡ true = first-all (λ k. not (eqb k 9)) rows refl e in
+    false≢true (rw z at w)
 
 module _ (b : Base) (q : Request) where
-  before-rises : Rising 2 (rowsBeforeStrata b q)
-  before-rises = (
-    omega arith,
-    (
-      omega arith,
-      (omega arith, (omega arith, (omega arith, (omega arith, (omega arith, (omega arith, (omega arith, tt))))))),
-    ),
+  before-numbered : Numbered (rowsBeforeCover b q)
+  before-numbered = numbered (rowsBeforeCover b q) refl
+
+  strata-numbered : Numbered (rowsBeforeStrata b q)
+  strata-numbered = numbered (rowsBeforeStrata b q) refl
+
+  pub early-numbered : Numbered (earlyRows b q)
+  early-numbered = numbered (earlyRows b q) refl
+
+  -- asked in turn, the rows before row 9, and those behind it, give the first that applies
+  pub before-found : (n : ℕ) → n ≡ chain 0 (rowsBeforeCover b q) → n ≡ firstNumber (rowsBeforeCover b q)
+  before-found n e = e ∙ chained (rowsBeforeCover b q) before-numbered
+
+  pub behind-found : (n : ℕ) → n ≡ chain 0 (rowsBehindCover b q) → n ≡ firstNumber (rowsBehindCover b q)
+  behind-found n e = e ∙ chained (rowsBehindCover b q) (numbered (rowsBehindCover b q) refl)
+
+  -- where none of the rows before row 9, or before row 12, applies, the fields are in their ranges
+  pub before-range : firstNumber (rowsBeforeCover b q) ≡ 0 → outOfRange q ≡ false
+  before-range z = first-none (rowsBeforeCover b q) before-numbered z _ (inl refl)
+
+  pub passed-range : firstNumber (rowsBeforeStrata b q) ≡ 0 → outOfRange q ≡ false
+  passed-range z = first-none (rowsBeforeStrata b q) strata-numbered z _ (inl refl)
+
+  -- a row before row 9 that applies stands, and where none does, row 9 decides, or those behind it
+  pub before-stands : (n : ℕ) → n ≡ firstNumber (rowsBeforeCover b q) → n ≢ 0 →
+      saysOf b q (firstNumber (rowsBeforeStrata b q)) (Number n)
+  before-stands n e f = (
+    stands (rowsBeforeCover b q) (row 9 (notSupported plainly b q) ∷ rowsBehindCover b q) before-numbered n (sym e) f,
+    f,
+    (λ z. not-nine (rowsBeforeCover b q) refl (sym e ∙ z)),
   )
 
-  pub early-rises : Rising 2 (earlyRows b q)
-  early-rises = (
-    omega arith,
-    (
-      omega arith,
-      (
-        omega arith,
-        (omega arith, (omega arith, (omega arith, (omega arith, (omega arith, (omega arith, (omega arith, tt))))))),
-      ),
-    ),
-  )
+  pub cover-decides : (x : Bool) → firstNumber (rowsBeforeCover b q) ≡ 0 → notSupported plainly b q ≡ x →
+      firstNumber (rowsBeforeStrata b q) ≡ pick x 9 (firstNumber (rowsBehindCover b q))
+  cover-decides x z e =
+      goes-on (rowsBeforeCover b q) (row 9 (notSupported plainly b q) ∷ rowsBehindCover b q) before-numbered z
+      ∙ rw e
 
-  -- row 12 behind the others
-  pub early-strata : lowest (earlyRows b q)
-      ≡ pick (eqb (lowest (rowsBeforeStrata b q)) 0) (pick (notStratified b q) 12 0) (lowest (rowsBeforeStrata b q))
-  early-strata = lowest-more 2 (rowsBeforeStrata b q) (row 12 (notStratified b q)) before-rises
+  pub behind-stands : (n : ℕ) → firstNumber (rowsBeforeCover b q) ≡ 0 → notSupported plainly b q ≡ false →
+      n ≡ firstNumber (rowsBehindCover b q) → n ≢ 0 → saysOf b q (firstNumber (rowsBeforeStrata b q)) (Number n)
+  behind-stands n z g e f = (
+    cover-decides false z g ∙ sym e,
+    f,
+    (λ y. not-nine (rowsBehindCover b q) refl (sym e ∙ y)),
+  )
 
   -- a row that applies before row 12 stands, and where none does, row 12 decides
-  pub early-stands : (n : ℕ) → n ≢ 0 → lowest (rowsBeforeStrata b q) ≡ n → lowest (earlyRows b q) ≡ n
-  early-stands n f e =
-      let g : eqb (lowest (rowsBeforeStrata b q)) 0 ≡ false =
-      ne-false (lowest (rowsBeforeStrata b q)) 0 (λ z. f (sym e ∙ z)) in
-      early-strata
-      ∙ ap (λ (x : Bool). pick x (pick (notStratified b q) 12 0) (lowest (rowsBeforeStrata b q))) g
-      ∙ e
+  pub early-stands : (n : ℕ) → n ≢ 0 → firstNumber (rowsBeforeStrata b q) ≡ n → firstNumber (earlyRows b q) ≡ n
+  early-stands n f e = stands (rowsBeforeStrata b q) (row 12 (notStratified b q) ∷ []) strata-numbered n e f
 
-  pub early-last : (x : Bool) → lowest (rowsBeforeStrata b q) ≡ 0 → notStratified b q ≡ x →
-      lowest (earlyRows b q) ≡ pick x 12 0
-  early-last x z e = early-strata ∙ (λ k. pick (eqb (z k) 0) (pick (e k) 12 0) (z k))
-
-  -- where none of rows 3 to 11 applies, the fields are in their ranges
-  pub passed-range : lowest (rowsBeforeStrata b q) ≡ 0 → outOfRange q ≡ false
-  passed-range z = lowest-none 2 (rowsBeforeStrata b q) before-rises z _ (inl refl)
+  pub early-last : (x : Bool) → firstNumber (rowsBeforeStrata b q) ≡ 0 → notStratified b q ≡ x →
+      firstNumber (earlyRows b q) ≡ pick x 12 0
+  early-last x z e = goes-on (rowsBeforeStrata b q) (row 12 (notStratified b q) ∷ []) strata-numbered z ∙ rw e
 
   -- row 13 behind all of these
   pub refusal-early : refusal plainly b q
-      ≡ pick (eqb (lowest (earlyRows b q)) 0) (pick (full plainly b q) 13 0) (lowest (earlyRows b q))
-  refusal-early = lowest-more 2 (earlyRows b q) (row 13 (full plainly b q)) early-rises
-
--- the lowest of rows 3 to 11 by what each answers
-abbrev pub lowestBefore : (r₃ r₄ r₅ r₆ r₇ r₈ r₉ r₁₀ r₁₁ : Bool) → ℕ
-lowestBefore r₃ r₄ r₅ r₆ r₇ r₈ r₉ r₁₀ r₁₁ = lowest
-    (row 3 r₃ ∷ row 4 r₄ ∷ row 5 r₅ ∷ row 6 r₆ ∷ row 7 r₇ ∷ row 8 r₈ ∷ row 9 r₉ ∷ row 10 r₁₀ ∷ row 11 r₁₁ ∷ [])
+      ≡ pick (eqb (firstNumber (earlyRows b q)) 0) (pick (full plainly b q) 13 0) (firstNumber (earlyRows b q))
+  refusal-early = first-append (earlyRows b q) (row 13 (full plainly b q) ∷ []) early-numbered

@@ -3,8 +3,9 @@ ghost use mathlib.Core.Path.{_≡_};
 ghost use mathlib.Core.Bool.{true};
 ghost use Rattle.model.specs.Encoding.{decode};
 ghost use Rattle.model.specs.Soundness.{soundBytes};
-ghost use Rattle.model.specs.Step.{lowest};
-ghost use Rattle.refusals.specs.Early.{rowsBeforeStrata, saysOf, earlyIs};
+ghost use Rattle.model.specs.Step.{firstNumber};
+ghost use Rattle.refusals.specs.Early.{rowsBeforeCover, rowsBehindCover, rowsBeforeStrata, saysOf, earlyIs};
+ghost use Rattle.refusals.specs.Early.{orElse};
 use crate::Early;
 use crate::circles::not_stratified;
 use crate::cover::uncovered;
@@ -19,40 +20,57 @@ use crate::rows::not_permitted;
 use model::Request;
 use support::Gap;
 
-// The first of rows 3 to 11 that applies. A dear test is made only where nothing lower applies.
+// The number so far, or else that of a row that applies.
+fn or_else(k: u32, applies: bool, number: u32) -> u32
+    ensures { λ n. ⌜ n ≡ orElse k applies number ⌝ }
+{
+    if (k == 0) & applies {
+        return number;
+    }
+    k
+}
+
+// The first row before row 9 that applies, or 0. A row is one line here, in the order of the table.
+fn before_cover(s: &[u8], q: Request) -> u32
+    requires { ⌜ soundBytes (now s) ≡ true ⌝ }
+    ensures { λ n. ⌜ n ≡ firstNumber (rowsBeforeCover (decode (now (s .entry))) q) ⌝ }
+{
+    let k = or_else(0, out_of_range(q), 3);
+    let k = or_else(k, behind_clock(s, q), 4);
+    let k = or_else(k, bad_interval(q), 5);
+    let k = or_else(k, no_object(s, q), 6);
+    let k = or_else(k, no_label(s, q), 7);
+    let k = or_else(k, not_permitted(s, q), 8);
+    k
+}
+
+// The first row between row 9 and row 12 that applies, or 0.
+fn behind_cover(s: &[u8], q: Request) -> u32
+    requires { ⌜ soundBytes (now s) ≡ true ⌝ }
+    ensures { λ n. ⌜ n ≡ firstNumber (rowsBehindCover (decode (now (s .entry))) q) ⌝ }
+{
+    let k = or_else(0, already_there(s, q), 10);
+    let k = or_else(k, not_held(s, q), 11);
+    k
+}
+
+// The first of rows 3 to 11 that applies. Row 9, a dear test, is asked only where none before it applies.
 pub fn before_strata(s: &[u8], q: Request) -> Early
     requires { ⌜ soundBytes (now s) ≡ true ⌝ }
-    ensures { λ r. ⌜ saysOf (decode (now (s .entry))) q (lowest (rowsBeforeStrata (decode (now (s .entry))) q)) r ⌝ }
+    ensures { λ r. ⌜ saysOf (decode (now (s .entry))) q
+        (firstNumber (rowsBeforeStrata (decode (now (s .entry))) q)) r ⌝ }
 {
-    if out_of_range(q) {
-        return Early::Number(3);
-    }
-    let behind = behind_clock(s, q);
-    let bad = bad_interval(q);
-    if behind {
-        return Early::Number(4);
-    }
-    if bad {
-        return Early::Number(5);
-    }
-    if no_object(s, q) {
-        return Early::Number(6);
-    }
-    if no_label(s, q) {
-        return Early::Number(7);
-    }
-    if not_permitted(s, q) {
-        return Early::Number(8);
+    let k = before_cover(s, q);
+    if k != 0 {
+        return Early::Number(k);
     }
     let gap = uncovered(s, q);
     match gap {
         Gap::At(t) => Early::Uncovered(t),
         Gap::None => {
-            if already_there(s, q) {
-                return Early::Number(10);
-            }
-            if not_held(s, q) {
-                return Early::Number(11);
+            let n = behind_cover(s, q);
+            if n != 0 {
+                return Early::Number(n);
             }
             Early::Passed
         }

@@ -17,17 +17,17 @@ use Rattle.model.specs.Encoding.{encode, decode}
 use Rattle.model.specs.Soundness.{soundBytes}
 use Rattle.model.specs.SoundnessFacts.{sound-bytes}
 use Rattle.model.specs.Means.{plainly}
-use Rattle.model.specs.Step.{Row, lowest, full, effect, accepting, refusal}
-use Rattle.model.specs.StepFacts.{Accepted, accepted, lowest-none}
+use Rattle.model.specs.Step.{Row, firstNumber, full, effect, accepting, refusal}
+use Rattle.model.specs.StepFacts.{Accepted, accepted, first-none}
 use Rattle.model.specs.Answers.{Answer, answering, request, shown, instantFits, Answered}
 use Rattle.theorems.specs.RequestFacts.{request-accepted, request-refused, request-unsound}
 use Rattle.refusals.specs.declared.Early.the-variants.{Number, Uncovered}
-use Rattle.refusals.specs.Early.{earlyRows, earlyIs, early-rises, refusal-early}
+use Rattle.refusals.specs.Early.{earlyRows, earlyIs, early-numbered, refusal-early}
 
 -- the bytes are sound, and none of rows 3 to 12 applies
 pub record Passed (s : List ℕ) (q : Request) : Type 0 where
   pub sound : soundBytes s ≡ true
-  pub early : lowest (earlyRows (decode s) q) ≡ 0
+  pub early : firstNumber (earlyRows (decode s) q) ≡ 0
 
 -- the reply r, and the bytes s′ that are left in the place of s
 pub record Carried (s : List ℕ) (q : Request) (r : Reply) (s′ : List ℕ) : Type 0 where
@@ -60,7 +60,7 @@ module _ (s : List ℕ) (q : Request) (e : soundBytes s ≡ true) where
       ∙ (λ i. answering (Refused (h i)) (w .0 i))
 
   -- refused by one of rows 3 to 12
-  early-refuses : (n : ℕ) → lowest (earlyRows (decode s) q) ≡ n → n ≢ 0 → request s q ≡ answering (Refused n) s
+  early-refuses : (n : ℕ) → firstNumber (earlyRows (decode s) q) ≡ n → n ≢ 0 → request s q ≡ answering (Refused n) s
   early-refuses n h z = refuses n
       (refusal-early (decode s) q
       ∙ ap (λ (m : ℕ). pick (eqb m 0) (pick (full plainly (decode s) q) 13 0) m) h
@@ -83,7 +83,7 @@ unsound-answered s q e = answered-by s q (Refused 2) s (request-unsound s q e) r
 module _ (s : List ℕ) (q : Request) (p : Passed s q) where
   -- none of rows 3 to 12 applies
   pub passed-row : (r : Row) → Mem r (earlyRows (decode s) q) → r .given ≡ false
-  passed-row = lowest-none 2 (earlyRows (decode s) q) (early-rises (decode s) q) (p .early)
+  passed-row = first-none (earlyRows (decode s) q) (early-numbered (decode s) q) (p .early)
 
   -- row 13 is left
   passed-refusal : refusal plainly (decode s) q ≡ pick (full plainly (decode s) q) 13 0

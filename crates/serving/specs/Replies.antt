@@ -1,13 +1,11 @@
 -- A reply on a line of its own in a buffer, and which replies have runs.
-use mathlib.Core.Path.{_≡_, refl, sym, ap, _∙_, subst}
+use mathlib.Core.Path.{_≡_, refl, ap, _∙_}
 use Prim.Native.Nat.{ℕ, suc, _+_, _*_, _/_, _≤_}
 use native.Mathlib.Omega.{arith}
 use mathlib.Core.Bool.{Bool, true, false, false≢true, not}
 use mathlib.Core.List.{List, [], _∷_, _++_}
-use lib.Dec.{eqb}
 use lib.ListN.{length, take, drop, set, length-append, length-set}
 use lib.Seq.{take-suc-set}
-use Rattle.foundation.specs.Tests.{cases, true-eq, false-eq}
 use Rattle.foundation.specs.declared.Interval.{Interval}
 use Rattle.model.specs.declared.Request.{Request}
 use Rattle.model.specs.declared.Access.{Access}
@@ -16,8 +14,8 @@ use Rattle.model.specs.declared.Reply.{Reply}
 use Rattle.model.specs.declared.Reply.the-variants.{Done, Refused, Unsupported, Yes, No, Runs}
 use Rattle.model.specs.Rules.{may, when}
 use Rattle.model.specs.Means.{plainly}
-use Rattle.model.specs.Step.{Row, row, lowest, refusedOr, accepting, effect}
-use Rattle.model.specs.StepFacts.{answered, turned-away}
+use Rattle.model.specs.Step.{row, accepting, effect}
+use Rattle.model.specs.StepFacts.{by-rows}
 use Rattle.model.specs.Encoding.{encode, decode}
 use Rattle.model.specs.Soundness.{soundBytes}
 use Rattle.model.specs.SoundnessFacts.{sound-bytes}
@@ -95,26 +93,19 @@ runless Yes = true
 runless No = true
 runless (Runs n) = false
 
--- what every refusal and the answer have, the outcome has
-by-rows : {A : Type 0} (P : A → Type 0) (rows : List Row) (refuse : ℕ → A) (a : A) → ((n : ℕ) → P (refuse n)) → P a →
-    P (refusedOr rows refuse a)
-by-rows P rows refuse a r p = cases (eqb (lowest rows) 0)
-    (λ e. subst P (sym (answered rows refuse a (true-eq (lowest rows) 0 e))) p)
-    (λ e. subst P (sym (turned-away rows refuse a (false-eq (lowest rows) 0 e))) (r (lowest rows)))
-
 pub request-runless : (s : List ℕ) (q : Request) → runless (request s q .reply) ≡ true
 unfolding request
 request-runless s q =
     let after = effect plainly (decode s) q in
-    by-rows (λ (a : Answer). runless (a .reply) ≡ true) (requestTable s q) (refusing s)
-    (answering (accepting (decode s) q after) (encode after)) (λ n. refl) refl
+    by-rows (requestTable s q) (refusing s) (answering (accepting (decode s) q after) (encode after))
+    (λ (a : Answer). runless (a .reply) ≡ true) refl (λ z. refl)
 
 pub may-runless : (s : List ℕ) (q : Question) → runless (mayAnswer s q) ≡ true
 unfolding mayAnswer
 may-runless s q =
     let yes? = may (decode s) (q .access) (q .instant) in
-    by-rows (λ (r : Reply). runless r ≡ true) (row 2 (not (soundBytes s)) ∷ mayTable (decode s) q) Refused
-    (mayReply yes?) (λ n. refl) (said yes?)
+    by-rows (row 2 (not (soundBytes s)) ∷ mayTable (decode s) q) Refused (mayReply yes?)
+    (λ (r : Reply). runless r ≡ true) refl (λ z. said yes?)
   where
     said : (yes? : Bool) → runless (mayReply yes?) ≡ true
     said true = refl
@@ -162,9 +153,9 @@ unfolding whenAnswer
 when-fits s x list e =
     let runs = when (decode s) x in
     let n = length runs in
-    by-rows (λ (a : Answer). RunsFit (a .reply) (a .lent))
-    (row 2 (not (soundBytes s)) ∷ whenTable (decode s) x (length list / 2) n) (refusing list)
-    (answering (Runs n) (words runs ++ drop (2 * n) list)) (λ n. tt) (
+    by-rows (row 2 (not (soundBytes s)) ∷ whenTable (decode s) x (length list / 2) n) (refusing list)
+    (answering (Runs n) (words runs ++ drop (2 * n) list)) (λ (a : Answer). RunsFit (a .reply) (a .lent)) tt
+    (λ z. (
       omega (arith, length-append (words runs) (drop (2 * n) list), words-length runs),
       when-most (decode s) (sound-bytes s e .1) x,
-    )
+    ))

@@ -1,13 +1,14 @@
 -- The replies to requests and to MAY are short: with its newline none is longer than 16 bytes. Those to WHEN fit the
 -- list of 1,100 pairs.
-use mathlib.Core.Path.{_≡_, refl, sym, subst}
+use mathlib.Core.Path.{_≡_, refl}
 use mathlib.Core.Bool.{Bool, true, false, not}
 use mathlib.Core.List.{List, [], _∷_, _++_}
 use Prim.Native.Nat.{ℕ, suc, _*_, _/_, _<_, _≤_}
 use native.Mathlib.Omega.{arith}
-use lib.Dec.{eqb}
+use lib.Dec.{ltb}
 use lib.ListN.{length, drop, length-append}
-use Rattle.foundation.specs.Tests.{cases, pick, true-eq, false-eq}
+use Rattle.foundation.specs.Tests.{cases, pick, true-le}
+use Rattle.foundation.specs.Lists.{allb}
 use Rattle.foundation.specs.declared.Interval.{Interval}
 use Rattle.model.specs.declared.Request.{Request}
 use Rattle.model.specs.declared.Access.{Access}
@@ -17,9 +18,9 @@ use Rattle.model.specs.declared.Reply.the-variants.{Done, Refused, Unsupported,
 use Rattle.model.specs.Ranges.{mostAuthorizations}
 use Rattle.model.specs.Rules.{may, when}
 use Rattle.model.specs.Means.{plainly}
-use Rattle.model.specs.Step.{Row, row, lowest, refusedOr, refusal, accepting, table, effect}
+use Rattle.model.specs.Step.{Row, row, firstNumber, refusal, accepting, table, effect}
 use Rattle.model.specs.Requests.{labels}
-use Rattle.model.specs.StepFacts.{accepted, answered, turned-away}
+use Rattle.model.specs.StepFacts.{accepted, first-all, by-rows}
 use Rattle.model.specs.Encoding.{encode, decode}
 use Rattle.model.specs.FitsFacts.{counts-fit}
 use Rattle.model.specs.Soundness.{sound, soundBytes}
@@ -37,25 +38,9 @@ use Rattle.printing.specs.Lengths.{decimal-below, done-length, refused-length}
 
 -- ---- rows of a table
 
--- every row has a number below n
-abbrev pub Below : ℕ → List Row → Type 0
-Below n [] = Unit {0}
-Below n (r ∷ rest) = (r .number < n) × Below n rest
-
-pub lowest-below : (n : ℕ) (rows : List Row) → 0 < n → Below n rows → lowest rows < n
-lowest-below n [] z w = z
-lowest-below n (r ∷ rest) z w = cases (r .given) (λ g. rw g (w .0)) (λ g. rw g (lowest-below n rest z (w .1)))
-
--- what the refusal by rows and the answer have, the outcome has
-pub by-rows : {A : Type 0} (P : A → Type 0) (rows : List Row) (refuse : ℕ → A) (a : A) → P (refuse (lowest rows)) →
-    (lowest rows ≡ 0 → P a) → P (refusedOr rows refuse a)
-by-rows P rows refuse a r p = cases (eqb (lowest rows) 0)
-    (λ e. let z = true-eq (lowest rows) 0 e in subst P (sym (answered rows refuse a z)) (p z))
-    (λ e. subst P (sym (turned-away rows refuse a (false-eq (lowest rows) 0 e))) r)
-
 -- where no row behind that of unsound bytes applies, and not that one, the bytes are sound
-sound-passed : (s : List ℕ) (rows : List Row) → lowest (row 2 (not (soundBytes s)) ∷ rows) ≡ 0 →
-    (soundBytes s ≡ true) × (lowest rows ≡ 0)
+sound-passed : (s : List ℕ) (rows : List Row) → firstNumber (row 2 (not (soundBytes s)) ∷ rows) ≡ 0 →
+    (soundBytes s ≡ true) × (firstNumber rows ≡ 0)
 sound-passed s rows z = cases (soundBytes s)
     (λ e. (e, (rw e at z)))
     (λ e. let w : _≡_ {A = ℕ} 2 0 = rw e at z in absurd (omega arith))
@@ -119,13 +104,14 @@ shown-text Yes runs = refl
 shown-text No runs = refl
 shown-text (Runs n) runs = refl
 
-refused-short : (rows : List Row) → Below 14 rows → Short (Refused (lowest rows))
-refused-short rows w = omega (arith, lowest-below 14 rows (omega arith) w)
+refused-short : (rows : List Row) → allb (λ r. ltb (r .number) 100) rows ≡ true → Short (Refused (firstNumber rows))
+refused-short rows e =
+    omega (arith, true-le (suc (firstNumber rows)) 100 (first-all (λ n. ltb n 100) rows refl e))
 
 -- ---- the replies to a request and to MAY
 
 -- a request that is accepted is given a label of 16 bits, and leaves at most 1,024 authorizations
-accepting-short : (s : List ℕ) (q : Request) → lowest (requestTable s q) ≡ 0 →
+accepting-short : (s : List ℕ) (q : Request) → firstNumber (requestTable s q) ≡ 0 →
     Short (accepting (decode s) q (effect plainly (decode s) q))
 accepting-short s q z =
     let passed = sound-passed s (table plainly (decode s) q) z in
@@ -142,27 +128,8 @@ unfolding request
 request-short s q =
     let after = effect plainly (decode s) q in
     let t = requestTable s q in
-    by-rows (λ (a : Answer). Short (a .reply)) t (refusing s)
-    (answering (accepting (decode s) q after) (encode after))
-    (refused-short t (
-      omega arith,
-      (
-        omega arith,
-        (
-          omega arith,
-          (
-            omega arith,
-            (
-              omega arith,
-              (
-                omega arith,
-                (omega arith, (omega arith, (omega arith, (omega arith, (omega arith, (omega arith, tt)))))),
-              ),
-            ),
-          ),
-        ),
-      ),
-    ))
+    by-rows t (refusing s) (answering (accepting (decode s) q after) (encode after))
+    (λ (a : Answer). Short (a .reply)) (refused-short t refl)
     (accepting-short s q)
 
 pub may-short : (s : List ℕ) (q : Question) → Short (mayAnswer s q)
@@ -170,8 +137,7 @@ unfolding mayAnswer
 may-short s q =
     let yes? = may (decode s) (q .access) (q .instant) in
     let rows = row 2 (not (soundBytes s)) ∷ mayTable (decode s) q in
-    by-rows Short rows Refused (mayReply yes?) (refused-short rows (omega arith, (omega arith, (omega arith, tt))))
-    (λ z. said yes?)
+    by-rows rows Refused (mayReply yes?) Short (refused-short rows refl) (λ z. said yes?)
   where
     said : (yes? : Bool) → Short (mayReply yes?)
     said true = tt
@@ -186,8 +152,8 @@ when-fits s x list =
     let runs = when (decode s) x in
     let n = length runs in
     let rows = whenTable (decode s) x (length list / 2) n in
-    by-rows (λ (a : Answer). RunsFit (a .reply) (a .lent)) (row 2 (not (soundBytes s)) ∷ rows) (refusing list)
-    (answering (Runs n) (words runs ++ drop (2 * n) list)) tt
+    by-rows (row 2 (not (soundBytes s)) ∷ rows) (refusing list) (answering (Runs n) (words runs ++ drop (2 * n) list))
+    (λ (a : Answer). RunsFit (a .reply) (a .lent)) tt
     (λ z. (
       omega (arith, length-append (words runs) (drop (2 * n) list), words-length runs),
       when-most (decode s) (sound-bytes s (sound-passed s rows z .0) .1) x,

@@ -2,12 +2,12 @@
 use mathlib.Core.Path.{_≡_, refl, sym, ap, _∙_}
 use mathlib.Core.Bool.{Bool, true, false, _||_}
 use mathlib.Core.List.{List, [], _∷_, _++_}
-use Prim.Native.Nat.{ℕ, suc, _+_, _≤_, _<_}
+use Prim.Native.Nat.{ℕ, suc, _≤_, _<_}
 use native.Mathlib.Omega.{arith}
 use lib.Dec.{ltb}
 use lib.ListN.{length, drop, length-append}
 use Rattle.foundation.specs.Tests.{le-true, le-false, or-intro-left, or-true-right}
-use Rattle.model.specs.Step.{Row, row, lowest, refusedOr}
+use Rattle.model.specs.Step.{Row, row, firstNumber, refusedOr}
 use Rattle.model.specs.StepFacts.{answered, turned-away}
 use Rattle.model.specs.Text.{Line, newline, readLine, printReply}
 use Rattle.model.specs.Session.{ByteTurn, byteTurn, Written, shortestBuffer, textAnswer}
@@ -61,7 +61,7 @@ module _ (s : List ℕ) (l : Line) (out : List ℕ) where
   refused-rows : tooShort ≡ true → answerTo ≡ refusing 13
   unfolding answerTo
   refused-rows e =
-      let n : lowest rows ≡ 13 = rw e in
+      let n : firstNumber rows ≡ 13 = rw e in
       turned-away rows refusing answering (λ z. omega (arith, n)) ∙ ap refusing n
 
   -- a buffer of fewer than 16 bytes

@@ -17,8 +17,8 @@ use Rattle.model.specs.declared.Reply.the-variants.{Done, Refused, Unsupported,
 use Rattle.model.specs.Base.{emptyBase}
 use Rattle.model.specs.Rules.{may, when}
 use Rattle.model.specs.Means.{plainly}
-use Rattle.model.specs.Step.{Row, row, lowest, refusedOr, accepting, effect}
-use Rattle.model.specs.StepFacts.{lowest-given, answered, turned-away}
+use Rattle.model.specs.Step.{Row, row, firstNumber, refusedOr, accepting, effect}
+use Rattle.model.specs.StepFacts.{first-given, answered, turned-away}
 use Rattle.model.specs.Encoding.{size, encode, decode}
 use Rattle.model.specs.Soundness.{soundBytes}
 use Rattle.model.specs.Answers.{Answer, answering, refusing, refusalNumber, shown, create, requestTable, request}
@@ -28,14 +28,14 @@ use Rattle.model.specs.Answers.{Answered, mayTable, whenTable, words, mayReply,
 refused : {A : Type 0} (rows : List Row) (refuse : ℕ → A) (answer : A) (number : A → ℕ) →
     ((n : ℕ) → number (refuse n) ≡ n) → number answer ≡ 0 →
     let a = refusedOr rows refuse answer in
-    number a ≢ 0 → Mem (number a) (map (λ r. r .number) rows) × (a ≡ refuse (lowest rows))
-refused {A} rows refuse answer number as-refused as-answered n = cases (eqb (lowest rows) 0)
-    (λ e. absurd (n (ap number (answered rows refuse answer (true-eq (lowest rows) 0 e)) ∙ as-answered)))
-    (λ e. let k = false-eq (lowest rows) 0 e in
-    let same : refusedOr rows refuse answer ≡ refuse (lowest rows) = turned-away rows refuse answer k in
-    let w = lowest-given rows k in
+    number a ≢ 0 → Mem (number a) (map (λ r. r .number) rows) × (a ≡ refuse (firstNumber rows))
+refused {A} rows refuse answer number as-refused as-answered n = cases (eqb (firstNumber rows) 0)
+    (λ e. absurd (n (ap number (answered rows refuse answer (true-eq (firstNumber rows) 0 e)) ∙ as-answered)))
+    (λ e. let k = false-eq (firstNumber rows) 0 e in
+    let same : refusedOr rows refuse answer ≡ refuse (firstNumber rows) = turned-away rows refuse answer k in
+    let w = first-given rows k in
     let given : number (refusedOr rows refuse answer) ≡ w .0 .number =
-    ap number same ∙ as-refused (lowest rows) ∙ sym (w .3) in (
+    ap number same ∙ as-refused (firstNumber rows) ∙ sym (w .3) in (
       subst (λ (x : ℕ). Mem x (map (λ r. r .number) rows)) (sym given) (mem-map (λ r. r .number) rows (w .0) (w .1)),
       same,
     ))
@@ -57,7 +57,7 @@ unfolding create
 create-refuses s n =
     let rows = row 2 (not (eqb (length s) size)) ∷ [] in
     let w = refused rows (refusing s) (answering (Done 0 0) (encode emptyBase)) number (λ k. refl) refl n in
-    (w .0, kept (create s) s (lowest rows) (w .1))
+    (w .0, kept (create s) s (firstNumber rows) (w .1))
 
 pub request-refuses : (s : List ℕ) (q : Request) → refusalNumber (request s q .reply) ≢ 0 →
     Mem (refusalNumber (request s q .reply)) requestNumbers × (request s q .lent ≡ s)
@@ -66,7 +66,7 @@ request-refuses s q n =
     let after = effect plainly (decode s) q in
     let w = refused (requestTable s q) (refusing s) (answering (accepting (decode s) q after) (encode after)) number
     (λ k. refl) refl n in
-    (w .0, kept (request s q) s (lowest (requestTable s q)) (w .1))
+    (w .0, kept (request s q) s (firstNumber (requestTable s q)) (w .1))
 
 -- MAY gets nothing that it could alter
 pub may-refuses : (s : List ℕ) (q : Question) → refusalNumber (mayAnswer s q) ≢ 0 →
@@ -90,7 +90,7 @@ when-refuses s x list n =
     let rows = row 2 (not (soundBytes s)) ∷ whenTable (decode s) x (length list / 2) k in
     let w = refused rows (refusing list) (answering (Runs k) (words runs ++ drop (2 * k) list)) number
     (λ k. refl) refl n in
-    (w .0, kept (whenAnswer s x list) list (lowest rows) (w .1))
+    (w .0, kept (whenAnswer s x list) list (firstNumber rows) (w .1))
 
 -- ---- the same about the code
 

@@ -11,7 +11,7 @@ use Rattle.model.specs.declared.Request.{Request}
 use Rattle.model.specs.declared.Reply.the-variants.{Done, Refused}
 use Rattle.model.specs.Base.{Base}
 use Rattle.model.specs.Means.{plainly}
-use Rattle.model.specs.Step.{lowest, accepting, refusal, effect}
+use Rattle.model.specs.Step.{firstNumber, accepting, refusal, effect}
 use Rattle.model.specs.StepFacts.{answered, turned-away}
 use Rattle.model.specs.Encoding.{encode, decode}
 use Rattle.model.specs.EncodingFacts.{decode-encode, encode-sound}
@@ -25,14 +25,14 @@ use Rattle.theorems.specs.Preservation.{effect-sound}
 pub request-unsound : (s : List ℕ) (q : Request) → soundBytes s ≡ false → request s q ≡ answering (Refused 2) s
 unfolding request
 request-unsound s q e =
-    let n : lowest (requestTable s q) ≡ 2 = rw e in
+    let n : firstNumber (requestTable s q) ≡ 2 = rw e in
     turned-away (requestTable s q) (refusing s) _ (λ z. omega (arith, n)) ∙ ap (λ (k : ℕ). answering (Refused k) s) n
 
 -- ---- on the encoding of a sound base
 
 module _ (b : Base) (q : Request) (s : sound b ≡ true) where
   -- the table is the base's
-  encoded-table : lowest (requestTable (encode b) q) ≡ refusal plainly b q
+  encoded-table : firstNumber (requestTable (encode b) q) ≡ refusal plainly b q
   encoded-table = rw (encode-sound b s, decode-encode b s)
 
   pub request-accepted : refusal plainly b q ≡ 0 →

@@ -15,7 +15,7 @@ use Rattle.model.specs.Base.{emptyBase}
 use Rattle.model.specs.Encoding.{size, encode}
 use Rattle.model.specs.EncodingFacts.{encode-sound, empty-sound}
 use Rattle.model.specs.Soundness.{soundBytes}
-use Rattle.model.specs.Step.{row, lowest}
+use Rattle.model.specs.Step.{row, firstNumber}
 use Rattle.model.specs.StepFacts.{answered}
 use Rattle.model.specs.Answers.{Answer, answering, refusing, create, requests, Answered}
 use Rattle.theorems.specs.Demand3.{Demand3, demand3}
@@ -34,7 +34,7 @@ served-bytes (q ∷ rest) s s″ (r, s′, a, w) = served-bytes rest s′ s″ w
 pub created : (s : List ℕ) → length s ≡ size → create s .lent ≡ encode emptyBase
 unfolding create
 created s e =
-    let given : lowest (row 2 (not (eqb (length s) size)) ∷ []) ≡ 0 = rw (eq-true (length s) size e) in
+    let given : firstNumber (row 2 (not (eqb (length s) size)) ∷ []) ≡ 0 = rw (eq-true (length s) size e) in
     ap (λ (a : Answer). a .lent) (answered (row 2 (not (eqb (length s) size)) ∷ []) (refusing s)
     (answering (Done 0 0) (encode emptyBase)) given)
 

@@ -19,7 +19,7 @@ use Rattle.model.specs.Rules.{may, when}
 use Rattle.model.specs.HoldsMarks.{when-count}
 use Rattle.model.specs.Means.{plainly}
 use Rattle.model.specs.Questions.{asDefined}
-use Rattle.model.specs.Step.{lowest, refusedOr, Outcome, refusal, step}
+use Rattle.model.specs.Step.{firstNumber, refusedOr, Outcome, refusal, step}
 use Rattle.model.specs.StepFacts.{answered, turned-away, step-accepted, step-refused}
 use Rattle.model.specs.Encoding.{encode}
 use Rattle.model.specs.EncodingFacts.{decode-encode, encode-sound, empty-sound}
@@ -84,12 +84,12 @@ module _ (b : Base) (s : sound b ≡ true) where
       let rows = whenTable b x pairs (length (when b x)) in
       let a = answering (Runs (length (when b x))) (words (when b x) ++ drop (2 * length (when b x)) whenList) in
       record {
-        text = ap shownRuns (when-answer x) ∙ cases (eqb (lowest rows) 0)
-            (λ e. let z = true-eq (lowest rows) 0 e in
+        text = ap shownRuns (when-answer x) ∙ cases (eqb (firstNumber rows) 0)
+            (λ e. let z = true-eq (firstNumber rows) 0 e in
             ap shownRuns (answered rows (refusing whenList) a z)
             ∙ ap printRuns (pairs-back (when b x) (drop (2 * length (when b x)) whenList))
             ∙ ap (λ (r : Reply). printReply r (when b x)) (sym (answered rows Refused (Runs (length (when b x))) z)))
-            (λ e. let n = false-eq (lowest rows) 0 e in
+            (λ e. let n = false-eq (firstNumber rows) 0 e in
             ap shownRuns (turned-away rows (refusing whenList) a n)
             ∙ ap (λ (r : Reply). printReply r (when b x))
             (sym (turned-away rows Refused (Runs (length (when b x))) n)));

@@ -8,7 +8,7 @@ use Rattle.foundation.specs.Tests.{le-true}
 use Rattle.model.specs.declared.Reply.the-variants.{Refused}
 use Rattle.model.specs.Ranges.{isInstant, lastInstant}
 use Rattle.model.specs.Encoding.{decode}
-use Rattle.model.specs.Step.{lowest}
+use Rattle.model.specs.Step.{firstNumber}
 use Rattle.model.specs.Answers.{mayReply}
 use Rattle.answers.specs.Asking.{accessRows}
 use Rattle.answers.proofs.ByRows.{asked-in, may-refused, may-answered}
@@ -29,7 +29,8 @@ returns c =
 
 -- neither row applies
 passes : (c : tie.Else1) →
-    (let a = c .before .before .before .before .args in lowest (accessRows (decode (now (a .s))) (a .q .access)) ≡ 0)
+    (let a = c .before .before .before .before .args in
+    firstNumber (accessRows (decode (now (a .s))) (a .q .access)) ≡ 0)
 passes c = omega (arith, c .if1 .left, c .before .refusal-of .ensures)
 
 holds-at-requires : tie.Need-holds-at-requires

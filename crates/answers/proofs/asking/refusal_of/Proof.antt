@@ -7,14 +7,14 @@ use mathlib.Core.List.{[], _∷_}
 use denote.Ref.{now}
 use Rattle.model.specs.Base.{exists}
 use Rattle.model.specs.Encoding.{decode}
-use Rattle.model.specs.Step.{row, lowest}
+use Rattle.model.specs.Step.{row, firstNumber}
 use Rattle.model.specs.Answers.{accessIn}
 use Rattle.answers.proofs.asking.refusal_of.Statement.{statement}
 use Rattle.answers.proofs.asking.refusal_of.Tie as tie
 
 -- by what rows 3 and 6 answer
 abbrev of-rows : Bool → Bool → ℕ
-of-rows g h = lowest (row 3 g ∷ row 6 h ∷ [])
+of-rows g h = firstNumber (row 3 g ∷ row 6 h ∷ [])
 
 returns : tie.Need-returns
 returns c =

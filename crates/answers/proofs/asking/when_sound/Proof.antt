@@ -4,7 +4,7 @@ use native.Mathlib.Omega.{arith}
 use mathlib.Core.Path.{_≡_, refl, sym, ap, _∙_}
 use denote.Ref.{now}
 use Rattle.model.specs.Encoding.{decode}
-use Rattle.model.specs.Step.{lowest}
+use Rattle.model.specs.Step.{firstNumber}
 use Rattle.model.specs.Answers.{refusing}
 use Rattle.answers.specs.Asking.{accessRows}
 use Rattle.answers.proofs.ByRows.{asked-in, when-refused, when-answered}
@@ -21,7 +21,7 @@ returns c =
 
 -- neither row applies
 passes : (c : tie.Else1) →
-    (let a = c .before .before .before .before .args in lowest (accessRows (decode (now (a .s))) (a .x)) ≡ 0)
+    (let a = c .before .before .before .before .args in firstNumber (accessRows (decode (now (a .s))) (a .x)) ≡ 0)
 passes c = omega (arith, c .if1 .left, c .before .refusal-of .ensures)
 
 list-runs-requires : tie.Need-list-runs-requires

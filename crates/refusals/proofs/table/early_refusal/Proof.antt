@@ -6,7 +6,7 @@ use mathlib.Core.Bool.{true, false}
 use native.Mathlib.Omega.{arith}
 use denote.Ref.{now}
 use Rattle.model.specs.Encoding.{decode}
-use Rattle.model.specs.Step.{lowest}
+use Rattle.model.specs.Step.{firstNumber}
 use Rattle.refusals.specs.declared.Early.the-variants.{Number, Uncovered}
 use Rattle.refusals.specs.Early.{rowsBeforeStrata, saysOf, early-stands, early-last, passed-range}
 use Rattle.refusals.proofs.table.early_refusal.Statement.{statement}
@@ -15,13 +15,13 @@ use Rattle.refusals.proofs.table.early_refusal.Tie as tie
 -- none of rows 3 to 11 applies
 none : (c : tie.After-enum-told) →
     (let d = c .before .before .before .before in
-    lowest (rowsBeforeStrata (decode (now (d .args .s))) (d .args .q)) ≡ 0)
+    firstNumber (rowsBeforeStrata (decode (now (d .args .s))) (d .args .q)) ≡ 0)
 none c =
     let m = c .before .before in
     let d = m .before .before in
     let b = decode (now (d .args .s)) in
     let q = d .args .q in
-    subst (saysOf b q (lowest (rowsBeforeStrata b q))) (c .enum-told .given .1) (m .before-strata .ensures)
+    subst (saysOf b q (firstNumber (rowsBeforeStrata b q))) (c .enum-told .given .1) (m .before-strata .ensures)
 
 not-stratified-requires : tie.Need-not-stratified-requires
 not-stratified-requires c κs =
@@ -41,8 +41,8 @@ returns-2 c =
     let d = m .before .before in
     let b = decode (now (d .args .s)) in
     let q = d .args .q in
-    let says : saysOf b q (lowest (rowsBeforeStrata b q)) (Number _) =
-    subst (saysOf b q (lowest (rowsBeforeStrata b q))) (c .before .e .given .1) (m .before-strata .ensures) in
+    let says : saysOf b q (firstNumber (rowsBeforeStrata b q)) (Number _) =
+    subst (saysOf b q (firstNumber (rowsBeforeStrata b q))) (c .before .e .given .1) (m .before-strata .ensures) in
     (early-stands b q _ (says .1) (says .0), says .1, says .2)
 
 returns-3 : tie.Need-returns-3
@@ -51,8 +51,8 @@ returns-3 c =
     let d = m .before .before in
     let b = decode (now (d .args .s)) in
     let q = d .args .q in
-    let says : saysOf b q (lowest (rowsBeforeStrata b q)) (Uncovered _) =
-    subst (saysOf b q (lowest (rowsBeforeStrata b q))) (c .before .e2 .given .1) (m .before-strata .ensures) in
+    let says : saysOf b q (firstNumber (rowsBeforeStrata b q)) (Uncovered _) =
+    subst (saysOf b q (firstNumber (rowsBeforeStrata b q))) (c .before .e2 .given .1) (m .before-strata .ensures) in
     (early-stands b q 9 (λ z. omega arith) (says .0), says .1)
 
 returns-4 : tie.Need-returns-4
