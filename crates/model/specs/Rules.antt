@@ -136,7 +136,7 @@ module _ (every : ℕ → ℕ → (ℕ → Bool) → Bool) (auths : List Authori
 
   unfoldable pub holds : ℕ → Pattern → Bool
   unfolding derivedBelow
-  holds t p = holdsBy (derivedBelow (suc (length rules))) t p
+  holds t p = holdsBy (derivedBelow (suc (2 * length rules))) t p
 
 -- any grantor, any option
 abbrev pub asked : Access → Bool → Pattern
