@@ -118,9 +118,13 @@ module _ (auths : List Authorization) (rules : List Rule) where
         operate always o (λ u. holding (below (suc k)) u (rightOf r (p .access)))
         (λ u. holding (below k) u (rightOf r (p .access))) (r .interval .start) t ≡ true →
         holding (below (suc k)) t p ≡ true
-    gives {t} {p} o r a e = by-rule (below (suc k)) t p r (a .listed) (a .left)
+    gives {t} {p} o r a e =
+        let right : (Fact → Bool) → ℕ → Bool = λ S u. holding S u (rightOf r (p .access)) in
+        let from : Operator → Bool =
+        λ o. operate always o (right (below (suc k))) (right (below k)) (r .interval .start) t in
+        by-rule (below (suc k)) t p r (a .listed) (a .left)
         (at-stratum auths rules k (fact r (p .access) t) (a .listed) (a .rank)
-        ∙ rw (a .operator) (and-intro (inInterval (r .interval) t) _ (a .inside) e))
+        ∙ and-intro (inInterval (r .interval) t) (from (r .operator)) (a .inside) (ap from (a .operator) ∙ e))
 
     not-below : (u : ℕ) (q : Pattern) → (Below k u q → ⊥) → not (holding (below k) u q) ≡ true
     not-below u q h = cases (holding (below k) u q) (λ e. absurd (h (settled u q .0 e))) (λ e. rw e)

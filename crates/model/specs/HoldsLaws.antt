@@ -16,43 +16,14 @@ use Rattle.model.specs.declared.Operator.{Operator}
 use Rattle.model.specs.declared.Operator.the-variants.{Whenever, AsLongAs, WheneverNot, Unless}
 use Rattle.model.specs.declared.Access.{Access}
 use Rattle.model.specs.Support.{live}
-use Rattle.model.specs.Stratification.{isStar, meets, fitsOption, feeds, precedes, negating, weight, stratified, stratum}
-use Rattle.model.specs.Stratification.{precedes-feeds, heavy-negates}
-use Rattle.model.specs.Rules.{Pattern, Fact, fact, fits, fitsGrantor, derivesFor, rightOf, rightHolds, operate, holdsBy, derives, derivedBelow, holds}
+use Rattle.model.specs.Stratification.{precedes, negating, weight, stratified, stratum, precedes-feeds, heavy-negates}
+use Rattle.model.specs.Rules.{Pattern, Fact, fact, fits, derivesFor, rightOf, rightHolds, operate, holdsBy, derives, derivedBelow, holds}
+use Rattle.model.specs.SideFacts.{fit-feeds}
 use Rattle.model.specs.RightFacts.{right-own}
 use Rattle.model.specs.HoldsFacts.{closed}
 use Rattle.model.specs.StratificationFacts.{feeder-not-above, feeder-below, stratum-few}
 
--- a number of a left side that fits that of a right side, its star standing for z, meets it
-fit-meets : (n m z : ℕ) → isStar n || eqb n (pick (isStar m) z m) ≡ true → meets n m ≡ true
-fit-meets n m z e = cases (isStar n)
-    (λ a. rw a)
-    (λ a. cases (isStar m) (λ b. rw (a, b)) (λ b. rw (a, b) (rw (a, b) at e)))
-
--- what fits a rule's right side is derived by a rule that feeds it
-pub fit-feeds : (q r : Rule) (x : Access) → derivesFor (rightOf r x) q ≡ true → feeds q r ≡ true
-unfolding feeds
-fit-feeds q r x e =
-    let p = rightOf r x in
-    let a = isStar (q .left .subject) || eqb (q .left .subject) (p .access .subject) in
-    let b = isStar (q .left .mode) || eqb (q .left .mode) (p .access .mode) in
-    let c = eqb (q .left .object) (r .right .object) in
-    let d = Bool·beq (q .left .negative) (r .right .negative) in
-    let g = fitsGrantor (r .grantor) (q .author) in
-    let o = fitsOption (r .option) false in
-    let u = meets (q .left .subject) (r .right .subject) in
-    let v = meets (q .left .mode) (r .right .mode) in
-    let w₁ = and-true (a && b && c && d && g) o e in
-    let w₂ = and-true (a && b && c && d) g (w₁ .0) in
-    let w₃ = and-true (a && b && c) d (w₂ .0) in
-    let w₄ = and-true (a && b) c (w₃ .0) in
-    let w₅ = and-true a b (w₄ .0) in
-    let dc = and-intro d c (w₃ .1) (w₄ .1) in
-    let dcu = and-intro (d && c) u dc (fit-meets (q .left .subject) (r .right .subject) (x .subject) (w₅ .0)) in
-    let dcuv = and-intro (d && c && u) v dcu (fit-meets (q .left .mode) (r .right .mode) (x .mode) (w₅ .1)) in
-    and-intro (d && c && u && v && g) o (and-intro (d && c && u && v) g dcuv (w₂ .1)) (w₁ .1)
-
--- and so by one that it looks at
+-- what fits a rule's right side is derived by a rule that it looks at
 fit-precedes : (q r : Rule) (x : Access) → derivesFor (rightOf r x) q ≡ true → precedes q r ≡ true
 fit-precedes q r x e = precedes-feeds q r ∙ fit-feeds q r x e
 

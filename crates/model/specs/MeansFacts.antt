@@ -36,6 +36,7 @@ keep-marks n marks p c (x ∷ xs) =
 
 -- what a request takes changes at the boundaries of its interval only, whatever its kind
 takes-steady : (q : Request) (h : Head) → Steady (takes q h) (boundaries (q .interval))
+unfolding takes
 takes-steady q h a t l e = ap (λ (inside : Bool).
     pick (is q (REVOKE ∷ [])) (eqb (h .label) (q .label))
     (pick (is q (REVOKEP ∷ REVOKEN ∷ [])) (names q h && inside)
