@@ -3,7 +3,7 @@
 use mathlib.Core.Path.{_≡_, refl, sym, ap, ap₂, _∙_}
 use mathlib.Core.Bool.{Bool, true, false, not}
 use mathlib.Core.List.{List, [], _∷_}
-use Prim.Native.Nat.{ℕ, suc, _+_, _≤_, _<_, max}
+use Prim.Native.Nat.{ℕ, suc, _+_, _*_, _≤_, _<_, max}
 use native.Mathlib.Omega.{arith}
 use native.Mathlib.Numerals.{add-one}
 use lib.Dec.{eqb}
@@ -11,12 +11,13 @@ use lib.ListN.{length, getD, set, replicate, getD-replicate}
 use lib.Seq.{getD-set-same, getD-set-other}
 use Rattle.foundation.specs.Tests.{cases, true-eq, false-eq}
 use Rattle.foundation.specs.Lists.{Mem, keepIf}
-use Rattle.foundation.specs.Graph.{most, cyclic, rankIn}
+use Rattle.foundation.specs.Graph.{most, heavy, cyclic, rankIn}
 use Rattle.foundation.specs.Totals.{count}
 use Rattle.foundation.specs.GraphFacts.{Still, rank-rounds, rank-soon, still-sound, still-rank}
 use Rattle.model.specs.declared.Rule.{Rule}
 use Rattle.model.specs.Encoding.{ruleOf, bit}
-use Rattle.model.specs.Stratification.{feeds, strict, negates, stratified, stratum}
+use Rattle.model.specs.Stratification.{feeds, precedes, negates, weight, stratified, stratum}
+use Rattle.model.specs.Stratification.{precedes-feeds, weight-negates, light}
 use Rattle.rules.specs.Masks.{maskOf, top}
 use Rattle.rules.specs.Strata.{rulesIn, ruleAt, Filled, Holds, feedersOf, raised, Same}
 use Rattle.rules.proofs.Records.{length-records, record-mem, mem-record}
@@ -51,7 +52,7 @@ round-raised n s fed neg old f a b h j k = ap₂ (λ (x y : ℕ). x + y)
 -- ---- ranks
 
 abbrev pub ranks : List Rule → ℕ → Rule → ℕ
-ranks rules k r = rankIn feeds strict negates k rules r
+ranks rules k r = rankIn precedes weight negates k rules r
 
 most-zero : (l : List Rule) → most (λ q. 0) l ≡ 0
 most-zero [] = refl
@@ -75,10 +76,14 @@ module _ (n : ℕ) (s : List ℕ) where
   unfolding rankIn
   next-ranks k b g i l =
       let r : Rule = ruleAt s i in
-      rw add-one (g i l ∙ most-add (count (negates r)) (ranks rules k) (keepIf (λ q. feeds q r) rules))
+      let same : max (count (negates r)) (most (λ q. weight q r + ranks rules k q) (keepIf (λ q. precedes q r) rules))
+      ≡ max (count (negates r)) (most (λ q. count (negates r) + ranks rules k q) (keepIf (λ q. feeds q r) rules)) =
+      λ t. max (count (negates r))
+      (most (λ q. weight-negates q r t + ranks rules k q) (keepIf (λ q. precedes-feeds q r t) rules)) in
+      rw add-one (g i l ∙ most-add (count (negates r)) (ranks rules k) (keepIf (λ q. feeds q r) rules) ∙ sym same)
 
-  pub ranks-small : (k : ℕ) (a : List ℕ) → Holds n s (ranks rules k) a → (i : ℕ) → i < n → getD a i 0 ≤ k + 1
-  ranks-small k a h i l = omega (arith, h i l, rank-rounds feeds strict negates rules k (ruleAt s i))
+  pub ranks-small : (k : ℕ) (a : List ℕ) → Holds n s (ranks rules k) a → (i : ℕ) → i < n → getD a i 0 ≤ 2 * k + 1
+  ranks-small k a h i l = omega (arith, h i l, rank-rounds precedes weight negates rules light k (ruleAt s i))
 
   -- a round of ranks: a before it, b after it
   module _ (k : ℕ) (a b : List ℕ) (h : Holds n s (ranks rules k) a)
@@ -89,7 +94,7 @@ module _ (n : ℕ) (s : List ℕ) where
     member : (i : ℕ) → i < n → Mem (ruleAt s i) rules
     member i l = record-mem 28 ruleOf n s i l
 
-    still : Same n a b → Still feeds strict negates rules k
+    still : Same n a b → Still precedes weight negates rules light k
     still e r m =
         let z = mem-record 28 ruleOf n s r m in
         let i : ℕ = z .0 in
@@ -97,18 +102,18 @@ module _ (n : ℕ) (s : List ℕ) where
 
     pub same-stratified : Same n a b → stratified rules ≡ true
     unfolding stratified
-    same-stratified e = ap not (still-sound feeds strict negates rules k (still e))
+    same-stratified e = ap not (still-sound precedes weight negates rules light k (still e))
 
     pub same-strata : Same n a b → Holds n s (stratum rules) a
     unfolding stratum
-    same-strata e i l = h i l ∙ sym (still-rank feeds strict negates rules k (still e) (ruleAt s i) (member i l))
+    same-strata e i l = h i l ∙ sym (still-rank precedes weight negates rules light k (still e) (ruleAt s i) (member i l))
 
     pub circle : k ≡ n → (Same n a b → ⊥) → stratified rules ≡ false
     unfolding stratified
-    circle e d = cases (cyclic feeds strict rules) (λ c. ap not c) (λ c. absurd (d (same c)))
+    circle e d = cases (cyclic precedes (heavy weight) rules) (λ c. ap not c) (λ c. absurd (d (same c)))
       where
-        same : cyclic feeds strict rules ≡ false → Same n a b
+        same : cyclic precedes (heavy weight) rules ≡ false → Same n a b
         same c i l =
             let w : length rules ≡ k = length-records 28 ruleOf n s ∙ sym e in
-            let q : Still feeds strict negates rules k = rw w at (rank-soon feeds strict negates rules c) in
+            let q : Still precedes weight negates rules light k = rw w at (rank-soon precedes weight negates rules light c) in
             h i l ∙ q (ruleAt s i) (member i l) ∙ sym (after i l)
