@@ -1,6 +1,6 @@
 -- Directed graphs over a list of nodes: paths, cycles through a strict edge, and ranks.
--- `edge` says which node leads to which, `strict` which edges no cycle may have, `weight` what an edge counts in a rank
--- and `own` which nodes count by themselves.
+-- `edge` says which node leads to which, `strict` which edges no cycle may have, `weight` what an edge counts in a
+-- rank, and `own` which nodes count by themselves.
 -- `reaches-path` and `cyclic-path`: the tests find exactly the paths. `cyclic-map`: nodes may have other names. What
 -- ranks are is shown in GraphFacts.
 use mathlib.Core.Path.{_≡_, refl, ap, _∙_}
@@ -62,7 +62,8 @@ module _ {K : Type 0} where
   rank edge weight own nodes r = rankIn edge weight own (length nodes * (2 * length nodes)) nodes r
 
   -- a path that ends in r, with what it counts
-  pub data Walk (edge : K → K → Bool) (weight : K → K → ℕ) (own : K → Bool) (nodes : List K) : ℕ → K → Type 0 where
+  pub data Walk (edge : K → K → Bool) (weight : K → K → ℕ) (own : K → Bool) (nodes : List K) :
+      ℕ → K → Type 0 where
     alone : {r : K} → Walk edge weight own nodes (count (own r)) r
     then : {n : ℕ} {q r : K} → Walk edge weight own nodes n q → Mem q nodes → edge q r ≡ true →
         Walk edge weight own nodes (weight q r + n) r

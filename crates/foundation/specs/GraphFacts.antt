@@ -14,8 +14,8 @@ use Rattle.foundation.specs.Tests.{cases, must-fail, and-true, and-intro
 use Rattle.foundation.specs.Lists.{keepIf, Mem, keepIf-mem, kept}
 use Rattle.foundation.specs.Totals.{count, count-le, count-mono, count-same, total-le, still-after}
 use Rattle.foundation.specs.Closure.{size, size-le, size-mono, size-less}
-use Rattle.foundation.specs.Graph.{Path, direct, onward, reaches, strictEdge, cyclic, most, heavy, rankIn, rank, Walk}
-use Rattle.foundation.specs.Graph.{alone, then, reaches-path, cyclic-path}
+use Rattle.foundation.specs.Graph.{Path, direct, onward, reaches, strictEdge, cyclic, most, heavy, rankIn, rank}
+use Rattle.foundation.specs.Graph.{Walk, alone, then, reaches-path, cyclic-path}
 
 -- ---- the most of a list
 
@@ -48,7 +48,8 @@ module _ {K : Type 0} where
 
 -- ---- rounds
 
-pub record Ranked {K : Type 0} (edge : K → K → Bool) (weight : K → K → ℕ) (own : K → Bool) (nodes : List K) : Type 0 where
+pub record Ranked {K : Type 0} (edge : K → K → Bool) (weight : K → K → ℕ) (own : K → Bool) (nodes : List K) :
+    Type 0 where
   pub atmost : (q r : K) → Mem q nodes → Mem r nodes → edge q r ≡ true →
       rank edge weight own nodes q ≤ rank edge weight own nodes r
   pub less : (q r : K) → Mem q nodes → Mem r nodes → edge q r ≡ true → heavy weight q r ≡ true →
@@ -192,7 +193,8 @@ module _ {K : Type 0} (edge : K → K → Bool) (weight : K → K → ℕ) (own 
     pub rank-settled : Still (length nodes * (2 * length nodes))
     rank-settled = still-after nodes after (length nodes * (2 * length nodes)) (λ n r m. rises n r)
         (λ n h r m. step-cong n (suc n) h r)
-        (λ n. total-le (after n) (2 * length nodes) nodes (after-few n)) (length nodes * (2 * length nodes)) (omega arith)
+        (λ n. total-le (after n) (2 * length nodes) nodes (after-few n)) (length nodes * (2 * length nodes))
+        (omega arith)
 
     -- what q contributes is in r's rank
     rank-by : (q r : K) → Mem q nodes → Mem r nodes → edge q r ≡ true →
@@ -292,7 +294,8 @@ module _ {K : Type 0} (edge : K → K → Bool) (weight : K → K → ℕ) (own 
   still-less : (n : ℕ) → Still n → {q r : K} → Path (strictEdge edge strict) edge nodes q r →
       Mem q nodes → Mem r nodes → after n q < after n r
   still-less n h {q} (direct {r} e) m k =
-      let w = and-true (edge q r) (strict q r) e in omega (arith, by-le n q r m (w .0), true-le 1 (weight q r) (w .1), h r k)
+      let w = and-true (edge q r) (strict q r) e in
+      omega (arith, by-le n q r m (w .0), true-le 1 (weight q r) (w .1), h r k)
   still-less n h (onward {p} {r} c j e) m k = omega (arith, still-less n h c m j, by-le n p r j e, h r k)
 
   -- then no strict edge lies on a cycle

@@ -174,8 +174,9 @@ module _ (auths : List Authorization) (rules : List Rule) where
     unfolding holds
     held t p = (
       (λ e. (suc (2 * length rules), held-below (suc (2 * length rules)) t p .0 e)),
-      (λ h. either (below (h .0)) t p (held-below (h .0) t p .1 (h .1)) (by-given (below (suc (2 * length rules))) t p)
-          (λ r m d e. by-rule (below (suc (2 * length rules))) t p r m d (ranks-end (h .0) (fact r (p .access) t) m e))),
+      (λ h. let S = below (suc (2 * length rules)) in
+          either (below (h .0)) t p (held-below (h .0) t p .1 (h .1)) (by-given S t p)
+          (λ r m d e. by-rule S t p r m d (ranks-end (h .0) (fact r (p .access) t) m e))),
     )
 
 -- THEOREM. 01: "MAY is yes exactly if a positive authorization is held and no denial is"

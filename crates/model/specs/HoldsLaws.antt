@@ -16,7 +16,8 @@ use Rattle.model.specs.declared.Operator.{Operator}
 use Rattle.model.specs.declared.Operator.the-variants.{Whenever, AsLongAs, WheneverNot, Unless}
 use Rattle.model.specs.declared.Access.{Access}
 use Rattle.model.specs.Support.{live}
-use Rattle.model.specs.Stratification.{precedes, negating, weight, stratified, stratum, precedes-feeds, heavy-negates}
+use Rattle.model.specs.Stratification.{precedes, negating, weight, stratified, stratum, precedes-feeds}
+use Rattle.model.specs.Stratification.{heavy-negates}
 use Rattle.model.specs.Rules.{Pattern, Fact, fact, fits, derivesFor, rightOf, rightHolds, operate, holdsBy, derives, derivedBelow, holds}
 use Rattle.model.specs.SideFacts.{fit-feeds}
 use Rattle.model.specs.RightFacts.{right-own}
@@ -39,8 +40,9 @@ StrictlyFed r p = (q : Rule) → derivesFor p q ≡ true → (precedes q r ≡ t
 pub strictly-fed : (r : Rule) → negating (r .operator) ≡ true → (p : Pattern) → Fed r p → StrictlyFed r p
 strictly-fed r g p h q e = (h q e, heavy-negates q r ∙ g)
 
--- A rule's right side looks up to the rule's stratum only at what the rules it looks at derive, and below it only at what
--- those derive whose step counts: where that is settled, `all` being what holds at last, so is the right side.
+-- A rule's right side looks up to the rule's stratum only at what those derive that the rule looks at, and below it
+-- only at what those of them derive whose step counts: where that is settled, `all` being what holds at last, so is
+-- the right side.
 pub right-settled : (r : Rule) (x : Access) (same lower all : Pattern → Bool) →
     ((p : Pattern) → Fed r p → same p ≡ all p) → ((p : Pattern) → StrictlyFed r p → lower p ≡ all p) →
     rightHolds same lower (rightOf r x) ≡ rightHolds all all (rightOf r x)
@@ -87,8 +89,8 @@ module _ (auths : List Authorization) (rules : List Rule) where
       (λ e. let i = false-le k n e in let q : suc n ≡ k = omega arith in ap (λ (j : ℕ). below j x) q)
 
   -- so what a rule derives is settled with its stratum
-  pub settled-at : (k : ℕ) (x : Fact) → Mem (x .rule) rules → stratum rules (x .rule) < k → k ≤ suc (2 * length rules) →
-      derived x ≡ derivedBelow always auths rules k x
+  pub settled-at : (k : ℕ) (x : Fact) → Mem (x .rule) rules → stratum rules (x .rule) < k →
+      k ≤ suc (2 * length rules) → derived x ≡ derivedBelow always auths rules k x
   settled-at k x m h l = below-upto k (suc (2 * length rules)) x m h l
 
   -- a stratum is closed under its rules

@@ -1,5 +1,5 @@
--- What is looked for and what is given: the laws of `fits`, `standsFor`, `derivesFor`, `rightOf` and `feeds`, each exactly
--- if its tests pass. Who looks into these otherwise says so on an `unfolding` line.
+-- What is looked for and what is given: the laws of `fits`, `standsFor`, `derivesFor`, `rightOf` and `feeds`. Who
+-- looks into these otherwise says so on an `unfolding` line.
 use mathlib.Core.Path.{_≡_}
 use mathlib.Core.Logic.{_↔_}
 use Prim.Native.Nat.{ℕ}

@@ -1,4 +1,4 @@
--- Which rule feeds which, forbidden circles and ranks (01, "Rules"): a graph whose edges have weights, and its strata.
+-- Which rule feeds which, forbidden circles and ranks (01, "Rules"): a graph with weights, and its strata.
 -- Theorem 3: `stratified-path`, `stratum-most`, `stratum-walk` in StratificationFacts.
 -- `feeds`, `precedes` and `weight` are used through the laws at the end and those of SideFacts.
 use mathlib.Core.Path.{_≡_, refl, sym, ap, _∙_}

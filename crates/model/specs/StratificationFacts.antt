@@ -63,8 +63,12 @@ module _ (rules : List Rule) where
     (λ e. let w = cyclic-path precedes (heavy weight) rules .0
         (not-false (cyclic precedes (heavy weight) rules) e) in
         let v = begins (w .2) (w .1) in
-        let r = v .0 in
-        (r, v .1, sym (heavy-negates (w .0) r) ∙ v .2, subst (λ (T : Type 0). T) (path-feeds rules r r) (v .4 r (v .3)))),
+        let r = v .0 in (
+          r,
+          v .1,
+          sym (heavy-negates (w .0) r) ∙ v .2,
+          subst (λ (T : Type 0). T) (path-feeds rules r r) (v .4 r (v .3)),
+        )),
     (λ c. ap not (circle (c .0) (c .1) (c .2)
         (subst (λ (T : Type 0). T) (sym (path-feeds rules (c .0) (c .0))) (c .3)))),
   )

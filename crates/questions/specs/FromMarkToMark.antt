@@ -47,7 +47,8 @@ module _ (auths : List Authorization) (rules : List Rule) (D : Access → Bool) 
       before-next X a m l (next-clear a (marks auths rules) d (m - 1) (omega arith)) w
 
   -- with every stratum swept all is right
-  pub all-right : stratified rules ≡ true → (t : ℕ) (X : Bits) → RightBelow auths rules D t (suc (2 * length rules)) X →
+  pub all-right : stratified rules ≡ true → (t : ℕ) (X : Bits) →
+      RightBelow auths rules D t (suc (2 * length rules)) X →
       Right auths rules D t X
   all-right s t X h r x n = h r x n (omega (arith, stratum-few rules s r (n .0)))
 
