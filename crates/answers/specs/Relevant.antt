@@ -1,15 +1,14 @@
 -- The authorizations that matter to a question: those to a subject that counts that are for the access asked, or fit
 -- the right side of a rule. MAY and WHEN are the same by these alone (`may-kept`, `when-kept`).
 use mathlib.Core.Path.{_≡_, refl, sym, ap, ap₂, _∙_, subst}
-use mathlib.Core.Logic.{inl, inr}
 use Prim.Native.Nat.{ℕ, suc, _*_, _≤_, _<_}
 use native.Mathlib.Omega.{arith}
 use mathlib.Core.Bool.{Bool, true, false, not, _&&_, _||_, Bool·beq}
 use mathlib.Core.List.{List, [], _∷_}
 use lib.Dec.{eqb}
 use lib.ListN.{length}
-use Rattle.foundation.specs.Tests.{le-true, true-eq, and-true, and-intro, or-intro-left, or-true-right}
-use Rattle.foundation.specs.Lists.{anyb, keepIf, kept, Mem, mem-any, conjunct}
+use Rattle.foundation.specs.Tests.{le-true, true-eq, and-true, and-intro, and-four, or-intro-left, or-true-right}
+use Rattle.foundation.specs.Lists.{anyb, keepIf, kept, Mem, mem-any}
 use Rattle.foundation.specs.Intervals.{always, maximal}
 use Rattle.model.specs.declared.Head.{Head}
 use Rattle.model.specs.declared.Authorization.{Authorization}
@@ -18,6 +17,7 @@ use Rattle.model.specs.declared.Access.{Access}
 use Rattle.model.specs.Ranges.{isSubject, isMode, isObject, lastInstant}
 use Rattle.model.specs.Stratification.{fitsOption}
 use Rattle.model.specs.Rules.{Pattern, fitsGrantor, fits, rightOf, holds, asked, mayWith, may, when}
+use Rattle.model.specs.SideFacts.{fits-is}
 use Rattle.model.specs.Answers.{accessIn}
 use Rattle.support.specs.Cover.{authorizationsIn}
 use Rattle.rules.specs.Strata.{rulesIn, ruleAt}
@@ -38,30 +38,15 @@ matters U rules x a =
 
 -- one that fits is to the subject that is looked for, and is so in all but subject and mode
 module _ (p : Pattern) (h : Head) (e : fits p h ≡ true) where
-  abbrev tests : List Bool
-  tests =
-      eqb (h .subject) (p .access .subject)
-      ∷ eqb (h .mode) (p .access .mode)
-      ∷ eqb (h .object) (p .access .object)
-      ∷ Bool·beq (h .negative) (p .negative)
-      ∷ fitsGrantor (p .grantor) (h .grantor)
-      ∷ fitsOption (p .option) (h .option)
-      ∷ []
-
   fits-subject : h .subject ≡ p .access .subject
-  fits-subject = true-eq (h .subject) (p .access .subject) (conjunct tests e _ (inl refl))
+  fits-subject = true-eq (h .subject) (p .access .subject) (fits-is p h .0 e .0)
 
   fits-rest : eqb (h .object) (p .access .object) && Bool·beq (h .negative) (p .negative)
       && fitsGrantor (p .grantor) (h .grantor) && fitsOption (p .option) (h .option) ≡ true
   fits-rest =
-      let o = eqb (h .object) (p .access .object) in
-      let n = Bool·beq (h .negative) (p .negative) in
-      let g = fitsGrantor (p .grantor) (h .grantor) in
-      and-intro (o && n && g) (fitsOption (p .option) (h .option))
-      (and-intro (o && n) g
-      (and-intro o n (conjunct tests e _ (inr (inr (inl refl)))) (conjunct tests e _ (inr (inr (inr (inl refl))))))
-      (conjunct tests e _ (inr (inr (inr (inr (inl refl)))))))
-      (conjunct tests e _ (inr (inr (inr (inr (inr (inl refl)))))))
+      let w = fits-is p h .0 e in
+      and-four (eqb (h .object) (p .access .object)) (Bool·beq (h .negative) (p .negative))
+      (fitsGrantor (p .grantor) (h .grantor)) (fitsOption (p .option) (h .option)) .1 (w .2, w .3, w .4, w .5)
 
 module _ (U : List ℕ) (rules : List Rule) (inward : Inward rules (counted U)) (x : Access)
     (there : counted U x ≡ true) where
@@ -86,6 +71,7 @@ module _ (U : List ℕ) (rules : List Rule) (inward : Inward rules (counted U)) 
 
   right-matters : (r : Rule) (y : Access) → Node rules (counted U) r y → (a : Authorization) →
       fits (rightOf r y) (a .head) ≡ true → matters U rules x a ≡ true
+  unfolding rightOf
   right-matters r y n a e =
       let h = a .head in
       and-intro (among U (h .subject)) (isFor x h || anyb (fitsRight h) rules)

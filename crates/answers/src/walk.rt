@@ -70,7 +70,7 @@ fn holds_in(lines: &[u8], na: usize, body: &[u8], n: usize, x: Access, t: u32) -
     ensures { λ r. ⌜ r ≡ mayIn (now (lines .entry)) na (now (body .entry)) n x t ⌝ }
 {
     let mut u = [0u16; 65];
-    let mut levels = [0u16; 64];
+    let mut levels = [0u16; 65];
     let mut sides = [0u8; 256];
     let mut feed = [0u64; 64];
     let mut masks = [0u64; 1024];
@@ -147,7 +147,7 @@ fn scan(
     n: usize,
     u: &[u16; 65],
     o: Outline,
-    levels: &[u16; 64],
+    levels: &[u16; 65],
     sides: &[u8; 256],
     feed: &[u64; 64],
     masks: &[u64; 1024],
@@ -214,7 +214,7 @@ fn runs_in(
     ensures { λ r. ⌜ Listing (whenIn (now (lines .entry)) na (now (body .entry)) n x) r (now (runs .exit)) ⌝ }
 {
     let mut u = [0u16; 65];
-    let mut levels = [0u16; 64];
+    let mut levels = [0u16; 65];
     let mut sides = [0u8; 256];
     let mut feed = [0u64; 64];
     let mut masks = [0u64; 1024];

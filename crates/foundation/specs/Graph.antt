@@ -1,5 +1,6 @@
 -- Directed graphs over a list of nodes: paths, cycles through a strict edge, and ranks.
--- `edge` says which node leads to which, `strict` which edges count, `own` which nodes count by themselves.
+-- `edge` says which node leads to which, `strict` which edges no cycle may have, `weight` what an edge counts in a
+-- rank, and `own` which nodes count by themselves.
 -- `reaches-path` and `cyclic-path`: the tests find exactly the paths. `cyclic-map`: nodes may have other names. What
 -- ranks are is shown in GraphFacts.
 use mathlib.Core.Path.{_≡_, refl, ap, _∙_}
@@ -8,6 +9,7 @@ use Prim.Native.Nat.{ℕ, zero, suc, _+_, _*_, max}
 use native.Mathlib.Omega.{arith}
 use mathlib.Core.Bool.{Bool, true, false, _&&_, _||_, false≢true}
 use mathlib.Core.List.{List, [], _∷_, map}
+use lib.Dec.{ltb}
 use lib.ListN.{length, length-map}
 use Rattle.foundation.specs.Tests.{and-true, and-intro, or-true-right, or-intro-left, or-cases}
 use Rattle.foundation.specs.Lists.{anyb, keepIf, Mem, any-mem, mem-any, any-cong, any-cong-mem, any-map}
@@ -44,22 +46,27 @@ module _ {K : Type 0} where
   most f [] = 0
   most f (r ∷ rs) = max (f r) (most f rs)
 
-  -- the most that a path of at most n edges counts which ends in r: its strict edges, and its first node's own
-  unfoldable pub rankIn : (edge strict : K → K → Bool) (own : K → Bool) → ℕ → List K → K → ℕ
-  rankIn edge strict own zero nodes r = count (own r)
-  rankIn edge strict own (suc n) nodes r = max (count (own r))
-      (most (λ q. count (strict q r) + rankIn edge strict own n nodes q) (keepIf (λ q. edge q r) nodes))
+  -- an edge that counts is strict
+  abbrev pub heavy : (K → K → ℕ) → K → K → Bool
+  heavy weight q r = ltb 0 (weight q r)
 
-  -- rounds enough that one more adds nothing, if no strict edge lies on a cycle (`rank-settled`)
-  unfoldable pub rank : (edge strict : K → K → Bool) (own : K → Bool) → List K → K → ℕ
+  -- the most that a path of at most n edges counts which ends in r: its edges' weights, and its first node's own
+  unfoldable pub rankIn : (edge : K → K → Bool) (weight : K → K → ℕ) (own : K → Bool) → ℕ → List K → K → ℕ
+  rankIn edge weight own zero nodes r = count (own r)
+  rankIn edge weight own (suc n) nodes r = max (count (own r))
+      (most (λ q. weight q r + rankIn edge weight own n nodes q) (keepIf (λ q. edge q r) nodes))
+
+  -- rounds enough that one more adds nothing, if no edge that counts lies on a cycle (`rank-settled`)
+  unfoldable pub rank : (edge : K → K → Bool) (weight : K → K → ℕ) (own : K → Bool) → List K → K → ℕ
   unfolding rankIn
-  rank edge strict own nodes r = rankIn edge strict own (length nodes * length nodes) nodes r
+  rank edge weight own nodes r = rankIn edge weight own (length nodes * (2 * length nodes)) nodes r
 
   -- a path that ends in r, with what it counts
-  pub data Walk (edge strict : K → K → Bool) (own : K → Bool) (nodes : List K) : ℕ → K → Type 0 where
-    alone : {r : K} → Walk edge strict own nodes (count (own r)) r
-    then : {n : ℕ} {q r : K} → Walk edge strict own nodes n q → Mem q nodes → edge q r ≡ true →
-        Walk edge strict own nodes (count (strict q r) + n) r
+  pub data Walk (edge : K → K → Bool) (weight : K → K → ℕ) (own : K → Bool) (nodes : List K) :
+      ℕ → K → Type 0 where
+    alone : {r : K} → Walk edge weight own nodes (count (own r)) r
+    then : {n : ℕ} {q r : K} → Walk edge weight own nodes n q → Mem q nodes → edge q r ≡ true →
+        Walk edge weight own nodes (weight q r + n) r
 
 -- ---- what `reaches` finds
 

@@ -14,8 +14,8 @@ use Rattle.foundation.specs.Tests.{cases, must-fail, and-true, and-intro
 use Rattle.foundation.specs.Lists.{keepIf, Mem, keepIf-mem, kept}
 use Rattle.foundation.specs.Totals.{count, count-le, count-mono, count-same, total-le, still-after}
 use Rattle.foundation.specs.Closure.{size, size-le, size-mono, size-less}
-use Rattle.foundation.specs.Graph.{Path, direct, onward, reaches, strictEdge, cyclic, most, rankIn, rank, Walk}
-use Rattle.foundation.specs.Graph.{alone, then, reaches-path, cyclic-path}
+use Rattle.foundation.specs.Graph.{Path, direct, onward, reaches, strictEdge, cyclic, most, heavy, rankIn, rank}
+use Rattle.foundation.specs.Graph.{Walk, alone, then, reaches-path, cyclic-path}
 
 -- ---- the most of a list
 
@@ -48,28 +48,33 @@ module _ {K : Type 0} where
 
 -- ---- rounds
 
-pub record Ranked {K : Type 0} (edge strict : K → K → Bool) (own : K → Bool) (nodes : List K) : Type 0 where
+pub record Ranked {K : Type 0} (edge : K → K → Bool) (weight : K → K → ℕ) (own : K → Bool) (nodes : List K) :
+    Type 0 where
   pub atmost : (q r : K) → Mem q nodes → Mem r nodes → edge q r ≡ true →
-      rank edge strict own nodes q ≤ rank edge strict own nodes r
-  pub less : (q r : K) → Mem q nodes → Mem r nodes → edge q r ≡ true → strict q r ≡ true →
-      rank edge strict own nodes q < rank edge strict own nodes r
-  pub few : (r : K) → Mem r nodes → rank edge strict own nodes r ≤ length nodes
+      rank edge weight own nodes q ≤ rank edge weight own nodes r
+  pub less : (q r : K) → Mem q nodes → Mem r nodes → edge q r ≡ true → heavy weight q r ≡ true →
+      rank edge weight own nodes q < rank edge weight own nodes r
+  pub few : (r : K) → Mem r nodes → rank edge weight own nodes r ≤ 2 * length nodes
 
-module _ {K : Type 0} (edge strict : K → K → Bool) (own : K → Bool) (nodes : List K) where
+module _ {K : Type 0} (edge : K → K → Bool) (weight : K → K → ℕ) (own : K → Bool) (nodes : List K)
+    (light : (q r : K) → weight q r ≤ 2) where
+  abbrev strict : K → K → Bool
+  strict = heavy weight
+
   -- the rank after n rounds
   abbrev after : ℕ → K → ℕ
-  after n = rankIn edge strict own n nodes
+  after n = rankIn edge weight own n nodes
 
   -- one more round changes no node's rank
   abbrev pub Still : ℕ → Type 0
-  Still n = (r : K) → Mem r nodes → rankIn edge strict own n nodes r ≡ rankIn edge strict own (suc n) nodes r
+  Still n = (r : K) → Mem r nodes → rankIn edge weight own n nodes r ≡ rankIn edge weight own (suc n) nodes r
 
   -- the nodes with an edge to r, and what such a node q contributes
   abbrev before : K → List K
   before r = keepIf (λ q. edge q r) nodes
 
   abbrev by : ℕ → K → K → ℕ
-  by n r q = count (strict q r) + after n q
+  by n r q = weight q r + after n q
 
   rank-zero : (r : K) → after zero r ≡ count (own r)
   unfolding rankIn
@@ -105,15 +110,15 @@ module _ {K : Type 0} (edge strict : K → K → Bool) (own : K → Bool) (nodes
   rises (suc n) r = after-le n (after (suc (suc n)) r) r (own-le (suc (suc n)) r)
       (λ q m e. omega (arith, rises n q, by-le (suc n) q r m e))
 
-  -- a round adds at most one
-  pub rank-rounds : (n : ℕ) (r : K) → rankIn edge strict own n nodes r ≤ n + 1
+  -- a round adds at most two
+  pub rank-rounds : (n : ℕ) (r : K) → rankIn edge weight own n nodes r ≤ 2 * n + 1
   rank-rounds zero r = omega (arith, rank-zero r, count-le (own r))
-  rank-rounds (suc n) r = after-le n (suc n + 1) r (omega (arith, count-le (own r)))
-      (λ q m e. omega (arith, rank-rounds n q, count-le (strict q r)))
+  rank-rounds (suc n) r = after-le n (2 * suc n + 1) r (omega (arith, count-le (own r)))
+      (λ q m e. omega (arith, rank-rounds n q, light q r))
 
   -- a bound that every node's own and every edge keep to is kept to by the ranks
   within : (g : K → ℕ) → ((r : K) → Mem r nodes → count (own r) ≤ g r) →
-      ((q r : K) → Mem q nodes → Mem r nodes → edge q r ≡ true → count (strict q r) + g q ≤ g r) →
+      ((q r : K) → Mem q nodes → Mem r nodes → edge q r ≡ true → weight q r + g q ≤ g r) →
       (n : ℕ) (r : K) → Mem r nodes → after n r ≤ g r
   within g a b zero r m = omega (arith, rank-zero r, a r m)
   within g a b (suc n) r m = after-le n (g r) r (a r m) (λ q k e. omega (arith, within g a b n q k, b q r k m e))
@@ -122,10 +127,10 @@ module _ {K : Type 0} (edge strict : K → K → Bool) (own : K → Bool) (nodes
   step-cong : (m n : ℕ) → ((q : K) → Mem q nodes → after m q ≡ after n q) →
       (r : K) → after (suc m) r ≡ after (suc n) r
   step-cong m n h r = rank-step m r ∙ ap (max (count (own r))) (most-cong (by m r) (by n r) (before r)
-      (λ q k. ap (λ (i : ℕ). count (strict q r) + i) (h q (kept (λ q. edge q r) nodes q k .0)))) ∙ sym (rank-step n r)
+      (λ q k. ap (λ (i : ℕ). weight q r + i) (h q (kept (λ q. edge q r) nodes q k .0)))) ∙ sym (rank-step n r)
 
   -- some walk counts as much
-  walk-after : (n : ℕ) (r : K) → Walk edge strict own nodes (after n r) r
+  walk-after : (n : ℕ) (r : K) → Walk edge weight own nodes (after n r) r
   walk-after zero r = rw (rank-zero r) alone
   walk-after (suc n) r = rw (rank-step n r) (⊎-elim
       (λ e. rw e alone)
@@ -134,13 +139,13 @@ module _ {K : Type 0} (edge strict : K → K → Bool) (own : K → Bool) (nodes
       (most-from (by n r) (before r) (count (own r))))
 
   -- the rank is what some walk counts
-  pub rank-walk : (r : K) → Walk edge strict own nodes (rank edge strict own nodes r) r
+  pub rank-walk : (r : K) → Walk edge weight own nodes (rank edge weight own nodes r) r
   unfolding rank
-  rank-walk r = walk-after (length nodes * length nodes) r
+  rank-walk r = walk-after (length nodes * (2 * length nodes)) r
 
-  rank-own : (r : K) → count (own r) ≤ rank edge strict own nodes r
+  rank-own : (r : K) → count (own r) ≤ rank edge weight own nodes r
   unfolding rank
-  rank-own r = own-le (length nodes * length nodes) r
+  rank-own r = own-le (length nodes * (2 * length nodes)) r
 
   -- ---- no strict edge lies on a cycle
 
@@ -158,24 +163,25 @@ module _ {K : Type 0} (edge strict : K → K → Bool) (own : K → Bool) (nodes
 
     -- an edge to r: what is above q is above r, and so is q itself, which is not above q, if the edge is strict
     above-less : (q r : K) → Mem q nodes → Mem r nodes → edge q r ≡ true →
-        count (strict q r) + size (above q) nodes ≤ size (above r) nodes
+        weight q r + 2 * size (above q) nodes ≤ 2 * size (above r) nodes
     above-less q r m n e = cases (strict q r)
-        (λ s. rw s (omega (
+        (λ s. omega (
           arith,
+          light q r,
           size-less (above q) (above r) nodes more q m (no-return q m)
               (above-path q r n .1 (direct (and-intro (edge q r) (strict q r) e s))),
-        )))
-        (λ s. rw s (omega (arith, size-mono (above q) (above r) nodes more)))
+        ))
+        (λ s. omega (arith, false-le 1 (weight q r) s, size-mono (above q) (above r) nodes more))
       where
         more : (p : K) → Mem p nodes → above q p ≡ true → above r p ≡ true
         more p k a = above-path p r n .1 (onward (above-path p q m .0 a) m e)
 
-    after-above : (n : ℕ) (r : K) → Mem r nodes → after n r ≤ 1 + size (above r) nodes
-    after-above = within (λ r. 1 + size (above r) nodes) (λ r m. omega (arith, count-le (own r)))
+    after-above : (n : ℕ) (r : K) → Mem r nodes → after n r ≤ 1 + 2 * size (above r) nodes
+    after-above = within (λ r. 1 + 2 * size (above r) nodes) (λ r m. omega (arith, count-le (own r)))
         (λ q r m k e. omega (arith, above-less q r m k e))
 
     -- r itself is not above r
-    after-few : (n : ℕ) (r : K) → Mem r nodes → after n r ≤ length nodes
+    after-few : (n : ℕ) (r : K) → Mem r nodes → after n r ≤ 2 * length nodes
     after-few n r m = omega (
       arith,
       after-above n r m,
@@ -184,61 +190,62 @@ module _ {K : Type 0} (edge strict : K → K → Bool) (own : K → Bool) (nodes
     )
 
     -- the rank's rounds are enough
-    pub rank-settled : Still (length nodes * length nodes)
-    rank-settled = still-after nodes after (length nodes * length nodes) (λ n r m. rises n r)
+    pub rank-settled : Still (length nodes * (2 * length nodes))
+    rank-settled = still-after nodes after (length nodes * (2 * length nodes)) (λ n r m. rises n r)
         (λ n h r m. step-cong n (suc n) h r)
-        (λ n. total-le (after n) (length nodes) nodes (after-few n)) (length nodes * length nodes) (omega arith)
+        (λ n. total-le (after n) (2 * length nodes) nodes (after-few n)) (length nodes * (2 * length nodes))
+        (omega arith)
 
     -- what q contributes is in r's rank
     rank-by : (q r : K) → Mem q nodes → Mem r nodes → edge q r ≡ true →
-        count (strict q r) + rank edge strict own nodes q ≤ rank edge strict own nodes r
+        weight q r + rank edge weight own nodes q ≤ rank edge weight own nodes r
     unfolding rank
-    rank-by q r m n e = omega (arith, by-le (length nodes * length nodes) q r m e, rank-settled r n)
+    rank-by q r m n e = omega (arith, by-le (length nodes * (2 * length nodes)) q r m e, rank-settled r n)
 
-    pub ranked : Ranked edge strict own nodes
+    pub ranked : Ranked edge weight own nodes
     unfolding rank
     ranked = record {
       atmost = λ q r m n e. omega (arith, rank-by q r m n e);
-      less = λ q r m n e s. omega (arith, rank-by q r m n e, ap count s);
-      few = after-few (length nodes * length nodes);
+      less = λ q r m n e s. omega (arith, rank-by q r m n e, true-le 1 (weight q r) s);
+      few = after-few (length nodes * (2 * length nodes));
     }
 
-    walk-le : {n : ℕ} {r : K} → Walk edge strict own nodes n r → Mem r nodes → n ≤ rank edge strict own nodes r
+    walk-le : {n : ℕ} {r : K} → Walk edge weight own nodes n r → Mem r nodes → n ≤ rank edge weight own nodes r
     walk-le (alone {r}) m = rank-own r
     walk-le (then {n} {q} {r} w k e) m = omega (arith, walk-le w k, rank-by q r k m e)
 
     -- no walk counts more
-    pub rank-most : (r : K) → Mem r nodes → {n : ℕ} → Walk edge strict own nodes n r →
-        n ≤ rank edge strict own nodes r
+    pub rank-most : (r : K) → Mem r nodes → {n : ℕ} → Walk edge weight own nodes n r →
+        n ≤ rank edge weight own nodes r
     rank-most r m w = walk-le w m
 
     -- ---- as many rounds as there are nodes are enough: each finds the rank of one node more, until all are found
 
     -- n rounds find the rank of r
     abbrev known : ℕ → K → Bool
-    known n r = leb (rank edge strict own nodes r) (after n r)
+    known n r = leb (rank edge weight own nodes r) (after n r)
 
-    known-le : (n : ℕ) (r : K) → known n r ≡ true → rank edge strict own nodes r ≤ after n r
-    known-le n r e = true-le (rank edge strict own nodes r) (after n r) e
+    known-le : (n : ℕ) (r : K) → known n r ≡ true → rank edge weight own nodes r ≤ after n r
+    known-le n r e = true-le (rank edge weight own nodes r) (after n r) e
 
-    unknown-less : (n : ℕ) (r : K) → known n r ≡ false → after n r < rank edge strict own nodes r
-    unknown-less n r e = false-le (rank edge strict own nodes r) (after n r) e
+    unknown-less : (n : ℕ) (r : K) → known n r ≡ false → after n r < rank edge weight own nodes r
+    unknown-less n r e = false-le (rank edge weight own nodes r) (after n r) e
 
     known-on : (n : ℕ) (r : K) → known n r ≡ true → known (suc n) r ≡ true
-    known-on n r e = le-true (rank edge strict own nodes r) (after (suc n) r)
+    known-on n r e = le-true (rank edge weight own nodes r) (after (suc n) r)
         (omega (arith, known-le n r e, rises n r))
 
     -- if a round finds no further one, all were found: else one less for each that is missing would bound the ranks
     module _ (n : ℕ) (none : (r : K) → Mem r nodes → count (known n r) ≡ count (known (suc n) r)) where
       abbrev lower : K → ℕ
-      lower r = rank edge strict own nodes r - count (not (known n r))
+      lower r = rank edge weight own nodes r - count (not (known n r))
 
       lower-own : (r : K) → Mem r nodes → count (own r) ≤ lower r
       lower-own r m = cases (known n r)
           (λ e. rw e (omega (arith, rank-own r)))
           (λ e. rw e (omega (arith, unknown-less n r e, own-le n r)))
 
-      lower-edge : (q r : K) → Mem q nodes → Mem r nodes → edge q r ≡ true → count (strict q r) + lower q ≤ lower r
+      lower-edge : (q r : K) → Mem q nodes → Mem r nodes → edge q r ≡ true → weight q r + lower q ≤ lower r
       lower-edge q r m k e = cases (known n r)
           (λ a. rw a (omega (arith, rank-by q r m k e)))
           (λ a. cases (known n q)
@@ -251,7 +258,7 @@ module _ {K : Type 0} (edge strict : K → K → Bool) (own : K → Bool) (nodes
       known-all r m = cases (known n r) (λ e. e) (λ e. absurd (omega (
         arith,
         unknown-less n r e,
-        rw e at (within lower lower-own lower-edge (length nodes * length nodes) r m),
+        rw e at (within lower lower-own lower-edge (length nodes * (2 * length nodes)) r m),
       )))
 
     all-known : (r : K) → Mem r nodes → known (length nodes) r ≡ true
@@ -261,11 +268,11 @@ module _ {K : Type 0} (edge strict : K → K → Bool) (own : K → Bool) (nodes
         (λ n. omega (arith, total-le (λ r. count (known n r)) 1 nodes (λ r m. count-le (known n r))))
         (length nodes) (omega arith))
 
-    known-rank : (n : ℕ) (r : K) → Mem r nodes → known n r ≡ true → after n r ≡ rank edge strict own nodes r
+    known-rank : (n : ℕ) (r : K) → Mem r nodes → known n r ≡ true → after n r ≡ rank edge weight own nodes r
     known-rank n r m e = omega (
       arith,
       known-le n r e,
-      within (rank edge strict own nodes) (λ r m. rank-own r) rank-by n r m,
+      within (rank edge weight own nodes) (λ r m. rank-own r) rank-by n r m,
     )
 
     pub rank-soon : Still (length nodes)
@@ -277,7 +284,7 @@ module _ {K : Type 0} (edge strict : K → K → Bool) (own : K → Bool) (nodes
 
   -- nothing changes any more
   pub still-on : (n j : ℕ) → Still n → n ≤ j → (r : K) → Mem r nodes →
-      rankIn edge strict own j nodes r ≡ rankIn edge strict own n nodes r
+      rankIn edge weight own j nodes r ≡ rankIn edge weight own n nodes r
   still-on n zero h l r m = let e : 0 ≡ n = omega arith in ap (λ (k : ℕ). after k r) e
   still-on n (suc j) h l r m = cases (leb n j)
       (λ e. step-cong j n (still-on n j h (true-le n j e)) r ∙ sym (h r m))
@@ -287,7 +294,8 @@ module _ {K : Type 0} (edge strict : K → K → Bool) (own : K → Bool) (nodes
   still-less : (n : ℕ) → Still n → {q r : K} → Path (strictEdge edge strict) edge nodes q r →
       Mem q nodes → Mem r nodes → after n q < after n r
   still-less n h {q} (direct {r} e) m k =
-      let w = and-true (edge q r) (strict q r) e in omega (arith, by-le n q r m (w .0), ap count (w .1), h r k)
+      let w = and-true (edge q r) (strict q r) e in
+      omega (arith, by-le n q r m (w .0), true-le 1 (weight q r) (w .1), h r k)
   still-less n h (onward {p} {r} c j e) m k = omega (arith, still-less n h c m j, by-le n p r j e, h r k)
 
   -- then no strict edge lies on a cycle
@@ -298,15 +306,15 @@ module _ {K : Type 0} (edge strict : K → K → Bool) (own : K → Bool) (nodes
 
   -- and the ranks are found
   pub still-rank : (n : ℕ) → Still n → (r : K) → Mem r nodes →
-      rank edge strict own nodes r ≡ rankIn edge strict own n nodes r
+      rank edge weight own nodes r ≡ rankIn edge weight own n nodes r
   unfolding rank
   still-rank n h r m =
-      let j : ℕ = length nodes * length nodes in
+      let j : ℕ = length nodes * (2 * length nodes) in
       cases (leb n j)
       (λ e. still-on n j h (true-le n j e) r m)
       (λ e. let l = false-le n j e in sym (still-on j n (rank-settled (still-sound n h)) (omega arith) r m))
 
   -- a rank above the number of nodes: a strict edge lies on a cycle
-  pub large-cycle : (n : ℕ) (r : K) → Mem r nodes → length nodes < rankIn edge strict own n nodes r →
+  pub large-cycle : (n : ℕ) (r : K) → Mem r nodes → 2 * length nodes < rankIn edge weight own n nodes r →
       cyclic edge strict nodes ≡ true
   large-cycle n r m l = cases (cyclic edge strict nodes) (λ e. e) (λ e. absurd (omega (arith, after-few e n r m)))

@@ -1,6 +1,6 @@
 -- Tests: what a Bool test says, as equations. Tests of numbers, and the laws of not, && and ||.
 use mathlib.Core.Path.{_≡_, refl, sym, _∙_}
-use mathlib.Core.Logic.{_≢_}
+use mathlib.Core.Logic.{_≢_, _↔_}
 use Prim.Native.Nat.{ℕ, suc, _≤_, _<_}
 use native.Mathlib.Omega.{arith}
 use mathlib.Core.Bool.{Bool, true, false, not, _&&_, _||_, Bool·beq, true≢false, false≢true}
@@ -110,6 +110,28 @@ and-assoc false b c = refl
 
 pub and-mono : (a b c : Bool) → (b ≡ true → c ≡ true) → a && b ≡ true → a && c ≡ true
 and-mono a b c h e = let w = and-true a b e in and-intro a c (w .0) (h (w .1))
+
+-- a conjunction passes exactly if each of its tests does
+pub and-three : (a b c : Bool) → (a && b && c ≡ true) ↔ ((a ≡ true) × (b ≡ true) × (c ≡ true))
+and-three a b c = (
+  (λ e. let w = and-true (a && b) c e in let v = and-true a b (w .0) in (v .0, v .1, w .1)),
+  (λ w. and-intro (a && b) c (and-intro a b (w .0) (w .1)) (w .2)),
+)
+
+pub and-four : (a b c d : Bool) → (a && b && c && d ≡ true) ↔ ((a ≡ true) × (b ≡ true) × (c ≡ true) × (d ≡ true))
+and-four a b c d = (
+  (λ e. let w = and-three (a && b) c d .0 e in let v = and-true a b (w .0) in (v .0, v .1, w .1, w .2)),
+  (λ w. and-three (a && b) c d .1 (and-intro a b (w .0) (w .1), w .2, w .3)),
+)
+
+pub and-six : (a b c d e f : Bool) → (a && b && c && d && e && f ≡ true)
+    ↔ ((a ≡ true) × (b ≡ true) × (c ≡ true) × (d ≡ true) × (e ≡ true) × (f ≡ true))
+and-six a b c d e f = (
+  (λ i. let w = and-three (a && b && c && d) e f .0 i in
+      let v = and-four a b c d .0 (w .0) in
+      (v .0, v .1, v .2, v .3, w .1, w .2)),
+  (λ w. and-three (a && b && c && d) e f .1 (and-four a b c d .1 (w .0, w .1, w .2, w .3), w .4, w .5)),
+)
 
 -- ---- disjunction
 

@@ -15,7 +15,8 @@ use Rattle.model.specs.Base.{Base, privilege, isPrivilege, administers, 
 use Rattle.model.specs.Support.{sameObjectAndMode, root, rootIn}
 use Rattle.model.specs.Withdrawal.{keep, restrict}
 use Rattle.model.specs.Requests.{NEW, GRANT, DENY, REVOKE, REVOKEP, REVOKEN, ADDRULE, DROPRULE, GRANTADM}
-use Rattle.model.specs.Requests.{REVOKEADM, GRANTREF, REVOKEREF, insert, sideOf, operatorOf, numberOf, leave}
+use Rattle.model.specs.Requests.{REVOKEADM, GRANTREF, REVOKEREF, insert, sideOf, operatorOf, numberOf}
+use Rattle.model.specs.Requests.{takes, leave, affects}
 use Rattle.model.specs.Means.{plainly}
 use Rattle.model.specs.Step.{effect}
 
@@ -148,7 +149,7 @@ module _ (b : Base) (q : Request) where
       ≡ withClock (q .now) (withAuthorizations (restrict (root b)
       (λ h. anyb (λ a. eqb (a .head .label) (q .label) && sameObjectAndMode (a .head) h) (b .authorizations))
       (keep (λ h t. not (eqb (h .label) (q .label))) (b .authorizations))) b)
-  unfolding leave
+  unfolding leave takes affects
   effect-revoke e = rw e
 
   -- "REVOKEP ... (mode, object, subject, interval) take[s] the interval out of the requester's positive lines", then
@@ -160,7 +161,7 @@ module _ (b : Base) (q : Request) where
       (keep (λ h t. not (eqb (h .grantor) (q .requester) && eqb (h .subject) (q .subject)
       && eqb (h .object) (q .object) && eqb (h .mode) (q .mode) && not (h .negative)
       && inInterval (q .interval) t)) (b .authorizations))) b)
-  unfolding leave
+  unfolding leave takes affects
   effect-revokep e = rw e
 
   -- "... and REVOKEN ... or denials"
@@ -171,7 +172,7 @@ module _ (b : Base) (q : Request) where
       (keep (λ h t. not (eqb (h .grantor) (q .requester) && eqb (h .subject) (q .subject)
       && eqb (h .object) (q .object) && eqb (h .mode) (q .mode) && h .negative
       && inInterval (q .interval) t)) (b .authorizations))) b)
-  unfolding leave
+  unfolding leave takes affects
   effect-revoken e = rw e
 
   -- ADDRULE: the rule with a new label, its author the requester
@@ -212,7 +213,7 @@ module _ (b : Base) (q : Request) where
       (keep (λ h t. not (eqb (h .object) (q .object) && eqb (h .grantor) (q .subject))) (b .authorizations)))
       (withRules (keepIf (λ r. not (eqb (r .author) (q .subject) && (eqb (r .left .object) (q .object)
       || (eqb (r .right .object) (q .object) && not (refers b (q .object) (q .subject)))))) (b .rules)) b)))
-  unfolding leave
+  unfolding leave takes affects
   effect-revokeadm e = rw e
 
   -- "GRANTREF ... (object, subject)"

@@ -1,7 +1,7 @@
 -- What holds is what is held in 01's words: `held`, and `may-held` for the question MAY. Rank by rank: `held-below`.
 use mathlib.Core.Path.{_≡_, refl, sym, ap, _∙_}
 use mathlib.Core.Logic.{_↔_}
-use Prim.Native.Nat.{ℕ, zero, suc, _≤_}
+use Prim.Native.Nat.{ℕ, zero, suc, _*_, _≤_}
 use native.Mathlib.Omega.{arith}
 use mathlib.Core.Bool.{Bool, true, false, not, _&&_, true≢false, false≢true}
 use mathlib.Core.List.{List}
@@ -118,9 +118,13 @@ module _ (auths : List Authorization) (rules : List Rule) where
         operate always o (λ u. holding (below (suc k)) u (rightOf r (p .access)))
         (λ u. holding (below k) u (rightOf r (p .access))) (r .interval .start) t ≡ true →
         holding (below (suc k)) t p ≡ true
-    gives {t} {p} o r a e = by-rule (below (suc k)) t p r (a .listed) (a .left)
+    gives {t} {p} o r a e =
+        let right : (Fact → Bool) → ℕ → Bool = λ S u. holding S u (rightOf r (p .access)) in
+        let from : Operator → Bool =
+        λ o. operate always o (right (below (suc k))) (right (below k)) (r .interval .start) t in
+        by-rule (below (suc k)) t p r (a .listed) (a .left)
         (at-stratum auths rules k (fact r (p .access) t) (a .listed) (a .rank)
-        ∙ rw (a .operator) (and-intro (inInterval (r .interval) t) _ (a .inside) e))
+        ∙ and-intro (inInterval (r .interval) t) (from (r .operator)) (a .inside) (ap from (a .operator) ∙ e))
 
     not-below : (u : ℕ) (q : Pattern) → (Below k u q → ⊥) → not (holding (below k) u q) ≡ true
     not-below u q h = cases (holding (below k) u q) (λ e. absurd (h (settled u q .0 e))) (λ e. rw e)
@@ -154,24 +158,25 @@ module _ (auths : List Authorization) (rules : List Rule) where
       (rounds-held k (held-below k) (enough always auths rules) t p, held-found k (held-below k))
 
   module _ (s : stratified rules ≡ true) where
-    -- no rule's rank is above their number: further ranks add nothing
-    ranks-end : (k : ℕ) (x : Fact) → Mem (x .rule) rules → below k x ≡ true → below (suc (length rules)) x ≡ true
+    -- no rule's rank is above twice their number: further ranks add nothing
+    ranks-end : (k : ℕ) (x : Fact) → Mem (x .rule) rules → below k x ≡ true → below (suc (2 * length rules)) x ≡ true
     ranks-end zero x m e = settled-at auths rules 0 x m (below-stratum auths rules 0 x e) (omega arith) ∙ e
-    ranks-end (suc k) x m e = cases (leb (suc k) (suc (length rules)))
+    ranks-end (suc k) x m e = cases (leb (suc k) (suc (2 * length rules)))
         (λ l. settled-at auths rules (suc k) x m (below-stratum auths rules (suc k) x e)
-        (true-le (suc k) (suc (length rules)) l) ∙ e)
+        (true-le (suc k) (suc (2 * length rules)) l) ∙ e)
         (λ l. let i = stratum rules (x .rule) in
         let b : suc i ≤ k =
-        omega (arith, stratum-few rules s (x .rule) m, false-le (suc k) (suc (length rules)) l) in
+        omega (arith, stratum-few rules s (x .rule) m, false-le (suc k) (suc (2 * length rules)) l) in
         ranks-end k x m (rw (le-true (suc i) k b) at (closed auths rules k x m ∙ e)))
 
     -- THEOREM: what holds is what is held
     pub held : (t : ℕ) (p : Pattern) → (holds always auths rules t p ≡ true) ↔ Held auths rules t p
     unfolding holds
     held t p = (
-      (λ e. (suc (length rules), held-below (suc (length rules)) t p .0 e)),
-      (λ h. either (below (h .0)) t p (held-below (h .0) t p .1 (h .1)) (by-given (below (suc (length rules))) t p)
-          (λ r m d e. by-rule (below (suc (length rules))) t p r m d (ranks-end (h .0) (fact r (p .access) t) m e))),
+      (λ e. (suc (2 * length rules), held-below (suc (2 * length rules)) t p .0 e)),
+      (λ h. let S = below (suc (2 * length rules)) in
+          either (below (h .0)) t p (held-below (h .0) t p .1 (h .1)) (by-given S t p)
+          (λ r m d e. by-rule S t p r m d (ranks-end (h .0) (fact r (p .access) t) m e))),
     )
 
 -- THEOREM. 01: "MAY is yes exactly if a positive authorization is held and no denial is"

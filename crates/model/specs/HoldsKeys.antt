@@ -60,6 +60,7 @@ module _ (auths : List Authorization) (rules : List Rule) where
 
   -- the right side of a rule leads to nothing that is not near
   right-near : (x y : Access) (r : Rule) → Mem r rules → Near x y → Near x (rightOf r y .access)
+  unfolding rightOf
   right-near x y r m a = (
     starred-number (λ r. r .right .subject) (x .subject) (y .subject) r m (a .0),
     starred-number (λ r. r .right .mode) (x .mode) (y .mode) r m (a .1),

@@ -1,6 +1,6 @@
 -- What rules derive and what holds, with no strata in the statements: `derived-law` and `holds-law`.
 use mathlib.Core.Path.{_≡_, refl, sym, ap, _∙_}
-use Prim.Native.Nat.{ℕ, zero, suc, _≤_, _<_}
+use Prim.Native.Nat.{ℕ, zero, suc, _*_, _≤_, _<_}
 use native.Mathlib.Omega.{arith}
 use mathlib.Core.Bool.{Bool, true, false, not, _&&_, _||_, Bool·beq}
 use mathlib.Core.List.{List}
@@ -8,6 +8,7 @@ use lib.Dec.{leb, eqb}
 use lib.ListN.{length}
 use Rattle.foundation.specs.Tests.{pick, cases, le-true, le-false, true-le, false-le, eq-true, and-true, and-intro}
 use Rattle.foundation.specs.Lists.{anyb, Mem, any-cong-mem}
+use Rattle.foundation.specs.Graph.{heavy}
 use Rattle.foundation.specs.Intervals.{inInterval, always, always-cong}
 use Rattle.model.specs.declared.Authorization.{Authorization}
 use Rattle.model.specs.declared.Rule.{Rule}
@@ -15,55 +16,38 @@ use Rattle.model.specs.declared.Operator.{Operator}
 use Rattle.model.specs.declared.Operator.the-variants.{Whenever, AsLongAs, WheneverNot, Unless}
 use Rattle.model.specs.declared.Access.{Access}
 use Rattle.model.specs.Support.{live}
-use Rattle.model.specs.Stratification.{isStar, meets, fitsOption, feeds, negating, strict, stratified, stratum}
-use Rattle.model.specs.Rules.{Pattern, Fact, fact, fits, fitsGrantor, derivesFor, rightOf, rightHolds, operate, holdsBy, derives, derivedBelow, holds}
+use Rattle.model.specs.Stratification.{precedes, negating, weight, stratified, stratum, precedes-feeds}
+use Rattle.model.specs.Stratification.{heavy-negates}
+use Rattle.model.specs.Rules.{Pattern, Fact, fact, fits, derivesFor, rightOf, rightHolds, operate, holdsBy, derives, derivedBelow, holds}
+use Rattle.model.specs.SideFacts.{fit-feeds}
 use Rattle.model.specs.RightFacts.{right-own}
 use Rattle.model.specs.HoldsFacts.{closed}
 use Rattle.model.specs.StratificationFacts.{feeder-not-above, feeder-below, stratum-few}
 
--- a number of a left side that fits that of a right side, its star standing for z, meets it
-fit-meets : (n m z : ℕ) → isStar n || eqb n (pick (isStar m) z m) ≡ true → meets n m ≡ true
-fit-meets n m z e = cases (isStar n)
-    (λ a. rw a)
-    (λ a. cases (isStar m) (λ b. rw (a, b)) (λ b. rw (a, b) (rw (a, b) at e)))
+-- what fits a rule's right side is derived by a rule that it looks at
+fit-precedes : (q r : Rule) (x : Access) → derivesFor (rightOf r x) q ≡ true → precedes q r ≡ true
+fit-precedes q r x e = precedes-feeds q r ∙ fit-feeds q r x e
 
--- what fits a rule's right side is derived by a rule that feeds it
-pub fit-feeds : (q r : Rule) (x : Access) → derivesFor (rightOf r x) q ≡ true → feeds q r ≡ true
-fit-feeds q r x e =
-    let p = rightOf r x in
-    let a = isStar (q .left .subject) || eqb (q .left .subject) (p .access .subject) in
-    let b = isStar (q .left .mode) || eqb (q .left .mode) (p .access .mode) in
-    let c = eqb (q .left .object) (r .right .object) in
-    let d = Bool·beq (q .left .negative) (r .right .negative) in
-    let g = fitsGrantor (r .grantor) (q .author) in
-    let o = fitsOption (r .option) false in
-    let u = meets (q .left .subject) (r .right .subject) in
-    let v = meets (q .left .mode) (r .right .mode) in
-    let w₁ = and-true (a && b && c && d && g) o e in
-    let w₂ = and-true (a && b && c && d) g (w₁ .0) in
-    let w₃ = and-true (a && b && c) d (w₂ .0) in
-    let w₄ = and-true (a && b) c (w₃ .0) in
-    let w₅ = and-true a b (w₄ .0) in
-    let dc = and-intro d c (w₃ .1) (w₄ .1) in
-    let dcu = and-intro (d && c) u dc (fit-meets (q .left .subject) (r .right .subject) (x .subject) (w₅ .0)) in
-    let dcuv = and-intro (d && c && u) v dcu (fit-meets (q .left .mode) (r .right .mode) (x .mode) (w₅ .1)) in
-    and-intro (d && c && u && v && g) o (and-intro (d && c && u && v) g dcuv (w₂ .1)) (w₁ .1)
-
--- what holds of p is derived only by rules that feed r
+-- what holds of p is derived only by rules that r looks at
 abbrev pub Fed : Rule → Pattern → Type 0
-Fed r p = (q : Rule) → derivesFor p q ≡ true → feeds q r ≡ true
+Fed r p = (q : Rule) → derivesFor p q ≡ true → precedes q r ≡ true
 
--- and by links that count one in a rank
+-- and by steps that count in a rank
 abbrev pub StrictlyFed : Rule → Pattern → Type 0
-StrictlyFed r p = (q : Rule) → derivesFor p q ≡ true → (feeds q r ≡ true) × (strict q r ≡ true)
+StrictlyFed r p = (q : Rule) → derivesFor p q ≡ true → (precedes q r ≡ true) × (heavy weight q r ≡ true)
 
--- A rule's right side looks up to the rule's stratum only at what its feeders derive, and below it only at what those
--- derive that feed it by such links: where that is settled, `all` being what holds at last, so is the right side.
+-- each step to a rule with WHENEVERNOT or UNLESS counts
+pub strictly-fed : (r : Rule) → negating (r .operator) ≡ true → (p : Pattern) → Fed r p → StrictlyFed r p
+strictly-fed r g p h q e = (h q e, heavy-negates q r ∙ g)
+
+-- A rule's right side looks up to the rule's stratum only at what those derive that the rule looks at, and below it
+-- only at what those of them derive whose step counts: where that is settled, `all` being what holds at last, so is
+-- the right side.
 pub right-settled : (r : Rule) (x : Access) (same lower all : Pattern → Bool) →
     ((p : Pattern) → Fed r p → same p ≡ all p) → ((p : Pattern) → StrictlyFed r p → lower p ≡ all p) →
     rightHolds same lower (rightOf r x) ≡ rightHolds all all (rightOf r x)
 right-settled r x same lower all h k =
-    right-own same all lower all (rightOf r x) (h (rightOf r x) (λ q e. fit-feeds q r x e))
+    right-own same all lower all (rightOf r x) (h (rightOf r x) (λ q e. fit-precedes q r x e))
 
 -- a negating operator looks at its second test, the others at their first
 operate-settled : (o : Operator) (f g h : ℕ → Bool) → ((u : ℕ) → f u ≡ h u) →
@@ -79,7 +63,7 @@ module _ (auths : List Authorization) (rules : List Rule) where
 
   -- what the rules derive, all strata together
   abbrev pub derived : Fact → Bool
-  derived = derivedBelow always auths rules (suc (length rules))
+  derived = derivedBelow always auths rules (suc (2 * length rules))
 
   -- what counts as held on a right side at u
   abbrev pub holding : ℕ → Pattern → Bool
@@ -105,9 +89,9 @@ module _ (auths : List Authorization) (rules : List Rule) where
       (λ e. let i = false-le k n e in let q : suc n ≡ k = omega arith in ap (λ (j : ℕ). below j x) q)
 
   -- so what a rule derives is settled with its stratum
-  pub settled-at : (k : ℕ) (x : Fact) → Mem (x .rule) rules → stratum rules (x .rule) < k → k ≤ suc (length rules) →
-      derived x ≡ derivedBelow always auths rules k x
-  settled-at k x m h l = below-upto k (suc (length rules)) x m h l
+  pub settled-at : (k : ℕ) (x : Fact) → Mem (x .rule) rules → stratum rules (x .rule) < k →
+      k ≤ suc (2 * length rules) → derived x ≡ derivedBelow always auths rules k x
+  settled-at k x m h l = below-upto k (suc (2 * length rules)) x m h l
 
   -- a stratum is closed under its rules
   pub at-stratum : (k : ℕ) (x : Fact) → Mem (x .rule) rules → stratum rules (x .rule) ≡ k →
@@ -141,7 +125,7 @@ module _ (auths : List Authorization) (rules : List Rule) where
           settled-at (suc (stratum rules r)) (fact q (p .access) u) k
           (omega (arith, feeder-not-above rules s q r k m (h q e))) (omega (arith, stratum-few rules s r m)))
 
-      -- and before it where the links count one
+      -- and before it where the steps count
       pub strictly-settled : (u : ℕ) (p : Pattern) → StrictlyFed r p →
           holdsBy always auths rules (below (stratum rules r)) u p ≡ holds always auths rules u p
       strictly-settled u p h = holds-same (below (stratum rules r)) u p (λ q k e.
@@ -168,5 +152,5 @@ module _ (auths : List Authorization) (rules : List Rule) where
         (λ u. rightHolds (now u) (before u) p) (λ u. rightHolds (before u) (before u) p) (λ u. holding u p)
         (λ u. right-settled r x (now u) (before u) (all u) (fed-settled r m u) (strictly-settled r m u))
         (λ g u. right-settled r x (before u) (before u) (all u)
-        (λ p h. strictly-settled r m u p (λ q e. (h q e, g))) (strictly-settled r m u))
+        (λ p h. strictly-settled r m u p (strictly-fed r g p h)) (strictly-settled r m u))
         (r .interval .start) t)

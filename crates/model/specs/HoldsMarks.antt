@@ -105,7 +105,7 @@ module _ (n : ℕ) (auths : List Authorization) (rules : List Rule) where
 
   holds-at : (t : ℕ) (p : Pattern) → holds always auths rules t p ≡ holds at auths rules t p
   unfolding holds
-  holds-at t p = let k = suc (length rules) in holds-agree (below k) (belowAt k) (below-agree k) t p
+  holds-at t p = let k = suc (2 * length rules) in holds-agree (below k) (belowAt k) (below-agree k) t p
 
 -- ---- MAY and WHEN
 
@@ -114,7 +114,7 @@ unfolding may holds
 may-steady b x a t h e = ap₂ (λ (y z : Bool). y && not z) (same false) (same true)
   where
     k : ℕ
-    k = suc (length (b .rules))
+    k = suc (2 * length (b .rules))
 
     same : (negative : Bool) → holds always (b .authorizations) (b .rules) t (asked x negative)
         ≡ holds always (b .authorizations) (b .rules) a (asked x negative)

@@ -21,6 +21,7 @@ pub mod Ledger
 pub mod Text
 pub mod Session
 pub mod SupportMarks
+pub mod SideFacts
 pub mod RightFacts
 pub mod HoldsSteady
 pub mod HoldsKeys

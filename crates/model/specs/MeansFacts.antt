@@ -34,6 +34,7 @@ keep-marks n marks p c (x ∷ xs) =
 
 -- what a request takes changes at the boundaries of its interval only, whatever its kind
 takes-steady : (q : Request) (h : Head) → Steady (takes q h) (boundaries (q .interval))
+unfolding takes
 takes-steady q h a t l e = rw (interval-steady (q .interval) a t l e)
 
 pub leave-marks : (n : ℕ) (q : Request) (xs : List Authorization) → leave q xs ≡ leaveAt n q xs

@@ -140,7 +140,7 @@ names q h =
 -- 01: "REVOKE label removes all lines of that label"; "REVOKEP and REVOKEN (mode, object, subject, interval) take the
 -- interval out of the requester's positive lines or denials"; "REVOKEADM removes every line on the object that the
 -- subject granted, even one a transferable grant would back"
-abbrev pub takes : Request → Head → ℕ → Bool
+unfoldable pub takes : Request → Head → ℕ → Bool
 takes q h t =
     pick (is q (REVOKE ∷ [])) (eqb (h .label) (q .label))
     (pick (is q (REVOKEP ∷ REVOKEN ∷ [])) (names q h && inInterval (q .interval) t)
@@ -155,7 +155,7 @@ leave q xs = keep (λ h t. not (takes q h t)) xs
 -- The authorizations that a withdrawal then restricts to their supported instants.
 -- 01: "All three then take out of the lines on that object and mode every instant that is not backed"; REVOKEADM "then
 -- all unbacked instants on that object"
-abbrev pub affects : List Authorization → Request → Head → Bool
+unfoldable pub affects : List Authorization → Request → Head → Bool
 affects xs q h =
     pick (is q (REVOKE ∷ [])) (anyb (λ a. eqb (a .head .label) (q .label) && sameObjectAndMode (a .head) h) xs)
     (pick (is q (REVOKEP ∷ REVOKEN ∷ [])) (eqb (h .object) (q .object) && eqb (h .mode) (q .mode))

@@ -35,7 +35,7 @@ abbrev pub fitsGrantor : ℕ → ℕ → Bool
 fitsGrantor wanted g = isStar wanted || eqb wanted g
 
 -- an authorization with the head h is what is looked for
-abbrev pub fits : Pattern → Head → Bool
+unfoldable pub fits : Pattern → Head → Bool
 fits p h =
     eqb (h .subject) (p .access .subject)
     && eqb (h .mode) (p .access .mode)
@@ -45,14 +45,14 @@ fits p h =
     && fitsOption (p .option) (h .option)
 
 -- 01: "A starred rule stands for one rule per subject or mode": the accesses on the left of the rules it stands for
-abbrev pub standsFor : Rule → Access → Bool
+unfoldable pub standsFor : Rule → Access → Bool
 standsFor r x =
     (isStar (r .left .subject) || eqb (r .left .subject) (x .subject))
     && (isStar (r .left .mode) || eqb (r .left .mode) (x .mode))
     && eqb (r .left .object) (x .object)
 
 -- 01: "The left side is never transferable and its granter is the author": what the rule derives is what is looked for
-abbrev pub derivesFor : Pattern → Rule → Bool
+unfoldable pub derivesFor : Pattern → Rule → Bool
 derivesFor p r =
     standsFor r (p .access)
     && Bool·beq (r .left .negative) (p .negative)
@@ -60,7 +60,7 @@ derivesFor p r =
     && fitsOption (p .option) false
 
 -- 01: "the same on both sides": the right side of the rule that stands for x
-abbrev pub rightOf : Rule → Access → Pattern
+unfoldable pub rightOf : Rule → Access → Pattern
 rightOf r x = record {
   access = record {
     subject = pick (isStar (r .right .subject)) (x .subject) (r .right .subject);
@@ -136,7 +136,7 @@ module _ (every : ℕ → ℕ → (ℕ → Bool) → Bool) (auths : List Authori
 
   unfoldable pub holds : ℕ → Pattern → Bool
   unfolding derivedBelow
-  holds t p = holdsBy (derivedBelow (suc (length rules))) t p
+  holds t p = holdsBy (derivedBelow (suc (2 * length rules))) t p
 
 -- any grantor, any option
 abbrev pub asked : Access → Bool → Pattern

@@ -1,10 +1,15 @@
--- Which rule feeds which, forbidden circles and ranks (01, "Rules"): a graph with strict edges, and its strata.
--- Theorem 3: `stratified-path`, `stratum-most`, `stratum-walk`, `strata` in StratificationFacts.
-use Prim.Native.Nat.{ℕ}
+-- Which rule feeds which, forbidden circles and ranks (01, "Rules"): a graph with weights, and its strata.
+-- Theorem 3: `stratified-path`, `stratum-most`, `stratum-walk` in StratificationFacts.
+-- `feeds`, `precedes` and `weight` are used through the laws at the end and those of SideFacts.
+use mathlib.Core.Path.{_≡_, refl, sym, ap, _∙_}
+use Prim.Native.Nat.{ℕ, _≤_}
+use native.Mathlib.Omega.{arith}
 use mathlib.Core.Bool.{Bool, true, false, not, _&&_, _||_, Bool·beq}
 use mathlib.Core.List.{List}
 use lib.Dec.{eqb}
-use Rattle.foundation.specs.Graph.{cyclic, rank}
+use Rattle.foundation.specs.Tests.{le-true, cases, le-false}
+use Rattle.foundation.specs.Totals.{count, count-le}
+use Rattle.foundation.specs.Graph.{heavy, cyclic, rank}
 use Rattle.model.specs.declared.Rule.{Rule}
 use Rattle.model.specs.declared.Operator.{Operator}
 use Rattle.model.specs.declared.Operator.the-variants.{Whenever, AsLongAs, WheneverNot, Unless}
@@ -30,7 +35,7 @@ fitsOption Either o = true
 
 -- 01: "Rule q feeds rule r if q's left side can fit r's right: same sign and object, subject and mode equal or starred on
 -- either side, granter starred or q's author, option starred or not transferable"
-abbrev pub feeds : Rule → Rule → Bool
+unfoldable pub feeds : Rule → Rule → Bool
 feeds q r =
     Bool·beq (q .left .negative) (r .right .negative)
     && eqb (q .left .object) (r .right .object)
@@ -49,14 +54,37 @@ negating Unless = true
 abbrev pub negates : Rule → Bool
 negates r = negating (r .operator)
 
--- the links that count one in a rank: those into a rule with WHENEVERNOT or UNLESS
-abbrev pub strict : Rule → Rule → Bool
-strict q r = negates r
+-- q is looked at by r: what q derives may bear on r's right side. Those are the rules that feed r
+unfoldable pub precedes : Rule → Rule → Bool
+precedes q r = feeds q r
+
+-- what the step from q to r counts in a rank: one if r is a rule with WHENEVERNOT or UNLESS
+unfoldable pub weight : Rule → Rule → ℕ
+weight q r = count (negates r)
 
 -- 01: "A circle of feeding with a WHENEVERNOT or UNLESS in it is forbidden"
 unfoldable pub stratified : List Rule → Bool
-stratified rules = not (cyclic feeds strict rules)
+stratified rules = not (cyclic precedes (heavy weight) rules)
 
 -- 01: "A rule's rank is the most WHENEVERNOT and UNLESS rules on a feeding path that ends in it, itself included"
 unfoldable pub stratum : List Rule → Rule → ℕ
-stratum rules r = rank feeds strict negates rules r
+stratum rules r = rank precedes weight negates rules r
+
+-- ---- laws
+
+pub precedes-feeds : (q r : Rule) → precedes q r ≡ feeds q r
+unfolding precedes
+precedes-feeds q r = refl
+
+pub weight-negates : (q r : Rule) → weight q r ≡ count (negates r)
+unfolding weight
+weight-negates q r = refl
+
+pub light : (q r : Rule) → weight q r ≤ 2
+light q r = omega (arith, weight-negates q r, count-le (negates r))
+
+-- a step counts exactly if it leads to a rule with WHENEVERNOT or UNLESS
+pub heavy-negates : (q r : Rule) → heavy weight q r ≡ negates r
+heavy-negates q r = cases (negates r)
+    (λ e. le-true 1 (weight q r) (omega (arith, weight-negates q r, ap count e)) ∙ sym e)
+    (λ e. le-false 1 (weight q r) (omega (arith, weight-negates q r, ap count e)) ∙ sym e)

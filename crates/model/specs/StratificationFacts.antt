@@ -1,16 +1,18 @@
 -- Theorem 3: forbidden circles and ranks in 01's words. `label-free`: a rule's label does not matter for them.
-use mathlib.Core.Path.{_≡_, sym, ap, _∙_}
+use mathlib.Core.Path.{_≡_, sym, ap, ap₂, _∙_, subst}
 use mathlib.Core.Logic.{_↔_}
-use Prim.Native.Nat.{ℕ, _≤_, _<_}
-use mathlib.Core.Bool.{true, false, not}
+use Prim.Native.Nat.{ℕ, _*_, _≤_, _<_}
+use mathlib.Core.Bool.{Bool, true, false, not}
 use mathlib.Core.List.{List, [], _∷_, _++_, map, map-append}
 use lib.ListN.{length}
 use Rattle.foundation.specs.Tests.{and-true, and-intro, not-true, not-false}
 use Rattle.foundation.specs.Lists.{Mem}
-use Rattle.foundation.specs.Graph.{Path, direct, onward, Walk, strictEdge, cyclic, cyclic-path, cyclic-map}
+use Rattle.foundation.specs.Totals.{count}
+use Rattle.foundation.specs.Graph.{Path, direct, onward, Walk, strictEdge, heavy, cyclic, cyclic-path, cyclic-map}
 use Rattle.foundation.specs.GraphFacts.{Ranked, ranked, rank-most, rank-walk}
 use Rattle.model.specs.declared.Rule.{Rule}
-use Rattle.model.specs.Stratification.{feeds, strict, negates, stratified, stratum}
+use Rattle.model.specs.Stratification.{feeds, precedes, negates, weight, stratified, stratum}
+use Rattle.model.specs.Stratification.{precedes-feeds, weight-negates, heavy-negates, light}
 
 -- a feeding path: each rule feeds the next
 abbrev pub FeedingPath : List Rule → Rule → Rule → Type 0
@@ -18,29 +20,39 @@ FeedingPath rules q r = Path feeds feeds rules q r
 
 -- a feeding path that ends in the rule, and the WHENEVERNOT and UNLESS rules on it, both ends included
 abbrev pub FeedingWalk : List Rule → ℕ → Rule → Type 0
-FeedingWalk rules n r = Walk feeds strict negates rules n r
+FeedingWalk rules n r = Walk feeds (λ q r. count (negates r)) negates rules n r
+
+-- the paths of `precedes`, and what `weight` counts on them
+path-feeds : (rules : List Rule) (q r : Rule) → Path precedes precedes rules q r ≡ FeedingPath rules q r
+path-feeds rules q r t =
+    let edge : Rule → Rule → Bool = λ p s. precedes-feeds p s t in
+    Path edge edge rules q r
+
+walk-feeds : (rules : List Rule) (n : ℕ) (r : Rule) → Walk precedes weight negates rules n r ≡ FeedingWalk rules n r
+walk-feeds rules n r t = Walk (λ p s. precedes-feeds p s t) (λ p s. weight-negates p s t) negates rules n r
 
 module _ (rules : List Rule) where
   abbrev Strictly : Rule → Rule → Type 0
-  Strictly q r = Path (strictEdge feeds strict) feeds rules q r
+  Strictly q r = Path (strictEdge precedes (heavy weight)) precedes rules q r
 
-  -- from a path that begins with a link into a negating rule of the list: that rule, and the path from it on
+  -- from a path that begins with a step that counts: that step, and the path from there on
   begins : {q r : Rule} → Strictly q r → Mem r rules →
-      (p : Rule) × Mem p rules × (negates p ≡ true) × (feeds q p ≡ true)
-      × ((s : Rule) → feeds r s ≡ true → FeedingPath rules p s)
+      (p : Rule) × Mem p rules × (heavy weight q p ≡ true) × (precedes q p ≡ true)
+      × ((s : Rule) → precedes r s ≡ true → Path precedes precedes rules p s)
   begins {q} (direct {r} e) m =
-      let w = and-true (feeds q r) (negates r) e in
+      let w = and-true (precedes q r) (heavy weight q r) e in
       (r, m, w .1, w .0, λ s f. direct f)
   begins (onward {p} {r} c n e) m =
       let w = begins c n in
       (w .0, w .1, w .2, w .3, λ s f. onward (w .4 r e) m f)
 
-  -- and back: a path to a negating rule, closed by the link that leads into it
-  closes : {r p : Rule} → FeedingPath rules r p → feeds p r ≡ true → negates r ≡ true → Mem r rules → Strictly p p
+  -- and back: a path to a rule, closed by a step that counts
+  closes : {r p : Rule} → Path precedes precedes rules r p → precedes p r ≡ true → heavy weight p r ≡ true →
+      Mem r rules → Strictly p p
   closes {r} {p} c e n m = go c
     where
-      go : {s : Rule} → FeedingPath rules r s → Strictly p s
-      go (direct f) = onward (direct (and-intro (feeds p r) (negates r) e n)) m f
+      go : {s : Rule} → Path precedes precedes rules r s → Strictly p s
+      go (direct f) = onward (direct (and-intro (precedes p r) (heavy weight p r) e n)) m f
       go (onward d k f) = onward (go d) k f
 
   -- 01: "A circle of feeding with a WHENEVERNOT or UNLESS in it": such a rule has a feeding path to itself
@@ -48,49 +60,60 @@ module _ (rules : List Rule) where
       ↔ ((r : Rule) × Mem r rules × (negates r ≡ true) × FeedingPath rules r r)
   unfolding stratified
   stratified-path = (
-    (λ e. let w = cyclic-path feeds strict rules .0 (not-false (cyclic feeds strict rules) e) in
+    (λ e. let w = cyclic-path precedes (heavy weight) rules .0
+        (not-false (cyclic precedes (heavy weight) rules) e) in
         let v = begins (w .2) (w .1) in
-        (v .0, v .1, v .2, v .4 (v .0) (v .3))),
-    (λ c. ap not (circle (c .0) (c .1) (c .2) (c .3))),
+        let r = v .0 in (
+          r,
+          v .1,
+          sym (heavy-negates (w .0) r) ∙ v .2,
+          subst (λ (T : Type 0). T) (path-feeds rules r r) (v .4 r (v .3)),
+        )),
+    (λ c. ap not (circle (c .0) (c .1) (c .2)
+        (subst (λ (T : Type 0). T) (sym (path-feeds rules (c .0) (c .0))) (c .3)))),
   )
     where
-      circle : (r : Rule) → Mem r rules → negates r ≡ true → FeedingPath rules r r → cyclic feeds strict rules ≡ true
-      circle r m n (direct e) =
-          cyclic-path feeds strict rules .1 (r, m, direct (and-intro (feeds r r) (negates r) e n))
-      circle r m n (onward {p} c k e) = cyclic-path feeds strict rules .1 (p, k, closes c e n m)
+      circle : (r : Rule) → Mem r rules → negates r ≡ true → Path precedes precedes rules r r →
+          cyclic precedes (heavy weight) rules ≡ true
+      circle r m n (direct e) = cyclic-path precedes (heavy weight) rules .1
+          (r, m, direct (and-intro (precedes r r) (heavy weight r r) e (heavy-negates r r ∙ n)))
+      circle r m n (onward {p} c k e) =
+          cyclic-path precedes (heavy weight) rules .1 (p, k, closes c e (heavy-negates p r ∙ n) m)
 
   -- 01: "A rule's rank is the most WHENEVERNOT and UNLESS rules on a feeding path that ends in it, itself included":
   -- a path has as many,
   pub stratum-walk : (r : Rule) → FeedingWalk rules (stratum rules r) r
   unfolding stratum
-  stratum-walk r = rank-walk feeds strict negates rules r
+  stratum-walk r = subst (λ (T : Type 0). T) (walk-feeds rules (stratum rules r) r)
+      (rank-walk precedes weight negates rules light r)
 
   module _ (s : stratified rules ≡ true) where
-    free : cyclic feeds strict rules ≡ false
+    free : cyclic precedes (heavy weight) rules ≡ false
     unfolding stratified
-    free = not-true (cyclic feeds strict rules) s
+    free = not-true (cyclic precedes (heavy weight) rules) s
 
     -- and none has more
     pub stratum-most : (r : Rule) → Mem r rules → {n : ℕ} → FeedingWalk rules n r → n ≤ stratum rules r
     unfolding stratum
-    stratum-most r m w = rank-most feeds strict negates rules free r m w
+    stratum-most r m {n} w = rank-most precedes weight negates rules light free r m
+        (subst (λ (T : Type 0). T) (sym (walk-feeds rules n r)) w)
 
-    laws : Ranked feeds strict negates rules
-    laws = ranked feeds strict negates rules free
+    laws : Ranked precedes weight negates rules
+    laws = ranked precedes weight negates rules light free
 
-    -- a feeder's rank is not above the rule's,
-    pub feeder-not-above : (q r : Rule) → Mem q rules → Mem r rules → feeds q r ≡ true →
+    -- the rank of a rule that r looks at is not above r's,
+    pub feeder-not-above : (q r : Rule) → Mem q rules → Mem r rules → precedes q r ≡ true →
         stratum rules q ≤ stratum rules r
     unfolding stratum
     feeder-not-above q r m n e = laws .atmost q r m n e
 
-    -- and below it for a rule with WHENEVERNOT or UNLESS
-    pub feeder-below : (q r : Rule) → Mem q rules → Mem r rules → feeds q r ≡ true → negates r ≡ true →
+    -- and below it where the step counts
+    pub feeder-below : (q r : Rule) → Mem q rules → Mem r rules → precedes q r ≡ true → heavy weight q r ≡ true →
         stratum rules q < stratum rules r
     unfolding stratum
     feeder-below q r m n e g = laws .less q r m n e g
 
-    pub stratum-few : (r : Rule) → Mem r rules → stratum rules r ≤ length rules
+    pub stratum-few : (r : Rule) → Mem r rules → stratum rules r ≤ 2 * length rules
     unfolding stratum
     stratum-few r m = laws .few r m
 
@@ -109,8 +132,8 @@ unlabelled r = record {
 }
 
 unlabelled-same : (rules : List Rule) → stratified (map unlabelled rules) ≡ stratified rules
-unfolding stratified
-unlabelled-same rules = ap not (cyclic-map unlabelled feeds rules strict)
+unfolding stratified precedes feeds weight
+unlabelled-same rules = ap not (cyclic-map unlabelled precedes rules (heavy weight))
 
 -- one more rule, under this label or another
 pub label-free : (rules : List Rule) (r u : Rule) → unlabelled r ≡ unlabelled u →

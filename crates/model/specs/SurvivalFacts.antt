@@ -69,6 +69,7 @@ module _ (q : Request) (h : Head) (t : ℕ) where
 
   -- what is taken back is taken
   back : TakesBack q h t → takes q h t ≡ true
+  unfolding takes
   back (label k p e) = rw k (eq-true (h .label) (q .label) (sym e))
   back (grant k p s o m n a z) = rw k (compares (not (h .negative)) (record {
     giver = p;
@@ -91,6 +92,7 @@ module _ (q : Request) (h : Head) (t : ℕ) where
 
   -- and so is what he gave who loses the administration
   lost : LosesAdministration q h → takes q h t ≡ true
+  unfolding takes
   lost (administration k s o) = rw k
       (and-intro (eqb (h .object) (q .object)) (eqb (h .grantor) (q .subject))
       (eq-true (h .object) (q .object) (sym o)) (eq-true (h .grantor) (q .subject) (sym s)))
@@ -112,6 +114,7 @@ module _ (b : Base) (q : Request) (g : Accepted b q) (h : Head) (t : ℕ) (m : S
 
   -- what an accepted request takes of what stands is what its giver takes back or loses with the administration
   pub taken : (takes q h t ≡ true) ↔ (TakesBack q h t ⊎ LosesAdministration q h)
+  unfolding takes
   taken = (forth, ⊎-elim (back q h t) (lost q h t))
     where
       -- by kind, in the order of `takes`

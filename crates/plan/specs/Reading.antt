@@ -16,8 +16,8 @@ use Rattle.model.specs.declared.Access.{Access}
 use Rattle.model.specs.Encoding.{ruleOf, bit}
 use Rattle.model.specs.Base.{Base}
 use Rattle.model.specs.Support.{live}
-use Rattle.model.specs.Stratification.{isStar}
 use Rattle.model.specs.Rules.{fits, standsFor, derivesFor, asked, may}
+use Rattle.model.specs.SideFacts.{stands-is, derives-is}
 use Rattle.support.specs.Cover.{authorizationsIn}
 use Rattle.rules.specs.Masks.{maskOf}
 use Rattle.rules.specs.Strata.{rulesIn, ruleAt}
@@ -49,13 +49,9 @@ module _ (lines : List ℕ) (na : ℕ) (body : List ℕ) (n : ℕ) (U L S F M P 
     -- what is asked of a rule's left side besides the subject and the mode
     on-object : (r : Rule) → derivesFor (asked x negative) r ≡ true → derivesOn (x .object) negative r ≡ true
     on-object r e =
-        let s = standsFor r x in
-        let d = Bool·beq (r .left .negative) negative in
-        let v = and-true s d (and-true (s && d) true (and-true (s && d && true) true e .0) .0) in
-        let a = isStar (r .left .subject) || eqb (r .left .subject) (x .subject) in
-        let c = isStar (r .left .mode) || eqb (r .left .mode) (x .mode) in
-        let o = eqb (r .left .object) (x .object) in
-        and-intro o d (and-true (a && c) o (v .0) .1) (v .1)
+        let w = derives-is (asked x negative) r .0 e in
+        and-intro (eqb (r .left .object) (x .object)) (Bool·beq (r .left .negative) negative)
+        (stands-is r x .0 (w .0) .2) (w .1)
 
     found : anyb derived rules ≡ true → given negative ≡ true
     found e =
@@ -86,7 +82,7 @@ module _ (lines : List ℕ) (na : ℕ) (body : List ℕ) (n : ℕ) (U L S F M P 
         let m = numbering .ruled i h in
         mem-any derived rules r (m .0)
         (and-intro (derivesFor (asked x negative) r) (bitsOf lines na body n U T r x)
-        (rw (z, v .1)) (ap (λ (j : ℕ). bit j word) (m .1) ∙ w .1))
+        (derives-is (asked x negative) r .1 (z, v .1, refl, refl)) (ap (λ (j : ℕ). bit j word) (m .1) ∙ w .1))
 
     by-rule : anyb derived rules ≡ given negative
     by-rule = agree (anyb derived rules) (given negative) found back

@@ -105,7 +105,7 @@ module _ (lines : List ℕ) (na : ℕ) (body : List ℕ) (n : ℕ) where
           bit r (getD K p 0) ≡ looksBy (getD S (4 * r) 0) (getD S (4 * r + 2) 0) p
       pub lead : l ≡ maskOf (leads U) (rulesIn n body)
       pub negating : g ≡ maskOf negates (rulesIn n body)
-      pub low : top ≤ n
+      pub low : top ≤ 2 * n
       pub highest : (r : Rule) → Mem r (rulesIn n body) → leads U r ≡ true → stratum (rulesIn n body) r ≤ top
 
     -- the bits of a table of words

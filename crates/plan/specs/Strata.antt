@@ -103,7 +103,7 @@ module _ (lines : List ℕ) (na : ℕ) (body : List ℕ) (n : ℕ) (U L S F M P 
       }
 
   -- what it leaves is right below stratum k + 1
-  pub stratum-done : (t k : ℕ) (before direct T₀ T : List ℕ) → k ≤ n → Serves lines na body n U t before →
+  pub stratum-done : (t k : ℕ) (before direct T₀ T : List ℕ) → k ≤ 2 * n → Serves lines na body n U t before →
       Direct (authorizationsIn na lines) t U (rulesIn n body) (ruleAt body) direct → Done lines na body n U t k T₀ →
       Smallest (plan (stageAt t k) S F) before direct T₀ T → Done lines na body n U t (suc k) T
   stratum-done t k before direct T₀ T h was dir d z =

@@ -269,6 +269,7 @@ spot-is U rules u few h m p l = agree _ _ there back
 pub direct-is : (lines : List ℕ) (na : ℕ) (body : List ℕ) (n : ℕ) (U L S F M P K : List ℕ) (l g top : ℕ) →
     Prepared lines na body n U L S F M P K l g top → (t : ℕ) (direct : List ℕ) → Lit lines na M P t direct →
     Direct (authorizationsIn na lines) t U (rulesIn n body) (ruleAt body) direct
+unfolding fits
 direct-is lines na body n U L S F M P K l g top c t direct lit i p h k =
     lit i p (omega (arith, c .few))
     ∙ below-cong na

@@ -45,7 +45,7 @@ pub fn is_lasting(o: Operator) -> bool
 }
 
 // The rules whose number in a table is k, as a mask.
-pub fn level(levels: &[u16; 64], n: usize, k: u16) -> u64
+pub fn level(levels: &[u16; 65], n: usize, k: u16) -> u64
     requires { ⌜ n ≤ 64 ⌝ }
     ensures { λ x. ⌜ x ≡ maskOf (λ (v : ℕ). eqb v k) (numbersIn n (now (levels .entry))) ⌝ }
 {
@@ -71,7 +71,7 @@ fn higher(a: usize, b: u16, counts: bool) -> usize
 }
 
 // The largest number in a table of those whose bit is set.
-pub fn highest(levels: &[u16; 64], n: usize, bits: u64) -> usize
+pub fn highest(levels: &[u16; 65], n: usize, bits: u64) -> usize
     requires { ⌜ n ≤ 64 ⌝ }
     ensures { λ x. ⌜ ((i : ℕ) → i < n → bit i bits ≡ true → getD (now (levels .entry)) i 0 ≤ x)
         × ((m : ℕ) → ((i : ℕ) → i < n → getD (now (levels .entry)) i 0 ≤ m) → x ≤ m) ⌝ }

@@ -19,7 +19,7 @@ pub fn prepare(
     n: usize,
     subject: u16,
     u: &mut [u16; 65],
-    levels: &mut [u16; 64],
+    levels: &mut [u16; 65],
     sides: &mut [u8; 256],
     feed: &mut [u64; 64],
     masks: &mut [u64; 1024],

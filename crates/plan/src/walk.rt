@@ -60,7 +60,7 @@ pub fn go_to(
     n: usize,
     u: &[u16; 65],
     o: Outline,
-    levels: &[u16; 64],
+    levels: &[u16; 65],
     sides: &[u8; 256],
     feed: &[u64; 64],
     masks: &[u64; 1024],

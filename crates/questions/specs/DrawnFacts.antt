@@ -18,6 +18,7 @@ use Rattle.model.specs.Encoding.{bit}
 use Rattle.model.specs.Support.{live}
 use Rattle.model.specs.Stratification.{isStar, feeds, negates, stratum}
 use Rattle.model.specs.Rules.{Pattern, fits, standsFor, rightOf}
+use Rattle.model.specs.SideFacts.{stands-is, feeds-object}
 use Rattle.rules.specs.Strata.{feedersOf}
 use Rattle.sweep.specs.Sweep.{subjects, modes, Plan, looksBy, wantsBy, linkOf, aim, gives}
 use Rattle.sweep.specs.Progress.{Has}
@@ -26,7 +27,7 @@ use Rattle.questions.specs.Table.{Bits, Node, Inward, truth, rightIn, sn
 use Rattle.questions.specs.Planned.{bits, derivedAt, Stands}
 use Rattle.questions.specs.Drawn.{indexOf, among, Subjects, Numbering, Shaped, counted, placeOf, subjectCode, leads, accessOf, soughtAt, activeAt, freshAt, Direct, Drawn}
 use Rattle.questions.specs.Places.{Coordinate, side, aimed, looked, side-in, aimed-below, look-there, lead-there, stand-there, look-back, subject-coordinate, subject-low, mode-coordinate, mode-low, place-subject, place-mode, place-whole, place-below, subject-below, mode-below, listed, proper, place-in, at-place}
-use Rattle.questions.specs.Feeding.{feeds-object, mask-rule, mask-number, fed}
+use Rattle.questions.specs.Feeding.{mask-rule, mask-number, fed}
 
 -- a rule that can be about the access, is of the stratum and looks at the place derives if the gate and its right
 -- side let it
@@ -53,27 +54,16 @@ module _ (rules : List Rule) (U : List ℕ) (number : Rule → ℕ) (rule : ℕ 
   -- ---- a rule that stands for an access that counts
 
   module _ (r : Rule) (x : Access) (n : Node rules (counted U) r x) where
-    abbrev fits-subject : Bool
-    fits-subject = isStar (r .left .subject) || eqb (r .left .subject) (x .subject)
-
-    abbrev fits-mode : Bool
-    fits-mode = isStar (r .left .mode) || eqb (r .left .mode) (x .mode)
-
-    abbrev fits-object : Bool
-    fits-object = eqb (r .left .object) (x .object)
-
     same-object : r .left .object ≡ x .object
-    same-object = true-eq (r .left .object) (x .object) (and-true (fits-subject && fits-mode) fits-object (n .2) .1)
-
-    same-sides : (fits-subject ≡ true) × (fits-mode ≡ true)
-    same-sides = and-true fits-subject fits-mode (and-true (fits-subject && fits-mode) fits-object (n .2) .0)
+    same-object = true-eq (r .left .object) (x .object) (stands-is r x .0 (n .2) .2)
 
     pub node-leads : leads U r ≡ true
     node-leads = cases (isStar (r .left .subject)) (λ e. rw e) (λ e.
-        let f : eqb (r .left .subject) (x .subject) ≡ true = rw e at (same-sides .0) in
+        let f : eqb (r .left .subject) (x .subject) ≡ true = rw e at (stands-is r x .0 (n .2) .0) in
         rw (e, true-eq (r .left .subject) (x .subject) f) (listed U x (n .1)))
 
   pub drawn-inward : Inward rules (counted U)
+  unfolding rightOf
   drawn-inward r x n =
       let s = r .right .subject in
       let m = r .right .mode in
@@ -90,6 +80,7 @@ module _ (rules : List Rule) (U : List ℕ) (number : Rule → ℕ) (rule : ℕ 
 
     -- what is sought where the rule looks for x is its right side
     sought : soughtAt U r (placeOf U (rightOf r x .access)) ≡ rightOf r x
+    unfolding rightOf
     sought = λ k. record {
       access = at-place U (rightOf r x .access) (drawn-inward r x n) (r .right .object) refl k;
       negative = r .right .negative;
@@ -156,13 +147,15 @@ module _ (rules : List Rule) (U : List ℕ) (number : Rule → ℕ) (rule : ℕ 
       own = numbering .numbered r (n .0)
 
       m-below : m < modes
+      unfolding rightOf
       m-below = mode-coordinate .below (rightOf r x .access .mode)
           (proper U (rightOf r x .access) (drawn-inward r x n))
 
       node-aim : aim pl i p ≡ placeOf U x
+      unfolding rightOf
       node-aim =
           let s = shaped r (n .0) in
-          let q = same-sides r x n in
+          let q = stands-is r x .0 (n .2) in
           aim-law i p (own .0)
           ∙ rw (own .1, place-subject j m m-below, place-mode j m m-below)
           (ap₂ (λ (a b : ℕ). a * modes + b)
@@ -172,6 +165,7 @@ module _ (rules : List Rule) (U : List ℕ) (number : Rule → ℕ) (rule : ℕ 
           (proper U x (n .1))))
 
       node-looks : looks i p ≡ true
+      unfolding rightOf
       node-looks =
           let a = r .right .subject in
           let b = r .right .mode in
@@ -196,21 +190,20 @@ module _ (rules : List Rule) (U : List ℕ) (number : Rule → ℕ) (rule : ℕ 
       left-node : leads U (rule i) ≡ true → Node rules (counted U) (rule i) (leftAt i p)
       left-node e =
           let r = rule i in
-          let x = leftAt i p in
-          let a = isStar (r .left .subject) || eqb (r .left .subject) (x .subject) in
-          let b = isStar (r .left .mode) || eqb (r .left .mode) (x .mode) in (
+          let x = leftAt i p in (
             member,
             and-intro (among U (x .subject)) (isMode (x .mode))
                 (subject-axis .there (aimed-subject i p) (subject-in i p l) .0)
                 (mode-coordinate .there (aimed-mode i p) (mode-in i p h) .0),
-            and-intro (a && b) (eqb (r .left .object) (r .left .object))
-                (and-intro a b
-                (stand-there subject-axis (r .left .subject) (p / modes) e)
-                (stand-there mode-coordinate (r .left .mode) (p % modes) (shaped r member .left)))
-                (eq-true (r .left .object) (r .left .object) refl),
+            stands-is r x .1 (
+              stand-there subject-axis (r .left .subject) (p / modes) e,
+              stand-there mode-coordinate (r .left .mode) (p % modes) (shaped r member .left),
+              eq-true (r .left .object) (r .left .object) refl,
+            ),
           )
 
       left-origin : leads U (rule i) ≡ true → looks i p ≡ true → placeOf U (rightOf (rule i) (leftAt i p) .access) ≡ p
+      unfolding rightOf
       left-origin a e =
           let r = rule i in
           let s = shaped r member in
@@ -238,6 +231,7 @@ module _ (rules : List Rule) (U : List ℕ) (number : Rule → ℕ) (rule : ℕ 
         -- a rule whose bit is set at the place where r looks, and that feeds r, stands for what r looks for
         stood : (j : ℕ) → bit j word ≡ true → feeds (rule j) r ≡ true →
             standsFor (rule j) (rightOf r x .access) ≡ true
+        unfolding rightOf
         stood j e g =
             let y = rightOf r x .access in
             let p = placeOf U y in

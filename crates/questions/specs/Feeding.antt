@@ -5,7 +5,7 @@ use mathlib.Core.Path.{_≡_, sym, ap, _∙_}
 use Prim.Native.Nat.{ℕ, suc, _/_, _%_, _^_, _<_, min}
 use native.Mathlib.Nat.{pow-succ', div-one, div-div-eq-div-mul, min-le-left, min-le-right}
 use native.Mathlib.Omega.{arith}
-use mathlib.Core.Bool.{Bool, true, false, not, _&&_, Bool·beq, false≢true}
+use mathlib.Core.Bool.{Bool, true, not, _&&_, false≢true}
 use mathlib.Core.List.{List}
 use lib.Arith.{bin-ind}
 use lib.Bits.{bitAnd}
@@ -16,9 +16,9 @@ use Rattle.foundation.specs.Lists.{anyb, Mem, any-mem, mem-any}
 use Rattle.model.specs.declared.Rule.{Rule}
 use Rattle.model.specs.declared.Access.{Access}
 use Rattle.model.specs.Encoding.{bit}
-use Rattle.model.specs.Stratification.{meets, fitsOption, feeds}
-use Rattle.model.specs.Rules.{fitsGrantor, standsFor, derivesFor, rightOf}
-use Rattle.model.specs.HoldsLaws.{fit-feeds}
+use Rattle.model.specs.Stratification.{feeds}
+use Rattle.model.specs.Rules.{standsFor, derivesFor, rightOf}
+use Rattle.model.specs.SideFacts.{fit-feeds, feeds-fit}
 use Rattle.rules.specs.Masks.{maskOf}
 use Rattle.rules.specs.Strata.{feedersOf}
 use Rattle.rules.proofs.Masks.{mask-nth, mask-inside}
@@ -49,37 +49,6 @@ common a b e =
 pub in-common : (a b i : ℕ) → bit i a ≡ true → bit i b ≡ true → not (eqb (bitAnd a b) 0) ≡ true
 in-common a b i e f = ap not (ne-false (bitAnd a b) 0 (λ z.
     false≢true (sym (ap (bit i) z ∙ bit-none i) ∙ bit-both a b i e f)))
-
--- ---- feeding
-
--- what a rule q that feeds r has in common with what r looks for, whatever the subject and the mode
-feeds-parts : (q r : Rule) → feeds q r ≡ true →
-    (Bool·beq (q .left .negative) (r .right .negative) ≡ true) × (eqb (q .left .object) (r .right .object) ≡ true)
-    × (fitsGrantor (r .grantor) (q .author) ≡ true) × (fitsOption (r .option) false ≡ true)
-feeds-parts q r e =
-    let d = Bool·beq (q .left .negative) (r .right .negative) in
-    let c = eqb (q .left .object) (r .right .object) in
-    let u = meets (q .left .subject) (r .right .subject) in
-    let v = meets (q .left .mode) (r .right .mode) in
-    let g = fitsGrantor (r .grantor) (q .author) in
-    let w₁ = and-true (d && c && u && v && g) (fitsOption (r .option) false) e in
-    let w₂ = and-true (d && c && u && v) g (w₁ .0) in
-    let w₃ = and-true d c (and-true (d && c) u (and-true (d && c && u) v (w₂ .0) .0) .0) in
-    (w₃ .0, w₃ .1, w₂ .1, w₁ .1)
-
-pub feeds-object : (q r : Rule) → feeds q r ≡ true → q .left .object ≡ r .right .object
-feeds-object q r e = true-eq (q .left .object) (r .right .object) (feeds-parts q r e .1)
-
--- where q stands for the access that r looks for, it derives what r looks for
-pub feeds-fit : (q r : Rule) (x : Access) → feeds q r ≡ true → standsFor q (rightOf r x .access) ≡ true →
-    derivesFor (rightOf r x) q ≡ true
-feeds-fit q r x e s =
-    let w = feeds-parts q r e in
-    let a = standsFor q (rightOf r x .access) in
-    let d = Bool·beq (q .left .negative) (r .right .negative) in
-    let g = fitsGrantor (r .grantor) (q .author) in
-    and-intro (a && d && g) (fitsOption (r .option) false)
-    (and-intro (a && d) g (and-intro a d s (w .0)) (w .2)) (w .3)
 
 -- ---- the rules of a word
 

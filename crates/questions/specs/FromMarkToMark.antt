@@ -2,7 +2,7 @@
 -- the table of one mark serves the next (`before-mark`). With every stratum swept the table is right (`all-right`),
 -- and what holds, and the answer to MAY, are read off it (`answer`, `may-answer`).
 use mathlib.Core.Path.{_≡_, sym, ap₂, _∙_, subst}
-use Prim.Native.Nat.{ℕ, suc, _-_, _≤_, _<_}
+use Prim.Native.Nat.{ℕ, suc, _*_, _-_, _≤_, _<_}
 use native.Mathlib.Omega.{arith}
 use mathlib.Core.Bool.{Bool, true, false, not, _&&_, false≢true}
 use mathlib.Core.List.{List}
@@ -18,10 +18,11 @@ use Rattle.model.specs.Stratification.{stratified}
 use Rattle.model.specs.StratificationFacts.{stratum-few}
 use Rattle.model.specs.Rules.{Pattern, holds, asked, may}
 use Rattle.model.specs.HoldsSteady.{marks}
+use Rattle.model.specs.SideFacts.{derives-stands}
 use Rattle.model.specs.HoldsFacts.{below-steady}
 use Rattle.model.specs.HoldsLaws.{holds-same}
 use Rattle.questions.specs.Operators.{lasting}
-use Rattle.questions.specs.Table.{Bits, asFacts, heldIn, Before, Sound, RightBelow, Right, derives-stands}
+use Rattle.questions.specs.Table.{Bits, asFacts, heldIn, Before, Sound, RightBelow, Right}
 
 module _ (auths : List Authorization) (rules : List Rule) (D : Access → Bool) where
   -- where every rule that looks back starts at t or later, any table serves as the one before
@@ -34,7 +35,7 @@ module _ (auths : List Authorization) (rules : List Rule) (D : Access → Bool) 
       Right auths rules D a X → Before auths rules D X t
   before-next X a t h c w r x n l u q b =
       let e : t - 1 ≡ u = omega arith in
-      w r x n ∙ sym (below-steady auths rules (suc (length rules)) r (n .0) x a u (omega arith)
+      w r x n ∙ sym (below-steady auths rules (suc (2 * length rules)) r (n .0) x a u (omega arith)
       (subst (λ (v : ℕ). clear (marks auths rules) a v ≡ true) e c))
 
   -- so the table of one mark serves as the one before the next
@@ -46,7 +47,8 @@ module _ (auths : List Authorization) (rules : List Rule) (D : Access → Bool) 
       before-next X a m l (next-clear a (marks auths rules) d (m - 1) (omega arith)) w
 
   -- with every stratum swept all is right
-  pub all-right : stratified rules ≡ true → (t : ℕ) (X : Bits) → RightBelow auths rules D t (suc (length rules)) X →
+  pub all-right : stratified rules ≡ true → (t : ℕ) (X : Bits) →
+      RightBelow auths rules D t (suc (2 * length rules)) X →
       Right auths rules D t X
   all-right s t X h r x n = h r x n (omega (arith, stratum-few rules s r (n .0)))
 

@@ -2,7 +2,7 @@
 -- stratum k at t (`Stands`), the smallest table, which `settle` of the crate `sweep` leaves, is right below stratum
 -- k + 1 (`stratum-right`).
 use mathlib.Core.Path.{_≡_, sym, ap, ap₂, _∙_}
-use Prim.Native.Nat.{ℕ, suc, _≤_, _<_}
+use Prim.Native.Nat.{ℕ, suc, _*_, _≤_, _<_}
 use mathlib.Core.Bool.{Bool, true, _&&_}
 use mathlib.Core.List.{List}
 use lib.ListN.{length, getD}
@@ -52,7 +52,8 @@ module _ (auths : List Authorization) (rules : List Rule) (D : Access → Bool) 
         (r : Rule) × (x : Access) × Node rules D r x × (stratum rules r ≡ k) × (number r ≡ i) × (origin r x ≡ p)
 
   module _ (s : stratified rules ≡ true) (inward : Inward rules D) (P : Bits) (was : Before auths rules D P t)
-      (k : ℕ) (few : k ≤ length rules) (pl : Plan) (before direct : List ℕ) (st : Stands P k pl before direct) where
+      (k : ℕ) (few : k ≤ 2 * length rules) (pl : Plan) (before direct : List ℕ)
+      (st : Stands P k pl before direct) where
     -- a bit that counts may be set exactly if the rule derives
     there : (r : Rule) (x : Access) → Node rules D r x → derivedAt (place x) (number r) ≡ truth auths rules t r x
     there r x n =

@@ -2,7 +2,7 @@
 -- authorizations that are alike for the right sides of the rules and for what is asked (`holds-alike`); so is what a
 -- test keeps of a list, if it keeps all that fits (`kept-fits`).
 use mathlib.Core.Path.{_≡_, refl, sym, ap, _∙_}
-use Prim.Native.Nat.{ℕ, zero, suc}
+use Prim.Native.Nat.{ℕ, zero, suc, _*_}
 use mathlib.Core.Bool.{Bool, true, false, not, _&&_, _||_}
 use mathlib.Core.List.{List, [], _∷_}
 use lib.Dec.{ltb, eqb}
@@ -19,10 +19,11 @@ use Rattle.model.specs.declared.Access.{Access}
 use Rattle.model.specs.Support.{live}
 use Rattle.model.specs.Stratification.{stratum}
 use Rattle.model.specs.Rules.{Pattern, Fact, fact, fits, derivesFor, rightOf, operate, holdsBy, rightBy, derives, enough, derivedBelow, holds}
+use Rattle.model.specs.SideFacts.{derives-stands}
 use Rattle.model.specs.RightFacts.{right-mono, right-own}
 use Rattle.model.specs.HoldsFacts.{below-stratum, rounds, closed}
 use Rattle.model.specs.HoldsLaws.{holds-law}
-use Rattle.questions.specs.Table.{Node, Inward, derives-stands}
+use Rattle.questions.specs.Table.{Node, Inward}
 
 -- ---- what is kept
 
@@ -184,7 +185,7 @@ module _ (rules : List Rule) (D : Access → Bool) (inward : Inward rules D) whe
   pub holds-alike : (A B : List Authorization) → Alike A B → (t : ℕ) (p : Pattern) → D (p .access) ≡ true →
       anyb (fits p) (live t A) ≡ anyb (fits p) (live t B) → holds always A rules t p ≡ holds always B rules t p
   holds-alike A B h t p d q =
-      let K = suc (length rules) in
+      let K = suc (2 * length rules) in
       holds-law A rules t p
       ∙ held-same A B (below A K) (below B K) (λ r x n t e. sym (strata-agree A B h K r x n t) ∙ e)
       (λ r x n t e. strata-agree A B h K r x n t ∙ e) t p d q

@@ -2,7 +2,7 @@
 -- stratum k that derives now may be set (`set-right`); once none is left to set, the table is right below stratum
 -- k + 1 (`swept`).
 use mathlib.Core.Path.{_≡_, refl, sym, _∙_, subst}
-use Prim.Native.Nat.{ℕ, zero, suc, _-_, _≤_, _<_}
+use Prim.Native.Nat.{ℕ, zero, suc, _*_, _-_, _≤_, _<_}
 use native.Mathlib.Omega.{arith}
 use mathlib.Core.Bool.{Bool, true, not, _&&_, _||_}
 use mathlib.Core.List.{List}
@@ -19,11 +19,12 @@ use Rattle.model.specs.Support.{live}
 use Rattle.model.specs.Stratification.{negating, stratified, stratum}
 use Rattle.model.specs.StratificationFacts.{feeder-below}
 use Rattle.model.specs.Rules.{Pattern, Fact, fact, fits, standsFor, derivesFor, rightOf, operate, holdsBy, rightBy, derives, enough, derivedBelow, holds}
+use Rattle.model.specs.SideFacts.{derives-stands}
 use Rattle.model.specs.RightFacts.{right-mono, right-cong}
 use Rattle.model.specs.HoldsFacts.{below-stratum, rounds, rounds-below}
-use Rattle.model.specs.HoldsLaws.{Fed, StrictlyFed, right-settled, settled-at, holds-fit, holds-law, strictly-settled}
+use Rattle.model.specs.HoldsLaws.{StrictlyFed, strictly-fed, right-settled, settled-at, holds-fit, holds-law, strictly-settled}
 use Rattle.questions.specs.Operators.{lasting, sense, operate-back, operate-now, sense-more}
-use Rattle.questions.specs.Table.{Bits, asFacts, gate, truth, heldIn, rightIn, snap, Node, Inward, Before, Sound, RightBelow, ClosedAt, derives-stands, gate-first, instant-before, now-law}
+use Rattle.questions.specs.Table.{Bits, asFacts, gate, truth, heldIn, rightIn, snap, Node, Inward, Before, Sound, RightBelow, ClosedAt, gate-first, instant-before, now-law}
 
 -- from more facts about the rules at hand no less holds
 holds-more : (auths : List Authorization) (rules : List Rule) (S Q : Fact → Bool) (t : ℕ) (p : Pattern) →
@@ -101,10 +102,6 @@ module _ (auths : List Authorization) (rules : List Rule) (s : stratified rules 
         (λ q j e. let g = f q e in
         filled-below q (p .access) j (omega (arith, feeder-below rules s q r j m (g .0) (g .1))))
 
-    -- all that feeds a negating rule does so by a link that counts
-    strictly : negating (r .operator) ≡ true → (p : Pattern) → Fed r p → StrictlyFed r p
-    strictly g p f q e = (f q e, g)
-
     right-sound : (x : Access) → rightIn auths rules filled t r x ≡ true →
         rightIn auths rules (truth auths rules t) t r x ≡ true
     right-sound x e =
@@ -118,7 +115,7 @@ module _ (auths : List Authorization) (rules : List Rule) (s : stratified rules 
     right-exact g x =
         let F = heldIn auths rules filled t in
         right-settled r x F F (heldIn auths rules (truth auths rules t) t)
-        (λ p f. held-exact p (strictly g p f)) held-exact
+        (λ p f. held-exact p (strictly-fed r g p f)) held-exact
 
   -- a bit that the sweep sets is right
   pub set-right : (r : Rule) (x : Access) → Node rules D r x → stratum rules r ≡ k →
@@ -136,7 +133,7 @@ module _ (auths : List Authorization) (rules : List Rule) (s : stratified rules 
 
   -- ---- when no more can be set
 
-  module _ (few : k ≤ length rules) (shut : ClosedAt auths rules D P t k X) where
+  module _ (few : k ≤ 2 * length rules) (shut : ClosedAt auths rules D P t k X) where
     abbrev lower : Fact → Bool
     lower = derivedBelow always auths rules k
 
@@ -194,7 +191,7 @@ module _ (auths : List Authorization) (rules : List Rule) (s : stratified rules 
       under-is : negating (r .operator) ≡ true → under t ≡ rightIn auths rules X t r x
       under-is g =
           let L = holdsBy always auths rules lower t in
-          right-settled r x L L F (λ p f. under-exact p (strictly r (w .0) h g p f)) under-exact
+          right-settled r x L L F (λ p f. under-exact p (strictly-fed r g p f)) under-exact
           ∙ sym (right-filled r x w)
 
       -- and where the operator looks back, the rule derived at the instant before

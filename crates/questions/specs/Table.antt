@@ -3,18 +3,18 @@
 use mathlib.Core.Path.{_≡_, sym, ap, _∙_, subst}
 use Prim.Native.Nat.{ℕ, suc, _-_, _≤_, _<_}
 use native.Mathlib.Omega.{arith}
-use mathlib.Core.Bool.{Bool, true, false, not, _&&_, _||_, Bool·beq}
+use mathlib.Core.Bool.{Bool, true, false, not, _&&_, _||_}
 use mathlib.Core.List.{List}
 use lib.Dec.{eqb}
-use Rattle.foundation.specs.Tests.{cases, true-eq, false-eq, and-true, or-true}
+use Rattle.foundation.specs.Tests.{cases, true-eq, false-eq, or-true}
 use Rattle.foundation.specs.Lists.{Mem}
 use Rattle.foundation.specs.Intervals.{inInterval, inInterval-in, inInterval-true, always}
 use Rattle.model.specs.declared.Authorization.{Authorization}
 use Rattle.model.specs.declared.Rule.{Rule}
 use Rattle.model.specs.declared.Operator.{Operator}
 use Rattle.model.specs.declared.Access.{Access}
-use Rattle.model.specs.Stratification.{fitsOption, stratified, stratum}
-use Rattle.model.specs.Rules.{Pattern, Fact, fact, fitsGrantor, standsFor, derivesFor, rightOf, rightHolds, operate, holdsBy, holds}
+use Rattle.model.specs.Stratification.{stratified, stratum}
+use Rattle.model.specs.Rules.{Pattern, Fact, fact, standsFor, rightOf, rightHolds, operate, holdsBy, holds}
 use Rattle.model.specs.RightFacts.{right-cong}
 use Rattle.model.specs.HoldsLaws.{derived, holding, holds-law, derived-law}
 use Rattle.questions.specs.Operators.{lasting, sense, operate-first, operate-step}
@@ -81,14 +81,6 @@ module _ (auths : List Authorization) (rules : List Rule) (D : Access → Bool) 
   abbrev pub ClosedAt : Bits → ℕ → ℕ → Bits → Type 0
   ClosedAt P t k X = (r : Rule) (x : Access) → Node rules D r x → stratum rules r ≡ k →
       snap auths rules P t X r x ≡ true → X r x ≡ true
-
--- a rule that derives what is looked for stands for its access
-pub derives-stands : (p : Pattern) (r : Rule) → derivesFor p r ≡ true → standsFor r (p .access) ≡ true
-derives-stands p r e =
-    let a = standsFor r (p .access) in
-    let b = Bool·beq (r .left .negative) (p .negative) in
-    let c = fitsGrantor (p .grantor) (r .author) in
-    and-true a b (and-true (a && b) c (and-true (a && b && c) (fitsOption (p .option) false) e .0) .0) .0
 
 -- ---- now
 

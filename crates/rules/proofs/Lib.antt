@@ -2,4 +2,4 @@ pub mod Records
 pub mod Masks
 pub mod Bits
 pub mod Rounds
-pub mod Tables
+pub mod Edges

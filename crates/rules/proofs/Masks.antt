@@ -1,24 +1,20 @@
--- Masks of the records of any width, built by a loop; masks of any list, read bit by bit; and the largest number that
--- a mask picks.
+-- Masks of the records of any width, built by a loop; masks of any list, read bit by bit.
 use mathlib.Core.Path.{_≡_, refl, sym, ap, _∙_}
-use mathlib.Core.Bool.{Bool, true, false, _&&_, Bool·beq, false≢true}
+use mathlib.Core.Bool.{Bool, true, false, Bool·beq, false≢true}
 use mathlib.Core.List.{List, [], _∷_}
 use Prim.Native.Nat.{ℕ, zero, suc, _+_, _*_, _-_, _/_, _%_, _^_, _≤_, _<_}
-use native.Mathlib.Nat.{pow-succ', lt-of-lt-of-le, pow-le-pow-right, div-one, div-eq-of-lt, div-div-eq-div-mul, le-antisymm}
+use native.Mathlib.Nat.{pow-succ', lt-of-lt-of-le, pow-le-pow-right, div-one, div-eq-of-lt, div-div-eq-div-mul}
 use native.Mathlib.Omega.{arith}
 use mir.Val.{boolByte}
-use lib.Dec.{eqb, ltb, leb}
+use lib.Dec.{eqb, ltb}
 use lib.ListN.{length, drop, getD}
 use lib.Seq.{drop-nil}
-use Rattle.foundation.specs.Tests.{cases, and-true, eq-true, ne-false, true-eq, false-eq, true-le, false-le}
-use Rattle.foundation.specs.Lists.{keepIf, keepIf-mem, kept}
+use Rattle.foundation.specs.Tests.{cases, eq-true, ne-false, true-eq, true-le, false-le}
 use Rattle.foundation.specs.Bytes.{records}
-use Rattle.foundation.specs.Graph.{most}
-use Rattle.foundation.specs.GraphFacts.{most-le, le-most}
 use Rattle.model.specs.Encoding.{asBit, bit}
-use Rattle.rules.specs.Masks.{maskOf, larger, top}
+use Rattle.rules.specs.Masks.{maskOf}
 use Rattle.encoding.proofs.Records.{rest, rest-all, rest-step, rest-end}
-use Rattle.rules.proofs.Records.{length-records, record-nth, record-mem, mem-record}
+use Rattle.rules.proofs.Records.{length-records, record-nth}
 
 pub beq-yes : (a b : Bool) → a ≡ true → b ≡ Bool·beq a b
 beq-yes true true e = refl
@@ -103,65 +99,3 @@ pub mask-at : {R : Type 0} (w : ℕ) (f : List ℕ → R) (p : R → Bool) (n : 
 mask-at w f p n s i h =
     let l = records w f n s in
     mask-nth p l i (f (drop (i * w) s)) (drop (suc i) l) (record-nth w f n s i h)
-
--- ---- the largest of the numbers that a test picks
-
-larger-le : (t : Bool) (a b k : ℕ) → (t ≡ true → a ≤ k) → b ≤ k → larger t a b ≤ k
-larger-le t a b k f h = cases (t && ltb b a) (λ e. rw e (f (and-true t (ltb b a) e .0))) (λ e. rw e h)
-
-le-larger : (t : Bool) (a b : ℕ) → b ≤ larger t a b
-le-larger t a b = cases (t && ltb b a)
-    (λ e. let h = true-le (suc b) a (and-true t (ltb b a) e .1) in rw e (omega arith))
-    (λ e. rw e (omega arith))
-
-larger-picks : (a b : ℕ) → a ≤ larger true a b
-larger-picks a b = cases (ltb b a) (λ e. rw e (omega arith)) (λ e. let h = false-le (suc b) a e in rw e (omega arith))
-
-module _ (t : ℕ → Bool) where
-  -- places that do not pass the test add nothing
-  pub top-skip : (n r : ℕ) (l : List ℕ) → r ≤ n → ((i : ℕ) → r ≤ i → i < n → t i ≡ false) → top n t l ≡ top r t l
-  top-skip zero r l h f = let z : r ≡ 0 = omega arith in rw z
-  top-skip (suc n) r l h f = cases (leb r n)
-      (λ q. let k = true-le r n q in
-      rw (f n k (omega arith)) (top-skip n r l k (λ i a b. f i a (omega arith))))
-      (λ q. let z : r ≡ suc n = omega (arith, false-le r n q) in rw z)
-
-  pub top-le : (n : ℕ) (l : List ℕ) (b : ℕ) → ((i : ℕ) → i < n → t i ≡ true → getD l i 0 ≤ b) → top n t l ≤ b
-  top-le zero l b h = omega arith
-  top-le (suc n) l b h = larger-le (t n) (getD l n 0) (top n t l) b (h n (omega arith))
-      (top-le n l b (λ i j. h i (omega arith)))
-
-  le-top : (n : ℕ) (l : List ℕ) (i : ℕ) → i < n → t i ≡ true → getD l i 0 ≤ top n t l
-  le-top zero l i h e = absurd (omega arith)
-  le-top (suc n) l i h e = cases (eqb i n)
-      (λ q. let z = true-eq i n q in
-      let b : t n ≡ true = rw z at e in
-      rw (z, b) (larger-picks (getD l n 0) (top n t l)))
-      (λ q. let z = false-eq i n q in
-      omega (arith, le-top n l i (omega arith) e, le-larger (t n) (getD l n 0) (top n t l)))
-
--- where l holds g of each of the n records, and t tells which of them pass a test, the largest that t picks is the
--- most of g over those that pass
-pub top-most : {R : Type 0} (w : ℕ) (f : List ℕ → R) (p : R → Bool) (g : R → ℕ) (n : ℕ) (s l : List ℕ)
-    (t : ℕ → Bool) → ((i : ℕ) → i < n → t i ≡ p (f (drop (i * w) s))) →
-    ((i : ℕ) → i < n → getD l i 0 ≡ g (f (drop (i * w) s))) → top n t l ≡ most g (keepIf p (records w f n s))
-top-most {R} w f p g n s l t a h = le-antisymm
-    (top-le t n l (most g picked) (λ i k e. omega (
-      arith,
-      h i k,
-      le-most g picked (at i) (keepIf-mem p rs (at i) (record-mem w f n s i k) (sym (a i k) ∙ e)),
-    )))
-    (most-le g picked (top n t l) (λ r k.
-    let v = kept p rs r k in
-    let z = mem-record w f n s r (v .0) in
-    let e : t (z .0) ≡ true = a (z .0) (z .1) ∙ ap p (sym (z .2)) ∙ v .1 in
-    omega (arith, ap g (z .2), h (z .0) (z .1), le-top t n l (z .0) (z .1) e)))
-  where
-    rs : List R
-    rs = records w f n s
-
-    picked : List R
-    picked = keepIf p rs
-
-    at : ℕ → R
-    at i = f (drop (i * w) s)

@@ -1,6 +1,6 @@
 -- The rules of a base's bytes by their places, and tables with a number for each.
 use mathlib.Core.Path.{_≡_}
-use Prim.Native.Nat.{ℕ, _+_, _*_, _/_, _%_, _<_}
+use Prim.Native.Nat.{ℕ, _+_, _*_, _<_, max}
 use mathlib.Core.Bool.{Bool, true}
 use mathlib.Core.List.{List}
 use lib.ListN.{drop, getD}
@@ -9,8 +9,8 @@ use Rattle.foundation.specs.Bytes.{records}
 use Rattle.foundation.specs.Graph.{most}
 use Rattle.foundation.specs.Totals.{count}
 use Rattle.model.specs.declared.Rule.{Rule}
-use Rattle.model.specs.Encoding.{asBit, ruleOf}
-use Rattle.model.specs.Stratification.{feeds, negates, stratified, stratum}
+use Rattle.model.specs.Encoding.{ruleOf}
+use Rattle.model.specs.Stratification.{feeds, precedes, negates, weight, stratified, stratum}
 use Rattle.rules.specs.Masks.{maskOf}
 
 -- the n rules that stand in s, and the i-th of them
@@ -32,14 +32,9 @@ Holds n s f l = Filled n (λ i. f (ruleAt s i)) l
 abbrev pub feedersOf : List Rule → Rule → ℕ
 feedersOf rules r = maskOf (λ q. feeds q r) rules
 
--- the place k of a table of n by n bytes: 1 if the rule k % n feeds the rule k / n
-abbrev pub feedsAt : ℕ → List ℕ → ℕ → ℕ
-feedsAt n s k = asBit (feeds (ruleAt s (k % n)) (ruleAt s (k / n)))
-
--- what a round makes of the numbers f of the rules: the largest of the feeders', and one more for a rule with
--- WHENEVERNOT or UNLESS
+-- what a round makes of the numbers f of the rules: the most that a rule has by itself or by a step into it
 abbrev pub raised : List Rule → (Rule → ℕ) → Rule → ℕ
-raised rules f r = count (negates r) + most f (keepIf (λ q. feeds q r) rules)
+raised rules f r = max (count (negates r)) (most (λ q. weight q r + f q) (keepIf (λ q. precedes q r) rules))
 
 -- what the test for circles answers of n rules, and the table that it leaves
 pub record Stratified (n : ℕ) (s strata : List ℕ) (answer : Bool) : Type 0 where

@@ -1,22 +1,20 @@
-// Which rule feeds which, the test for circles, and the strata of the rules.
+// Which rule feeds which, and masks of rules. The test for circles and the strata of the rules: `ranks`.
 ghost use mathlib.Core.Path.{_≡_};
-ghost use mathlib.Core.Bool.{Bool·beq, true, false};
-ghost use mathlib.Core.List.{List};
+ghost use mathlib.Core.Bool.{Bool·beq, false};
 ghost use Prim.Native.Nat.{ℕ, _*_, _≤_, _<_};
-ghost use lib.ListN.{length, getD};
-ghost use Rattle.foundation.specs.Totals.{count};
+ghost use lib.ListN.{length};
 ghost use Rattle.model.specs.Stratification as model;
 ghost use Rattle.model.specs.Encoding.{bit};
-ghost use Rattle.model.specs.declared.Rule.{Rule};
-ghost use Rattle.rules.specs.Masks.{maskOf, larger, top};
-ghost use Rattle.rules.specs.Strata.{rulesIn, feedersOf, Holds, raised, Stratified, Same};
+ghost use Rattle.rules.specs.Masks.{maskOf};
+ghost use Rattle.rules.specs.Strata.{rulesIn, feedersOf, Holds};
 
-mod circles;
+mod ranks;
 
-pub use circles::is_stratified;
 use model::Operator;
 use model::OptionTerm;
 use model::Rule;
+pub use ranks::is_stratified;
+pub use ranks::stratify;
 
 // Whether two tests agree.
 pub fn alike(a: bool, b: bool) -> bool
@@ -120,24 +118,6 @@ pub fn feeding(s: &[u8], n: usize, fed: &mut [u64; 64])
     }
 }
 
-// a, if the test passes and it is above b; else b.
-fn larger_of(t: bool, a: u16, b: u16) -> u16
-    ensures { λ x. ⌜ x ≡ larger t a b ⌝ }
-{
-    if t & (b < a) {
-        return a;
-    }
-    b
-}
-
-// Whether bit i of m is set.
-pub fn bit_at(m: u64, i: u32) -> bool
-    requires { ⌜ i < 64 ⌝ }
-    ensures { λ b. ⌜ b ≡ bit i m ⌝ }
-{
-    (m >> i) % 2 == 1
-}
-
 // The number of the first bit of m that is set, from the r-th on and below the n-th; n if there is none.
 pub fn next_bit(m: u64, r: usize, n: usize) -> usize
     requires { ⌜ (r ≤ n) × (n ≤ 64) ⌝ }
@@ -151,90 +131,4 @@ pub fn next_bit(m: u64, r: usize, n: usize) -> usize
         return k;
     }
     n
-}
-
-// The largest of the first n numbers whose bit is set in a mask.
-fn most_of(m: u64, l: &[u16; 64], n: usize) -> u16
-    requires { ⌜ n ≤ 64 ⌝ }
-    ensures { λ x. ⌜ x ≡ top n (λ i. bit i m) (now (l .entry)) ⌝ }
-{
-    let mut best = 0;
-    let mut i = next_bit(m, 0, n);
-    while i < n {
-        let t = bit_at(m, i as u32);
-        let a = l[i];
-        best = larger_of(t, a, best);
-        i = next_bit(m, i + 1, n);
-    }
-    best
-}
-
-// One for a test that passes.
-fn one_if(b: bool) -> u16
-    ensures { λ x. ⌜ (x ≡ count b) × (x ≤ 1) ⌝ }
-{
-    if b {
-        return 1;
-    }
-    0
-}
-
-// One round of ranks for n rules: `fed` has the mask of each rule's feeders, `neg` the WHENEVERNOT and UNLESS rules,
-// and `old` a number for each rule, from which `out` gets the next.
-pub fn rank_round(fed: &[u64; 64], neg: u64, old: &[u16; 64], out: &mut [u16; 64], n: usize)
-    requires { ⌜ (n ≤ 64) × ((i : ℕ) → i < n → getD (now old) i 0 < 65535) ⌝ }
-    ensures { λ _. ⌜ (length (now (out .exit)) ≡ 64)
-        × ((s : List ℕ) (f : Rule → ℕ) → Holds n s (feedersOf (rulesIn n s)) (now (fed .entry)) →
-        neg ≡ maskOf model.negates (rulesIn n s) → Holds n s f (now (old .entry)) →
-        Holds n s (raised (rulesIn n s) f) (now (out .exit))) ⌝ }
-{
-    *out = [0; 64];
-    let mut j = 0;
-    while j < n {
-        let m = fed[j];
-        let t = most_of(m, old, n);
-        let b = one_if(bit_at(neg, j as u32));
-        out[j] = b + t;
-        j += 1;
-    }
-}
-
-// Whether two tables are equal in the first n places.
-fn same_ranks(a: &[u16], b: &[u16], n: usize) -> bool
-    requires { ⌜ (n ≤ length (now a)) × (n ≤ length (now b)) ⌝ }
-    ensures { λ r. ⌜ (r ≡ true → Same n (now (a .entry)) (now (b .entry)))
-        × (Same n (now (a .entry)) (now (b .entry)) → r ≡ true) ⌝ }
-{
-    let mut i = 0;
-    while i < n {
-        if a[i] != b[i] {
-            return false;
-        }
-        i += 1;
-    }
-    true
-}
-
-// The test for circles: whether no rule with WHENEVERNOT or UNLESS feeds itself in the end. If so, `strata` gets the
-// stratum of each of the n rules. As many rounds as there are rules settle the ranks, unless there is a circle.
-pub fn stratify(s: &[u8], n: usize, strata: &mut [u16; 64]) -> bool
-    requires { ⌜ (n * 28 ≤ length (now s)) × (n ≤ 64) ⌝ }
-    ensures { λ r. ⌜ Stratified n (now (s .entry)) (now (strata .exit)) r ⌝ }
-{
-    let mut fed = [0u64; 64];
-    feeding(s, n, &mut fed);
-    let neg = negating(s, n);
-    let none = [0u16; 64];
-    rank_round(&fed, neg, &none, strata, n);
-    let mut k = 0;
-    while k <= n {
-        let mut next = [0u16; 64];
-        rank_round(&fed, neg, strata, &mut next, n);
-        if same_ranks(strata, &next, n) {
-            return true;
-        }
-        *strata = next;
-        k += 1;
-    }
-    false
 }

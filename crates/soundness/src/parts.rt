@@ -141,7 +141,7 @@ fn lent_hold(
     let na = c.administrators as usize;
     let n = c.authorizations as usize;
     let nr = c.rules as usize;
-    let mut strata = [0u16; 64];
+    let mut strata = [0u16; 65];
     let supported = support::all_supported(objects, no, administrators, na, authorizations, n);
     supported & rules::stratify(rules, nr, &mut strata)
 }

@@ -31,6 +31,7 @@ newAuthorization b q = authorization (newHead (suc (b .last)) q) (q .interval)
 
 -- a request that withdraws nothing takes nothing
 pub no-takes : (q : Request) → withdraws q ≡ false → (h : Head) (t : ℕ) → takes q h t ≡ false
+unfolding takes
 no-takes q w h t = rw (
   not-kind q (REVOKE ∷ []) withdrawalKinds refl w,
   not-kind q (REVOKEP ∷ REVOKEN ∷ []) withdrawalKinds refl w,

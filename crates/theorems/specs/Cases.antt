@@ -12,8 +12,9 @@ use Rattle.foundation.specs.Intervals.{prepend}
 use Rattle.foundation.specs.Marks.{next, walk}
 use Rattle.model.specs.Base.{emptyBase}
 use Rattle.model.specs.Support.{supports, supportedIn, supported, coveredFor}
-use Rattle.model.specs.Stratification.{stratified, stratum}
-use Rattle.model.specs.Rules.{derivedBelow, holds, mayWith}
+use Rattle.model.specs.Stratification.{feeds, precedes, weight, stratified, stratum}
+use Rattle.model.specs.Requests.{takes, affects}
+use Rattle.model.specs.Rules.{fits, standsFor, derivesFor, rightOf, derivedBelow, holds, mayWith}
 use Rattle.model.specs.Means.{Means, atMarks, keepAt, leaveAt, restrictAt, gapsAt}
 use Rattle.model.specs.Questions.{Questions, readAtMarks, alwaysAt, mayAtMarks, whenAtMarks}
 use Rattle.model.specs.MeansFacts.{same-means, same-questions}
@@ -121,8 +122,9 @@ Passes [] = Unit {0}
 Passes (c ∷ rest) = (transcript (atMarks 64) (readAtMarks 64) (lines (c .input)) emptyBase ≡ c .output) × Passes rest
 
 computed : Passes table
-unfolding iter reaches cyclic rankIn rank prepend next walk supports supportedIn supported coveredFor stratified holds
-    stratum derivedBelow mayWith keepAt leaveAt restrictAt gapsAt alwaysAt mayAtMarks whenAtMarks decimal readLine
+unfolding iter reaches cyclic rankIn rank prepend next walk supports supportedIn supported coveredFor feeds precedes
+    weight stratified holds stratum derivedBelow mayWith keepAt leaveAt restrictAt gapsAt alwaysAt mayAtMarks
+    whenAtMarks decimal readLine fits standsFor derivesFor rightOf takes affects
 computed = (refl, (refl, (refl, (refl, (refl, (refl, (refl, (refl, (refl, (refl, (refl, (refl, tt))))))))))))
 
 at : (cs : List Case) → Passes cs → (c : Case) → Mem c cs →

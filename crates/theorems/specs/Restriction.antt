@@ -34,6 +34,7 @@ use Rattle.theorems.specs.AuthorizationsAfter.{withdrawn-authorizations}
 module _ (xs : List Authorization) (q : Request) (k h : Head) (t : ℕ) (a : Authorization) (m : Mem a xs)
     (head : a .head ≡ k) (object : k .object ≡ h .object) (mode : k .mode ≡ h .mode) where
   takes-affects : takes q k t ≡ true → affects xs q h ≡ true
+  unfolding takes affects
   takes-affects e = cases (is q (REVOKE ∷ []))
       (λ r. rw r (byLabel (rw r at e)))
       (λ r. cases (is q (REVOKEP ∷ REVOKEN ∷ []))
@@ -79,6 +80,7 @@ module _ (b : Base) (q : Request) where
   -- what REVOKEADM does not affect is on another object
   not-affected : (h : Head) → affects (b .authorizations) q h ≡ false → is q (REVOKEADM ∷ []) ≡ true →
       h .object ≢ q .object
+  unfolding affects
   not-affected h f d = false-eq (h .object) (q .object)
       (rw (
         is-apart q (REVOKEADM ∷ []) (REVOKE ∷ []) refl d,

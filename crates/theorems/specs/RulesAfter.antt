@@ -8,11 +8,11 @@ use Prim.Native.Nat.{ℕ, suc}
 use lib.Dec.{eqb}
 use Rattle.foundation.specs.Tests.{cases, must-fail, not-true}
 use Rattle.foundation.specs.Lists.{anyb, allb, Mem, mem-all, kept, last-mem}
-use Rattle.foundation.specs.Graph.{Path, direct, onward, strictEdge, cyclic, cyclic-path}
+use Rattle.foundation.specs.Graph.{Path, direct, onward, strictEdge, heavy, cyclic, cyclic-path}
 use Rattle.model.specs.declared.Rule.{Rule}
 use Rattle.model.specs.declared.Request.{Request}
 use Rattle.model.specs.Base.{Base}
-use Rattle.model.specs.Stratification.{feeds, strict, stratified}
+use Rattle.model.specs.Stratification.{precedes, weight, stratified}
 use Rattle.model.specs.Requests.{ADDRULE, DROPRULE, REVOKEADM, REVOKEREF, is, newRule, drops}
 use Rattle.model.specs.Means.{plainly}
 use Rattle.model.specs.Step.{effect}
@@ -71,7 +71,7 @@ path-more first edge xs ys h (onward {p} c m e) = onward (path-more first edge x
 pub stratified-less : (rs us : List Rule) → ((r : Rule) → Mem r rs → Mem r us) → stratified us ≡ true →
     stratified rs ≡ true
 unfolding stratified
-stratified-less rs us h e = ap not (must-fail (cyclic feeds strict us) (cyclic feeds strict rs)
-    (not-true (cyclic feeds strict us) e)
-    (λ c. let w = cyclic-path feeds strict rs .0 c in cyclic-path feeds strict us .1
-    (w .0, h (w .0) (w .1), path-more (strictEdge feeds strict) feeds rs us h (w .2))))
+stratified-less rs us h e = ap not (must-fail (cyclic precedes (heavy weight) us) (cyclic precedes (heavy weight) rs)
+    (not-true (cyclic precedes (heavy weight) us) e)
+    (λ c. let w = cyclic-path precedes (heavy weight) rs .0 c in cyclic-path precedes (heavy weight) us .1
+    (w .0, h (w .0) (w .1), path-more (strictEdge precedes (heavy weight)) precedes rs us h (w .2))))

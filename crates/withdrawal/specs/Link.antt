@@ -24,11 +24,13 @@ CutOf q c = (h : Head) (t : ℕ) → cutTakes c h t ≡ takes q h t
 module _ (q : Request) (c : Cut) where
   -- REVOKE
   pub by-label : is q (REVOKE ∷ []) ≡ true → c .kind ≡ 1 → c .label ≡ q .label → CutOf q c
+  unfolding takes
   by-label e k l h t = rw (e, k, l)
 
   -- REVOKEADM
   pub by-grantor : is q (REVOKEADM ∷ []) ≡ true → c .kind ≡ 2 → c .object ≡ q .object → c .grantor ≡ q .subject →
       CutOf q c
+  unfolding takes
   by-grantor e k o g h t = rw (
     is-apart q (REVOKEADM ∷ []) (REVOKE ∷ []) refl e,
     is-apart q (REVOKEADM ∷ []) (REVOKEP ∷ REVOKEN ∷ []) refl e,
@@ -42,6 +44,7 @@ module _ (q : Request) (c : Cut) where
   pub by-name : is q (REVOKEP ∷ REVOKEN ∷ []) ≡ true → c .kind ≡ 3 → c .grantor ≡ q .requester →
       c .subject ≡ q .subject → c .object ≡ q .object → c .mode ≡ q .mode → c .negative ≡ is q (REVOKEN ∷ []) →
       c .interval ≡ q .interval → CutOf q c
+  unfolding takes
   by-name e k g s o m n i h t =
       rw (is-apart q (REVOKEP ∷ REVOKEN ∷ []) (REVOKE ∷ []) refl e, e, k, g, s, o, m, n, i)
 

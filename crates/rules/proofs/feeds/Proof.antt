@@ -9,6 +9,7 @@ use Rattle.rules.proofs.feeds.Statement.{statement}
 use Rattle.rules.proofs.feeds.Tie as tie
 
 other-object : (q r : Rule) → (q .left .object ≡ r .right .object → ⊥) → false ≡ feeds q r
+unfolding feeds
 other-object q r n = rw (
   ne-false (q .left .object) (r .right .object) n,
   and-false (Bool·beq (q .left .negative) (r .right .negative)),
@@ -20,6 +21,7 @@ returns c =
     other-object (a .q) (a .r) (c .if1 .taken)
 
 returns-2 : tie.Need-returns-2
+unfolding feeds
 returns-2 c =
     let d = c .before .before .before .before .before in
     rw (

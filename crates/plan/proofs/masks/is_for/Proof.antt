@@ -2,11 +2,13 @@
 use mathlib.Core.Bool.{Bool·beq}
 use lib.Dec.{eqb}
 use borrow.Author.Needs.{needs}
+use Rattle.model.specs.Rules.{fits}
 use Rattle.plan.proofs.Laws.{any-option}
 use Rattle.plan.proofs.masks.is_for.Statement.{statement}
 use Rattle.plan.proofs.masks.is_for.Tie as tie
 
 returns : tie.Need-returns
+unfolding fits
 returns c =
     let d = c .before .before .before .before .before .before in
     let a = d .before .args in

@@ -2,7 +2,7 @@
 use borrow.Author.Needs.{needs}
 use native.Mathlib.Omega.{arith}
 use mathlib.Core.Path.{_≡_, refl, sym, ap, _∙_, subst}
-use Prim.Native.Nat.{ℕ, suc, _+_, _-_, _≤_}
+use Prim.Native.Nat.{ℕ, suc, _+_, _*_, _-_, _≤_}
 use mathlib.Core.List.{List}
 use denote.Ref.{now}
 use lib.Bits.{bitAnd}
@@ -118,7 +118,7 @@ loop-again c =
     (a .t) direct (c .before .before .before .before .before .before .before .before .before .before .before .before .before .light .ensures) in
     let next : suc (l .k) ≡ l .k + 1 = omega arith in
     let t : l .k ≤ a .o .top = omega (arith, c .before .before .before .before .before .before .before .loop-test .taken) in
-    let h : l .k ≤ a .n = omega (arith, s .pre .0 .low) in (
+    let h : l .k ≤ 2 * a .n = omega (arith, s .pre .0 .low) in (
       omega arith,
       subst (λ (k : ℕ). Done lines (a .na) body (a .n) U (a .t) k table) next
           (stratum-done lines (a .na) body (a .n) U L S F M P K (a .o .lead) (a .o .negating) (a .o .top) (s .pre .0)

@@ -4,7 +4,7 @@ use native.Mathlib.Omega.{arith}
 use mathlib.Core.Path.{_≡_, sym, ap, _∙_, subst}
 use mathlib.Core.Bool.{Bool, true}
 use mathlib.Core.List.{List}
-use Prim.Native.Nat.{ℕ, _≤_, _<_}
+use Prim.Native.Nat.{ℕ, _*_, _≤_, _<_}
 use denote.Ref.{now}
 use lib.ListN.{take, getD}
 use Rattle.foundation.specs.Lists.{Mem}
@@ -21,8 +21,8 @@ use Rattle.plan.proofs.tables.prepare.Statement.{statement}
 use Rattle.plan.proofs.tables.prepare.Tie as tie
 
 module _ (body : List ℕ) (n : ℕ) (L : List ℕ) (levels : Holds n body (stratum (rulesIn n body)) L) where
-  -- there are at most as many strata as rules
-  few-levels : stratified (rulesIn n body) ≡ true → (i : ℕ) → i < n → getD L i 0 ≤ n
+  -- there are at most twice as many strata as rules
+  few-levels : stratified (rulesIn n body) ≡ true → (i : ℕ) → i < n → getD L i 0 ≤ 2 * n
   few-levels s i h =
       let rules = rulesIn n body in
       let r = ruleAt body i in
@@ -79,7 +79,7 @@ returns c =
         looks = λ r p h k. c .before .before .before .before .before .draw-looks .ensures r p h (omega (arith, g .count, k));
         lead = lead .ensures;
         negating = c .before .before .negating .ensures;
-        low = top .ensures .1 n (few-levels body n L levels (d .pre .strata));
+        low = top .ensures .1 (2 * n) (few-levels body n L levels (d .pre .strata));
         highest = high-levels body n L levels (leads U) (lead .result) (top .result) (lead .ensures)
             (top .ensures .0);
       },

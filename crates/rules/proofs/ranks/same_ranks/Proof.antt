@@ -6,8 +6,8 @@ use Prim.Native.Nat.{_-_, _≤_}
 use borrow.Author.Needs.{needs}
 use borrow.Author.Count.{below-more}
 use Rattle.rules.specs.Strata.{Same}
-use Rattle.rules.proofs.same_ranks.Statement.{statement}
-use Rattle.rules.proofs.same_ranks.Tie as tie
+use Rattle.rules.proofs.ranks.same_ranks.Statement.{statement}
+use Rattle.rules.proofs.ranks.same_ranks.Tie as tie
 
 abbrev Inv-loop : tie.InvT-loop
 Inv-loop a b n i₀ i = (i ≤ n) × Same i a b

@@ -1,0 +1,47 @@
+-- `put_own` meets its contract. The loop's invariant: the places before `i` hold what their rules count.
+use borrow.Author.Needs.{needs}
+use native.Mathlib.Omega.{arith}
+use mathlib.Core.Path.{_≡_, refl, ap, _∙_}
+use Prim.Native.Nat.{ℕ, _-_, _≤_}
+use lib.ListN.{length, length-set}
+use denote.Ref.{now}
+use Rattle.foundation.specs.Totals.{count}
+use Rattle.model.specs.declared.Rule.{Rule}
+use Rattle.model.specs.Stratification.{negates}
+use Rattle.rules.specs.Strata.{ruleAt, Holds}
+use Rattle.rules.proofs.Rounds.{fill-turn}
+use Rattle.rules.proofs.ranks.put_own.Statement.{statement}
+use Rattle.rules.proofs.ranks.put_own.Tie as tie
+
+abbrev Inv-loop : tie.InvT-loop
+Inv-loop s n own₀ i₀ own i = (i ≤ n) × (length own ≡ 65) × Holds i s (λ r. count (negates r)) own
+
+abbrev μ-loop : tie.MeasureT-loop
+μ-loop s n own₀ i₀ own i = n - i
+
+loop-holds : tie.Need-loop-holds Inv-loop μ-loop
+loop-holds c = (omega arith, refl, λ i h. absurd (omega arith))
+
+loop-again : tie.Need-loop-again Inv-loop μ-loop
+loop-again c =
+    let l = c .before .before .before .before in
+    let b = l .before .before .before in
+    let own = l .loop .own in
+    let i = l .loop .i in (
+      omega arith,
+      length-set own i (c .one-if .result) ∙ l .loop .inv .1,
+      fill-turn (λ i. count (negates (ruleAt (now (b .args .s)) i))) own i (c .one-if .result)
+          (omega (arith, l .loop .inv .1, b .pre .1))
+          (c .one-if .ensures ∙ ap count (c .before .negates .ensures
+          ∙ ap negates (c .before .before .rule-at .ensures))) (l .loop .inv .2),
+    )
+
+returns : tie.Need-returns Inv-loop μ-loop
+returns c = (c .before .loop .inv .1, λ i h. c .before .loop .inv .2 i (omega arith))
+
+pub put-own-spec : {M : Type 1} → statement M
+put-own-spec =
+    tie.close
+    (tie.spec Inv-loop μ-loop loop-holds (λ c. search needs) (λ c κs. search needs) (λ c κs. search needs)
+    (λ c κs. search needs) (λ c. search needs) (λ c. search needs) (λ c. search needs) (λ c. search needs)
+    loop-again returns)

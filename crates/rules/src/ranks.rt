@@ -1,0 +1,197 @@
+// The test for circles and the strata, of up to 65 rules: those of a full base and one more. Which rule looks at which
+// is asked once, and noted as edges with weights.
+ghost use mathlib.Core.Path.{_≡_};
+ghost use mathlib.Core.Bool.{true};
+ghost use mathlib.Core.List.{List};
+ghost use Prim.Native.Nat.{ℕ, suc, _+_, _*_, _-_, _/_, _≤_, _<_, max};
+ghost use lib.Dec.{eqb};
+ghost use lib.ListN.{length, getD, set};
+ghost use Rattle.foundation.specs.Tests.{pick};
+ghost use Rattle.foundation.specs.Totals.{count};
+ghost use Rattle.model.specs.Stratification as model;
+ghost use Rattle.model.specs.declared.Rule.{Rule};
+ghost use Rattle.rules.specs.Strata.{rulesIn, Holds, raised, Stratified, Same};
+ghost use Rattle.rules.specs.Edges.{stepOf, Row, Edges, Inside, bestOf};
+use crate::feeds;
+use crate::negates;
+use encoding::rule_at;
+use model::Rule;
+
+// What the step from q to r counts in a rank, and one more; 0 if r does not look at q.
+fn step(q: Rule, r: Rule) -> u8
+    ensures { λ x. ⌜ x ≡ stepOf q r ⌝ }
+{
+    if !feeds(q, r) {
+        return 0;
+    }
+    if negates(r) {
+        return 2;
+    }
+    1
+}
+
+// Puts the edge from the i-th rule behind c others, if the step is one; how many they are then.
+fn put_edge(edges: &mut [u8; 4225], at: usize, c: usize, i: usize, step: u8) -> usize
+    requires { ⌜ (at + c < 4225) × (i < 65) × (step ≤ 3) ⌝ }
+    ensures { λ x. ⌜ (x ≡ pick (eqb step 0) c (suc c)) × (now (edges .exit)
+        ≡ pick (eqb step 0) (now (edges .entry)) (set (now (edges .entry)) (at + c) (3 * i + (step - 1)))) ⌝ }
+{
+    if step == 0 {
+        return c;
+    }
+    edges[at + c] = 3 * (i as u8) + (step - 1);
+    c + 1
+}
+
+// Puts the edges into the j-th of n rules in its row, and leaves the rows before it; how many they are.
+fn put_row(s: &[u8], n: usize, j: usize, edges: &mut [u8; 4225]) -> usize
+    requires { ⌜ (n * 28 ≤ length (now s)) × (n ≤ 65) × (j < n) × (length (now edges) ≡ 4225) ⌝ }
+    ensures { λ c. ⌜ Row n (now (s .entry)) j (now (edges .exit)) c × (length (now (edges .exit)) ≡ 4225)
+        × ((k : ℕ) → k < j * 65 → getD (now (edges .exit)) k 0 ≡ getD (now (edges .entry)) k 0) ⌝ }
+{
+    let r = rule_at(s, j * 28);
+    let mut c = 0;
+    let mut i = 0;
+    while i < n {
+        c = put_edge(edges, j * 65, c, i, step(rule_at(s, i * 28), r));
+        i += 1;
+    }
+    c
+}
+
+// Puts the edges into each of n rules in its row, and how many they are.
+fn put_edges(s: &[u8], n: usize, edges: &mut [u8; 4225], counts: &mut [u8; 65])
+    requires { ⌜ (n * 28 ≤ length (now s)) × (n ≤ 65) ⌝ }
+    ensures { λ _. ⌜ Edges n (now (s .entry)) (now (edges .exit)) (now (counts .exit)) ⌝ }
+{
+    *edges = [0; 4225];
+    *counts = [0; 65];
+    let mut j = 0;
+    while j < n {
+        counts[j] = put_row(s, n, j, edges) as u8;
+        j += 1;
+    }
+}
+
+// One for a test that passes.
+fn one_if(b: bool) -> u16
+    ensures { λ x. ⌜ x ≡ count b ⌝ }
+{
+    if b {
+        return 1;
+    }
+    0
+}
+
+// Puts what each rule counts by itself: one for WHENEVERNOT and UNLESS.
+fn put_own(s: &[u8], n: usize, own: &mut [u16; 65])
+    requires { ⌜ (n * 28 ≤ length (now s)) × (n ≤ 65) ⌝ }
+    ensures { λ _. ⌜ (length (now (own .exit)) ≡ 65)
+        × Holds n (now (s .entry)) (λ r. count (model.negates r)) (now (own .exit)) ⌝ }
+{
+    *own = [0; 65];
+    let mut i = 0;
+    while i < n {
+        own[i] = one_if(negates(rule_at(s, i * 28)));
+        i += 1;
+    }
+}
+
+// The larger of two numbers.
+fn larger_of(a: u16, b: u16) -> u16
+    ensures { λ x. ⌜ x ≡ max a b ⌝ }
+{
+    if a < b {
+        return b;
+    }
+    a
+}
+
+// The most of a number and of what c edges make of the numbers l.
+fn best_of(edges: &[u8; 4225], at: usize, c: usize, l: &[u16; 65], own: u16) -> u16
+    requires { ⌜ (at + c ≤ 4225) × ((e : ℕ) → e < c → (getD (now edges) (at + e) 0 / 3 < 65)
+        × (getD (now l) (getD (now edges) (at + e) 0 / 3) 0 < 65000)) ⌝ }
+    ensures { λ x. ⌜ x ≡ bestOf c (λ e. getD (now (edges .entry)) (at + e) 0) (now (l .entry)) own ⌝ }
+{
+    let mut best = own;
+    let mut e = 0;
+    while e < c {
+        let x = edges[at + e];
+        best = larger_of(best, (x % 3) as u16 + l[(x / 3) as usize]);
+        e += 1;
+    }
+    best
+}
+
+// One round of ranks for n rules: `old` has a number for each, from which `out` gets the next.
+fn rank_round(
+    edges: &[u8; 4225],
+    counts: &[u8; 65],
+    own: &[u16; 65],
+    old: &[u16; 65],
+    out: &mut [u16; 65],
+    n: usize,
+)
+    requires { ⌜ (n ≤ 65) × Inside n (now edges) (now counts) × ((i : ℕ) → i < n → getD (now old) i 0 < 65000) ⌝ }
+    ensures { λ _. ⌜ (length (now (out .exit)) ≡ 65)
+        × ((s : List ℕ) (f : Rule → ℕ) → Edges n s (now (edges .entry)) (now (counts .entry)) →
+        Holds n s (λ r. count (model.negates r)) (now (own .entry)) → Holds n s f (now (old .entry)) →
+        Holds n s (raised (rulesIn n s) f) (now (out .exit))) ⌝ }
+{
+    *out = [0; 65];
+    let mut j = 0;
+    while j < n {
+        out[j] = best_of(edges, j * 65, counts[j] as usize, old, own[j]);
+        j += 1;
+    }
+}
+
+// Whether two tables are equal in the first n places.
+fn same_ranks(a: &[u16], b: &[u16], n: usize) -> bool
+    requires { ⌜ (n ≤ length (now a)) × (n ≤ length (now b)) ⌝ }
+    ensures { λ r. ⌜ (r ≡ true → Same n (now (a .entry)) (now (b .entry)))
+        × (Same n (now (a .entry)) (now (b .entry)) → r ≡ true) ⌝ }
+{
+    let mut i = 0;
+    while i < n {
+        if a[i] != b[i] {
+            return false;
+        }
+        i += 1;
+    }
+    true
+}
+
+// The test for circles: whether no step that counts leads back to where it began. If so, `strata` gets the stratum of
+// each of the n rules. As many rounds as there are rules settle the ranks, unless there is a circle.
+pub fn stratify(s: &[u8], n: usize, strata: &mut [u16; 65]) -> bool
+    requires { ⌜ (n * 28 ≤ length (now s)) × (n ≤ 65) ⌝ }
+    ensures { λ r. ⌜ Stratified n (now (s .entry)) (now (strata .exit)) r ⌝ }
+{
+    let mut edges = [0u8; 4225];
+    let mut counts = [0u8; 65];
+    put_edges(s, n, &mut edges, &mut counts);
+    let mut own = [0u16; 65];
+    put_own(s, n, &mut own);
+    *strata = own;
+    let mut k = 0;
+    while k <= n {
+        let mut next = [0u16; 65];
+        rank_round(&edges, &counts, &own, strata, &mut next, n);
+        if same_ranks(strata, &next, n) {
+            return true;
+        }
+        *strata = next;
+        k += 1;
+    }
+    false
+}
+
+// The test alone.
+pub fn is_stratified(s: &[u8], n: usize) -> bool
+    requires { ⌜ (n * 28 ≤ length (now s)) × (n ≤ 65) ⌝ }
+    ensures { λ r. ⌜ r ≡ model.stratified (rulesIn n (now (s .entry))) ⌝ }
+{
+    let mut strata = [0u16; 65];
+    stratify(s, n, &mut strata)
+}
