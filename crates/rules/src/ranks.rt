@@ -1,5 +1,5 @@
-// The test for circles and the strata, of up to 65 rules: those of a full base and one more. Which rule looks at which
-// is asked once, and noted as edges with weights.
+// The test for circles and the strata, of up to 65 rules: those of a full base and one more. Which rule looks at
+// which is asked once, and noted as edges with weights.
 ghost use mathlib.Core.Path.{_≡_};
 ghost use mathlib.Core.Bool.{true};
 ghost use mathlib.Core.List.{List};
@@ -61,11 +61,9 @@ fn put_row(s: &[u8], n: usize, j: usize, edges: &mut [u8; 4225]) -> usize
 
 // Puts the edges into each of n rules in its row, and how many they are.
 fn put_edges(s: &[u8], n: usize, edges: &mut [u8; 4225], counts: &mut [u8; 65])
-    requires { ⌜ (n * 28 ≤ length (now s)) × (n ≤ 65) ⌝ }
+    requires { ⌜ (n * 28 ≤ length (now s)) × (n ≤ 65) × (length (now edges) ≡ 4225) × (length (now counts) ≡ 65) ⌝ }
     ensures { λ _. ⌜ Edges n (now (s .entry)) (now (edges .exit)) (now (counts .exit)) ⌝ }
 {
-    *edges = [0; 4225];
-    *counts = [0; 65];
     let mut j = 0;
     while j < n {
         counts[j] = put_row(s, n, j, edges) as u8;
@@ -85,11 +83,10 @@ fn one_if(b: bool) -> u16
 
 // Puts what each rule counts by itself: one for WHENEVERNOT and UNLESS.
 fn put_own(s: &[u8], n: usize, own: &mut [u16; 65])
-    requires { ⌜ (n * 28 ≤ length (now s)) × (n ≤ 65) ⌝ }
+    requires { ⌜ (n * 28 ≤ length (now s)) × (n ≤ 65) × (length (now own) ≡ 65) ⌝ }
     ensures { λ _. ⌜ (length (now (own .exit)) ≡ 65)
         × Holds n (now (s .entry)) (λ r. count (model.negates r)) (now (own .exit)) ⌝ }
 {
-    *own = [0; 65];
     let mut i = 0;
     while i < n {
         own[i] = one_if(negates(rule_at(s, i * 28)));
@@ -132,13 +129,13 @@ fn rank_round(
     out: &mut [u16; 65],
     n: usize,
 )
-    requires { ⌜ (n ≤ 65) × Inside n (now edges) (now counts) × ((i : ℕ) → i < n → getD (now old) i 0 < 65000) ⌝ }
+    requires { ⌜ (n ≤ 65) × Inside n (now edges) (now counts) × ((i : ℕ) → i < n → getD (now old) i 0 < 65000)
+        × (length (now out) ≡ 65) ⌝ }
     ensures { λ _. ⌜ (length (now (out .exit)) ≡ 65)
         × ((s : List ℕ) (f : Rule → ℕ) → Edges n s (now (edges .entry)) (now (counts .entry)) →
         Holds n s (λ r. count (model.negates r)) (now (own .entry)) → Holds n s f (now (old .entry)) →
         Holds n s (raised (rulesIn n s) f) (now (out .exit))) ⌝ }
 {
-    *out = [0; 65];
     let mut j = 0;
     while j < n {
         out[j] = best_of(edges, j * 65, counts[j] as usize, old, own[j]);

@@ -1,7 +1,7 @@
 -- `put_edges` meets its contract. The loop's invariant: the rows before `j` have their edges.
 use borrow.Author.Needs.{needs}
 use native.Mathlib.Omega.{arith}
-use mathlib.Core.Path.{_≡_, refl, _∙_}
+use mathlib.Core.Path.{_≡_, _∙_}
 use Prim.Native.Nat.{ℕ, _-_, _≤_, _<_}
 use lib.ListN.{length, getD, length-set}
 use denote.Ref.{now}
@@ -19,23 +19,25 @@ abbrev μ-loop : tie.MeasureT-loop
 μ-loop s n edges₀ counts₀ j₀ edges counts j = n - j
 
 loop-holds : tie.Need-loop-holds Inv-loop μ-loop
-loop-holds c = (omega arith, refl, refl, λ i h. absurd (omega arith))
+loop-holds c =
+    let b = c .before in
+    (omega arith, b .pre .2, b .pre .3, λ i h. absurd (omega arith))
 
 put-row-requires : tie.Need-put-row-requires Inv-loop μ-loop
 put-row-requires c κs =
     let l = c .before .before in
-    let b = l .before .before .before .before in
+    let b = l .before .before in
     (b .pre .0, b .pre .1, search needs, l .loop .inv .1)
 
 cast-counts : tie.Need-cast-counts Inv-loop μ-loop
 cast-counts c =
-    let b = c .before .before .before .before .before .before .before in
+    let b = c .before .before .before .before .before in
     omega (arith, c .put-row .ensures .0 .few, b .pre .1)
 
 loop-again : tie.Need-loop-again Inv-loop μ-loop
 loop-again c =
     let l = c .before .before .before in
-    let b = l .before .before .before .before in
+    let b = l .before .before in
     let counts = l .loop .counts in
     let j = l .loop .j in
     let v = c .put-row .result in (

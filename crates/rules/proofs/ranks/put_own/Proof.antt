@@ -1,7 +1,7 @@
 -- `put_own` meets its contract. The loop's invariant: the places before `i` hold what their rules count.
 use borrow.Author.Needs.{needs}
 use native.Mathlib.Omega.{arith}
-use mathlib.Core.Path.{_≡_, refl, ap, _∙_}
+use mathlib.Core.Path.{_≡_, ap, _∙_}
 use Prim.Native.Nat.{ℕ, _-_, _≤_}
 use lib.ListN.{length, length-set}
 use denote.Ref.{now}
@@ -20,12 +20,12 @@ abbrev μ-loop : tie.MeasureT-loop
 μ-loop s n own₀ i₀ own i = n - i
 
 loop-holds : tie.Need-loop-holds Inv-loop μ-loop
-loop-holds c = (omega arith, refl, λ i h. absurd (omega arith))
+loop-holds c = (omega arith, c .before .pre .2, λ i h. absurd (omega arith))
 
 loop-again : tie.Need-loop-again Inv-loop μ-loop
 loop-again c =
     let l = c .before .before .before .before in
-    let b = l .before .before .before in
+    let b = l .before .before in
     let own = l .loop .own in
     let i = l .loop .i in (
       omega arith,

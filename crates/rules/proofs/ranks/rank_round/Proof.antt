@@ -1,7 +1,7 @@
 -- `rank_round` meets its contract. The loop's invariant: the places before `j` hold what the round puts there.
 use borrow.Author.Needs.{needs}
 use native.Mathlib.Omega.{arith}
-use mathlib.Core.Path.{_≡_, refl, _∙_}
+use mathlib.Core.Path.{_≡_, _∙_}
 use mathlib.Core.List.{List}
 use Prim.Native.Nat.{ℕ, _+_, _*_, _-_, _≤_}
 use lib.ListN.{length, getD, length-set}
@@ -25,18 +25,18 @@ abbrev μ-loop : tie.MeasureT-loop
 μ-loop edges counts own old out₀ n j₀ out j = n - j
 
 loop-holds : tie.Need-loop-holds Inv-loop μ-loop
-loop-holds c = (omega arith, refl, λ i h. absurd (omega arith))
+loop-holds c = (omega arith, c .pre .3, λ i h. absurd (omega arith))
 
 cast-best-of : tie.Need-cast-best-of Inv-loop μ-loop
 cast-best-of c =
     let l = c .before .before in
-    let b = l .before .before in
+    let b = l .before in
     omega (arith, b .pre .1 (l .loop .j) (search needs) .0, b .pre .0)
 
 best-of-requires : tie.Need-best-of-requires Inv-loop μ-loop
 best-of-requires c κs =
     let l = c .before .before .before in
-    let b = l .before .before in
+    let b = l .before in
     let w = b .pre .1 (l .loop .j) (search needs) in (
       omega (arith, w .0, b .pre .0),
       λ e h. (omega (arith, w .1 e h, b .pre .0), b .pre .2 _ (w .1 e h)),
@@ -45,7 +45,7 @@ best-of-requires c κs =
 loop-again : tie.Need-loop-again Inv-loop μ-loop
 loop-again c =
     let l = c .before .before .before .before in
-    let b = l .before .before in
+    let b = l .before in
     let a = b .args in
     let v = c .best-of .result in (
       omega arith,
@@ -57,7 +57,7 @@ loop-again c =
 returns : tie.Need-returns Inv-loop μ-loop
 returns c =
     let l = c .before in
-    let a = l .before .before .args in (
+    let a = l .before .args in (
       l .loop .inv .1,
       λ s f rows own old i h.
           l .loop .inv .2 i (omega arith)

@@ -2,7 +2,7 @@
 -- rounds, and if all rounds were made there is a circle.
 use borrow.Author.Needs.{needs}
 use native.Mathlib.Omega.{arith}
-use mathlib.Core.Path.{_≡_, sym, _∙_}
+use mathlib.Core.Path.{_≡_, refl, sym, _∙_}
 use mathlib.Core.Bool.{false, true≢false, false≢true}
 use Prim.Native.Nat.{_+_, _-_, _≤_, _<_}
 use lib.ListN.{length}
@@ -48,6 +48,7 @@ rank-round-requires c κs =
       b .pre .1,
       λ j h. (l .loop .inv .2 j h .few, l .loop .inv .2 j h .inside),
       λ i h. omega (arith, small i h, l .loop .inv .0, b .pre .1),
+      refl,
     )
 
 slice-aggregate-same-ranks : tie.Need-slice-aggregate-same-ranks Inv-loop μ-loop
