@@ -1,10 +1,10 @@
 -- What the table says: a refusal's number is that of the first row that applies, and an accepted request passes every
 -- row.
-use mathlib.Core.Path.{_≡_, refl, sym, subst, _∙_}
+use mathlib.Core.Path.{_≡_, refl, sym, ap, subst, _∙_}
 use mathlib.Core.Logic.{inl, inr, _≢_, ⊎-elim}
-use mathlib.Core.Bool.{Bool, true, false}
+use mathlib.Core.Bool.{Bool, true, false, true≢false, _&&_}
 use mathlib.Core.List.{List, [], _∷_, _++_}
-use Prim.Native.Nat.{ℕ, _<_}
+use Prim.Native.Nat.{ℕ, suc, _≤_, _<_}
 use native.Mathlib.Omega.{arith}
 use lib.Dec.{ltb, eqb}
 use Rattle.foundation.specs.Tests.{pick, cases, eq-true, ne-false, true-eq, false-eq, true-le, and-true}
@@ -76,6 +76,33 @@ numbered (r ∷ rest) e =
 
 pub table-numbered : (M : Means) (b : Base) (q : Request) → Numbered (table M b q)
 table-numbered M b q = numbered (table M b q) refl
+
+-- the numbers rise from n on
+abbrev pub rising? : ℕ → List Row → Bool
+rising? n [] = true
+rising? n (r ∷ rest) = ltb n (r .number) && rising? (r .number) rest
+
+-- where they rise, the first number that applies is the lowest
+pub first-lowest : (n : ℕ) (rows : List Row) → rising? n rows ≡ true → (r : Row) → Mem r rows → r .given ≡ true →
+    firstNumber rows ≤ r .number
+first-lowest n [] up r m g = absurd (m .lower)
+first-lowest n (s ∷ rest) up r m g =
+    let w = and-true (ltb n (s .number)) (rising? (s .number) rest) up in
+    cases (s .given)
+    (λ h. rw h (⊎-elim (λ e. rw e (omega arith)) (λ k. omega (arith, past (s .number) rest (w .1) k)) m))
+    (λ h. rw h (⊎-elim (λ e. absurd (true≢false (sym g ∙ ap (λ (x : Row). x .given) e ∙ h)))
+    (λ k. first-lowest (s .number) rest (w .1) r k g) m))
+  where
+    past : (m : ℕ) (rows : List Row) → rising? m rows ≡ true → Mem r rows → m < r .number
+    past m [] u k = absurd (k .lower)
+    past m (x ∷ xs) u (inl e) = let w = and-true (ltb m (x .number)) (rising? (x .number) xs) u in
+        rw e (true-le (suc m) (x .number) (w .0))
+    past m (x ∷ xs) u (inr k) = let w = and-true (ltb m (x .number)) (rising? (x .number) xs) u in
+        let i = past (x .number) xs (w .1) k in omega (arith, true-le (suc m) (x .number) (w .0))
+
+-- as they do in the table
+pub table-rises : (M : Means) (b : Base) (q : Request) → rising? 2 (table M b q) ≡ true
+table-rises M b q = refl
 
 -- every row passed
 pub record Accepted (b : Base) (q : Request) : Type 0 where
