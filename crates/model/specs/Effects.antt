@@ -1,5 +1,5 @@
 -- What each accepted request does to the base, one equation a kind, each to be read by itself (01, "Requests"). All are
--- proved from `Step.effect`. What an equation does not name stays as it was.
+-- proved from `Step.effect`, which is done where no row of the table applies. What an equation does not name stays.
 use mathlib.Core.Path.{_≡_}
 use Prim.Native.Nat.{ℕ, suc}
 use mathlib.Core.Bool.{true, false, not, _&&_, _||_}

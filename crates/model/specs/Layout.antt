@@ -2,6 +2,7 @@
 -- THEOREM `laid` in LayoutFacts: 27,936 bytes are laid out so exactly if they are what `encode` writes of what
 -- `decode` reads. THEOREM `sound-laid` there: bytes are sound (`soundBytes`) exactly if they are laid out so and the
 -- base that they hold is sound.
+-- What the fields and the flag bits in use mean is in `decode`.
 use mathlib.Core.Path.{_≡_}
 use Prim.Native.Nat.{ℕ, _+_, _*_, _≤_, _<_}
 use mathlib.Core.Bool.{true, false}

@@ -12,6 +12,7 @@ use Rattle.model.specs.Encoding.{encode}
 use Rattle.model.specs.Text.{newline, extend, split, closed, printReply}
 use Rattle.model.specs.Session.{session, byteTranscript, byteSession}
 use Rattle.theorems.specs.SessionFacts.{session-bytes}
+use Rattle.theorems.specs.Orders.{turns, bytesAfter}
 use Rattle.serving.specs.Turns.{turnOf, replyText}
 use Rattle.serving.specs.Pieces.{ends}
 
@@ -153,6 +154,11 @@ finish-lines : (s p : List ℕ) → finish s p ≡ byteTranscript (closed (p ∷
 finish-lines s [] = refl
 finish-lines s (c ∷ p) = refl
 
+-- a newline ends the line that is not ended yet
+ended-line : (p w : List ℕ) → closed ((p ++ []) ∷ split newline w) ≡ p ∷ closed (onto [] (split newline w))
+ended-line p w = rw (append-nil p) (ap (λ (ps : List (List ℕ)). closed (p ∷ ps)) (sym (onto-split w))
+    ∙ closed-onto p (split newline w))
+
 -- the lines from the one that is not ended yet on
 fed-lines : (s p w : List ℕ) → ending (feed s p w) ≡ byteTranscript (closed (onto p (split newline w))) s
 fed-lines s p [] = finish-lines s p ∙ rw (append-nil p)
@@ -162,15 +168,33 @@ fed-lines s p (c ∷ w) = cases (eqb c newline)
     let f = feed t [] w in
     let text = printReply (turnOf s p .reply) (turnOf s p .runs) in
     let rest = closed (onto [] (split newline w)) in
-    let same : closed ((p ++ []) ∷ split newline w) ≡ p ∷ rest =
-    rw (append-nil p) (ap (λ (ps : List (List ℕ)). closed (p ∷ ps)) (sym (onto-split w))
-    ∙ closed-onto p (split newline w)) in
     rw e (append-assoc (replyText s p) (f .text) (finish (f .lent) (f .pending))
     ∙ ap (λ (x : List ℕ). replyText s p ++ x) (fed-lines t [] w)
     ∙ append-snoc text newline (byteTranscript rest t)
-    ∙ sym (ap (λ (ls : List (List ℕ)). byteTranscript ls s) same)))
+    ∙ sym (ap (λ (ls : List (List ℕ)). byteTranscript ls s) (ended-line p w))))
     (λ e. rw e (fed-lines s (p ++ (c ∷ [])) w
     ∙ ap (λ (ls : List (List ℕ)). byteTranscript (closed ls) s) (sym (onto-extend p c (split newline w)))))
+
+-- the base's bytes after those lines
+finish-turns : (s p : List ℕ) → finishBytes s p ≡ turns (closed (p ∷ [])) s
+finish-turns s [] = refl
+finish-turns s (c ∷ p) = refl
+
+fed-turns : (s p w : List ℕ) →
+    finishBytes (feed s p w .lent) (feed s p w .pending) ≡ turns (closed (onto p (split newline w))) s
+fed-turns s p [] = finish-turns s p ∙ rw (append-nil p)
+fed-turns s p (c ∷ w) = cases (eqb c newline)
+    (λ e. rw e (fed-turns (turnOf s p .lent) [] w
+    ∙ sym (ap (λ (ls : List (List ℕ)). turns ls s) (ended-line p w))))
+    (λ e. rw e (fed-turns s (p ++ (c ∷ [])) w
+    ∙ ap (λ (ls : List (List ℕ)). turns (closed ls) s) (sym (onto-extend p c (split newline w)))))
+
+-- the base's bytes at the end of the input are those after the session over it
+pub stream-base : (input : List ℕ) →
+    (let f = feed (encode emptyBase) [] input in finishBytes (f .lent) (f .pending) ≡ bytesAfter input)
+stream-base input =
+    fed-turns (encode emptyBase) [] input
+    ∙ ap (λ (ls : List (List ℕ)). turns (closed ls) (encode emptyBase)) (onto-split input)
 
 -- "The program starts with an empty base"
 pub stream-session : (input : List ℕ) → ending (feed (encode emptyBase) [] input) ≡ session input

@@ -1,6 +1,6 @@
 -- What the program has done with its input: which bytes of the base and which line are there, and how many bytes were
 -- handed to be written. That a read gives what was sent, and that what is handed over is written, is left to trust.
-use mathlib.Core.Path.{_≡_, sym, ap, _∙_}
+use mathlib.Core.Path.{_≡_, sym, ap, _∙_, subst}
 use Prim.Native.Nat.{ℕ, _+_, _%_, _^_, _≤_, _<_}
 use native.Mathlib.Nat.{add-zero, add-assoc, mod-add-mod, mod-eq-of-lt}
 use mathlib.Core.Bool.{true}
@@ -12,10 +12,12 @@ use Rattle.model.specs.Soundness.{soundBytes}
 use Rattle.model.specs.Base.{emptyBase}
 use Rattle.model.specs.Encoding.{encode}
 use Rattle.model.specs.Session.{session}
+use Rattle.theorems.specs.Demand3.{Demand3}
+use Rattle.theorems.specs.Orders.{orders, bytesAfter, demand3-text}
 use Rattle.serving.specs.declared.steps.Stepped.{Stepped}
 use Rattle.serving.specs.Turns.{Kept}
 use Rattle.serving.specs.Stream.{Fed, feed, finish, finishBytes, ending, Feeds}
-use Rattle.serving.specs.Stream.{feeds-none, feeds-all, feeds-more, feeds-front, feeds-then, stream-session}
+use Rattle.serving.specs.Stream.{feeds-none, feeds-all, feeds-more, feeds-front, feeds-then, stream-session, stream-base}
 use Rattle.serving.specs.Steps.{Steps}
 use Rattle.session.specs.declared.Going.{Going}
 
@@ -55,7 +57,7 @@ pub record Served (s pending input : List ℕ) (r : Going) (s′ : List ℕ) : T
   -- a read failed, or the turns were used up: the line that is not ended is not answered
   pub cut : r .ok ≡ true → (r .got ≡ pos 0 → ⊥) →
       (let f = feed s pending input in (s′ ≡ f .lent) × (r .sent ≡ counted 0 (f .text)))
-  -- in any case, where a write failed too, what was handed over is the front of what is to be answered
+  -- in any case, where a write failed too, as much was handed over as a front of what is to be answered has
   pub text : List ℕ
   pub rest : List ℕ
   pub front : ending (feed s pending input) ≡ text ++ rest
@@ -63,10 +65,12 @@ pub record Served (s pending input : List ℕ) (r : Going) (s′ : List ℕ) : T
   pub sound : soundBytes s′ ≡ true
 
 -- the program has run on an empty base
-pub record Ran (input : List ℕ) (r : Going) : Type 0 where
-  -- the input ended: as many bytes were handed over as the session over it has
+pub record Ran (input : List ℕ) (r : Going) (s′ : List ℕ) : Type 0 where
+  -- the input ended: as many bytes were handed over as the session over it has,
   pub ended : r .ok ≡ true → r .got ≡ pos 0 → r .sent ≡ counted 0 (session input)
-  -- in any case they are those of its front
+  -- and demand 3 holds of the requests among its lines and the bytes of the base
+  pub promise : r .ok ≡ true → r .got ≡ pos 0 → Demand3 (orders input) s′
+  -- in any case as many as a front of it has
   pub text : List ℕ
   pub rest : List ℕ
   pub front : session input ≡ text ++ rest
@@ -178,11 +182,13 @@ module _ {s pending : List ℕ} where
         }
 
 -- from an empty base and no line on
-pub served-run : {s input s′ : List ℕ} {r : Going} → s ≡ encode emptyBase → Served s [] input r s′ → Ran input r
+pub served-run : {s input s′ : List ℕ} {r : Going} → s ≡ encode emptyBase → Served s [] input r s′ → Ran input r s′
 served-run {s} {input} {s′} {r} z w =
     let e : ending (feed s [] input) ≡ session input = rw z (stream-session input) in
+    let b : finishBytes (feed s [] input .lent) (feed s [] input .pending) ≡ bytesAfter input = rw z (stream-base input) in
     record {
       ended = λ p q. w .ended p q .1 ∙ ap (counted 0) e;
+      promise = λ p q. subst (Demand3 (orders input)) (sym (w .ended p q .0 ∙ b)) (demand3-text input);
       text = w .text;
       rest = w .rest;
       front = sym e ∙ w .front;

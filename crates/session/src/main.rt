@@ -162,7 +162,7 @@ fn serve_input(
 // Serves the whole input, on an empty base.
 fn run(s: &mut [u8]) -> Going
     requires { ⌜ now s ≡ encode emptyBase ⌝ }
-    ensures { λ r. ⌜ ((input : List ℕ) × Ran input r) ⌝ }
+    ensures { λ r. ⌜ ((input : List ℕ) × Ran input r (now (s .exit))) ⌝ }
 {
     let mut line = [0u8; 97];
     let mut buf = [0u8; 4096];

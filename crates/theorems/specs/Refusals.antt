@@ -1,14 +1,14 @@
 -- Which numbers each public function refuses with, and that a refusal leaves what was lent (demand 1): one theorem a
 -- function, each an instance of `refused`.
 use mathlib.Core.Path.{_≡_, refl, sym, ap, _∙_, subst}
-use mathlib.Core.Logic.{_≢_}
+use mathlib.Core.Logic.{_≢_, inl, inr, ⊎-elim}
 use Prim.Native.Nat.{ℕ, _*_, _/_}
 use mathlib.Core.Bool.{Bool, true, false, not}
 use mathlib.Core.List.{List, [], _∷_, _++_, map}
 use lib.Dec.{eqb}
 use lib.ListN.{length, drop}
-use Rattle.foundation.specs.Tests.{cases, true-eq, false-eq}
-use Rattle.foundation.specs.Lists.{Mem, mem-map}
+use Rattle.foundation.specs.Tests.{cases, true-eq, false-eq, and-true}
+use Rattle.foundation.specs.Lists.{Mem, anyb, allb, any-mem, mem-map}
 use Rattle.model.specs.declared.Request.{Request}
 use Rattle.model.specs.declared.Access.{Access}
 use Rattle.model.specs.declared.Question.{Question}
@@ -23,6 +23,8 @@ use Rattle.model.specs.Encoding.{size, encode, decode}
 use Rattle.model.specs.Soundness.{soundBytes}
 use Rattle.model.specs.Answers.{Answer, answering, refusing, refusalNumber, shown, create, requestTable, request}
 use Rattle.model.specs.Answers.{Answered, mayTable, whenTable, words, mayReply, mayAnswer, whenAnswer}
+use Rattle.model.specs.Text.{Line, order, asksMay, asksWhen, unreadable}
+use Rattle.model.specs.Session.{whenList, byteTurn}
 
 -- an answer with a number that is not 0 is the refusal by a row, and the number is that row's
 refused : {A : Type 0} (rows : List Row) (refuse : ℕ → A) (answer : A) (number : A → ℕ) →
@@ -111,3 +113,28 @@ answered-refuses s q r s′ a n =
     ap refusalNumber (sym (a .reply)) ∙ shown-number r in
     let w = request-refuses s q (λ z. n (sym same ∙ z)) in
     (subst (λ (k : ℕ). Mem k requestNumbers) same (w .0), a .bytes ∙ w .1)
+
+-- ---- a line of text
+
+-- the numbers that a line's reply may tell: 1 for one that cannot be read, and those of a request
+abbrev pub lineNumbers : List ℕ
+lineNumbers = 1 ∷ requestNumbers
+
+-- a list within another, by a test
+within : (xs ys : List ℕ) → allb (λ x. anyb (λ y. eqb x y) ys) xs ≡ true → (n : ℕ) → Mem n xs → Mem n ys
+within [] ys e n m = absurd (m .lower)
+within (x ∷ xs) ys e n m =
+    let w = and-true (anyb (λ y. eqb x y) ys) (allb (λ z. anyb (λ y. eqb z y) ys) xs) e in
+    ⊎-elim
+    (λ i. let f = any-mem (λ y. eqb x y) ys (w .0) in
+    subst (λ (k : ℕ). Mem k ys) (sym (i ∙ true-eq x (f .0) (f .2))) (f .1))
+    (λ k. within xs ys (w .1) n k)
+    m
+
+pub line-refuses : (s : List ℕ) (l : Line) → refusalNumber (byteTurn s l .reply) ≢ 0 →
+    Mem (refusalNumber (byteTurn s l .reply)) lineNumbers × (byteTurn s l .lent ≡ s)
+line-refuses s (order q) n = let w = request-refuses s q n in (inr (w .0), w .1)
+line-refuses s (asksMay q) n = (within (2 ∷ 3 ∷ 6 ∷ []) lineNumbers refl _ (may-refuses s q n), refl)
+line-refuses s (asksWhen x) n =
+    (within (2 ∷ 3 ∷ 6 ∷ 13 ∷ []) lineNumbers refl _ (when-refuses s x whenList n .0), refl)
+line-refuses s unreadable n = (inl refl, refl)
