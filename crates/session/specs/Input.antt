@@ -1,12 +1,13 @@
--- What the program has done with its input: which bytes of the base and which line are there, and how many bytes were
--- handed to be written. That a read gives what was sent, and that what is handed over is written, is left to trust.
-use mathlib.Core.Path.{_≡_, sym, ap, _∙_, subst}
-use Prim.Native.Nat.{ℕ, _+_, _%_, _^_, _≤_, _<_}
-use native.Mathlib.Nat.{add-zero, add-assoc, mod-add-mod, mod-eq-of-lt}
+-- What the program has done with its input: which bytes of the base and which line are there, and the digest of the
+-- bytes that were handed to be written. That a read gives what was sent, and that what is handed over is written, is
+-- left to trust.
+use mathlib.Core.Path.{_≡_, refl, sym, ap, _∙_, subst}
+use Prim.Native.Nat.{ℕ, suc, _+_, _*_, _%_, _≤_, _<_}
 use mathlib.Core.Bool.{true}
-use mathlib.Core.List.{List, [], _++_, append-nil}
+use mathlib.Core.List.{List, [], _∷_, _++_, append-nil}
 use lib.IntN.{ℤ, pos}
-use lib.ListN.{length, take, drop, length-append}
+use lib.ListN.{length, take, drop, getD}
+use lib.Seq.{drop-cons}
 use Rattle.io.specs.Counts.{clamped}
 use Rattle.model.specs.Soundness.{soundBytes}
 use Rattle.model.specs.Base.{emptyBase}
@@ -25,22 +26,27 @@ use Rattle.session.specs.declared.Going.{Going}
 abbrev pub Ready : List ℕ → List ℕ → ℕ → List ℕ → Type 0
 Ready s line len out = (soundBytes s ≡ true) × (24001 ≤ length out) × (len ≤ 97) × (length line ≡ 97)
 
--- a text more was handed to be written: the count goes on modulo 2 ^ 64
-abbrev pub counted : ℕ → List ℕ → ℕ
-counted sent text = (sent + length text) % 2 ^ 64
+-- The digest of bytes, going on from that of bytes before them: every byte and its place bear on it. 4294967291 is the
+-- largest prime below 2 ^ 32
+abbrev pub mixed : ℕ → ℕ → ℕ
+mixed sent byte = (sent * 257 + byte + 1) % 4294967291
+
+unfoldable pub digest : ℕ → List ℕ → ℕ
+digest sent [] = sent
+digest sent (c ∷ text) = digest (mixed sent c) text
 
 -- what a read that answered `got` left at the front of the buffer
 abbrev pub arrived : ℤ → List ℕ → List ℕ
 arrived got buf = take (clamped got (length buf)) buf
 
 -- of `input`, behind the line `pending`, all but `rest` is answered: the bytes of the base are s′, `left` is the line
--- that is not ended yet, and its first bytes are kept; `text` was handed to be written, and is counted
+-- that is not ended yet, and its first bytes are kept; `text` was handed to be written
 pub record Answers (s pending input rest : List ℕ) (sent len sent′ : ℕ) (s′ line′ : List ℕ) : Type 0 where
   pub text : List ℕ
   pub left : List ℕ
   pub feeds : Feeds s pending input rest text s′ left
   pub kept : Kept left len line′
-  pub count : sent′ ≡ counted sent text
+  pub handed : sent′ ≡ digest sent text
 
 -- the front of the input is answered, and all of it where every write worked
 pub record Answered (s pending input : List ℕ) (sent : ℕ) (r : Going) (s′ line′ : List ℕ) : Type 0 where
@@ -53,46 +59,56 @@ pub record Served (s pending input : List ℕ) (r : Going) (s′ : List ℕ) : T
   -- the input ended: all of it is answered, and so is its end
   pub ended : r .ok ≡ true → r .got ≡ pos 0 →
       (let f = feed s pending input in
-      (s′ ≡ finishBytes (f .lent) (f .pending)) × (r .sent ≡ counted 0 (ending f)))
+      (s′ ≡ finishBytes (f .lent) (f .pending)) × (r .sent ≡ digest 0 (ending f)))
   -- a read failed, or the turns were used up: the line that is not ended is not answered
   pub cut : r .ok ≡ true → (r .got ≡ pos 0 → ⊥) →
-      (let f = feed s pending input in (s′ ≡ f .lent) × (r .sent ≡ counted 0 (f .text)))
-  -- in any case, where a write failed too, as much was handed over as a front of what is to be answered has
+      (let f = feed s pending input in (s′ ≡ f .lent) × (r .sent ≡ digest 0 (f .text)))
+  -- in any case, where a write failed too, what was handed over is a front of what is to be answered
   pub text : List ℕ
   pub rest : List ℕ
   pub front : ending (feed s pending input) ≡ text ++ rest
-  pub count : r .sent ≡ counted 0 text
+  pub handed : r .sent ≡ digest 0 text
   pub sound : soundBytes s′ ≡ true
 
 -- the program has run on an empty base
 pub record Ran (input : List ℕ) (r : Going) (s′ : List ℕ) : Type 0 where
-  -- the input ended: as many bytes were handed over as the session over it has,
-  pub ended : r .ok ≡ true → r .got ≡ pos 0 → r .sent ≡ counted 0 (session input)
+  -- the input ended: the text of the session over it was handed to be written,
+  pub ended : r .ok ≡ true → r .got ≡ pos 0 → r .sent ≡ digest 0 (session input)
   -- and demand 3 holds of the requests among its lines and the bytes of the base
   pub promise : r .ok ≡ true → r .got ≡ pos 0 → Demand3 (orders input) s′
-  -- in any case as many as a front of it has
+  -- in any case a front of it was
   pub text : List ℕ
   pub rest : List ℕ
   pub front : session input ≡ text ++ rest
-  pub count : r .sent ≡ counted 0 text
+  pub handed : r .sent ≡ digest 0 text
 
 -- ---- laws
 
--- two texts are counted as one
-counted-twice : (sent : ℕ) (a b : List ℕ) → counted (counted sent a) b ≡ counted sent (a ++ b)
-counted-twice sent a b =
-    mod-add-mod (sent + length a) (2 ^ 64) (length b)
-    ∙ rw (length-append a b, add-assoc sent (length a) (length b))
+-- two texts are one
+digest-twice : (sent : ℕ) (a b : List ℕ) → digest (digest sent a) b ≡ digest sent (a ++ b)
+unfolding digest
+digest-twice sent [] b = refl
+digest-twice sent (c ∷ a) b = digest-twice (mixed sent c) a b
+
+pub digest-none : (sent : ℕ) → digest sent [] ≡ sent
+unfolding digest
+digest-none sent = refl
+
+-- one byte of the rest
+pub digest-next : (sent i : ℕ) (text : List ℕ) → i < length text →
+    digest sent (drop i text) ≡ digest (mixed sent (getD text i 0)) (drop (suc i) text)
+unfolding digest
+digest-next sent i text h = rw (drop-cons text i 0 h)
 
 module _ {s pending : List ℕ} where
-  pub answers-none : {line : List ℕ} {len : ℕ} (input : List ℕ) (sent : ℕ) → sent < 2 ^ 64 →
-      Kept pending len line → Answers s pending input input sent len sent s line
-  answers-none input sent h k = record {
+  pub answers-none : {line : List ℕ} {len : ℕ} (input : List ℕ) (sent : ℕ) → Kept pending len line →
+      Answers s pending input input sent len sent s line
+  answers-none input sent k = record {
     text = [];
     left = pending;
     feeds = feeds-none s pending input;
     kept = k;
-    count = sym (rw add-zero (mod-eq-of-lt h));
+    handed = sym (digest-none sent);
   }
 
   -- one part of the input behind the other
@@ -105,17 +121,17 @@ module _ {s pending : List ℕ} where
     left = b .left;
     feeds = feeds-then (a .feeds) (b .feeds);
     kept = b .kept;
-    count = b .count ∙ ap (λ (n : ℕ). counted n (b .text)) (a .count) ∙ counted-twice sent (a .text) (b .text);
+    handed = b .handed ∙ ap (λ (n : ℕ). digest n (b .text)) (a .handed) ∙ digest-twice sent (a .text) (b .text);
   }
 
   -- a step from the place `at` of a piece on
   pub answers-step : {piece s′ line′ s″ line″ out : List ℕ} {at sent len′ sent′ sent″ : ℕ} {r : Stepped} →
       (a : Answers s pending piece (drop at piece) sent len′ sent′ s′ line′) →
-      Steps s′ (a .left) piece at r s″ line″ out → sent″ ≡ counted sent′ (take (r .n) out) →
+      Steps s′ (a .left) piece at r s″ line″ out → sent″ ≡ digest sent′ (take (r .n) out) →
       Answers s pending piece (drop (r .at) piece) sent (r .len) sent″ s″ line″
   answers-step {out = out} {r = r} a k e =
       answers-then a (
-      record { text = take (r .n) out; left = k .left; feeds = k .feeds; kept = k .kept; count = e }
+      record { text = take (r .n) out; left = k .left; feeds = k .feeds; kept = k .kept; handed = e }
       )
 
   -- all the input so far, and more of it
@@ -133,7 +149,7 @@ module _ {s pending : List ℕ} where
               left = f .left;
               feeds = feeds-more (f .feeds) more (a .all e);
               kept = f .kept;
-              count = f .count;
+              handed = f .handed;
             }
             ) (b .answers);
         all = b .all;
@@ -142,24 +158,24 @@ module _ {s pending : List ℕ} where
   module _ {input s′ line′ : List ℕ} {g : Going} (a : Answered s pending input 0 g s′ line′) where
     -- the end of the input was answered
     pub served-ended : {r : Going} {s″ : List ℕ} → g .ok ≡ true → r .got ≡ pos 0 →
-        s″ ≡ finishBytes s′ (a .answers .left) → r .sent ≡ counted (g .sent) (finish s′ (a .answers .left)) →
+        s″ ≡ finishBytes s′ (a .answers .left) → r .sent ≡ digest (g .sent) (finish s′ (a .answers .left)) →
         soundBytes s″ ≡ true → Served s pending input r s″
-    served-ended {r} ok over bytes count sound =
+    served-ended {r} ok over bytes handed sound =
         let f = a .answers in
         let t = finish s′ (f .left) in
         let e = feeds-all (f .feeds) (a .all ok) in
-        let n : r .sent ≡ counted 0 (f .text ++ t) =
-        count ∙ ap (λ (n : ℕ). counted n t) (f .count) ∙ counted-twice 0 (f .text) t in
+        let n : r .sent ≡ digest 0 (f .text ++ t) =
+        handed ∙ ap (λ (n : ℕ). digest n t) (f .handed) ∙ digest-twice 0 (f .text) t in
         record {
           ended = λ p q. (
             bytes ∙ ap (λ (x : Fed). finishBytes (x .lent) (x .pending)) (sym e),
-            n ∙ ap (λ (x : Fed). counted 0 (ending x)) (sym e),
+            n ∙ ap (λ (x : Fed). digest 0 (ending x)) (sym e),
           );
           cut = λ p q. absurd (q over);
           text = f .text ++ t;
           rest = [];
           front = ap ending e ∙ sym (append-nil (f .text ++ t));
-          count = n;
+          handed = n;
           sound = sound;
         }
 
@@ -172,12 +188,12 @@ module _ {s pending : List ℕ} where
           ended = λ p q. absurd (none p q);
           cut = λ p q. let e = feeds-all (f .feeds) (a .all p) in (
             ap (λ (x : Fed). x .lent) (sym e),
-            f .count ∙ ap (λ (x : Fed). counted 0 (x .text)) (sym e),
+            f .handed ∙ ap (λ (x : Fed). digest 0 (x .text)) (sym e),
           );
           text = f .text;
           rest = ending (feed s′ (f .left) (a .rest));
           front = feeds-front (f .feeds);
-          count = f .count;
+          handed = f .handed;
           sound = sound;
         }
 
@@ -187,10 +203,10 @@ served-run {s} {input} {s′} {r} z w =
     let e : ending (feed s [] input) ≡ session input = rw z (stream-session input) in
     let b : finishBytes (feed s [] input .lent) (feed s [] input .pending) ≡ bytesAfter input = rw z (stream-base input) in
     record {
-      ended = λ p q. w .ended p q .1 ∙ ap (counted 0) e;
+      ended = λ p q. w .ended p q .1 ∙ ap (digest 0) e;
       promise = λ p q. subst (Demand3 (orders input)) (sym (w .ended p q .0 ∙ b)) (demand3-text input);
       text = w .text;
       rest = w .rest;
       front = sym e ∙ w .front;
-      count = w .count;
+      handed = w .handed;
     }

@@ -12,7 +12,7 @@ ghost use Rattle.model.specs.Base.{emptyBase};
 ghost use Rattle.model.specs.Encoding.{encode};
 ghost use Rattle.serving.specs.Turns.{Kept};
 ghost use Rattle.serving.specs.Stream.{finish, finishBytes};
-ghost use Rattle.session.specs.Input.{Ready, counted, arrived, Answered, Served, Ran};
+ghost use Rattle.session.specs.Input.{Ready, mixed, digest, arrived, Answered, Served, Ran};
 use libc::STDERR_FILENO;
 use libc::STDIN_FILENO;
 use libc::STDOUT_FILENO;
@@ -21,24 +21,44 @@ use libc::STDOUT_FILENO;
 // the last read answered, and whether every write worked.
 struct Going {
     len: usize,
-    sent: u64,
+    sent: u32,
     got: isize,
     ok: bool,
 }
 
-// Whether a write worked, and the count of the bytes that were handed to be written.
+// Whether a write worked, and the digest of the bytes that were handed to be written.
 struct Written {
-    sent: u64,
+    sent: u32,
     ok: bool,
 }
 
-// Hands bytes to be written to standard output, and counts them. All that the program writes there goes through here.
-fn put(bytes: &[u8], sent: u64) -> Written
-    ensures { λ r. ⌜ r .sent ≡ counted sent (now (bytes .entry)) ⌝ }
+// The digest with one byte more.
+fn mix(sent: u32, byte: u8) -> u32
+    ensures { λ r. ⌜ r ≡ mixed sent byte ⌝ }
 {
-    let n = std::num::wrapping_add_u64(sent, bytes.len() as u64);
+    ((sent as u64 * 257 + byte as u64 + 1) % 4294967291) as u32
+}
+
+// The digest with some bytes more. Contracts tell by it which bytes were handed to be written.
+fn mix_all(sent: u32, bytes: &[u8]) -> u32
+    ensures { λ r. ⌜ r ≡ digest sent (now (bytes .entry)) ⌝ }
+{
+    let mut d = sent;
+    let mut i = 0;
+    while i < bytes.len() {
+        d = mix(d, bytes[i]);
+        i += 1;
+    }
+    d
+}
+
+// Hands bytes to be written to standard output. All that the program writes there goes through here.
+fn put(bytes: &[u8], sent: u32) -> Written
+    ensures { λ r. ⌜ r .sent ≡ digest sent (now (bytes .entry)) ⌝ }
+{
+    let d = mix_all(sent, bytes);
     Written {
-        sent: n,
+        sent: d,
         ok: io::write_all(STDOUT_FILENO, bytes),
     }
 }
@@ -100,7 +120,7 @@ fn serve_last(s: &mut [u8], line: &[u8; 97], g: Going, out: &mut [u8]) -> Going
     requires { ⌜ Ready (now s) (now line) (g .len) (now out) ⌝ }
     ensures { λ r. ⌜ ((pending : List ℕ) → Kept pending (g .len) (now (line .entry)) →
         (now (s .exit) ≡ finishBytes (now (s .entry)) pending)
-        × (r .sent ≡ counted (g .sent) (finish (now (s .entry)) pending)))
+        × (r .sent ≡ digest (g .sent) (finish (now (s .entry)) pending)))
         × (r .got ≡ g .got) × (soundBytes (now (s .exit)) ≡ true) ⌝ }
 {
     let n = serving::serve_end(s, line, g.len, out);

@@ -38,7 +38,7 @@ loop-holds c =
     let d = c .before .before .before in
     record {
       input = [];
-      answered = λ q k. record { rest = []; answers = answers-none [] 0 (omega arith) k; all = λ z. refl };
+      answered = λ q k. record { rest = []; answers = answers-none [] 0 k; all = λ z. refl };
       sound = d .pre .0;
       few = d .pre .2;
       size = d .pre .3;

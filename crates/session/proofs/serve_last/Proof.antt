@@ -2,7 +2,7 @@
 use borrow.Author.Needs.{needs}
 use mathlib.Core.Path.{sym, ap, _∙_}
 use lib.Seq.{length-take-le}
-use Rattle.session.specs.Input.{counted}
+use Rattle.session.specs.Input.{digest}
 use Rattle.session.proofs.serve_last.Statement.{statement}
 use Rattle.session.proofs.serve_last.Tie as tie
 
@@ -16,7 +16,7 @@ returns c =
     let p = c .before in
     let e = p .before .before .before .before .before .before .serve-end .ensures in
     let d = p .before .before .before .before .before .before .before .before .before .before .before in
-    (λ q k. (e .0 q k .1, p .put .ensures ∙ ap (counted (d .args .g .sent)) (e .0 q k .0)), search needs, e .3)
+    (λ q k. (e .0 q k .1, p .put .ensures ∙ ap (digest (d .args .g .sent)) (e .0 q k .0)), search needs, e .3)
 
 pub serve-last-spec : {M : Type 1} → statement M
 serve-last-spec =

@@ -35,9 +35,8 @@ abbrev μ-loop : tie.MeasureT-loop
 loop-holds : tie.Need-loop-holds Inv-loop μ-loop
 loop-holds c =
     let d = c .before .before .before in
-    let fits : d .args .g .sent < 2 ^ 64 = omega arith in
     record {
-      answers = λ q k. answers-none (now (d .args .piece)) (d .args .g .sent) fits k;
+      answers = λ q k. answers-none (now (d .args .piece)) (d .args .g .sent) k;
       sound = d .pre .0;
       few = d .pre .2;
       size = d .pre .3;
