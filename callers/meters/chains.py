@@ -1,13 +1,10 @@
 """Who holds a meter's authorizations from whom: a card for each authorization, a curve from each that backs it."""
-from collections import namedtuple
-
 import drawing
 from drawing import Instants, Names, Svg, meet, union
-from stores import LAST, Fault
+from stores import Fault
 
-CARD, GAP, LINE, MARGIN = 196, 74, 14, 16
+CARD, GAP, LINE, MARGIN = 236, 64, 14, 16
 SPANS = 3  # so many intervals on a card, and the rest counted
-Source = namedtuple("Source", "subject title")
 
 
 def page(svg, a):
@@ -102,7 +99,7 @@ class Panel:
     def source(self, subject, x, y, height):
         p = self.picture
         p.svg.rect("source", x, y, CARD, height, radius=6)
-        p.svg.text("who", x + 10, y + 6 + LINE - 3, drawing.cut(p.names.of("subject", subject), 26))
+        p.svg.text("who", x + 10, y + 6 + LINE - 3, drawing.cut(p.names.of("subject", subject), 32))
         p.svg.text("mode", x + 10, y + 6 + 2 * LINE - 3, p.sources[subject])
 
     def curves(self, e):
@@ -129,7 +126,7 @@ class Panel:
                 f"at {p.instants.long(e.granted)}: " + ", ".join(p.instants.long_span(*s) for s in spans(e)))
         p.svg.rect(kind, x, y, CARD, height, told + ("" if e.runs else ", withdrawn"), radius=6)
         faint = "" if e.runs else " faint"
-        p.svg.text("who" + faint, x + 10, y + 6 + LINE - 3, drawing.cut(p.names.of("subject", e.subject), 22))
+        p.svg.text("who" + faint, x + 10, y + 6 + LINE - 3, drawing.cut(p.names.of("subject", e.subject), 26))
         p.svg.text("tag" + faint, x + CARD - 10, y + 6 + LINE - 3, f"#{e.label}{' →' if e.transferable else ''}", "end")
         what = ("denied" if e.negative else "granted") + f" {p.instants.short(e.granted)}" + ("" if e.runs else ", withdrawn")
         p.svg.text("mode" + faint, x + 10, y + 6 + 2 * LINE - 3, what)
@@ -137,7 +134,7 @@ class Panel:
         if len(spans(e)) > SPANS:
             shown.append(f"and {len(spans(e)) - SPANS} more intervals")
         for i, words in enumerate(shown):
-            p.svg.text("span" + faint, x + 10, y + 6 + (3 + i) * LINE - 3, drawing.cut(words, 30))
+            p.svg.text("span" + faint, x + 10, y + 6 + (3 + i) * LINE - 3, drawing.cut(words, 38))
 
 
 class Picture:

@@ -9,7 +9,7 @@ LEFT, WIDTH, INFINITE = 216, 790, 60
 STRIP, LANE = 16, 15
 LETTER_IN, LETTER_TICK = 6.0, 6.6  # how wide a letter is, roughly, in a bar and at a tick
 KINDS = ("yes", "rule", "deny", "ruledeny", "grant", "denial", "gone")  # as the legend has them
-Row = namedtuple("Row", "subject mode when entries")  # subject 0: everybody else
+Row = namedtuple("Row", "subject modes when entries")  # subject 0: everybody else, in all modes that are alike
 
 
 def page(svg, a):
@@ -42,8 +42,11 @@ def rows(store, base, object_, records, rules, entries):
             when = store.runs(base, subject, mode, object_)
             own = [e for e in entries if (e.subject, e.mode) == (subject, mode)]
             if own or when and when != everybody[mode]:
-                out.append(Row(subject, mode, when, own))
-    return out + [Row(0, mode, everybody[mode], []) for mode in modes if everybody[mode]]
+                out.append(Row(subject, [mode], when, own))
+    alike = {}
+    for mode in modes:
+        alike.setdefault(tuple(everybody[mode]), []).append(mode)
+    return out + [Row(0, group, list(when), []) for when, group in alike.items() if when]
 
 
 def marks_of(rows_):
@@ -113,11 +116,16 @@ class Picture:
                      f"{told}, {self.instants.long_span(*span)}, at {self.instants.long(e.granted)}{', may be handed on' if e.transferable else ''}",
                      f"#{e.label} from {brief}{hand}", f"#{e.label}{hand}", f"#{e.label}")
 
+    def modes(self, modes):
+        if len(modes) == 8:
+            return "all modes"
+        return ", ".join(self.names.of("mode", m) if i == 0 else self.names.of("mode", m).removeprefix("mode ") for i, m in enumerate(modes))
+
     def row(self, row, y, first):
         if first:
             who = "everybody else" if row.subject == 0 else self.names.of("subject", row.subject)
             self.svg.text("who", 16, y + 12, drawing.cut(who, 18))
-        self.svg.text("mode", LEFT - 12, y + 12, drawing.cut(self.names.of("mode", row.mode), 10), "end")
+        self.svg.text("mode", LEFT - 12, y + 12, drawing.cut(self.modes(row.modes), 12), "end")
         self.strip(row, y)
         y += STRIP + 3
         for lane in lanes_of(row.entries):

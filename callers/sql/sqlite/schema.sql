@@ -78,7 +78,8 @@ WHEN NEW.requests <> 0 OR NEW.base IS NOT coalesce(NEW.initial, access_base_empt
 BEGIN SELECT RAISE(ABORT, 'the block exists, or does not start from its initial base'); END;
 
 -- ---- the way in
--- INSERT INTO put(block, role, request): `now` from the clock, the requester from the table, and the rest as given.
+-- INSERT INTO put(block, role, request): `now` from the clock, the requester from the table, and the rest as given, where the
+-- word now stands for the clock's instant.
 CREATE VIEW put AS SELECT '' AS block, '' AS role, '' AS request WHERE 0;
 CREATE TRIGGER put_request INSTEAD OF INSERT ON put BEGIN
   SELECT RAISE(ABORT, 'no such block: make it first (meters new)')
@@ -88,7 +89,7 @@ CREATE TRIGGER put_request INSTEAD OF INSERT ON put BEGIN
   SELECT RAISE(ABORT, 'the clock stands outside the instants of the block: look at its unit and origin')
     FROM clocks WHERE name = NEW.block AND instant NOT BETWEEN 0 AND 4294967294;
   INSERT INTO put_as_written(block, line)
-    SELECT NEW.block, c.instant || ' ' || r.subject || ' ' || NEW.request
+    SELECT NEW.block, c.instant || ' ' || r.subject || ' ' || replace(NEW.request, ' now', ' ' || c.instant)
     FROM clocks c JOIN requesters r ON r.block = c.id WHERE c.name = NEW.block AND r.role = NEW.role;
 END;
 
