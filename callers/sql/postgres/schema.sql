@@ -77,7 +77,7 @@ BEGIN
     IF line IS NULL THEN
       RAISE EXCEPTION 'a line is NULL' USING HINT = 'give one request a line, as docs/SESSION.md has it';
     END IF;
-    IF line ~ '^inf ' OR CASE WHEN line ~ '^[0-9]{1,10} ' THEN split_part(line, ' ', 1)::bigint > now_at ELSE false END THEN
+    IF line ~ '^inf ' OR coalesce(substring(line FROM '^([0-9]{1,10}) ')::bigint, 0) > now_at THEN
       RAISE EXCEPTION 'the request is ahead of the clock, and would shut out all others until then'
         USING HINT = 'give a now that has come', DETAIL = line;
     END IF;
