@@ -8,8 +8,8 @@
  * takes about 90,000 bytes of stack.
  *
  * What the caller owes, since no proof reaches beyond the call: a pointer is not NULL and points to as many elements
- * as the length beside it says, also where that is 0; base and list do not overlap; nobody else writes to them during
- * the call; a bool is 0 or 1.
+ * as the length beside it says, also where that is 0; what one call is lent does not overlap; nobody else writes to it
+ * during the call; a bool is 0 or 1.
  */
 #ifndef ACCESS_BASE_H
 #define ACCESS_BASE_H
@@ -27,6 +27,10 @@ extern "C" {
 #define ACCESS_BASE_LAST 4294967295u
 /* so many pairs always suffice for WHEN */
 #define ACCESS_BASE_PAIRS 1100u
+/* a buffer for a reply's text has at least so many bytes: they suffice for every reply but WHEN's */
+#define ACCESS_BASE_TEXT_LEAST 16u
+/* so many bytes always suffice for a reply's text */
+#define ACCESS_BASE_TEXT_BYTES 24001u
 
 /* Kinds of requests, and the fields that each names beside now and requester. Other fields are not looked at. */
 enum access_base_kind {
@@ -65,7 +69,7 @@ enum access_base_refusal {
     ACCESS_BASE_ALREADY_SO = 10,   /* the object exists, or the subject owns it or holds that privilege */
     ACCESS_BASE_NOT_HELD = 11,     /* the privilege to withdraw is not there */
     ACCESS_BASE_NOT_STRATIFIED = 12,/* the rule would close a forbidden circle */
-    ACCESS_BASE_FULL = 13          /* a count or the labels would be passed, or the WHEN list is too short */
+    ACCESS_BASE_FULL = 13          /* a count or the labels would be passed, or the list or the buffer is too short */
 };
 
 /* One side of a rule. Where any_subject or any_mode is true the star stands there, and the number is not looked at. */
@@ -104,8 +108,8 @@ struct access_base_request {
 };
 
 /* A reply. `number` is: for a request done, the authorizations (lines) now in the base; with refusal 9, an uncovered
- * instant of the span; for MAY, 1 if the answer is yes and 0 if it is no; for WHEN, the number of runs. 0 with any other
- * refusal. */
+ * instant of the span; for MAY, 1 if the answer is yes and 0 if it is no; for WHEN, the number of runs; for a line of
+ * text, the bytes written. 0 with any other refusal. */
 struct access_base_reply {
     uint32_t refusal; /* enum access_base_refusal; 0 if not refused */
     uint32_t label;   /* the new label of a GRANT, DENY or ADDRULE that was done, or 0 */
@@ -133,6 +137,9 @@ uint64_t access_base_may(
 uint64_t access_base_when(
     const uint8_t *base, size_t base_length, uint32_t subject, uint32_t mode, uint32_t object, uint32_t *list,
     size_t list_length);
+
+uint64_t access_base_text(
+    uint8_t *base, size_t base_length, const uint8_t *line, size_t line_length, uint8_t *out, size_t out_length);
 
 /* ---- the same in C's words */
 
@@ -175,6 +182,24 @@ static inline struct access_base_reply access_base_ask_when(
     size_t list_length)
 {
     return access_base_reply_of(access_base_when(base, base_length, subject, mode, object, list, list_length));
+}
+
+/* One line of text, a request or a question as the text session has it, without its newline; any bytes may be lent.
+ * The reply's text, with a newline and no NUL, stands at the front of `out` after it, `number` bytes of it; the rest of
+ * `out` is untouched. What a request or a question is refused with is in the text: `refused 1` for a line that cannot
+ * be read, `refused 2` for bytes that are no sound base, and so on through the table.
+ *
+ * refusal  when                                                     what is altered
+ * 0        the text is written                                      the base as the line says, the front of `out`
+ * 13       out_length is below ACCESS_BASE_TEXT_LEAST, or below     nothing: no request is carried out whose reply
+ *          what the text takes, which only WHEN's can               is not told
+ *
+ * ACCESS_BASE_TEXT_LEAST bytes suffice for every line but WHEN, ACCESS_BASE_TEXT_BYTES for every line. */
+static inline struct access_base_reply access_base_tell(
+    uint8_t *base, size_t base_length, const char *line, size_t line_length, char *out, size_t out_length)
+{
+    return access_base_reply_of(access_base_text(
+        base, base_length, (const uint8_t *)line, line_length, (uint8_t *)out, out_length));
 }
 
 #ifdef __cplusplus

@@ -96,6 +96,59 @@ static void replies(void)
     expect(is(access_base_ask_when(base, ACCESS_BASE_BYTES, 4, 1, 7, list, 0), 0, 0, 0), "no run needs no list");
 }
 
+static char out[ACCESS_BASE_TEXT_BYTES];
+
+/* A line in a buffer of so many bytes: the refusal, and the text that is at its front; what is behind is untouched. */
+static int tells(size_t length, const char *line, uint32_t refusal, const char *text)
+{
+    struct access_base_reply r;
+    size_t n = strlen(text);
+    memset(out, '#', sizeof out);
+    r = access_base_tell(base, ACCESS_BASE_BYTES, line, strlen(line), out, length);
+    if (!is(r, refusal, 0, (uint32_t)n) || memcmp(out, text, n) != 0)
+        return 0;
+    for (size_t i = n; i < sizeof out; i++)
+        if (out[i] != '#')
+            return 0;
+    return 1;
+}
+
+/* Session S line by line, and buffers that just suffice or just do not. */
+static void texts(void)
+{
+    static const char *const session[][2] = {
+        {"4 1 NEW 7", "done 0 0\n"},
+        {"4 1 GRANTADM 7 5", "done 0 0\n"},
+        {"5 1 GRANT 1 7 2 50 200 y", "done 1 1\n"},
+        {"50 5 GRANT 1 7 2 80 150 y", "done 2 2\n"},
+        {"55 2 GRANT 1 7 3 55 180 y", "done 3 3\n"},
+        {"60 3 DENY 1 7 4 60 70", "done 4 4\n"},
+        {"61 1 REVOKEP 1 7 2 60 200", "done 0 4\n"},
+        {"MAY 3 1 7 79", "no\n"},
+        {"WHEN 3 1 7", "55-59 80-150\n"},
+        {"61 3 GRANT 1 7 9 61 90 n", "refused 9\n"},
+        {"60 1 REVOKE 1", "refused 4\n"}};
+    static const char two[] = "55-59 80-150 4000000000-inf\n";
+    access_base_make(base, ACCESS_BASE_BYTES);
+    for (size_t i = 0; i < sizeof session / sizeof *session; i++) {
+        memcpy(before, base, sizeof before);
+        expect(tells(ACCESS_BASE_TEXT_LEAST - 1, session[i][0], ACCESS_BASE_FULL, ""), "15 bytes are refused");
+        expect(untouched(), "and the base is untouched");
+        expect(tells(ACCESS_BASE_TEXT_LEAST, session[i][0], 0, session[i][1]), session[i][0]);
+    }
+    expect(tells(ACCESS_BASE_TEXT_LEAST, "", 0, "refused 1\n"), "an empty line cannot be read");
+    expect(tells(ACCESS_BASE_TEXT_LEAST, "MAY 3 1 7 79\n", 0, "refused 1\n"), "nor one with a newline");
+    expect(tells(0, "", ACCESS_BASE_FULL, ""), "no buffer at all");
+    expect(tells(ACCESS_BASE_TEXT_LEAST, "62 1 GRANT 1 7 3 4000000000 inf n", 0, "done 5 5\n"), "GRANT up to inf");
+    memcpy(before, base, sizeof before);
+    expect(tells(strlen(two) - 1, "WHEN 3 1 7", ACCESS_BASE_FULL, ""), "a buffer one byte short for WHEN");
+    expect(tells(strlen(two), "WHEN 3 1 7", 0, two), "one that is exactly as long");
+    expect(tells(strlen(two) + 1, "WHEN 3 1 7", 0, two), "one that is a byte longer");
+    expect(tells(ACCESS_BASE_TEXT_BYTES, "WHEN 3 1 7", 0, two), "one that always suffices");
+    expect(untouched(), "and WHEN leaves the base");
+    expect(tells(ACCESS_BASE_TEXT_LEAST, "WHEN 4 1 7", 0, "none\n"), "no run");
+}
+
 /* Bytes of another length or that are no base are refused by all, and untouched. */
 static void unsound(size_t length)
 {
@@ -106,6 +159,8 @@ static void unsound(size_t length)
     expect(is(access_base_do(base, length, &q), ACCESS_BASE_INVALID_BASE, 0, 0), "a request gets 2");
     expect(is(access_base_ask_may(base, length, 1, 1, 1, 1), ACCESS_BASE_INVALID_BASE, 0, 0), "MAY gets 2");
     expect(is(access_base_ask_when(base, length, 1, 1, 1, list, 2), ACCESS_BASE_INVALID_BASE, 0, 0), "WHEN gets 2");
+    expect(is(access_base_tell(base, length, "WHEN 1 1 1", 10, out, 16), 0, 0, 10)
+               && memcmp(out, "refused 2\n", 10) == 0, "the text is `refused 2`");
     if (length != ACCESS_BASE_BYTES)
         expect(is(access_base_make(base, length), ACCESS_BASE_INVALID_BASE, 0, 0), "create gets 2");
     expect(untouched() && list[0] == 90 && list[1] == 91, "and all is untouched");
@@ -115,6 +170,7 @@ int main(void)
 {
     fields();
     replies();
+    texts();
     unsound(ACCESS_BASE_BYTES - 1);
     unsound(ACCESS_BASE_BYTES + 1);
     unsound(0);

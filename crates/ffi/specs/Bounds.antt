@@ -1,58 +1,49 @@
 -- What base's functions reply is small enough to come apart again: every packed reply gives back its refusal, its
--- label and its number (Numbers), and a packed reply to a request says what the request's definition says
--- (`request-parts`).
+-- label and its number (Numbers), a packed reply to a request says what the request's definition says
+-- (`request-parts`), and so does one to a line of text (`text-parts`).
 use mathlib.Core.Path.{_≡_, refl, sym, ap, subst, _∙_}
-use mathlib.Core.Logic.{_≢_}
-use mathlib.Core.Bool.{Bool, true, false, not, false≢true}
+use mathlib.Core.Logic.{_≢_, ⊎-elim}
+use mathlib.Core.Bool.{true, not, false≢true}
 use mathlib.Core.List.{List, [], _∷_, _++_}
-use Prim.Native.Nat.{ℕ, suc, _*_, _/_, _%_, _<_}
+use Prim.Native.Nat.{ℕ, _*_, _/_, _%_, _<_}
 use native.Mathlib.Omega.{arith}
 use lib.Dec.{eqb}
 use lib.ListN.{length, drop}
-use Rattle.foundation.specs.Tests.{cases, pick, true-eq, false-eq, eq-true}
+use Rattle.foundation.specs.Tests.{eq-true}
 use Rattle.model.specs.declared.Request.{Request}
 use Rattle.model.specs.declared.Access.{Access}
 use Rattle.model.specs.declared.Question.{Question}
 use Rattle.model.specs.declared.Reply.{Reply}
 use Rattle.model.specs.declared.Reply.the-variants.{Done, Refused, Unsupported, Yes, No, Runs}
 use Rattle.model.specs.Base.{emptyBase}
-use Rattle.model.specs.Rules.{may, when}
-use Rattle.model.specs.Means.{plainly}
-use Rattle.model.specs.Step.{Row, row, lowest, refusedOr, refusal, accepting, isGap, effect}
-use Rattle.model.specs.Requests.{labels}
-use Rattle.model.specs.StepFacts.{accepted, answered, turned-away}
+use Rattle.model.specs.Rules.{when}
+use Rattle.model.specs.Step.{Row, row, lowest, isGap}
 use Rattle.model.specs.Encoding.{size, encode, decode}
 use Rattle.model.specs.Soundness.{soundBytes}
 use Rattle.model.specs.Answers.{Answer, Answered, answering, refusing, refusalNumber, shown, create, request}
-use Rattle.model.specs.Answers.{requestTable, mayTable, whenTable, mayReply, mayAnswer, whenAnswer, words}
-use Rattle.theorems.specs.Rows.{label-left}
-use Rattle.ffi.specs.Numbers.{labelOf, numberOf, refusal-back, label-back, number-back, AnsweredBy}
+use Rattle.model.specs.Answers.{whenTable, mayAnswer, whenAnswer, words}
+use Rattle.model.specs.Session.{Written, textAnswer}
+use Rattle.text.specs.Short.{Below, lowest-below, by-rows, Short, request-short, may-short}
+use Rattle.text.specs.Room.{refused-untouched}
+use Rattle.ffi.specs.Numbers.{labelOf, numberOf, packedText, refusal-back, label-back, number-back, AnsweredBy}
 
 -- the bounds under which a packed reply comes apart again
 pub record Small (r : Reply) : Type 0 where
   pub refusal : refusalNumber r < 65536
   pub label : labelOf r < 65536
 
--- ---- the numbers of rows
-
-abbrev Below : ℕ → List Row → Type 0
-Below n [] = Unit {0}
-Below n (r ∷ rest) = (r .number < n) × Below n rest
-
-lowest-below : (n : ℕ) (rows : List Row) → 0 < n → Below n rows → lowest rows < n
-lowest-below n [] z w = z
-lowest-below n (r ∷ rest) z w = cases (r .given) (λ g. rw g (w .0)) (λ g. rw g (lowest-below n rest z (w .1)))
-
 refused-small : (rows : List Row) → Below 14 rows → Small (Refused (lowest rows))
 refused-small rows w =
     record { refusal = omega (arith, lowest-below 14 rows (omega arith) w); label = omega arith }
 
--- what the refusal by rows and the answer have, the outcome has
-by-rows : {A : Type 0} (P : A → Type 0) (rows : List Row) (refuse : ℕ → A) (a : A) → P (refuse (lowest rows)) →
-    (lowest rows ≡ 0 → P a) → P (refusedOr rows refuse a)
-by-rows P rows refuse a r p = cases (eqb (lowest rows) 0)
-    (λ e. let z = true-eq (lowest rows) 0 e in subst P (sym (answered rows refuse a z)) (p z))
-    (λ e. subst P (sym (turned-away rows refuse a (false-eq (lowest rows) 0 e))) r)
+-- the replies that a text of 16 bytes has room for
+short-small : (r : Reply) → Short r → Small r
+short-small (Done label count) h = record { refusal = omega arith; label = h .0 }
+short-small (Refused n) h = record { refusal = omega arith; label = omega arith }
+short-small (Unsupported t) h = record { refusal = omega arith; label = omega arith }
+short-small Yes h = record { refusal = omega arith; label = omega arith }
+short-small No h = record { refusal = omega arith; label = omega arith }
+short-small (Runs n) h = absurd h
 
 -- ---- every reply is small
 
@@ -64,16 +55,7 @@ create-small s =
     (refused-small rows (omega arith, tt)) (λ z. record { refusal = omega arith; label = omega arith })
 
 pub may-small : (s : List ℕ) (q : Question) → Small (mayAnswer s q)
-unfolding mayAnswer
-may-small s q =
-    let yes? = may (decode s) (q .access) (q .instant) in
-    let rows = row 2 (not (soundBytes s)) ∷ mayTable (decode s) q in
-    by-rows Small rows Refused (mayReply yes?) (refused-small rows (omega arith, (omega arith, (omega arith, tt))))
-    (λ z. said yes?)
-  where
-    said : (yes? : Bool) → Small (mayReply yes?)
-    said true = record { refusal = omega arith; label = omega arith }
-    said false = record { refusal = omega arith; label = omega arith }
+may-small s q = short-small (mayAnswer s q) (may-short s q)
 
 pub when-small : (s : List ℕ) (x : Access) (list : List ℕ) → Small (whenAnswer s x list .reply)
 unfolding whenAnswer
@@ -86,45 +68,8 @@ when-small s x list =
     (refused-small rows (omega arith, (omega arith, (omega arith, (omega arith, tt)))))
     (λ z. record { refusal = omega arith; label = omega arith })
 
--- a request that is accepted is given a label of 16 bits
-accepting-small : (s : List ℕ) (q : Request) → lowest (requestTable s q) ≡ 0 →
-    Small (accepting (decode s) q (effect plainly (decode s) q))
-accepting-small s q z = record { refusal = omega arith; label = label (labels q) refl }
-  where
-    rows-passed : (x : Bool) → soundBytes s ≡ x → refusal plainly (decode s) q ≡ 0
-    rows-passed true e = rw e at z
-    rows-passed false e = let w : _≡_ {A = ℕ} 2 0 = rw e at z in absurd (omega arith)
-
-    label : (x : Bool) → labels q ≡ x → pick x (suc (decode s .last)) 0 < 65536
-    label true e = omega (arith, label-left (decode s) q (accepted (decode s) q (rows-passed (soundBytes s) refl)) e)
-    label false e = omega arith
-
 pub request-small : (s : List ℕ) (q : Request) → Small (request s q .reply)
-unfolding request
-request-small s q =
-    let after = effect plainly (decode s) q in
-    by-rows (λ (a : Answer). Small (a .reply)) (requestTable s q) (refusing s)
-    (answering (accepting (decode s) q after) (encode after))
-    (refused-small (requestTable s q) (
-      omega arith,
-      (
-        omega arith,
-        (
-          omega arith,
-          (
-            omega arith,
-            (
-              omega arith,
-              (
-                omega arith,
-                (omega arith, (omega arith, (omega arith, (omega arith, (omega arith, (omega arith, tt)))))),
-              ),
-            ),
-          ),
-        ),
-      ),
-    ))
-    (accepting-small s q)
+request-small s q = short-small (request s q .reply) (request-short s q)
 
 -- ---- the parts of a reply to a request
 
@@ -194,3 +139,18 @@ module _ (s : List ℕ) (q : Request) where
         uncovered = λ h. subst (λ (t : ℕ). isGap (decode s) q t ≡ true) (sym back)
             (uncovered-part r s′ a (refused ∙ h));
       }
+
+-- ---- the parts of a reply in text
+
+-- what the number that the exported text gives says of the text's definition
+pub record TextParts (w : Written) (n : ℕ) : Type 0 where
+  pub refusal : n % 65536 ≡ w .refusal
+  pub label : n / 65536 % 65536 ≡ 0
+  pub count : n / 4294967296 ≡ w .count
+
+pub text-parts : (s line out : List ℕ) → TextParts (textAnswer s line out) (packedText (textAnswer s line out))
+text-parts s line out =
+    let w = textAnswer s line out in
+    let h : w .refusal < 65536 = ⊎-elim (λ e. omega (arith, e))
+    (λ e. omega (arith, ap (λ (x : Written). x .refusal) e)) (refused-untouched s line out) in
+    record { refusal = omega arith; label = omega arith; count = omega arith }

@@ -18,6 +18,7 @@ use Rattle.model.specs.declared.Request.{Request}
 use Rattle.model.specs.declared.Access.{Access}
 use Rattle.model.specs.declared.Question.{Question}
 use Rattle.model.specs.Answers.{Answered, refusalNumber}
+use Rattle.model.specs.Session.{Written}
 
 -- ---- requests and questions
 
@@ -54,6 +55,10 @@ packed (Unsupported t) = t * 4294967296 + 9
 packed Yes = 4294967296
 packed No = 0
 packed (Runs n) = n * 4294967296
+
+-- a line of text: the refusal in bits 0 to 15, the bytes written from bit 32 on
+abbrev pub packedText : Written → ℕ
+packedText w = w .count * 4294967296 + w .refusal
 
 -- the new label, or 0 where the reply has none
 abbrev pub labelOf : Reply → ℕ

@@ -1,12 +1,13 @@
-// The library for C and Rust: the five functions of crate base on numbers, truth values and lent slices. They add
+// The library for C and Rust: the six functions of crate base on numbers, truth values and lent slices. They add
 // nothing but the wording: every contract is that of base's function, on the request or question that the numbers
 // say. What a caller takes out of a packed reply is said in specs/Numbers.antt (`refusal-back`, `label-back`,
-// `number-back`) and specs/Bounds.antt.
+// `number-back`) and specs/Bounds.antt (`text-parts` for a line of text).
 ghost use mathlib.Core.Path.{_≡_};
 ghost use Rattle.foundation.specs.Intervals.{interval};
 ghost use Rattle.model.specs.Soundness.{soundBytes};
 ghost use Rattle.model.specs.Answers.{create, mayAnswer, whenAnswer};
-ghost use Rattle.ffi.specs.Numbers.{termOf, optionOf, side, access, question, packed, AnsweredBy};
+ghost use Rattle.model.specs.Session.{textAnswer};
+ghost use Rattle.ffi.specs.Numbers.{termOf, optionOf, side, access, question, packed, packedText, AnsweredBy};
 use foundation::Interval;
 use model::Access;
 use model::OptionTerm;
@@ -208,4 +209,17 @@ pub extern "C" fn access_base_request(
             rule: rule,
         },
     ))
+}
+
+// One line of text, its reply as text in the buffer.
+#[no_mangle]
+pub extern "C" fn access_base_text(base: &mut [u8], line: &[u8], out: &mut [u8]) -> u64
+    ensures { λ r. ⌜
+        (r ≡ packedText (textAnswer (now (base .entry)) (now (line .entry)) (now (out .entry))))
+        × (now (base .exit) ≡ textAnswer (now (base .entry)) (now (line .entry)) (now (out .entry)) .lent)
+        × (now (out .exit) ≡ textAnswer (now (base .entry)) (now (line .entry)) (now (out .entry)) .out)
+        ⌝ }
+{
+    let w = base::text(base, line, out);
+    (w.count as u64) * 4294967296 + w.refusal as u64
 }

@@ -2,19 +2,18 @@
 -- proved from `Step.effect`. What an equation does not name stays as it was.
 use mathlib.Core.Path.{_≡_}
 use Prim.Native.Nat.{ℕ, suc}
-use mathlib.Core.Bool.{Bool, true, false, not, _&&_, _||_}
+use mathlib.Core.Bool.{true, false, not, _&&_, _||_}
 use mathlib.Core.List.{List, [], _∷_, _++_}
 use lib.Dec.{eqb}
 use Rattle.foundation.specs.Lists.{anyb, keepIf}
 use Rattle.foundation.specs.Intervals.{inInterval}
 use Rattle.model.specs.declared.Privilege.{Privilege}
-use Rattle.model.specs.declared.Head.{Head}
 use Rattle.model.specs.declared.Authorization.{Authorization}
 use Rattle.model.specs.declared.Rule.{Rule}
 use Rattle.model.specs.declared.Request.{Request}
 use Rattle.model.specs.Base.{Base, privilege, isPrivilege, administers, refers}
 use Rattle.model.specs.Support.{sameObjectAndMode, root, rootIn}
-use Rattle.model.specs.Withdrawal.{authorization, keep, restrict}
+use Rattle.model.specs.Withdrawal.{keep, restrict}
 use Rattle.model.specs.Requests.{NEW, GRANT, DENY, REVOKE, REVOKEP, REVOKEN, ADDRULE, DROPRULE, GRANTADM}
 use Rattle.model.specs.Requests.{REVOKEADM, GRANTREF, REVOKEREF, insert, sideOf, operatorOf, numberOf, leave}
 use Rattle.model.specs.Means.{plainly}

@@ -16,7 +16,7 @@ use Rattle.model.specs.Stratification.{stratum}
 use Rattle.model.specs.Rules.{Pattern, fits, derivesFor, rightOf}
 
 -- 01: "given by a line": an authorization that covers t is what is looked for
-pub record Given (auths : List Authorization) (t : ℕ) (p : Pattern) : Type 0 where
+pub record ByAuthorization (auths : List Authorization) (t : ℕ) (p : Pattern) : Type 0 where
   pub authorization : Authorization
   pub listed : Mem authorization auths
   pub covers : inInterval (authorization .interval) t ≡ true
@@ -52,7 +52,7 @@ module _ (rules : List Rule) (k : ℕ) where
 -- 01: "Held means given by a line or by a rule, denied or not": what is held by authorizations and by the rules of
 -- the ranks below k
 abbrev pub HeldBelow : List Authorization → List Rule → ℕ → ℕ → Pattern → Type 0
-HeldBelow auths rules zero t p = Given auths t p
+HeldBelow auths rules zero t p = ByAuthorization auths t p
 HeldBelow auths rules (suc k) t p = HeldUpTo rules k (HeldBelow auths rules k) t p
 
 -- held by the ranks below some k

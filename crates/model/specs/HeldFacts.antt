@@ -26,7 +26,7 @@ use Rattle.model.specs.Rules.{Pattern, Fact, fact, fits, derivesFor, rig
 use Rattle.model.specs.Rules.{derives, enough, derivedBelow, holds, asked, mayWith, may}
 use Rattle.model.specs.HoldsFacts.{rounds, rounds-below, below-stratum, closed}
 use Rattle.model.specs.HoldsLaws.{settled-at, at-stratum}
-use Rattle.model.specs.Held.{Given, Applies, HeldUpTo, HeldBelow, Held}
+use Rattle.model.specs.Held.{ByAuthorization, Applies, HeldUpTo, HeldBelow, Held}
 use Rattle.model.specs.Held.{lower, whenever, asLongAs, wheneverNot, unless}
 
 module _ (auths : List Authorization) (rules : List Rule) where
@@ -45,7 +45,7 @@ module _ (auths : List Authorization) (rules : List Rule) where
 
   -- ---- by an authorization or by a rule
 
-  by-given : (S : Fact → Bool) (t : ℕ) (p : Pattern) → Given auths t p → holding S t p ≡ true
+  by-given : (S : Fact → Bool) (t : ℕ) (p : Pattern) → ByAuthorization auths t p → holding S t p ≡ true
   by-given S t p g =
       or-intro-left (anyb (fits p) (live t auths)) (anyb (λ r. derivesFor p r && S (fact r (p .access) t)) rules)
       (mem-any (fits p) (live t auths) (g .authorization .head)
@@ -59,7 +59,7 @@ module _ (auths : List Authorization) (rules : List Rule) where
       (and-intro (derivesFor p r) (S (fact r (p .access) t)) d e))
 
   -- and in no other way
-  either : {X : Type 0} (S : Fact → Bool) (t : ℕ) (p : Pattern) → holding S t p ≡ true → (Given auths t p → X) →
+  either : {X : Type 0} (S : Fact → Bool) (t : ℕ) (p : Pattern) → holding S t p ≡ true → (ByAuthorization auths t p → X) →
       ((r : Rule) → Mem r rules → derivesFor p r ≡ true → S (fact r (p .access) t) ≡ true → X) → X
   either S t p e f g =
       or-cases (anyb (fits p) (live t auths)) (anyb (λ r. derivesFor p r && S (fact r (p .access) t)) rules) e
@@ -71,7 +71,7 @@ module _ (auths : List Authorization) (rules : List Rule) where
       g (m .0) (m .1) (w .0) (w .1))
 
   -- what an authorization gives is held by every rank
-  given-below : (k : ℕ) {t : ℕ} {p : Pattern} → Given auths t p → Below k t p
+  given-below : (k : ℕ) {t : ℕ} {p : Pattern} → ByAuthorization auths t p → Below k t p
   given-below zero g = g
   given-below (suc k) g = lower (given-below k g)
 

@@ -2,10 +2,8 @@
 -- outcome of a request (`step-marks`), for every fuel.
 use mathlib.Core.Path.{_≡_, refl, sym, ap, fun-ext}
 use Prim.Native.Nat.{ℕ}
-use mathlib.Core.Bool.{Bool, false, not, _&&_, _||_}
+use mathlib.Core.Bool.{Bool, not, _||_}
 use mathlib.Core.List.{List, [], _∷_}
-use lib.Dec.{eqb}
-use Rattle.foundation.specs.Tests.{pick}
 use Rattle.foundation.specs.Lists.{anyb}
 use Rattle.foundation.specs.declared.Interval.{Interval}
 use Rattle.foundation.specs.Marks.{Steady, not-steady, walk-maximal}
@@ -15,7 +13,7 @@ use Rattle.model.specs.declared.Request.{Request}
 use Rattle.model.specs.Base.{Base}
 use Rattle.model.specs.Support.{supports, supported, live, coveredFor, gaps}
 use Rattle.model.specs.Withdrawal.{keep, restrict}
-use Rattle.model.specs.Requests.{REVOKE, REVOKEP, REVOKEN, REVOKEADM, is, names, takes, leave}
+use Rattle.model.specs.Requests.{takes, leave}
 use Rattle.model.specs.Means.{Means, plainly, atMarks, boundaries, marksOf, keepAt, leaveAt, restrictAt, gapsAt}
 use Rattle.model.specs.Questions.{asDefined, readAtMarks}
 use Rattle.model.specs.Step.{stepBy, step}
@@ -36,11 +34,7 @@ keep-marks n marks p c (x ∷ xs) =
 
 -- what a request takes changes at the boundaries of its interval only, whatever its kind
 takes-steady : (q : Request) (h : Head) → Steady (takes q h) (boundaries (q .interval))
-takes-steady q h a t l e = ap (λ (inside : Bool).
-    pick (is q (REVOKE ∷ [])) (eqb (h .label) (q .label))
-    (pick (is q (REVOKEP ∷ REVOKEN ∷ [])) (names q h && inside)
-    (pick (is q (REVOKEADM ∷ [])) (eqb (h .object) (q .object) && eqb (h .grantor) (q .subject))
-    false))) (interval-steady (q .interval) a t l e)
+takes-steady q h a t l e = rw (interval-steady (q .interval) a t l e)
 
 pub leave-marks : (n : ℕ) (q : Request) (xs : List Authorization) → leave q xs ≡ leaveAt n q xs
 unfolding leave leaveAt

@@ -1,6 +1,8 @@
 -- A whole session, from bytes to bytes (01, "Text session").
 use Prim.Native.Nat.{ℕ, zero, suc, _*_}
+use mathlib.Core.Bool.{_||_}
 use mathlib.Core.List.{List, [], _∷_, _++_}
+use lib.Dec.{ltb}
 use lib.ListN.{length, replicate, drop, getD}
 use Rattle.foundation.specs.declared.Interval.{Interval}
 use Rattle.foundation.specs.Intervals.{interval}
@@ -9,7 +11,7 @@ use Rattle.model.specs.declared.Reply.the-variants.{Done, Refused, Unsup
 use Rattle.model.specs.Base.{Base, emptyBase}
 use Rattle.model.specs.Means.{Means, plainly}
 use Rattle.model.specs.Questions.{Questions, asDefined}
-use Rattle.model.specs.Step.{refusedOr, stepBy}
+use Rattle.model.specs.Step.{row, refusedOr, stepBy}
 use Rattle.model.specs.Encoding.{encode}
 use Rattle.model.specs.Answers.{mayTable, whenTable, mayReply, request, mayAnswer, whenAnswer}
 use Rattle.model.specs.Text.{Line, order, asksMay, asksWhen, unreadable, newline, lines, readLine, printReply}
@@ -89,3 +91,30 @@ byteTranscript (l ∷ rest) s =
 
 unfoldable pub byteSession : List ℕ → List ℕ
 byteSession input = byteTranscript (lines input) (encode emptyBase)
+
+-- ---- one line of text over lent bytes, its reply as text in a lent buffer
+
+-- 0 or why nothing was written, how many bytes were, and the base and the buffer after it
+pub record Written : Type 0 where
+  pub refusal : ℕ
+  pub count : ℕ
+  pub lent : List ℕ
+  pub out : List ℕ
+
+-- the longest reply but WHEN's, with its newline: `done 65535 1024`
+abbrev pub shortestBuffer : ℕ
+shortestBuffer = 16
+
+-- the text of the reply, with its newline
+abbrev pub replyLine : List ℕ → List ℕ → List ℕ
+replyLine s line = let x = byteTurn s (readLine line) in printReply (x .reply) (x .runs) ++ (newline ∷ [])
+
+-- 13: the buffer has fewer than 16 bytes, whatever the line says, or fewer than the text has; nothing lent is altered
+-- then. So no request is carried out whose reply cannot be told: only WHEN's can be longer, and WHEN changes nothing.
+unfoldable pub textAnswer : List ℕ → List ℕ → List ℕ → Written
+textAnswer s line out =
+    let text = replyLine s line in
+    let n = length text in
+    refusedOr (row 13 (ltb (length out) shortestBuffer || ltb (length out) n) ∷ [])
+    (λ k. record { refusal = k; count = 0; lent = s; out = out })
+    (record { refusal = 0; count = n; lent = byteTurn s (readLine line) .lent; out = text ++ drop n out })

@@ -13,10 +13,8 @@ use Rattle.model.specs.declared.Reply.the-variants.{Done}
 use Rattle.model.specs.Base.{Base, emptyBase}
 use Rattle.model.specs.Support.{Chain, live, root}
 use Rattle.model.specs.Requests.{GRANT, DENY, REVOKE, REVOKEP, REVOKEN, REVOKEADM}
-use Rattle.model.specs.Means.{plainly}
-use Rattle.model.specs.Step.{refusal, effect}
-use Rattle.model.specs.Encoding.{encode}
-use Rattle.model.specs.Answers.{request, requests}
+use Rattle.model.specs.Encoding.{encode, decode}
+use Rattle.model.specs.Answers.{refusalNumber, request, requests}
 
 -- ---- what a grant or denial gives
 
@@ -87,17 +85,17 @@ abbrev pub Behind : Base → Head → ℕ → Type 0
 Behind b h t = Chain (root b) (live t (b .authorizations)) h
 
 -- "its giver has neither taken it back nor lost the meter's administration since, and ... after ... every later
--- accepted request it had a chain behind it", from the base on; a refused request is passed over
-pub data Survives (h : Head) (t : ℕ) : List Request → Base → Type 0 where
-  end : {b : Base} → Survives h t [] b
-  refused : {q : Request} {later : List Request} {b : Base} →
-      refusal plainly b q ≢ 0 →
-      Survives h t later b →
-      Survives h t (q ∷ later) b
-  accepted : {q : Request} {later : List Request} {b : Base} →
-      refusal plainly b q ≡ 0 →
+-- accepted request it had a chain behind it", from the bytes s on; a refused request is passed over
+pub data Survives (h : Head) (t : ℕ) : List Request → List ℕ → Type 0 where
+  end : {s : List ℕ} → Survives h t [] s
+  refused : {q : Request} {later : List Request} {s : List ℕ} →
+      refusalNumber (request s q .reply) ≢ 0 →
+      Survives h t later s →
+      Survives h t (q ∷ later) s
+  accepted : {q : Request} {later : List Request} {s : List ℕ} {label count : ℕ} →
+      request s q .reply ≡ Done label count →
       ¬ TakesBack q h t →
       ¬ LosesAdministration q h →
-      Behind (effect plainly b q) h t →
-      Survives h t later (effect plainly b q) →
-      Survives h t (q ∷ later) b
+      Behind (decode (request s q .lent)) h t →
+      Survives h t later (request s q .lent) →
+      Survives h t (q ∷ later) s

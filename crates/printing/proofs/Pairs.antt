@@ -2,8 +2,9 @@
 use mathlib.Core.Path.{_≡_, refl, sym, ap, _∙_}
 use mathlib.Core.List.{List, [], _∷_, _++_, append-assoc, append-nil}
 use Prim.Native.Nat.{ℕ, zero, suc, _+_, _-_, _*_, _≤_}
+use native.Mathlib.Numerals.{add-one}
 use native.Mathlib.Omega.{arith}
-use lib.ListN.{length, take, drop, getD, length-drop}
+use lib.ListN.{length, take, drop, getD, length-drop, length-append}
 use lib.Seq.{getD-drop, take-all}
 use Rattle.foundation.specs.declared.Interval.{Interval}
 use Rattle.foundation.specs.Intervals.{interval}
@@ -18,7 +19,7 @@ more-append (y ∷ xs) x =
     ∙ sym (append-assoc (ascii " " ++ printRun y) (printMore xs) (ascii " " ++ printRun x))
 
 -- the pair at i
-abbrev pairAt : ℕ → List ℕ → Interval
+abbrev pub pairAt : ℕ → List ℕ → Interval
 pairAt i list = interval (getD list (2 * i) 0) (getD list (2 * i + 1) 0)
 
 pairs-last : (i : ℕ) (list : List ℕ) → pairsOf (suc i) list ≡ pairsOf i list ++ (pairAt i list ∷ [])
@@ -35,6 +36,18 @@ pairs-last (suc i) list =
 pub more-last : (i : ℕ) (list : List ℕ) →
     printMore (pairsOf (suc i) list) ≡ printMore (pairsOf i list) ++ (ascii " " ++ printRun (pairAt i list))
 more-last i list = ap printMore (pairs-last i list) ∙ more-append (pairsOf i list) (pairAt i list)
+
+pub more-last-length : (i : ℕ) (list : List ℕ) →
+    length (printMore (pairsOf (i + 1) list))
+    ≡ length (printMore (pairsOf i list)) + 1 + length (printRun (pairAt i list))
+more-last-length i list =
+    let run = printRun (pairAt i list) in
+    ap (λ (j : ℕ). length (printMore (pairsOf j list))) (add-one i) ∙ ap length (more-last i list)
+    ∙ omega (
+      arith,
+      length-append (printMore (pairsOf i list)) (ascii " " ++ run),
+      length-append (ascii " ") run,
+    )
 
 -- the first run, and those behind it
 pub runs-first : (n : ℕ) (list : List ℕ) → 1 ≤ n →

@@ -1,2 +1,3 @@
--- `Print` has what the contracts of printing say.
+-- `Print` has what the contracts of printing say, and `Lengths` how long the texts are.
 pub mod Print
+pub mod Lengths

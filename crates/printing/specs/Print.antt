@@ -1,18 +1,16 @@
 -- What printing at a place of a buffer does, and which replies fit it (01, "Text session").
 use mathlib.Core.Path.{_≡_}
 use Prim.Native.Nat.{ℕ, _+_, _*_, _≤_}
-use mathlib.Core.List.{List, _++_}
-use lib.ListN.{length, take}
+use mathlib.Core.List.{List}
+use lib.ListN.{length}
+use Rattle.fields.specs.Field.{splice}
 use Rattle.model.specs.declared.Reply.{Reply}
 use Rattle.model.specs.declared.Reply.the-variants.{Done, Refused, Unsupported, Yes, No, Runs}
 
--- the text, at most so many bytes long, stands at `at` and ends at n: what stood before it is as it was, and what
--- stands behind it is not spoken of
-pub record Printed (at most : ℕ) (text before after : List ℕ) (n : ℕ) : Type 0 where
+-- the text stands at `at` and ends at n, and every other byte is as it was
+pub record Printed (at : ℕ) (text before after : List ℕ) (n : ℕ) : Type 0 where
   pub ends : n ≡ at + length text
-  pub within : n ≤ at + most
-  pub front : take n after ≡ take at before ++ text
-  pub room : length after ≡ length before
+  pub bytes : after ≡ splice at text before
 
 -- the longest run is two numbers of 10 digits, with one byte between them and one before them
 abbrev pub longestRun : ℕ
@@ -22,9 +20,18 @@ longestRun = 22
 abbrev pub mostRuns : ℕ
 mostRuns = 1089
 
--- no reply is longer: the most runs are 23,958 bytes
+-- no reply is longer: the most runs are 23,958 bytes (`reply-most` in Lengths)
 abbrev pub longestReply : ℕ
 longestReply = 24000
+
+-- the runs of a reply are in the list
+abbrev pub RunsIn : Reply → List ℕ → Type 0
+RunsIn (Done label count) list = Unit {0}
+RunsIn (Refused n) list = Unit {0}
+RunsIn (Unsupported t) list = Unit {0}
+RunsIn Yes list = Unit {0}
+RunsIn No list = Unit {0}
+RunsIn (Runs n) list = 2 * n ≤ length list
 
 -- the runs of a reply are in the list, and are few enough to be printed
 abbrev pub RunsFit : Reply → List ℕ → Type 0

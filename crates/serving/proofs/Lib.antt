@@ -1,2 +1,3 @@
--- `Walk` has the laws of a walk through a piece of input.
+-- `Walk` has the laws of a walk through a piece of input, `Behind` those of steps one behind the other.
 pub mod Walk
+pub mod Behind

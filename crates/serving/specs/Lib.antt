@@ -3,4 +3,3 @@ pub mod Replies
 pub mod Pieces
 pub mod Stream
 pub mod Steps
-pub mod Progress

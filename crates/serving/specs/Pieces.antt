@@ -108,3 +108,9 @@ kept-turned {s = s} k t =
 -- at the start nothing is kept
 pub kept-none : (line : List ℕ) → length line ≡ 97 → Kept [] 0 line
 kept-none line h = record { count = refl; front = refl; size = h }
+
+-- whatever the first bytes are, there is a line of which they are kept
+pub kept-front : {len : ℕ} {line : List ℕ} → len ≤ 97 → length line ≡ 97 → Kept (take len line) len line
+kept-front {len} {line} h z =
+    let l = length-take-le len line (omega arith) in
+    record { count = omega arith; front = sym (take-all 97 (take len line) (omega arith)); size = z }

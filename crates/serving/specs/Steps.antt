@@ -1,77 +1,85 @@
 -- One step through a piece of input, as the program takes it: what is printed, and what is left of the piece, are
 -- what `feed` says.
-use mathlib.Core.Path.{_≡_, refl, sym, _∙_, subst}
+use mathlib.Core.Path.{_≡_, refl, sym, ap, _∙_, subst}
 use Prim.Native.Nat.{ℕ, _≤_, _<_}
 use native.Mathlib.Omega.{arith}
-use mathlib.Core.Bool.{true, false, true≢false, false≢true}
-use mathlib.Core.List.{List, [], _∷_, _++_}
+use mathlib.Core.Bool.{true, false}
+use mathlib.Core.List.{List, [], _∷_, _++_, append-nil}
 use lib.ListN.{length, take, drop}
-use lib.Seq.{drop-length}
+use lib.Seq.{drop-length, append-snoc}
 use Rattle.model.specs.Soundness.{soundBytes}
+use Rattle.model.specs.Text.{newline}
 use Rattle.serving.specs.declared.pieces.Reached.{Reached}
 use Rattle.serving.specs.declared.steps.Stepped.{Stepped}
 use Rattle.serving.specs.Turns.{Turned, Kept}
-use Rattle.serving.specs.Pieces.{Took, before-all, kept-turned, kept-none}
-use Rattle.serving.specs.Stream.{printed, feed, finish, feed-ended, feed-goes-on}
+use Rattle.serving.specs.Pieces.{Took, before, before-all, before-behind, before-none, kept-turned, kept-none}
+use Rattle.serving.specs.Stream.{finish, finishBytes, Feeds, feed-line, feed-goes-on}
 
 -- a step from the place `from` of a piece, on the bytes s, behind the bytes of a line: `left` are those of the line
--- that is not ended yet. All that is still to be fed is fed from there on.
+-- that is not ended yet.
 pub record Steps (s pending piece : List ℕ) (from : ℕ) (r : Stepped) (s′ line′ out : List ℕ) : Type 0 where
   pub left : List ℕ
   pub kept : Kept left (r .len) line′
-  pub feeds : feed s pending (drop from piece) ≡ printed (take (r .n) out) (feed s′ left (drop (r .at) piece))
+  pub feeds : Feeds s pending (drop from piece) (drop (r .at) piece) (take (r .n) out) s′ left
   pub sound : soundBytes s′ ≡ true
-  pub few : r .n ≤ 24001
+  pub few : r .n ≤ length out
   pub within : r .at ≤ length piece
-  pub further : r .ended ≡ true → from < r .at
-  pub whole : r .ended ≡ false → r .at ≡ length piece
+  pub further : from < length piece → from < r .at
 
 -- a line was answered
 pub step-ended : {s pending piece : List ℕ} {from : ℕ} {r : Reached} {line′ : List ℕ} {n : ℕ} {out s′ : List ℕ} →
     Took pending piece from r line′ → r .ended ≡ true → Turned s (take (r .len) line′) n out s′ →
-    Steps s pending piece from (record { n = n; len = 0; at = r .at; ended = true }) s′ line′ out
-step-ended {s} {pending} {piece} {from} {r} {line′} {n} {out} {s′} k e t =
+    24001 ≤ length out → Steps s pending piece from (record { n = n; len = 0; at = r .at }) s′ line′ out
+step-ended {s} {pending} {piece} {from} {r} {line′} {n} {out} {s′} k e t room =
     let u = kept-turned (k .kept) t in
     let w = drop from piece in
     record {
       left = [];
       kept = kept-none line′ (k .kept .size);
-      feeds = feed-ended s pending w (sym (k .ended) ∙ e) ∙ rw (u .text, u .bytes, k .rest);
+      feeds = record {
+        done = before w ++ (newline ∷ []);
+        parts = append-snoc (before w) newline (drop (r .at) piece)
+            ∙ ap (λ (v : List ℕ). before w ++ (newline ∷ v)) (k .rest) ∙ sym (before-behind w (sym (k .ended) ∙ e));
+        fed = feed-line s pending (before w) (before-none w) ∙ rw (u .text, u .bytes);
+      };
       sound = t .sound;
-      few = t .few;
+      few = omega (arith, t .few);
       within = k .within;
-      further = λ q. k .further e;
-      whole = λ q. absurd (true≢false q);
+      further = λ h. k .further e;
     }
 
 -- the piece ended before the line
 pub step-goes-on : {s pending piece : List ℕ} {from : ℕ} {r : Reached} {line′ out : List ℕ} →
     Took pending piece from r line′ → r .ended ≡ false → soundBytes s ≡ true →
-    Steps s pending piece from (record { n = 0; len = r .len; at = r .at; ended = false }) s line′ out
+    Steps s pending piece from (record { n = 0; len = r .len; at = r .at }) s line′ out
 step-goes-on {s} {pending} {piece} {from} {r} {line′} {out} k e h =
     let w = drop from piece in
     let none = sym (k .ended) ∙ e in
     record {
       left = pending ++ w;
       kept = subst (λ (p : List ℕ). Kept (pending ++ p) (r .len) line′) (before-all w none) (k .kept);
-      feeds = feed-goes-on s pending w none ∙ rw (k .whole e, drop-length piece);
+      feeds = record {
+        done = w;
+        parts = rw (k .whole e, drop-length piece) (append-nil w);
+        fed = feed-goes-on s pending w none;
+      };
       sound = h;
       few = omega arith;
       within = k .within;
-      further = λ q. absurd (false≢true q);
-      whole = λ q. k .whole e;
+      further = λ h. omega (arith, k .whole e);
     }
 
 -- ---- the end of the input
 
 -- no byte is kept of a line that has none
 pub finish-none : (s pending : List ℕ) {len : ℕ} {line : List ℕ} → Kept pending len line → len ≡ 0 →
-    [] ≡ finish s pending
-finish-none s [] k e = refl
+    ([] ≡ finish s pending) × (s ≡ finishBytes s pending)
+finish-none s [] k e = (refl, refl)
 finish-none s (c ∷ p) k e = absurd (omega (arith, k .count))
 
 -- of any other line there is one, and it is answered
 pub finish-line : (s pending : List ℕ) {len : ℕ} {line : List ℕ} {n : ℕ} {out s′ : List ℕ} → Kept pending len line →
-    0 < len → Turned s (take len line) n out s′ → take n out ≡ finish s pending
+    0 < len → Turned s (take len line) n out s′ →
+    (take n out ≡ finish s pending) × (s′ ≡ finishBytes s pending)
 finish-line s [] k h t = absurd (omega (arith, k .count))
-finish-line s (c ∷ p) k h t = kept-turned k t .text
+finish-line s (c ∷ p) k h t = let u = kept-turned k t in (u .text, u .bytes)

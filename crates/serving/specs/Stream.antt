@@ -1,20 +1,19 @@
--- A session whose input comes in pieces: wherever the input is cut, the text is that of the session over all of it
--- (`stream-session`). Between two pieces there are the bytes of the base and the line that is not ended yet.
+-- A session whose input comes in pieces: wherever it is cut, there are the bytes of the base and the line that is not
+-- ended yet (`Feeds`). At the end of the input the text is that of the session over all of it (`stream-session`).
 use mathlib.Core.Path.{_≡_, refl, sym, ap, _∙_}
 use Prim.Native.Nat.{ℕ}
-use mathlib.Core.Bool.{true, false, true≢false, false≢true}
+use mathlib.Core.Bool.{true, false, true≢false}
 use mathlib.Core.List.{List, [], _∷_, _++_, append-assoc, append-nil}
 use lib.Dec.{eqb}
 use lib.Seq.{append-snoc}
 use Rattle.foundation.specs.Tests.{cases, pick}
-use Rattle.foundation.specs.Lists.{each}
 use Rattle.model.specs.Base.{emptyBase}
 use Rattle.model.specs.Encoding.{encode}
 use Rattle.model.specs.Text.{newline, extend, split, closed, printReply}
 use Rattle.model.specs.Session.{session, byteTranscript, byteSession}
 use Rattle.theorems.specs.SessionFacts.{session-bytes}
 use Rattle.serving.specs.Turns.{turnOf, replyText}
-use Rattle.serving.specs.Pieces.{ends, before, behind}
+use Rattle.serving.specs.Pieces.{ends}
 
 -- what a piece has led to: the text that was printed, the bytes of the base, and the line that is not ended yet
 pub record Fed : Type 0 where
@@ -39,29 +38,16 @@ abbrev pub finish : List ℕ → List ℕ → List ℕ
 finish s [] = []
 finish s (c ∷ p) = replyText s (c ∷ p)
 
--- pieces one after the other, and the end
-abbrev pub feedAll : List ℕ → List ℕ → List (List ℕ) → List ℕ
-feedAll s pending [] = finish s pending
-feedAll s pending (w ∷ ws) = let f = feed s pending w in f .text ++ feedAll (f .lent) (f .pending) ws
+-- and the bytes of the base then
+abbrev pub finishBytes : List ℕ → List ℕ → List ℕ
+finishBytes s [] = s
+finishBytes s (c ∷ p) = turnOf s (c ∷ p) .lent
 
--- "The program starts with an empty base"
-unfoldable pub stream : List (List ℕ) → List ℕ
-stream pieces = feedAll (encode emptyBase) [] pieces
-
--- the pieces joined
-abbrev pub joined : List (List ℕ) → List ℕ
-joined pieces = each pieces (λ w. w)
+-- all that is printed if the input ends there
+abbrev pub ending : Fed → List ℕ
+ending f = f .text ++ finish (f .lent) (f .pending)
 
 -- ---- one line of a piece
-
--- up to its newline a line is answered, and the piece goes on behind it
-pub feed-ended : (s pending w : List ℕ) → ends w ≡ true →
-    feed s pending w
-    ≡ printed (replyText s (pending ++ before w)) (feed (turnOf s (pending ++ before w) .lent) [] (behind w))
-feed-ended s pending [] e = absurd (false≢true e)
-feed-ended s pending (c ∷ w) e = cases (eqb c newline)
-    (λ p. rw (p, append-nil pending))
-    (λ p. rw p (feed-ended s (pending ++ (c ∷ [])) w (rw p at e) ∙ rw (append-snoc pending c (before w))))
 
 -- without a newline all of it belongs to the line
 pub feed-goes-on : (s pending w : List ℕ) → ends w ≡ false →
@@ -88,20 +74,53 @@ feed-append s pending (c ∷ v) w = cases (eqb c newline)
     ∙ printed-twice (replyText s pending) (f .text) (feed (f .lent) (f .pending) w)))
     (λ p. rw p (feed-append s (pending ++ (c ∷ [])) v w))
 
--- all that is printed once a piece is the last one
-abbrev ending : Fed → List ℕ
-ending f = f .text ++ finish (f .lent) (f .pending)
+-- a line and its newline: it is answered
+pub feed-line : (s pending l : List ℕ) → ends l ≡ false →
+    feed s pending (l ++ (newline ∷ []))
+    ≡ record { text = replyText s (pending ++ l); lent = turnOf s (pending ++ l) .lent; pending = [] }
+feed-line s pending l e =
+    feed-append s pending l (newline ∷ []) ∙ rw (feed-goes-on s pending l e, append-nil (replyText s (pending ++ l)))
 
-feed-joined : (s pending : List ℕ) (ws : List (List ℕ)) → feedAll s pending ws ≡ ending (feed s pending (joined ws))
-feed-joined s pending [] = refl
-feed-joined s pending (w ∷ ws) =
-    let f = feed s pending w in
-    let g = feed (f .lent) (f .pending) (joined ws) in
-    ap (λ (t : List ℕ). f .text ++ t) (feed-joined (f .lent) (f .pending) ws)
-    ∙ sym (append-assoc (f .text) (g .text) (finish (g .lent) (g .pending)))
-    ∙ ap ending (sym (feed-append s pending w (joined ws)))
+-- all of `input` but `rest` was fed: `text` was printed, the bytes are s′, and `left` is the line that is not ended
+pub record Feeds (s pending input rest text s′ left : List ℕ) : Type 0 where
+  pub done : List ℕ
+  pub parts : done ++ rest ≡ input
+  pub fed : feed s pending done ≡ record { text = text; lent = s′; pending = left }
 
--- ---- one piece is a session
+pub feeds-none : (s pending input : List ℕ) → Feeds s pending input input [] s pending
+feeds-none s pending input = record { done = []; parts = refl; fed = refl }
+
+module _ {s pending input rest text s′ left : List ℕ} (f : Feeds s pending input rest text s′ left) where
+  through : rest ≡ [] → f .done ≡ input
+  through e = sym (append-nil (f .done)) ∙ ap (λ (v : List ℕ). f .done ++ v) (sym e) ∙ f .parts
+
+  -- where nothing is left over
+  pub feeds-all : rest ≡ [] → feed s pending input ≡ record { text = text; lent = s′; pending = left }
+  feeds-all e = ap (feed s pending) (sym (through e)) ∙ f .fed
+
+  -- input that comes behind it is still to be fed
+  pub feeds-more : (more : List ℕ) → rest ≡ [] → Feeds s pending (input ++ more) more text s′ left
+  feeds-more more e = record { done = f .done; parts = ap (λ (v : List ℕ). v ++ more) (through e); fed = f .fed }
+
+  -- what was printed comes first of all that is to be printed
+  pub feeds-front : ending (feed s pending input) ≡ text ++ ending (feed s′ left rest)
+  feeds-front =
+      let g = feed s′ left rest in
+      let e : feed s pending (f .done ++ rest) ≡ printed text g =
+      feed-append s pending (f .done) rest ∙ rw (f .fed) in
+      ap (λ (v : List ℕ). ending (feed s pending v)) (sym (f .parts)) ∙ ap ending e
+      ∙ append-assoc text (g .text) (finish (g .lent) (g .pending))
+
+pub feeds-then : {s pending input middle text s′ left rest text′ s″ left′ : List ℕ} →
+    Feeds s pending input middle text s′ left → Feeds s′ left middle rest text′ s″ left′ →
+    Feeds s pending input rest (text ++ text′) s″ left′
+feeds-then {s} {pending} {rest = rest} {text′ = text′} f g = record {
+  done = f .done ++ g .done;
+  parts = append-assoc (f .done) (g .done) rest ∙ ap (λ (v : List ℕ). f .done ++ v) (g .parts) ∙ f .parts;
+  fed = feed-append s pending (f .done) (g .done) ∙ rw (f .fed, g .fed);
+}
+
+-- ---- the whole input is a session
 
 -- some bytes in front of the first part
 abbrev onto : List ℕ → List (List ℕ) → List (List ℕ)
@@ -153,13 +172,10 @@ fed-lines s p (c ∷ w) = cases (eqb c newline)
     (λ e. rw e (fed-lines s (p ++ (c ∷ [])) w
     ∙ ap (λ (ls : List (List ℕ)). byteTranscript (closed ls) s) (sym (onto-extend p c (split newline w)))))
 
--- wherever the input is cut into pieces, the text is that of the session over all of it
-pub stream-bytes : (pieces : List (List ℕ)) → stream pieces ≡ byteSession (joined pieces)
-unfolding stream byteSession
-stream-bytes pieces =
-    let w = joined pieces in
-    feed-joined (encode emptyBase) [] pieces ∙ fed-lines (encode emptyBase) [] w
-    ∙ ap (λ (ls : List (List ℕ)). byteTranscript (closed ls) (encode emptyBase)) (onto-split w)
-
-pub stream-session : (pieces : List (List ℕ)) → stream pieces ≡ session (joined pieces)
-stream-session pieces = stream-bytes pieces ∙ session-bytes (joined pieces)
+-- "The program starts with an empty base"
+pub stream-session : (input : List ℕ) → ending (feed (encode emptyBase) [] input) ≡ session input
+unfolding byteSession
+stream-session input =
+    fed-lines (encode emptyBase) [] input
+    ∙ ap (λ (ls : List (List ℕ)). byteTranscript (closed ls) (encode emptyBase)) (onto-split input)
+    ∙ session-bytes input

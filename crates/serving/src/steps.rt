@@ -6,18 +6,16 @@ ghost use Prim.Native.Nat.{ℕ, _≤_};
 ghost use lib.ListN.{length, take};
 ghost use Rattle.model.specs.Soundness.{soundBytes};
 ghost use Rattle.serving.specs.Turns.{Kept, Turned};
-ghost use Rattle.serving.specs.Stream.{finish};
+ghost use Rattle.serving.specs.Stream.{finish, finishBytes};
 ghost use Rattle.serving.specs.Steps.{Steps};
 use crate::pieces::take_line;
 use crate::turns::serve_line;
 
-// Where a step has come to: how many bytes it printed, how many of the line are kept, the place in the piece, and
-// whether a line was answered.
+// Where a step has come to: how many bytes it printed, how many of the line are kept, and the place in the piece.
 pub struct Stepped {
     pub n: usize,
     pub len: usize,
     pub at: usize,
-    pub ended: bool,
 }
 
 // Answers the line in the first `len` bytes.
@@ -53,14 +51,12 @@ pub fn serve_piece_step(
             n: n,
             len: 0,
             at: r.at,
-            ended: true,
         };
     }
     Stepped {
         n: 0,
         len: r.len,
         at: r.at,
-        ended: false,
     }
 }
 
@@ -68,7 +64,8 @@ pub fn serve_piece_step(
 pub fn serve_end(s: &mut [u8], line: &[u8; 97], len: usize, out: &mut [u8]) -> usize
     requires { ⌜ (soundBytes (now s) ≡ true) × (24001 ≤ length (now out)) × (len ≤ 97) × (length (now line) ≡ 97) ⌝ }
     ensures { λ n. ⌜ ((pending : List ℕ) → Kept pending len (now (line .entry)) →
-        take n (now (out .exit)) ≡ finish (now (s .entry)) pending)
+        (take n (now (out .exit)) ≡ finish (now (s .entry)) pending)
+        × (now (s .exit) ≡ finishBytes (now (s .entry)) pending))
         × (n ≤ 24001) × (length (now (out .exit)) ≡ length (now (out .entry)))
         × (soundBytes (now (s .exit)) ≡ true) ⌝ }
 {

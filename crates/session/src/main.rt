@@ -1,94 +1,187 @@
 // The program `session`: requests and questions as text on standard input, one a line, and a reply a line on standard
 // output. It reads what comes and answers each line as soon as it is ended, so that it serves in a pipe and at a
-// terminal. A write that fails ends it.
+// terminal. At the end of the input it answers the line that is not ended. A read or a write that fails ends it, and
+// then that line is not answered.
 ghost use mathlib.Core.Path.{_≡_};
 ghost use mathlib.Core.Bool.{true};
 ghost use mathlib.Core.List.{List};
 ghost use Prim.Native.Nat.{ℕ, _≤_};
-ghost use lib.ListN.{length};
+ghost use lib.IntN.{pos};
 ghost use Rattle.model.specs.Soundness.{soundBytes};
+ghost use Rattle.model.specs.Base.{emptyBase};
+ghost use Rattle.model.specs.Encoding.{encode};
 ghost use Rattle.serving.specs.Turns.{Kept};
+ghost use Rattle.serving.specs.Stream.{finish, finishBytes};
+ghost use Rattle.session.specs.Input.{Ready, counted, arrived, Answered, Served, Ran};
+use libc::STDERR_FILENO;
 use libc::STDIN_FILENO;
 use libc::STDOUT_FILENO;
 
-// How many bytes are kept of the line that is not ended yet, whether there may be more input, and whether all replies
-// could be written.
+// How many bytes are kept of the line that is not ended yet, how many were handed to be written (modulo 2^64), what
+// the last read answered, and whether every write worked.
 struct Going {
     len: usize,
-    more: bool,
+    sent: u64,
+    got: isize,
     ok: bool,
 }
 
-// Answers the lines that end in a piece of input, and writes each reply as it comes.
-fn serve_piece(s: &mut [u8], line: &mut [u8; 97], len: usize, piece: &[u8], out: &mut [u8]) -> Going
-    requires { ⌜ (soundBytes (now s) ≡ true) × (24001 ≤ length (now out)) × (len ≤ 97) × (length (now line) ≡ 97)
-        × ((pending : List ℕ) × Kept pending len (now line)) ⌝ }
-    ensures { λ r. ⌜ (soundBytes (now (s .exit)) ≡ true) × (length (now (out .exit)) ≡ length (now (out .entry)))
-        × (r .len ≤ 97) × (length (now (line .exit)) ≡ 97)
-        × ((pending : List ℕ) × Kept pending (r .len) (now (line .exit))) ⌝ }
+// Whether a write worked, and the count of the bytes that were handed to be written.
+struct Written {
+    sent: u64,
+    ok: bool,
+}
+
+// Hands bytes to be written to standard output, and counts them. All that the program writes there goes through here.
+fn put(bytes: &[u8], sent: u64) -> Written
+    ensures { λ r. ⌜ r .sent ≡ counted sent (now (bytes .entry)) ⌝ }
 {
-    let mut k = len;
+    let n = std::num::wrapping_add_u64(sent, bytes.len() as u64);
+    Written {
+        sent: n,
+        ok: io::write_all(STDOUT_FILENO, bytes),
+    }
+}
+
+// Answers the lines that end in a piece of input, and writes the replies, as many at a time as there is room for.
+fn serve_piece(s: &mut [u8], line: &mut [u8; 97], g: Going, piece: &[u8], out: &mut [u8]) -> Going
+    requires { ⌜ Ready (now s) (now line) (g .len) (now out) ⌝ }
+    ensures { λ r. ⌜ ((pending : List ℕ) → Kept pending (g .len) (now (line .entry)) →
+        Answered (now (s .entry)) pending (now (piece .entry)) (g .sent) r (now (s .exit)) (now (line .exit)))
+        × (r .got ≡ g .got) × (r .len ≤ 97) × (soundBytes (now (s .exit)) ≡ true) ⌝ }
+{
+    let mut len = g.len;
+    let mut sent = g.sent;
     let mut at = 0;
     while at < piece.len() {
-        let r = serving::serve_piece_step(s, line, k, piece, at, out);
-        k = r.len;
+        let r = serving::serve_lines(s, line, len, piece, at, out);
+        let w = put(&out[..r.n], sent);
+        len = r.len;
+        sent = w.sent;
         at = r.at;
-        if !io::write_all(STDOUT_FILENO, &out[..r.n]) {
+        if !w.ok {
             return Going {
-                len: k,
-                more: false,
+                len: len,
+                sent: sent,
+                got: g.got,
                 ok: false,
             };
         }
     }
     Going {
-        len: k,
-        more: true,
+        len: len,
+        sent: sent,
+        got: g.got,
         ok: true,
     }
 }
 
-// Reads a piece and answers its lines; whether there may be more.
-fn serve_some(s: &mut [u8], line: &mut [u8; 97], len: usize, out: &mut [u8]) -> Going
-    requires { ⌜ (soundBytes (now s) ≡ true) × (24001 ≤ length (now out)) × (len ≤ 97) × (length (now line) ≡ 97)
-        × ((pending : List ℕ) × Kept pending len (now line)) ⌝ }
-    ensures { λ r. ⌜ (soundBytes (now (s .exit)) ≡ true) × (length (now (out .exit)) ≡ length (now (out .entry)))
-        × (r .len ≤ 97) × (length (now (line .exit)) ≡ 97)
-        × ((pending : List ℕ) × Kept pending (r .len) (now (line .exit))) ⌝ }
+// Reads a piece into `buf` and answers its lines. At the end of the input, and where the read fails, there is none.
+fn serve_some(s: &mut [u8], line: &mut [u8; 97], g: Going, buf: &mut [u8], out: &mut [u8]) -> Going
+    requires { ⌜ Ready (now s) (now line) (g .len) (now out) ⌝ }
+    ensures { λ r. ⌜ ((pending : List ℕ) → Kept pending (g .len) (now (line .entry)) →
+        Answered (now (s .entry)) pending (arrived (r .got) (now (buf .exit))) (g .sent) r (now (s .exit))
+        (now (line .exit)))
+        × (r .len ≤ 97) × (soundBytes (now (s .exit)) ≡ true) ⌝ }
 {
-    let mut buf = [0u8; 4096];
-    let got = libc::read(STDIN_FILENO, &mut buf);
-    let n = io::count(got, &buf);
-    if n == 0 {
-        return Going {
-            len: len,
-            more: false,
-            ok: true,
-        };
-    }
-    serve_piece(s, line, len, &buf[..n], out)
+    let got = libc::read(STDIN_FILENO, buf);
+    let n = io::count(got, buf);
+    let h = Going {
+        len: g.len,
+        sent: g.sent,
+        got: got,
+        ok: true,
+    };
+    serve_piece(s, line, h, &buf[..n], out)
 }
 
-// Answers line after line until the input ends or a reply cannot be written. A proved loop has to end, and nothing says
-// that the input does: so it counts its turns down, from a number that no run uses up.
-fn run(s: &mut [u8])
-    requires { ⌜ soundBytes (now s) ≡ true ⌝ }
+// Answers the line that the end of the input ends.
+fn serve_last(s: &mut [u8], line: &[u8; 97], g: Going, out: &mut [u8]) -> Going
+    requires { ⌜ Ready (now s) (now line) (g .len) (now out) ⌝ }
+    ensures { λ r. ⌜ ((pending : List ℕ) → Kept pending (g .len) (now (line .entry)) →
+        (now (s .exit) ≡ finishBytes (now (s .entry)) pending)
+        × (r .sent ≡ counted (g .sent) (finish (now (s .entry)) pending)))
+        × (r .got ≡ g .got) × (soundBytes (now (s .exit)) ≡ true) ⌝ }
 {
-    let mut line = [0u8; 97];
-    let mut out = [0u8; 24576];
-    let mut g = Going {
+    let n = serving::serve_end(s, line, g.len, out);
+    let w = put(&out[..n], g.sent);
+    Going {
         len: 0,
-        more: true,
+        sent: w.sent,
+        got: g.got,
+        ok: w.ok,
+    }
+}
+
+// There may be more input, and the last write worked.
+fn goes_on(g: Going) -> bool
+    ensures { λ r. ⌜ (r ≡ true → g .ok ≡ true) ⌝ }
+{
+    g.ok & (0 < g.got)
+}
+
+// The input has ended, and every write worked.
+fn has_ended(g: Going) -> bool
+    ensures { λ r. ⌜ (r ≡ true → (g .ok ≡ true) × (g .got ≡ pos 0))
+        × (g .ok ≡ true → g .got ≡ pos 0 → r ≡ true) ⌝ }
+{
+    g.ok & (g.got == 0)
+}
+
+// Answers line after line until the input ends, or a read or a write fails, and then the end of the input, if it is
+// one. A proved loop has to end, and nothing says that the input does: so it counts its turns down, from a number
+// that no run uses up.
+fn serve_input(
+    s: &mut [u8],
+    line: &mut [u8; 97],
+    len: usize,
+    buf: &mut [u8],
+    out: &mut [u8],
+) -> Going
+    requires { ⌜ Ready (now s) (now line) len (now out) ⌝ }
+    ensures { λ r. ⌜ ((input : List ℕ) × ((pending : List ℕ) → Kept pending len (now (line .entry)) →
+        Served (now (s .entry)) pending input r (now (s .exit)))) ⌝ }
+{
+    let mut g = Going {
+        len: len,
+        sent: 0,
+        got: 1,
         ok: true,
     };
     let mut turns = u64::MAX;
-    while g.more & (0 < turns) {
-        g = serve_some(s, &mut line, g.len, &mut out);
+    while goes_on(g) & (0 < turns) {
+        g = serve_some(s, line, g, buf, out);
         turns -= 1;
     }
-    if g.ok {
-        let n = serving::serve_end(s, &line, g.len, &mut out);
-        io::write_all(STDOUT_FILENO, &out[..n]);
+    if has_ended(g) {
+        return serve_last(s, line, g, out);
+    }
+    g
+}
+
+// Serves the whole input, on an empty base.
+fn run(s: &mut [u8]) -> Going
+    requires { ⌜ now s ≡ encode emptyBase ⌝ }
+    ensures { λ r. ⌜ ((input : List ℕ) × Ran input r) ⌝ }
+{
+    let mut line = [0u8; 97];
+    let mut buf = [0u8; 4096];
+    let mut out = [0u8; 32768];
+    serve_input(s, &mut line, 0, &mut buf, &mut out)
+}
+
+// Says on standard error why the program ended before its input did, and what to do.
+fn tell(g: Going) {
+    if !g.ok {
+        io::write_all(
+            STDERR_FILENO,
+            b"session: a reply could not be written, run the session again\n",
+        );
+    } else if g.got != 0 {
+        io::write_all(
+            STDERR_FILENO,
+            b"session: reading failed, send again what has no reply\n",
+        );
     }
 }
 
@@ -96,5 +189,5 @@ fn run(s: &mut [u8])
 fn main() {
     let mut s = [0u8; 27936];
     base::create(&mut s);
-    run(&mut s);
+    tell(run(&mut s));
 }

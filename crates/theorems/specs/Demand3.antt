@@ -29,8 +29,8 @@ pub record Demand3 (qs : List Request) (s : List ℕ) : Type 0 where
   -- remains stands ... with its giver, receiver, meter, mode, sign, option and time": the head h
   pub instants : {earlier : List Request} {g : Request} {later : List Request} {h : Head} {t : ℕ} →
       Given qs earlier g later h t →
-      let b = decode (after (earlier ++ (g ∷ []))) in
-      Stands (decode s) h t ↔ (Behind b h t × Survives h t later b)
+      let next = after (earlier ++ (g ∷ [])) in
+      Stands (decode s) h t ↔ (Behind (decode next) h t × Survives h t later next)
   -- "in lines of its own label": a label has one place in the list
   pub own-label : {earlier earlier′ : List Request} {g g′ : Request} {later later′ : List Request} {h h′ : Head}
       {t t′ : ℕ} →

@@ -1,7 +1,7 @@
 -- The base after a list of requests: it is sound, its bytes are what the list leaves of an empty base's, and a reply
 -- `Done` over those bytes says that the table lets the request pass and which label it takes.
 use mathlib.Core.Path.{_≡_, refl, sym, ap, _∙_, subst}
-use mathlib.Core.Logic.{_≢_, _↔_}
+use mathlib.Core.Logic.{_≢_}
 use Prim.Native.Nat.{ℕ, suc, _≤_}
 use native.Mathlib.Omega.{arith}
 use mathlib.Core.Bool.{true}
@@ -20,12 +20,12 @@ use Rattle.model.specs.StepFacts.{step-accepted, step-refused}
 use Rattle.model.specs.Encoding.{encode, decode}
 use Rattle.model.specs.EncodingFacts.{decode-encode, empty-sound}
 use Rattle.model.specs.Soundness.{sound}
-use Rattle.model.specs.Answers.{Answer, refusalNumber, request, requests}
+use Rattle.model.specs.Answers.{Answer, request, requests}
 use Rattle.model.specs.Survival.{after}
 use Rattle.theorems.specs.Kinds.{grantKinds, labelKinds, is-kinds}
 use Rattle.theorems.specs.SoundPrivileges.{last-stays}
 use Rattle.theorems.specs.Preservation.{effect-sound}
-use Rattle.theorems.specs.RequestFacts.{request-accepted, request-refused}
+use Rattle.theorems.specs.RequestFacts.{request-accepted, request-refused, done-passes}
 
 -- ---- one request
 
@@ -120,11 +120,7 @@ module _ (earlier : List Request) (q : Request) (label count : ℕ)
 
   -- the table lets it pass
   pub done-accepted : refusal plainly base q ≡ 0
-  done-accepted = cases (eqb (refusal plainly base q) 0)
-      (λ x. true-eq (refusal plainly base q) 0 x)
-      (λ x. let n = false-eq (refusal plainly base q) 0 x in
-      sym (ap (λ (a : Answer). refusalNumber (a .reply)) (request-refused base q (after-sound earlier) n))
-      ∙ ap refusalNumber reply)
+  done-accepted = done-passes base q (after-sound earlier) reply
 
   -- its label is the next one, if it takes one
   pub done-label : label ≡ pick (labels q) (suc (base .last)) 0
@@ -139,16 +135,6 @@ accepted-reply : (qs : List Request) (q : Request) → refusal plainly (baseAfte
 accepted-reply qs q z =
     ap (λ (s : List ℕ). request s q .reply) (after-bytes qs)
     ∙ ap (λ (a : Answer). a .reply) (request-accepted (baseAfter qs) q (after-sound qs) z)
-
--- so that the table lets a request pass on the base after a list exactly if the reply over its bytes is `Done`
-pub passes-done : (qs : List Request) (q : Request) →
-    (refusal plainly (decode (after qs)) q ≡ 0)
-    ↔ ((label : ℕ) × (count : ℕ) × (request (after qs) q .reply ≡ Done label count))
-passes-done qs q = (
-  (λ z. (_, _, accepted-reply qs q (subst (λ (b : Base). refusal plainly b q ≡ 0) (after-base qs) z))),
-  (λ w. subst (λ (b : Base). refusal plainly b q ≡ 0) (sym (after-base qs))
-      (done-accepted qs q (w .0) (w .1) (w .2))),
-)
 
 -- a grant or denial takes the next label
 pub accepted-done : (earlier : List Request) (g : Request) → refusal plainly (baseAfter earlier) g ≡ 0 →

@@ -1,8 +1,8 @@
 -- An instant of an accepted grant or denial remains in the bytes after a list exactly if a chain was behind it right
 -- after that request, and it survives the later ones (theorem 9): `remains`. What stands after a list was given by
 -- one of its requests: `origin`.
-use mathlib.Core.Path.{_≡_, refl, sym, ap, _∙_, subst, subst₂}
-use mathlib.Core.Logic.{_⊎_, inl, inr, _↔_, ⊎-elim}
+use mathlib.Core.Path.{_≡_, refl, sym, ap, _∙_, subst}
+use mathlib.Core.Logic.{_≢_, _⊎_, inl, inr, _↔_, ⊎-elim}
 use Prim.Native.Nat.{ℕ, suc, _≤_}
 use native.Mathlib.Omega.{arith}
 use mathlib.Core.Bool.{Bool, true, false, not, true≢false}
@@ -21,7 +21,9 @@ use Rattle.model.specs.Requests.{GRANT, DENY, grants, withdraws, newHead, takes
 use Rattle.model.specs.Means.{plainly}
 use Rattle.model.specs.Step.{refusal, effect, step, play}
 use Rattle.model.specs.StepFacts.{Accepted, accepted as passed}
-use Rattle.model.specs.Encoding.{decode}
+use Rattle.model.specs.Encoding.{encode, decode}
+use Rattle.model.specs.EncodingFacts.{decode-encode}
+use Rattle.model.specs.Answers.{Answer, refusalNumber, request}
 use Rattle.model.specs.Soundness.{sound}
 use Rattle.model.specs.SoundnessFacts.{Sound, sound-tests}
 use Rattle.model.specs.SupportFacts.{live-last, live-old, live-new, chain-more}
@@ -36,8 +38,9 @@ use Rattle.theorems.specs.AuthorizationsAfter.{newAuthorization, no-take
 use Rattle.theorems.specs.AuthorizationsAfter.{same-authorizations}
 use Rattle.theorems.specs.Restriction.{withdrawn-all}
 use Rattle.theorems.specs.Preservation.{sound-after, effect-sound}
+use Rattle.theorems.specs.RequestFacts.{request-accepted, done-passes, number-refused, refused-number}
 use Rattle.theorems.specs.PlayFacts.{base-accepted, base-refused, step-sound, baseAfter, after-sound}
-use Rattle.theorems.specs.PlayFacts.{after-base, after-one, after-more, done-accepted, done-label}
+use Rattle.theorems.specs.PlayFacts.{after-bytes, after-base, after-one, after-more, done-accepted, done-label}
 
 -- ---- one accepted request
 
@@ -108,35 +111,49 @@ module _ (b : Base) (q : Request) (s : Sound b) (g : Accepted b q) (h : Head) (t
 module _ (h : Head) (t : ℕ) where
   -- what stands after a list, and has a label from before it, stood before and survived
   survived : (later : List Request) (b : Base) → sound b ≡ true → h .label ≤ b .last → Stands (play later b) h t →
-      Stands b h t × Survives h t later b
+      Stands b h t × Survives h t later (encode b)
   survived [] b s l m = (m, end)
   survived (q ∷ later) b s l m = cases (eqb (refusal plainly b q) 0)
       (λ e. let z = true-eq (refusal plainly b q) 0 e in
       let k = sound-tests b s in
       let g = passed b q z in
-      let p = survived later (effect plainly b q) (effect-sound b q s z) (omega (arith, last-stays b q))
-      (subst (λ (c : Base). Stands (play later c) h t) (base-accepted b q z) m) in
+      let c : Base = effect plainly b q in
+      let p = survived later c (effect-sound b q s z) (omega (arith, last-stays b q))
+      (subst (λ (d : Base). Stands (play later d) h t) (base-accepted b q z) m) in
       let w = stood b q k g h t l (p .0) in
       let none : ¬ (TakesBack q h t ⊎ LosesAdministration q h) =
       λ x. true≢false (sym (taken b q g h t (w .0) .1 x) ∙ w .1) in
-      (w .0, accepted z (λ x. none (inl x)) (λ x. none (inr x)) (behind b q k g h t (p .0)) (p .1)))
+      let bytes : request (encode b) q .lent ≡ encode c = ap (λ (a : Answer). a .lent) (request-accepted b q s z) in
+      let base : decode (request (encode b) q .lent) ≡ c =
+      ap decode bytes ∙ decode-encode c (effect-sound b q s z) in (
+        w .0,
+        accepted (ap (λ (a : Answer). a .reply) (request-accepted b q s z)) (λ x. none (inl x)) (λ x. none (inr x))
+            (subst (λ (d : Base). Behind d h t) (sym base) (behind b q k g h t (p .0)))
+            (subst (λ (x : List ℕ). Survives h t later x) (sym bytes) (p .1)),
+      ))
       (λ e. let n = false-eq (refusal plainly b q) 0 e in
       let p = survived later b s l (subst (λ (c : Base). Stands (play later c) h t) (base-refused b q n) m) in
-      (p .0, refused n (p .1)))
+      (p .0, refused (refused-number b q s n) (p .1)))
 
   -- what stands and survives the list stands after it
-  surviving : (later : List Request) (b : Base) → sound b ≡ true → Stands b h t → Survives h t later b →
-      Stands (play later b) h t
-  surviving [] b s m end = m
-  surviving (q ∷ later) b s m (refused n v) =
-      subst (λ (c : Base). Stands (play later c) h t) (sym (base-refused b q n)) (surviving later b s m v)
-  surviving (q ∷ later) b s m (accepted z back lost c v) =
+  surviving : (later : List Request) (b : Base) → sound b ≡ true → Stands b h t → (x : List ℕ) → x ≡ encode b →
+      Survives h t later x → Stands (play later b) h t
+  surviving [] b s m x i end = m
+  surviving (q ∷ later) b s m x i (refused n v) =
+      let k = number-refused b q s (subst (λ (y : List ℕ). refusalNumber (request y q .reply) ≢ 0) i n) in
+      subst (λ (c : Base). Stands (play later c) h t) (sym (base-refused b q k)) (surviving later b s m x i v)
+  surviving (q ∷ later) b s m x i (accepted done back lost chain v) =
+      let z = done-passes b q s (ap (λ (y : List ℕ). request y q .reply) (sym i) ∙ done) in
       let g = passed b q z in
+      let c : Base = effect plainly b q in
+      let bytes : request x q .lent ≡ encode c =
+      ap (λ (y : List ℕ). request y q .lent) i ∙ ap (λ (a : Answer). a .lent) (request-accepted b q s z) in
+      let base : decode (request x q .lent) ≡ c = ap decode bytes ∙ decode-encode c (effect-sound b q s z) in
       let untouched : takes q h t ≡ false =
       cases (takes q h t) (λ e. absurd (⊎-elim back lost (taken b q g h t m .0 e))) (λ e. e) in
-      let still = stands b q (sound-tests b s) g h t m untouched c in
+      let still = stands b q (sound-tests b s) g h t m untouched (subst (λ (d : Base). Behind d h t) base chain) in
       subst (λ (c : Base). Stands (play later c) h t) (sym (base-accepted b q z))
-      (surviving later (effect plainly b q) (effect-sound b q s z) still v)
+      (surviving later c (effect-sound b q s z) still (request x q .lent) bytes v)
 
   -- a grant or denial of the list, which the table let pass, gave the instant
   pub record Entered (qs : List Request) (b : Base) : Type 0 where
@@ -234,8 +251,8 @@ module _ (qs earlier : List Request) (g : Request) (later : List Request) (h : H
   -- An instant that a grant or denial of the list gives remains in the bytes after the list exactly if a chain was
   -- behind it after that request, and it survives the later ones
   pub remains :
-      let b = decode (after (earlier ++ (g ∷ []))) in
-      Stands (decode (after qs)) h t ↔ (Behind b h t × Survives h t later b)
+      let s = after (earlier ++ (g ∷ [])) in
+      Stands (decode (after qs)) h t ↔ (Behind (decode s) h t × Survives h t later s)
   remains =
       let b = effect plainly base g in
       let s = after-sound earlier in
@@ -244,7 +261,17 @@ module _ (qs earlier : List Request) (g : Request) (later : List Request) (h : H
       subst (λ (k : Head). k .label ≤ b .last) (sym given-head) (given-label base g is-grant) in
       let now : Stands b h t = subst (λ (k : Head). Stands b k t) (sym given-head) (fresh base g t is-grant inside) in
       let now-behind = behind base g (sound-tests base s) (passed base g passes) h t now in
-      subst₂ (λ (c d : Base). Stands c h t ↔ (Behind d h t × Survives h t later d))
-      (sym (after-base qs ∙ ap baseAfter (given .place) ∙ after-more earlier g later passes))
-      (sym (after-base (earlier ++ (g ∷ [])) ∙ after-one earlier g passes))
-      ((λ m. (now-behind, survived h t later b s′ l m .1)), (λ p. surviving h t later b s′ now (p .1)))
+      let next : decode (after (earlier ++ (g ∷ []))) ≡ b =
+      after-base (earlier ++ (g ∷ [])) ∙ after-one earlier g passes in
+      let bytes : after (earlier ++ (g ∷ [])) ≡ encode b =
+      after-bytes (earlier ++ (g ∷ [])) ∙ ap encode (after-one earlier g passes) in
+      let last : decode (after qs) ≡ play later b =
+      after-base qs ∙ ap baseAfter (given .place) ∙ after-more earlier g later passes in (
+        (λ m. (
+          subst (λ (c : Base). Behind c h t) (sym next) now-behind,
+          subst (λ (x : List ℕ). Survives h t later x) (sym bytes)
+              (survived h t later b s′ l (subst (λ (c : Base). Stands c h t) last m) .1),
+        )),
+        (λ p. subst (λ (c : Base). Stands c h t) (sym last)
+            (surviving h t later b s′ now (after (earlier ++ (g ∷ []))) bytes (p .1))),
+      )

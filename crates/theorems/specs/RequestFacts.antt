@@ -8,7 +8,7 @@ use mathlib.Core.List.{List}
 use lib.Dec.{eqb}
 use Rattle.foundation.specs.Tests.{cases, true-eq, false-eq}
 use Rattle.model.specs.declared.Request.{Request}
-use Rattle.model.specs.declared.Reply.the-variants.{Refused}
+use Rattle.model.specs.declared.Reply.the-variants.{Done, Refused}
 use Rattle.model.specs.Base.{Base}
 use Rattle.model.specs.Means.{plainly}
 use Rattle.model.specs.Step.{lowest, accepting, refusal, effect}
@@ -17,7 +17,7 @@ use Rattle.model.specs.Encoding.{encode, decode}
 use Rattle.model.specs.EncodingFacts.{decode-encode, encode-sound}
 use Rattle.model.specs.Soundness.{sound, soundBytes}
 use Rattle.model.specs.SoundnessFacts.{sound-bytes}
-use Rattle.model.specs.Answers.{Answer, answering, refusing, requestTable, request}
+use Rattle.model.specs.Answers.{Answer, answering, refusing, requestTable, request, refusalNumber}
 use Rattle.theorems.specs.Preservation.{effect-sound}
 
 -- ---- on unsound bytes
@@ -55,6 +55,19 @@ module _ (b : Base) (q : Request) (s : sound b ≡ true) where
       (encode (effect plainly (decode (encode b)) q)))
       (λ z. n (sym encoded-table ∙ z))
       ∙ ap (λ (k : ℕ). answering (Refused k) (encode b)) encoded-table
+
+  -- the reply tells whether the table lets it pass
+  pub done-passes : {label count : ℕ} → request (encode b) q .reply ≡ Done label count → refusal plainly b q ≡ 0
+  done-passes e = cases (eqb (refusal plainly b q) 0)
+      (λ x. true-eq (refusal plainly b q) 0 x)
+      (λ x. let n = false-eq (refusal plainly b q) 0 x in
+      sym (ap (λ (a : Answer). refusalNumber (a .reply)) (request-refused n)) ∙ ap refusalNumber e)
+
+  pub number-refused : refusalNumber (request (encode b) q .reply) ≢ 0 → refusal plainly b q ≢ 0
+  number-refused n z = n (ap (λ (a : Answer). refusalNumber (a .reply)) (request-accepted z))
+
+  pub refused-number : refusal plainly b q ≢ 0 → refusalNumber (request (encode b) q .reply) ≢ 0
+  refused-number n z = n (sym (ap (λ (a : Answer). refusalNumber (a .reply)) (request-refused n)) ∙ z)
 
 -- ---- THEOREM 7 (that a refused request leaves the bytes: `request-refuses` in Refusals)
 

@@ -171,5 +171,5 @@ exchanged-told (x ∷ xs) =
 pub pairs-said : (xs : List Exchange) → agrees fresh (exchanged xs) ≡ true →
     transcript plainly asDefined (inputs xs) emptyBase ≡ replies xs
 pairs-said xs e =
-    ap (λ (ls : List (List ℕ)). transcript plainly ls emptyBase) (sym (exchanged-asked xs))
+    ap (λ (ls : List (List ℕ)). transcript plainly asDefined ls emptyBase) (sym (exchanged-asked xs))
     ∙ case-said (exchanged xs) e ∙ exchanged-told xs

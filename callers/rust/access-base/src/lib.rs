@@ -26,7 +26,7 @@
 pub mod raw;
 mod refusal;
 
-pub use refusal::Refusal;
+pub use refusal::{Refusal, TooShort};
 
 /// The length of a base.
 pub const BYTES: usize = 27_936;
@@ -36,6 +36,12 @@ pub const LAST: u32 = u32::MAX;
 
 /// So many pairs always suffice for [`when`].
 pub const PAIRS: usize = 1_100;
+
+/// A buffer for [`text`] has at least so many bytes. They suffice for every reply but WHEN's.
+pub const TEXT_LEAST: usize = 16;
+
+/// So many bytes always suffice for [`text`].
+pub const TEXT_BYTES: usize = 24_001;
 
 /// Instants from `start` to `end`, both included.
 #[derive(Clone, Copy, Debug, PartialEq, Eq)]
@@ -197,4 +203,34 @@ pub fn may(base: &[u8], access: Access, instant: u32) -> Result<bool, Refusal> {
 pub fn when<'l>(base: &[u8], access: Access, list: &'l mut [[u32; 2]]) -> Result<&'l [[u32; 2]], Refusal> {
     let reply = refusal::checked(raw::when(base, access, list.as_flattened_mut()))?;
     Ok(&list[..reply.number as usize])
+}
+
+/// Answers one line of text, a request or a question as the text session has it, without its newline. The reply's text
+/// with its newline is written to the front of the buffer, and the rest of the buffer is untouched. What a request or
+/// question is refused with is in the text: `refused 1` for a line that cannot be read, `refused 2` for bytes that are
+/// no sound base, and so on through the table.
+///
+/// A buffer of [`TEXT_LEAST`] bytes suffices for every line but WHEN, one of [`TEXT_BYTES`] for every line. In one that
+/// is too short nothing is written, and no request is carried out.
+///
+/// ```
+/// use access_base::{create, text, TooShort, BYTES, TEXT_BYTES};
+///
+/// let mut base = vec![0; BYTES];
+/// let mut out = vec![0; TEXT_BYTES];
+/// create(&mut base).expect("the length is that of a base");
+/// assert_eq!(text(&mut base, "4 1 NEW 7", &mut out)?, "done 0 0\n");
+/// assert_eq!(text(&mut base, "5 1 GRANT 1 7 2 50 inf y", &mut out)?, "done 1 1\n");
+/// assert_eq!(text(&mut base, "WHEN 2 1 7", &mut out)?, "50-inf\n");
+/// assert_eq!(text(&mut base, b"\xff", &mut out)?, "refused 1\n");
+/// assert_eq!(text(&mut base, "5 1 REVOKE 1", &mut out[..15]), Err(TooShort));
+/// assert_eq!(text(&mut base, "MAY 2 1 7 60", &mut out)?, "yes\n");
+/// # Ok::<(), TooShort>(())
+/// ```
+pub fn text<'o>(base: &mut [u8], line: impl AsRef<[u8]>, out: &'o mut [u8]) -> Result<&'o str, TooShort> {
+    let reply = raw::text(base, line.as_ref(), out);
+    if reply.refusal != 0 {
+        return Err(TooShort);
+    }
+    Ok(core::str::from_utf8(&out[..reply.number as usize]).expect("replies are in ASCII"))
 }

@@ -23,7 +23,7 @@ pub struct Numbers {
     pub right_option: OptionTerm,
 }
 
-/// A reply in numbers: the refusal or 0, the new label or 0, and the count, instant or answer.
+/// A reply in numbers: the refusal or 0, the new label or 0, and the count, instant, answer or length of a text.
 #[derive(Clone, Copy, Debug, PartialEq, Eq)]
 #[allow(missing_docs)]
 pub struct Reply {
@@ -85,6 +85,14 @@ mod linked {
             object: u32,
             list: *mut u32,
             list_length: usize,
+        ) -> u64;
+        pub fn access_base_text(
+            base: *mut u8,
+            length: usize,
+            line: *const u8,
+            line_length: usize,
+            out: *mut u8,
+            out_length: usize,
         ) -> u64;
     }
 }
@@ -162,6 +170,13 @@ pub fn may(base: &[u8], x: Access, instant: u32) -> Reply {
 pub fn when(base: &[u8], x: Access, list: &mut [u32]) -> Reply {
     unpacked(unsafe {
         linked::access_base_when(base.as_ptr(), base.len(), x.subject, x.mode, x.object, list.as_mut_ptr(), list.len())
+    })
+}
+
+/// `access_base_text`: the number is that of the bytes written.
+pub fn text(base: &mut [u8], line: &[u8], out: &mut [u8]) -> Reply {
+    unpacked(unsafe {
+        linked::access_base_text(base.as_mut_ptr(), base.len(), line.as_ptr(), line.len(), out.as_mut_ptr(), out.len())
     })
 }
 

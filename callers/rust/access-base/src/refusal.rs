@@ -79,6 +79,19 @@ impl fmt::Display for Refusal {
 
 impl Error for Refusal {}
 
+/// 13 from [`text`](crate::text): the buffer has fewer than [`TEXT_LEAST`](crate::TEXT_LEAST) bytes, or fewer than the
+/// reply to WHEN takes. Nothing lent was altered.
+#[derive(Clone, Copy, Debug, PartialEq, Eq)]
+pub struct TooShort;
+
+impl fmt::Display for TooShort {
+    fn fmt(&self, f: &mut fmt::Formatter) -> fmt::Result {
+        write!(f, "13, full: lend a buffer of {} bytes", crate::TEXT_BYTES)
+    }
+}
+
+impl Error for TooShort {}
+
 // The reply, or the refusal that it names.
 pub(crate) fn checked(reply: Reply) -> Result<Reply, Refusal> {
     Err(match reply.refusal {

@@ -2,9 +2,11 @@
 use crate::image::{Contents, Holder, Line};
 use crate::pair::Step;
 use crate::random::Random;
+use crate::text;
 use crate::world::{World, WILD};
 use access_base::raw::Numbers;
-use access_base::{Access, OptionTerm, Side, Term, LAST};
+use access_base::{Access, OptionTerm, Side, Term, LAST, TEXT_BYTES, TEXT_LEAST};
+use oracle::session::Asked;
 
 /// The source of a session's requests and questions.
 pub struct Generator<'r> {
@@ -380,5 +382,62 @@ impl Generator<'_> {
         let lengths = [exact, exact.saturating_sub(2), exact.saturating_sub(1), exact + 1, exact + 2, 0, 2_200];
         let lengths = [self.random.pick(&lengths), self.random.pick(&lengths[..4])];
         lengths.map(|length| Step::When { access, length, pattern: self.random.any() }).to_vec()
+    }
+
+    /// A line of text, in buffers that just suffice or just do not. `told` says how long the reply's text is.
+    pub fn text(&mut self, contents: &Contents, told: impl Fn(&[u8]) -> usize) -> Vec<Step> {
+        let line = self.line(contents);
+        let exact = told(&line);
+        let least = exact.max(TEXT_LEAST);
+        let lengths = [exact, exact - 1, exact + 1, least - 1, least, least + 1, 0, TEXT_BYTES];
+        let lengths = [self.random.pick(&lengths), self.random.pick(&lengths[4..6])];
+        lengths.map(|length| Step::Text { line: line.clone(), length, pattern: self.random.any() }).to_vec()
+    }
+
+    // A request or a question, and sometimes one with something wrong in it.
+    fn line(&mut self, contents: &Contents) -> Vec<u8> {
+        let line = match self.random.below(10) {
+            0..=5 => text::request(&self.request(contents)),
+            6 | 7 => text::step(&self.may(contents)),
+            _ => {
+                let x = self.question(contents);
+                format!("WHEN {} {} {}", x.subject, x.mode, x.object)
+            }
+        };
+        let line = line.into_bytes();
+        if self.random.percent(75) {
+            return line;
+        }
+        let spoilt = self.spoilt_line(&line);
+        if self.is_known(&spoilt) {
+            spoilt
+        } else {
+            line
+        }
+    }
+
+    fn spoilt_line(&mut self, line: &[u8]) -> Vec<u8> {
+        let mut spoilt = line.to_vec();
+        let at = self.random.below(line.len());
+        let byte = self.random.pick(b"0 1 9*+-ynM\n\0\r\xff");
+        match self.random.below(8) {
+            0 => spoilt.clear(),
+            1 => spoilt.truncate(at),
+            2 => drop(spoilt.remove(at)),
+            3 => spoilt[at] = byte,
+            4 => spoilt.insert(at, byte),
+            5 => spoilt.push(byte),
+            6 => spoilt.resize(self.random.pick(&[95, 96, 97, 98, 1_000]), b'0'),
+            _ => spoilt = self.random.bytes(at),
+        }
+        spoilt
+    }
+
+    // The oracle knows only the ends that it was told beforehand.
+    fn is_known(&self, line: &[u8]) -> bool {
+        match oracle::session::read(line) {
+            Asked::Request(q) => self.world.is_start(q.start) && self.world.is_end(q.end),
+            _ => true,
+        }
     }
 }

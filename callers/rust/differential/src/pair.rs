@@ -3,7 +3,8 @@
 use crate::random::Random;
 use crate::tally::Tally;
 use access_base::raw::{self, Numbers};
-use access_base::{Access, OptionTerm, Side, Term, BYTES};
+use access_base::{Access, OptionTerm, Side, Term, BYTES, TEXT_LEAST};
+use oracle::session::Asked;
 use oracle::{Cells, Oracle};
 
 /// What is done to both.
@@ -24,6 +25,15 @@ pub enum Step {
         /// How many numbers the list has, two a pair.
         length: usize,
         /// The seed of what is in the list before.
+        pattern: u64,
+    },
+    /// A line of text.
+    Text {
+        /// Its bytes.
+        line: Vec<u8>,
+        /// How many bytes the buffer for the reply has.
+        length: usize,
+        /// The seed of what is in the buffer before.
         pattern: u64,
     },
 }
@@ -117,6 +127,19 @@ impl Pair {
         oracle.when(x.subject, x.mode, x.object, usize::MAX).ok().map(|runs| runs.len())
     }
 
+    /// The text of the reply to a line with its newline, by the oracle, and the oracle after it.
+    pub fn told(&self, line: &[u8]) -> (Vec<u8>, Option<Oracle>) {
+        let asked = oracle::session::read(line);
+        let mut after = self.oracle.clone();
+        let mut text = match (&mut after, asked) {
+            (None, Asked::Illegible) => "refused 1".to_string(),
+            (None, _) => "refused 2".to_string(),
+            (Some(oracle), asked) => oracle::session::answer(oracle, &asked),
+        };
+        text.push('\n');
+        (text.into_bytes(), after)
+    }
+
     /// Takes a step on both. The refusal's number, or 0.
     pub fn take(&mut self, step: Step) -> Result<u32, Difference> {
         self.steps.push(step.clone());
@@ -127,6 +150,7 @@ impl Pair {
             Step::Request(q) => self.request(&q),
             Step::May(access, instant) => self.may(access, instant),
             Step::When { access, length, pattern } => self.when(access, length, pattern),
+            Step::Text { line, length, pattern } => self.text(&line, length, pattern),
         }
     }
 
@@ -222,6 +246,30 @@ impl Pair {
         same(list, expected_list)?;
         same_bytes(&self.base, &self.before)?;
         Ok(reply.0)
+    }
+
+    // A buffer of fewer than 16 bytes, or that the text does not fit, is refused with 13, and then nothing is altered;
+    // otherwise the text stands at its front, and the rest of the buffer is untouched.
+    fn text(&mut self, line: &[u8], length: usize, pattern: u64) -> Result<u32, Difference> {
+        let mut out = Random::new(pattern).bytes(length);
+        let mut expected_out = out.clone();
+        let reply = parts(raw::text(&mut self.base, line, &mut out));
+        let (text, after) = self.told(line);
+        let fits = TEXT_LEAST.max(text.len()) <= length;
+        self.tally.text(&text, fits);
+        if !fits {
+            same(reply, refused(13))?;
+            same_bytes(&out, &expected_out)?;
+            same_bytes(&self.base, &self.before)?;
+            return Ok(13);
+        }
+        self.oracle = after;
+        expected_out[..text.len()].copy_from_slice(&text);
+        same(reply, (0, 0, text.len() as u32))?;
+        same_bytes(&out, &expected_out)?;
+        let expected = self.oracle.as_ref().map_or_else(|| self.before.clone(), Oracle::to_bytes);
+        same_bytes(&self.base, &expected)?;
+        Ok(0)
     }
 }
 

@@ -87,6 +87,37 @@ pub fn flipped_session(seed: u64) -> Result<Tally, Box<Failure>> {
     play(seed, |base, _| bits(base), |base, bit, _| flipped(base, bit))
 }
 
+/// A random session in lines of text, with a few damaged bases that come of it.
+pub fn text_session(seed: u64) -> Result<Tally, Box<Failure>> {
+    let mut random = Random::new(seed);
+    let world = World::random(&mut random);
+    let name = format!("text session {seed}");
+    let mut pair = Pair::new(world.boundaries());
+    let mut generator = Generator { random: &mut random, world };
+    let ran = begin(&mut pair, &mut generator).and_then(|length| tell(&mut pair, &mut generator, 2 * length));
+    ran.map_err(|difference| Box::new(Failure::new(&name, &pair, difference)))?;
+    let mut tally = pair.tally.clone();
+    for _ in 0..generator.random.below(4) {
+        let bytes = other_base(pair.base(), &mut generator);
+        let mut other = Pair::new(pair.boundaries());
+        let told = other.take(Step::Lend(bytes)).and_then(|_| tell(&mut other, &mut generator, 8));
+        told.map_err(|difference| Box::new(Failure::new(&name, &other, difference)))?;
+        tally.add(&other.tally);
+    }
+    Ok(tally)
+}
+
+// So many lines of text, whatever the lent bytes are.
+fn tell(pair: &mut Pair, generator: &mut Generator, count: usize) -> Result<(), Difference> {
+    for _ in 0..count {
+        let contents = Contents::read(pair.base());
+        for step in generator.text(&contents, |line| pair.told(line).0.len()) {
+            pair.take(step)?;
+        }
+    }
+    Ok(())
+}
+
 // A session, and then what follows from so many bases that are made of its last one.
 fn play(
     seed: u64,

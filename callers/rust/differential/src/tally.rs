@@ -12,6 +12,10 @@ pub struct Tally {
     runs: u64,
     most_runs: u64,
     when_refused: [u64; 14],
+    texts: u64,
+    unreadable: u64,
+    longest_text: usize,
+    texts_refused: u64,
     /// Bases judged: composed, damaged or cut.
     pub judged: u64,
     /// How many of them were sound.
@@ -43,6 +47,16 @@ impl Tally {
         }
     }
 
+    pub(crate) fn text(&mut self, text: &[u8], fits: bool) {
+        if !fits {
+            self.texts_refused += 1;
+            return;
+        }
+        self.texts += 1;
+        self.unreadable += u64::from(text == b"refused 1\n");
+        self.longest_text = self.longest_text.max(text.len());
+    }
+
     pub(crate) fn sizes(&mut self, lines: usize, rules: usize) {
         self.most_lines = self.most_lines.max(lines);
         self.most_rules = self.most_rules.max(rules);
@@ -63,6 +77,11 @@ impl Tally {
         self.may.iter().chain(&self.may_refused).chain(&self.when_refused).sum::<u64>() + self.when
     }
 
+    /// How many lines of text were answered, how many of them could not be read, and how many buffers were too short.
+    pub fn texts(&self) -> (u64, u64, u64) {
+        (self.texts, self.unreadable, self.texts_refused)
+    }
+
     /// Adds another's counts.
     pub fn add(&mut self, other: &Tally) {
         let sum = |mine: &mut [u64], others: &[u64]| mine.iter_mut().zip(others).for_each(|(a, b)| *a += b);
@@ -75,6 +94,10 @@ impl Tally {
         self.when += other.when;
         self.runs += other.runs;
         self.most_runs = self.most_runs.max(other.most_runs);
+        self.texts += other.texts;
+        self.unreadable += other.unreadable;
+        self.longest_text = self.longest_text.max(other.longest_text);
+        self.texts_refused += other.texts_refused;
         self.judged += other.judged;
         self.sound += other.sound;
         self.sizes(other.most_lines, other.most_rules);
@@ -101,6 +124,11 @@ impl fmt::Display for Tally {
         writeln!(f, "{} requests, at most {} lines and {} rules", self.requests(), self.most_lines, self.most_rules)?;
         let [no, yes] = self.may;
         writeln!(f, "MAY: {yes} yes, {no} no; WHEN: {} runs, at most {}", self.runs, self.most_runs)?;
+        if self.texts + self.texts_refused > 0 {
+            let (answered, unreadable, refused) = self.texts();
+            write!(f, "{answered} lines of text, {unreadable} of them unreadable, at most {}", self.longest_text)?;
+            writeln!(f, " bytes in a reply; {refused} buffers too short")?;
+        }
         write!(f, "{} bases lent and judged, {} of them sound", self.judged, self.sound)
     }
 }

@@ -87,6 +87,9 @@ pub fn step(step: &Step) -> String {
         Step::When { access: x, length, .. } => {
             format!("WHEN {} {} {}    # list of {length} numbers", x.subject, x.mode, x.object)
         }
+        Step::Text { line, length, .. } => {
+            format!("{}    # as text, with a buffer of {length} bytes", line.escape_ascii())
+        }
     }
 }
 

@@ -5,7 +5,7 @@ use native.Mathlib.Omega.{arith}
 use mathlib.Core.Path.{_≡_, refl, ap, _∙_}
 use mathlib.Core.List.{_++_}
 use Prim.Native.Nat.{ℕ, suc, _+_, _-_, _/_, _%_, _^_, _≤_, _<_}
-use lib.ListN.{length, take, drop, set, replicate, length-set, length-take}
+use lib.ListN.{length, take, drop, set, replicate, length-set}
 use Rattle.model.specs.Text.{digits, decimal}
 use Rattle.printing.proofs.Digits.{below-next, digits-start, digits-turn, digits-end}
 use Rattle.printing.proofs.Placed.{printed-as}
@@ -49,19 +49,23 @@ loop-again c =
 part-put-bytes-end : tie.Need-part-put-bytes-end Inv-loop μ-loop
 part-put-bytes-end c = simp length-set (omega arith)
 
+-- what is stored from i on is the number
+whole : (c : tie.After-put-bytes-arg2 Inv-loop μ-loop) → (let l = c .before .before .before .before .loop in
+    take (10 - l .i) (drop (l .i) (set (l .text) (l .i) (48 + l .rest)))
+    ≡ decimal (c .before .before .before .before .before .before .args .n))
+whole c =
+    let l = c .before .before .before .before .loop in
+    digits-end (l .i) (l .rest) (l .text) (omega arith) (omega arith) (l .inv .2) ∙ l .inv .3
+
+put-bytes-requires : tie.Need-put-bytes-requires Inv-loop μ-loop
+put-bytes-requires c κs = rw (whole c) (search needs)
+
 returns : tie.Need-returns Inv-loop μ-loop
-returns c =
-    let c₁ = c .before .before in
-    let l = c₁ .before .before .before .before .before .loop in
-    let text = set (l .text) (l .i) (48 + l .rest) in
-    let e : take (10 - l .i) (drop (l .i) text) ≡ decimal _ =
-    digits-end (l .i) (l .rest) (l .text) (omega arith) (omega arith) (l .inv .2) ∙ l .inv .3 in
-    let m : length (take (10 - l .i) (drop (l .i) text)) ≤ 10 = simp length-take (omega arith) in
-    printed-as e m (c₁ .put-bytes .ensures)
+returns c = printed-as (whole (c .before .before .before)) (c .before .before .put-bytes .ensures)
 
 pub put-decimal-spec : {M : Type 1} → statement M
 put-decimal-spec =
     tie.close
     (tie.spec Inv-loop μ-loop loop-holds (λ c. search needs) (λ c. search needs) (λ c. search needs) sub-i
     (λ c. search needs) loop-again (λ c. search needs) (λ c. search needs) (λ c. search needs) (λ c. search needs)
-    (λ c. search needs) part-put-bytes-end (λ c κs. search needs) (λ c. search needs) returns)
+    (λ c. search needs) part-put-bytes-end put-bytes-requires (λ c. search needs) returns)

@@ -12,7 +12,8 @@ returns c =
     let k = d .before .before .before .before .before .before in
     let t = d .serve-front .ensures in
     let l = k .take-line .ensures in
-    (λ p h. step-ended (l .0 p h) (search needs) (t .0), omega arith, l .2, t .1)
+    let room = k .before .before .before .before .before .pre .1 in
+    (λ p h. step-ended (l .0 p h) (search needs) (t .0) (omega (arith, t .1, room)), omega arith, l .2, t .1)
 
 returns-2 : tie.Need-returns-2
 returns-2 c =

@@ -1,0 +1,2 @@
+-- `Lines` has the law of a newline behind a text.
+pub mod Lines

@@ -1,0 +1,44 @@
+-- `text_order`: the reply to a request is short, and is printed as it is shown.
+use borrow.Author.Needs.{needs}
+use native.Mathlib.Omega.{arith}
+use mathlib.Core.Path.{sym, ap, _∙_, subst}
+use mathlib.Core.List.{[]}
+use denote.Ref.{now}
+use Rattle.model.specs.declared.Reply.{Reply}
+use Rattle.model.specs.Answers.{request}
+use Rattle.model.specs.Text.{order, printReply}
+use Rattle.text.specs.Short.{Short, short-length, short-runs, shown-short, shown-text, request-short}
+use Rattle.text.specs.Writing.{wrote-as, all-written}
+use Rattle.text.proofs.text_order.Statement.{statement}
+use Rattle.text.proofs.text_order.Tie as tie
+
+short : (c : tie.After-request) → Short (c .request .result)
+short c =
+    let a = c .before .before .before .before .before .args in
+    shown-short (c .request .result)
+    (subst Short (sym (c .request .ensures .reply)) (request-short (now (a .base)) (a .q)))
+
+put-short-requires : tie.Need-put-short-requires
+put-short-requires c κs =
+    let t = c .before .before in (t .before .before .before .before .before .pre, short t)
+
+returns : tie.Need-returns
+returns c =
+    let p = c .before .before in
+    let t = p .before .before .before in
+    let d = t .before .before .before .before .before in
+    let s = now (d .args .base) in
+    let q = d .args .q in
+    let r = t .request .result in
+    all-written s (order q) (now (d .args .out)) (d .pre)
+    (omega (arith, short-length (request s q .reply) [] (request-short s q), d .pre))
+    (wrote-as
+    (ap (printReply r) (short-runs r [] (short t)) ∙ shown-text r []
+    ∙ ap (λ (r : Reply). printReply r []) (t .request .ensures .reply))
+    (p .put-short .ensures))
+    (t .request .ensures .bytes)
+
+pub text-order-spec : {M : Type 1} → statement M
+text-order-spec =
+    tie.close
+    (tie.spec (λ c κs. search needs) put-short-requires (λ c. search needs) (λ c. search needs) returns)

@@ -1,0 +1,194 @@
+-- The replies to requests and to MAY are short: with its newline none is longer than 16 bytes. Those to WHEN fit the
+-- list of 1,100 pairs.
+use mathlib.Core.Path.{_≡_, refl, sym, subst}
+use mathlib.Core.Bool.{Bool, true, false, not}
+use mathlib.Core.List.{List, [], _∷_, _++_}
+use Prim.Native.Nat.{ℕ, suc, _*_, _/_, _<_, _≤_}
+use native.Mathlib.Omega.{arith}
+use lib.Dec.{eqb}
+use lib.ListN.{length, drop, length-append}
+use Rattle.foundation.specs.Tests.{cases, pick, true-eq, false-eq}
+use Rattle.foundation.specs.declared.Interval.{Interval}
+use Rattle.model.specs.declared.Request.{Request}
+use Rattle.model.specs.declared.Access.{Access}
+use Rattle.model.specs.declared.Question.{Question}
+use Rattle.model.specs.declared.Reply.{Reply}
+use Rattle.model.specs.declared.Reply.the-variants.{Done, Refused, Unsupported, Yes, No, Runs}
+use Rattle.model.specs.Ranges.{mostAuthorizations}
+use Rattle.model.specs.Rules.{may, when}
+use Rattle.model.specs.Means.{plainly}
+use Rattle.model.specs.Step.{Row, row, lowest, refusedOr, refusal, accepting, table, effect}
+use Rattle.model.specs.Requests.{labels}
+use Rattle.model.specs.StepFacts.{accepted, answered, turned-away}
+use Rattle.model.specs.Encoding.{encode, decode}
+use Rattle.model.specs.FitsFacts.{counts-fit}
+use Rattle.model.specs.Soundness.{sound, soundBytes}
+use Rattle.model.specs.SoundnessFacts.{sound-tests, sound-bytes}
+use Rattle.model.specs.Answers.{Answer, answering, refusing, shown, requestTable, mayTable, whenTable, mayReply}
+use Rattle.model.specs.Answers.{words, request, mayAnswer, whenAnswer}
+use Rattle.model.specs.Text.{decimal, printReply}
+use Rattle.model.specs.Session.{runsOf}
+use Rattle.theorems.specs.Preservation.{effect-sound}
+use Rattle.theorems.specs.Rows.{label-left}
+use Rattle.theorems.specs.SessionFacts.{when-most}
+use Rattle.answers.specs.Runs.{words-length}
+use Rattle.printing.specs.Print.{RunsFit}
+use Rattle.printing.specs.Lengths.{decimal-below, done-length, refused-length}
+
+-- ---- rows of a table
+
+-- every row has a number below n
+abbrev pub Below : ℕ → List Row → Type 0
+Below n [] = Unit {0}
+Below n (r ∷ rest) = (r .number < n) × Below n rest
+
+pub lowest-below : (n : ℕ) (rows : List Row) → 0 < n → Below n rows → lowest rows < n
+lowest-below n [] z w = z
+lowest-below n (r ∷ rest) z w = cases (r .given) (λ g. rw g (w .0)) (λ g. rw g (lowest-below n rest z (w .1)))
+
+-- what the refusal by rows and the answer have, the outcome has
+pub by-rows : {A : Type 0} (P : A → Type 0) (rows : List Row) (refuse : ℕ → A) (a : A) → P (refuse (lowest rows)) →
+    (lowest rows ≡ 0 → P a) → P (refusedOr rows refuse a)
+by-rows P rows refuse a r p = cases (eqb (lowest rows) 0)
+    (λ e. let z = true-eq (lowest rows) 0 e in subst P (sym (answered rows refuse a z)) (p z))
+    (λ e. subst P (sym (turned-away rows refuse a (false-eq (lowest rows) 0 e))) r)
+
+-- where no row behind that of unsound bytes applies, and not that one, the bytes are sound
+sound-passed : (s : List ℕ) (rows : List Row) → lowest (row 2 (not (soundBytes s)) ∷ rows) ≡ 0 →
+    (soundBytes s ≡ true) × (lowest rows ≡ 0)
+sound-passed s rows z = cases (soundBytes s)
+    (λ e. (e, (rw e at z)))
+    (λ e. let w : _≡_ {A = ℕ} 2 0 = rw e at z in absurd (omega arith))
+
+-- ---- short replies
+
+-- no longer than `done 65535 1024`, and without runs
+abbrev pub Short : Reply → Type 0
+Short (Done label count) = (label < 65536) × (count ≤ mostAuthorizations)
+Short (Refused n) = n < 100
+Short (Unsupported t) = Unit {0}
+Short Yes = Unit {0}
+Short No = Unit {0}
+Short (Runs n) = ⊥
+
+pub short-length : (r : Reply) (runs : List Interval) → Short r → length (printReply r runs) ≤ 15
+short-length (Done label count) runs h = omega (
+  arith,
+  done-length label count,
+  decimal-below 4 label (omega arith),
+  decimal-below 3 count (omega arith),
+)
+short-length (Refused n) runs h = omega (arith, refused-length n, decimal-below 1 n h)
+short-length (Unsupported t) runs h = omega arith
+short-length Yes runs h = omega arith
+short-length No runs h = omega arith
+short-length (Runs n) runs h = absurd h
+
+pub short-fits : (r : Reply) (list : List ℕ) → Short r → RunsFit r list
+short-fits (Done label count) list h = tt
+short-fits (Refused n) list h = tt
+short-fits (Unsupported t) list h = tt
+short-fits Yes list h = tt
+short-fits No list h = tt
+short-fits (Runs n) list h = absurd h
+
+-- its text is the same whatever the list
+pub short-runs : (r : Reply) (list : List ℕ) → Short r → runsOf r list ≡ []
+short-runs (Done label count) list h = refl
+short-runs (Refused n) list h = refl
+short-runs (Unsupported t) list h = refl
+short-runs Yes list h = refl
+short-runs No list h = refl
+short-runs (Runs n) list h = absurd h
+
+-- a reply is as short as it is shown, and is printed as it is shown: 9 without its instant
+pub shown-short : (r : Reply) → Short (shown r) → Short r
+shown-short (Done label count) h = h
+shown-short (Refused n) h = h
+shown-short (Unsupported t) h = tt
+shown-short Yes h = tt
+shown-short No h = tt
+shown-short (Runs n) h = h
+
+pub shown-text : (r : Reply) (runs : List Interval) → printReply r runs ≡ printReply (shown r) runs
+unfolding decimal
+shown-text (Done label count) runs = refl
+shown-text (Refused n) runs = refl
+shown-text (Unsupported t) runs = refl
+shown-text Yes runs = refl
+shown-text No runs = refl
+shown-text (Runs n) runs = refl
+
+refused-short : (rows : List Row) → Below 14 rows → Short (Refused (lowest rows))
+refused-short rows w = omega (arith, lowest-below 14 rows (omega arith) w)
+
+-- ---- the replies to a request and to MAY
+
+-- a request that is accepted is given a label of 16 bits, and leaves at most 1,024 authorizations
+accepting-short : (s : List ℕ) (q : Request) → lowest (requestTable s q) ≡ 0 →
+    Short (accepting (decode s) q (effect plainly (decode s) q))
+accepting-short s q z =
+    let passed = sound-passed s (table plainly (decode s) q) z in
+    let after = effect plainly (decode s) q in
+    let kept : sound after ≡ true = effect-sound (decode s) q (sound-bytes s (passed .0) .1) (passed .1) in
+    (label (labels q) refl (passed .1), counts-fit after (sound-tests after kept .counts) .authorizations)
+  where
+    label : (x : Bool) → labels q ≡ x → refusal plainly (decode s) q ≡ 0 → pick x (suc (decode s .last)) 0 < 65536
+    label true e z = omega (arith, label-left (decode s) q (accepted (decode s) q z) e)
+    label false e z = omega arith
+
+pub request-short : (s : List ℕ) (q : Request) → Short (request s q .reply)
+unfolding request
+request-short s q =
+    let after = effect plainly (decode s) q in
+    let t = requestTable s q in
+    by-rows (λ (a : Answer). Short (a .reply)) t (refusing s)
+    (answering (accepting (decode s) q after) (encode after))
+    (refused-short t (
+      omega arith,
+      (
+        omega arith,
+        (
+          omega arith,
+          (
+            omega arith,
+            (
+              omega arith,
+              (
+                omega arith,
+                (omega arith, (omega arith, (omega arith, (omega arith, (omega arith, (omega arith, tt)))))),
+              ),
+            ),
+          ),
+        ),
+      ),
+    ))
+    (accepting-short s q)
+
+pub may-short : (s : List ℕ) (q : Question) → Short (mayAnswer s q)
+unfolding mayAnswer
+may-short s q =
+    let yes? = may (decode s) (q .access) (q .instant) in
+    let rows = row 2 (not (soundBytes s)) ∷ mayTable (decode s) q in
+    by-rows Short rows Refused (mayReply yes?) (refused-short rows (omega arith, (omega arith, (omega arith, tt))))
+    (λ z. said yes?)
+  where
+    said : (yes? : Bool) → Short (mayReply yes?)
+    said true = tt
+    said false = tt
+
+-- ---- the reply to WHEN: its runs are in the list, and few enough to be printed
+
+pub when-fits : (s : List ℕ) (x : Access) (list : List ℕ) →
+    (let a = whenAnswer s x list in RunsFit (a .reply) (a .lent))
+unfolding whenAnswer
+when-fits s x list =
+    let runs = when (decode s) x in
+    let n = length runs in
+    let rows = whenTable (decode s) x (length list / 2) n in
+    by-rows (λ (a : Answer). RunsFit (a .reply) (a .lent)) (row 2 (not (soundBytes s)) ∷ rows) (refusing list)
+    (answering (Runs n) (words runs ++ drop (2 * n) list)) tt
+    (λ z. (
+      omega (arith, length-append (words runs) (drop (2 * n) list), words-length runs),
+      when-most (decode s) (sound-bytes s (sound-passed s rows z .0) .1) x,
+    ))

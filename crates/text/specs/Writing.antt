@@ -1,0 +1,108 @@
+-- What the functions of this crate write, and the definition's answer by cases: refused, or written.
+use mathlib.Core.Path.{_≡_, refl, sym, ap, _∙_}
+use mathlib.Core.Bool.{Bool, true, false, _||_}
+use mathlib.Core.List.{List, [], _∷_, _++_}
+use Prim.Native.Nat.{ℕ, suc, _+_, _≤_, _<_}
+use native.Mathlib.Omega.{arith}
+use lib.Dec.{ltb}
+use lib.ListN.{length, drop, length-append}
+use Rattle.foundation.specs.Tests.{le-true, le-false, or-intro-left, or-true-right}
+use Rattle.model.specs.Step.{Row, row, lowest, refusedOr}
+use Rattle.model.specs.StepFacts.{answered, turned-away}
+use Rattle.model.specs.Text.{Line, newline, readLine, printReply}
+use Rattle.model.specs.Session.{ByteTurn, byteTurn, Written, shortestBuffer, textAnswer}
+use Rattle.text.specs.declared.TextReply.{TextReply}
+
+-- what a function gives, and the base and the buffer after it
+abbrev pub written : TextReply → List ℕ → List ℕ → Written
+written w s out = record { refusal = w .refusal; count = w .count; lent = s; out = out }
+
+-- a text and a newline were written at the front of a buffer
+pub record Wrote (text before after : List ℕ) (w : TextReply) : Type 0 where
+  pub refusal : w .refusal ≡ 0
+  pub count : w .count ≡ length (text ++ (newline ∷ []))
+  pub bytes : after ≡ (text ++ (newline ∷ [])) ++ drop (length (text ++ (newline ∷ []))) before
+
+-- the same text by another name
+pub wrote-as : {text text′ before after : List ℕ} {w : TextReply} → text ≡ text′ → Wrote text before after w →
+    Wrote text′ before after w
+wrote-as {before = before} e p = record {
+  refusal = p .refusal;
+  count = p .count ∙ ap (λ (t : List ℕ). length (t ++ (newline ∷ []))) e;
+  bytes = p .bytes
+      ∙ ap (λ (t : List ℕ). (t ++ (newline ∷ [])) ++ drop (length (t ++ (newline ∷ []))) before) e;
+}
+
+-- ---- the answer to what a line says
+
+-- what is printed of a turn
+abbrev pub turnText : ByteTurn → List ℕ
+turnText x = printReply (x .reply) (x .runs)
+
+module _ (s : List ℕ) (l : Line) (out : List ℕ) where
+  abbrev tooShort : Bool
+  tooShort =
+      ltb (length out) shortestBuffer || ltb (length out) (length (turnText (byteTurn s l) ++ (newline ∷ [])))
+
+  abbrev rows : List Row
+  rows = row 13 tooShort ∷ []
+
+  abbrev pub refusing : ℕ → Written
+  refusing k = record { refusal = k; count = 0; lent = s; out = out }
+
+  abbrev pub answering : Written
+  answering =
+      let text = turnText (byteTurn s l) ++ (newline ∷ []) in
+      record { refusal = 0; count = length text; lent = byteTurn s l .lent; out = text ++ drop (length text) out }
+
+  unfoldable pub answerTo : Written
+  answerTo = refusedOr rows refusing answering
+
+  refused-rows : tooShort ≡ true → answerTo ≡ refusing 13
+  unfolding answerTo
+  refused-rows e =
+      let n : lowest rows ≡ 13 = rw e in
+      turned-away rows refusing answering (λ z. omega (arith, n)) ∙ ap refusing n
+
+  -- a buffer of fewer than 16 bytes
+  pub too-short : length out < shortestBuffer → answerTo ≡ refusing 13
+  too-short h = refused-rows (or-intro-left (ltb (length out) shortestBuffer) _ (le-true (suc (length out)) 16 h))
+
+  -- a buffer that has no room for the text and its newline
+  pub no-room : length out ≤ length (turnText (byteTurn s l)) → answerTo ≡ refusing 13
+  no-room h =
+      let text = turnText (byteTurn s l) in
+      let long : ltb (length out) (length (text ++ (newline ∷ []))) ≡ true =
+      le-true (suc (length out)) (length (text ++ (newline ∷ [])))
+      (omega (arith, length-append text (newline ∷ []))) in
+      refused-rows (or-true-right (ltb (length out) shortestBuffer) _ long)
+
+  module _ (h : shortestBuffer ≤ length out) (room : length (turnText (byteTurn s l)) < length out) where
+    -- a buffer that has
+    pub has-room : answerTo ≡ answering
+    unfolding answerTo
+    has-room =
+        let text = turnText (byteTurn s l) in
+        let a : ltb (length out) shortestBuffer ≡ false = le-false (suc (length out)) 16 (omega arith) in
+        let b : ltb (length out) (length (text ++ (newline ∷ []))) ≡ false =
+        le-false (suc (length out)) (length (text ++ (newline ∷ [])))
+        (omega (arith, length-append text (newline ∷ []))) in
+        answered rows refusing answering (rw (a, b))
+
+    -- the text was written, and the base is left as the definition says
+    pub all-written : {s′ out′ : List ℕ} {w : TextReply} → Wrote (turnText (byteTurn s l)) out out′ w →
+        s′ ≡ byteTurn s l .lent → written w s′ out′ ≡ answerTo
+    all-written p e =
+        let q : written _ _ _ ≡ answering =
+        λ i. record { refusal = p .refusal i; count = p .count i; lent = e i; out = p .bytes i } in
+        q ∙ sym has-room
+
+-- the answer to a line of text is that to what it says
+pub text-answer : (s line out : List ℕ) → textAnswer s line out ≡ answerTo s (readLine line) out
+unfolding textAnswer answerTo
+text-answer s line out = refl
+
+-- so what answers what it says answers it
+pub answers-line : {x : Written} (s line out : List ℕ) (l : Line) → l ≡ readLine line → x ≡ answerTo s l out →
+    x ≡ textAnswer s line out
+answers-line s line out l e w = w ∙ ap (λ (l : Line). answerTo s l out) e ∙ sym (text-answer s line out)
