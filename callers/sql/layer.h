@@ -10,14 +10,8 @@
 /* What a thread should have left of its stack before a call: the deepest function takes about 90,000 bytes. */
 #define ACCESS_BASE_STACK_BYTES 262144u
 
-/* A proved function of the library, if its header has it; a stand-in for trials until then. */
-#ifndef ACCESS_BASE_TEXT_BYTES
-#define ACCESS_BASE_TEXT_BYTES 24001u
-uint64_t access_base_text(
-    uint8_t *base, size_t base_length, const uint8_t *line, size_t line_length, uint8_t *out, size_t out_length);
-#endif
-
-/* The same: the index-th record of a body as numbers. The refusal is 0, 2 (no sound base), 3 (no such body), 7 (no such
+/* A proved function of the library once its header has it, and a stand-in (records_standin.c) until then: the index-th
+ * record of a body as numbers. The refusal is 0, 2 (no sound base), 3 (no such body), 7 (no such
  * index) or 13 (out too short); the reply's number is how many records the body has, also with 7 and 13. */
 #ifndef ACCESS_BASE_RECORD_NUMBERS
 #define ACCESS_BASE_RECORD_NUMBERS 15u
