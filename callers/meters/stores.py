@@ -1,7 +1,9 @@
 """Where blocks are kept: an SQLite file, or a PostgreSQL database. Both answer the same calls."""
 import datetime
 import os
+import random
 import sqlite3
+import time
 from collections import namedtuple
 
 HERE = os.path.dirname(os.path.realpath(__file__))
@@ -12,6 +14,7 @@ APPLICATION = 1297236529  # the letters MRB1
 LAST = 4294967295
 BASE_BYTES = 27936
 LINE_BYTES = 96
+WAIT = 30  # seconds to wait for the lock of an SQLite file
 
 Block = namedtuple("Block", "name unit origin requests instant")
 Entry = namedtuple("Entry", "number at line reply")
@@ -67,7 +70,7 @@ class Sqlite:
         if create and not os.path.isdir(os.path.dirname(path) or "."):
             raise Fault(f"there is no folder {os.path.dirname(path)}: make it first")
         try:
-            self.db = sqlite3.connect(path, isolation_level=None, timeout=30)
+            self.db = sqlite3.connect(path, isolation_level=None, timeout=WAIT)
             self.load()
             self.settle(create)
         except sqlite3.Error as error:
@@ -118,9 +121,25 @@ class Sqlite:
         except (sqlite3.Error, UnicodeDecodeError) as error:
             raise self.fault(error) from error
 
+    def begin(self):
+        """Takes the write lock, asking again after a short while for WAIT seconds: SQLite's own wait grows, and starves the patient."""
+        end = time.monotonic() + WAIT
+        self.db.execute("PRAGMA busy_timeout = 0")
+        try:
+            while True:
+                try:
+                    self.db.execute("BEGIN IMMEDIATE")
+                    return
+                except sqlite3.OperationalError as error:
+                    if str(error) != "database is locked" or time.monotonic() > end:
+                        raise
+                    time.sleep(random.uniform(0.001, 0.006))
+        finally:
+            self.db.execute(f"PRAGMA busy_timeout = {1000 * WAIT}")
+
     def transaction(self, work):
         try:
-            self.db.execute("BEGIN IMMEDIATE")
+            self.begin()
             try:
                 result = work()
                 self.db.execute("COMMIT")
