@@ -1,0 +1,651 @@
+#!/usr/bin/python3
+"""Tests of the stores, with the real engines. Run by callers/sql/test, which builds everything and names it in the environment:
+METERS_POSTGRES the folder of a private cluster (without it PostgreSQL's tests are left out), METERS_ORACLE the program `replies`
+of the independent implementation (without it the comparison with it is left out), METERS_SECONDS how long each load runs."""
+import glob
+import multiprocessing
+import os
+import random
+import resource
+import shutil
+import signal
+import sqlite3
+import subprocess
+import sys
+import tempfile
+import time
+import unittest
+import xml.etree.ElementTree
+
+HERE = os.path.dirname(os.path.realpath(__file__))
+ROOT = os.path.dirname(os.path.dirname(HERE))
+sys.path.insert(0, os.path.join(ROOT, "callers", "meters"))
+import stores  # noqa: E402
+
+METERS = os.path.join(ROOT, "callers", "meters", "meters")
+CLUSTER = os.environ.get("METERS_POSTGRES")
+ORACLE = os.environ.get("METERS_ORACLE")
+SECONDS = float(os.environ.get("METERS_SECONDS", "2"))
+CLIENTS = 16
+ROLES = {"meters_writer": "anna", "meters_importer": "iris", "meters_reader": "rita"}
+
+
+def socket_of(role):
+    return f"postgresql:///meters?host={CLUSTER}/socket&user={role}"
+
+
+def cluster(action):
+    subprocess.run([os.path.join(HERE, "private_cluster"), action, CLUSTER], check=True)
+
+
+def setUpModule():
+    global folder
+    folder = tempfile.mkdtemp(prefix="meters-")
+    os.chmod(folder, 0o755)
+    if CLUSTER:
+        import psycopg
+        with psycopg.connect(f"host={CLUSTER}/socket user=postgres dbname=postgres", autocommit=True) as db:
+            db.execute("CREATE DATABASE meters")
+            for group, name in list(ROLES.items()) + [("", "nobody_there")]:
+                db.execute(f"CREATE ROLE {name} LOGIN")
+        subprocess.run(["psql", "-q", "-h", f"{CLUSTER}/socket", "-U", "postgres", "-d", "meters", "-f", os.path.join(HERE, "postgres", "schema.sql")],
+                       check=True, stdout=subprocess.DEVNULL)
+        with psycopg.connect(socket_of("postgres"), autocommit=True) as db:
+            for group, name in ROLES.items():
+                db.execute(f"GRANT {group} TO {name}")
+
+
+def tearDownModule():
+    shutil.rmtree(folder)
+
+
+def sqlite_store():
+    place = tempfile.mkdtemp(dir=folder)
+    os.chmod(place, 0o755)
+    return stores.Sqlite(os.path.join(place, "meters.db"), create=True)
+
+
+def needs_postgres(test):
+    return unittest.skipUnless(CLUSTER, "no PostgreSQL")(test)
+
+
+# ---- sessions
+def transcripts():
+    """The stored sessions: for each case its lines and replies."""
+    for path in sorted(glob.glob(os.path.join(ROOT, "crates", "vectors", "data", "*.txt"))):
+        if path.endswith("wrong.txt"):
+            continue
+        lines, replies = [], []
+        for line in open(path, encoding="latin-1").read().split("\n") + ["# end"]:
+            if line.startswith("# "):
+                if lines:
+                    yield lines, replies
+                lines, replies = [], []
+            elif line.startswith("> ") or line == ">":
+                lines.append(line[2:])
+            elif line.startswith("< "):
+                replies.append(line[2:])
+
+
+def random_session(dice, length):
+    """Requests and questions over few subjects, meters and instants, so that they meet."""
+    def subject(): return str(dice.randint(1, 5))
+    def instant(): return "inf" if dice.random() < 0.1 else str(dice.randint(0, 40))
+    def star(word): return "*" if dice.random() < 0.4 else word
+    now, lines = 0, []
+    for _ in range(length):
+        now += dice.random() < 0.5
+        mode, meter = str(dice.randint(1, 2)), str(dice.randint(1, 2))
+        word = dice.choice(["NEW", "GRANT", "GRANT", "GRANT", "DENY", "REVOKE", "REVOKEP", "REVOKEN", "ADDRULE", "DROPRULE", "GRANTADM",
+                            "REVOKEADM", "GRANTREF", "REVOKEREF", "MAY", "WHEN", "WHEN", "junk"])
+        head = f"{now} {subject() if dice.random() < 0.6 else 1} {word}"
+        span = f"{instant()} {instant()}"
+        any_subject, any_mode = dice.random() < 0.4, dice.random() < 0.4
+        sides = [f"{'*' if any_subject else subject()} {'*' if any_mode else mode} {dice.randint(1, 2)} {dice.choice('++-')}" for _ in range(2)]
+        lines.append({
+            "NEW": f"{head} {meter}", "GRANT": f"{head} {mode} {meter} {subject()} {span} {dice.choice('yn')}",
+            "DENY": f"{head} {mode} {meter} {subject()} {span}", "REVOKE": f"{head} {dice.randint(1, 20)}",
+            "REVOKEP": f"{head} {mode} {meter} {subject()} {span}", "REVOKEN": f"{head} {mode} {meter} {subject()} {span}",
+            "DROPRULE": f"{head} {dice.randint(1, 20)}", "junk": dice.choice(["", "junk", f"{now} 1 NEW 0 ", f"{now} 1 NEW 129"]),
+            "ADDRULE": f"{head} {sides[0]} {dice.choice(['WHENEVER', 'ASLONGAS', 'WHENEVERNOT', 'UNLESS'])} {sides[1]} {star(subject())} "
+                       f"{dice.choice('yn*')} {span}",
+            "MAY": f"MAY {subject()} {mode} {meter} {instant()}", "WHEN": f"WHEN {subject()} {mode} {meter}",
+        }.get(word, f"{head} {meter} {subject()}"))
+    return lines
+
+
+def printable(line):
+    return stores.line_fault(line) is None
+
+
+def oracle_says(sessions):
+    """For each session, for each line the reply and the base after it, by the independent implementation."""
+    text = "".join(f"{len(lines)}\n" + "".join(line + "\n" for line in lines) for lines in sessions)
+    out = subprocess.run([ORACLE], input=text, capture_output=True, encoding="latin-1", check=True).stdout.split("\n")
+    told = iter(out)
+    for lines in sessions:
+        base, answers = None, []
+        for _ in lines:
+            reply, after = next(told).split("\t")
+            base = bytes.fromhex(after).ljust(stores.BASE_BYTES, b"\0") if after else base
+            answers.append((reply, base))
+        yield answers
+
+
+def engines():
+    """Each engine's put on values, and the empty base."""
+    lite = sqlite_store()
+    out = [("SQLite", lite.put_once, lite.one("SELECT access_base_empty()")[0])]
+    if CLUSTER:
+        post = stores.Postgres(socket_of("rita"))
+        empty = bytes(post.one("SELECT access_base.empty()")[0])
+
+        def put(base, line):
+            reply, after = post.one("SELECT reply, after FROM access_base.put(%s, %s)", base, line)
+            return reply, bytes(after)
+        out.append(("PostgreSQL", put, empty))
+    return out
+
+
+class Sessions(unittest.TestCase):
+    def test_stored_sessions(self):
+        """The stored transcripts through SQL, reply by reply; both engines give the same bytes."""
+        lines_put = 0
+        for lines, replies in transcripts():
+            kept = [(line, reply) for line, reply in zip(lines, replies) if printable(line)]
+            results = []
+            for name, put, base in engines_once:
+                for line, expected in kept:
+                    reply, base = put(base, line)
+                    self.assertEqual(reply, expected, f"{name}: {line}")
+                    lines_put += 1
+                results.append(base)
+            self.assertTrue(all(result == results[0] for result in results), "the engines give other bytes")
+        print(f"  {lines_put} lines of stored sessions agree", file=sys.stderr)
+
+    @unittest.skipUnless(ORACLE, "no independent implementation")
+    def test_independent_implementation(self):
+        """Stored and random sessions against the independent implementation: replies, and every byte after every line."""
+        dice = random.Random(23)
+        sessions = [[line for line in lines if printable(line)] for lines, _ in transcripts() if len(lines) < 400]
+        sessions += [random_session(dice, 60) for _ in range(25)]
+        compared = 0
+        for lines, answers in zip(sessions, oracle_says(sessions)):
+            for name, put, base in engines_once:
+                for line, (expected, after) in zip(lines, answers):
+                    before = base
+                    reply, base = put(base, line)
+                    self.assertEqual(reply, expected, f"{name}: {line}")
+                    self.assertEqual(base, before if after is None else after, f"{name}: the bytes after {line}")
+                    compared += 1
+        print(f"  {compared} replies and bases agree with the independent implementation", file=sys.stderr)
+
+    @classmethod
+    def setUpClass(cls):
+        global engines_once
+        engines_once = engines()
+
+
+# ---- what both stores promise
+class Store:
+    """The same tests for both stores."""
+
+    def test_requests_and_replay(self):
+        store = self.importer
+        store.new(self.name, 1, 0)
+        lines = ["4 1 NEW 7", "5 1 GRANT 1 7 2 50 200 y", "6 2 GRANT 1 7 3 60 90 n", "junk", "6 9 REVOKE 1"]
+        self.assertEqual(store.put_as_written(self.name, lines), ["done 0 0", "done 1 1", "done 2 2", "refused 1", "refused 8"])
+        self.assertEqual([(e.number, e.line) for e in store.journal(self.name)], list(enumerate(lines, 1)))
+        self.assertIsNone(store.check(self.name))
+        base = store.base(self.name)
+        self.assertEqual(store.reply(base, "WHEN 3 1 7"), "60-90")
+        self.assertEqual([tuple(run) for run in store.runs(base, 3, 1, 7)], [(60, 90)])
+        self.assertEqual([r["label"] for r in store.records(base, "authorizations")], [1, 2])
+        self.assertEqual(store.records(base, "objects"), [{"object": 7, "owner": 1}])
+
+    def test_now_from_the_clock(self):
+        self.importer.new(self.name, 60, 1_500_000_000)
+        self.importer.enrol(self.name, self.writer_role, 4)
+        before = int((time.time() - 1_500_000_000) // 60)
+        self.assertEqual(self.put("NEW 9", "GRANT 1 9 5 now inf n", "GRANT 1 9 5 0 inf n"), ["done 0 0", "done 1 1", "refused 5"])
+        now, requester = self.importer.journal(self.name)[0].line.split(" ")[:2]
+        self.assertTrue(before <= int(now) <= before + 2)
+        self.assertEqual(requester, "4")
+
+    def test_no_now_ahead_of_the_clock(self):
+        self.importer.new(self.name, 1, 0)
+        for line in ("inf 1 NEW 8", f"{int(time.time()) + 3600} 1 NEW 8", "4294967295 1 NEW 8"):
+            with self.assertRaisesRegex(stores.Fault, "ahead of the clock"):
+                self.importer.put_as_written(self.name, ["4 1 NEW 7", line])
+        self.assertEqual(self.importer.journal(self.name), [])
+
+    def test_lines_that_are_none(self):
+        self.importer.new(self.name, 1, 0)
+        self.importer.enrol(self.name, self.writer_role, 1)
+        for bad in ("NEW 7\n", "NEW\t7", "NEW \x7f", "NEW ü", "x" * 97, "NEW 7\r"):
+            with self.assertRaises(stores.Fault):
+                self.importer.put_as_written(self.name, ["4 1 NEW 7", bad])
+            with self.assertRaises(stores.Fault):
+                self.put("NEW 7", bad)
+        self.assertEqual(self.importer.journal(self.name), [], "nothing of it is kept")
+        self.assertEqual(self.importer.put_as_written(self.name, ["'; DROP TABLE journal; --", '"\\ %s', ""]), ["refused 1"] * 3)
+        self.assertIsNone(self.importer.check(self.name))
+
+    def test_bytes_of_every_length(self):
+        sound = self.importer.is_sound
+        full = self.importer.empty()
+        self.assertTrue(sound(full))
+        for length in list(range(0, 40)) + [27935, 27937, 100_000, 3_000_000]:
+            self.assertFalse(sound((full * 108)[:length]), length)
+        for place in (0, 4, 8, 12, 33, 27935):
+            damaged = bytearray(full)
+            damaged[place] ^= 0xFF
+            if sound(bytes(damaged)):
+                self.assertIn(place, (4, 8))  # another clock or last label is a sound base too
+            with self.assertRaises(stores.Fault):
+                self.importer.new(self.name + str(place), 1, 0, b"x" + bytes(damaged)[1:])
+
+    def test_questions_refused(self):
+        base = self.importer.empty()
+        for subject, mode, meter, refusal in ((0, 1, 1, 3), (1, 9, 1, 3), (1024, 1, 1, 3), (1, 1, 1, 6)):
+            with self.assertRaisesRegex(stores.Fault, f"refused {refusal}"):
+                self.importer.runs(base, subject, mode, meter)
+        for wild in (-1, 2**32, 2**63 - 1, -2**63):
+            with self.assertRaisesRegex(stores.Fault, "within 0 to 4294967295"):
+                self.importer.runs(base, wild, 1, 1)
+        with self.assertRaisesRegex(stores.Fault, "refused 2"):
+            self.importer.runs(b"", 1, 1, 1)
+        with self.assertRaisesRegex(stores.Fault, "refused 2"):
+            self.importer.records(b"MRB1", "rules")
+
+    def test_export_and_import(self):
+        self.importer.new(self.name, 1, 0)
+        self.importer.put_as_written(self.name, ["4 1 NEW 7", "5 1 GRANT 1 7 2 50 inf y"])
+        base = self.importer.base(self.name)
+        self.importer.new(self.name + "2", 1, 0, base)
+        self.assertEqual(self.importer.put_as_written(self.name + "2", ["6 1 REVOKE 1"]), ["done 0 0"])
+        self.assertIsNone(self.importer.check(self.name + "2"))
+        with self.assertRaises(stores.Fault):
+            self.importer.new(self.name, 1, 0)
+
+    # ---- load
+    def load(self, blocks):
+        """16 clients put for a while; every acknowledged line stands in its journal once, in order, and replay is equal."""
+        for block in blocks:
+            self.importer.new(block, 1, 0)
+            self.importer.put_as_written(block, ["0 1 NEW 7"])
+        counts, worst, acknowledged = run_clients(self.place, self.kind, blocks, SECONDS)
+        self.assert_kept(blocks, acknowledged)
+        rate = sum(counts) / SECONDS
+        print(f"  {self.kind}, {CLIENTS} clients on {len(blocks)} block(s): {rate:.0f} requests/s, longest wait {worst:.2f} s, "
+              f"fewest and most of a client {min(counts)} and {max(counts)}", file=sys.stderr)
+
+    def assert_kept(self, blocks, acknowledged, exactly=True):
+        told = {block: [] for block in blocks}
+        for path in glob.glob(acknowledged + "/*.acknowledged"):
+            for line in open(path, encoding="ascii"):
+                if line.endswith("\n"):
+                    block, request, reply = line[:-1].split("\t")
+                    told[block].append((request, reply))
+        if not any(told.values()):
+            self.skipTest("the machine was too slow for a single request in that time")
+        for block in blocks:
+            entries = self.importer.journal(block)
+            self.assertEqual([e.number for e in entries], list(range(1, len(entries) + 1)))
+            kept = {(e.line, e.reply) for e in entries}
+            self.assertEqual([t for t in told[block] if t not in kept], [], "acknowledged and lost")
+            if exactly:
+                self.assertEqual(len(entries), len(told[block]) + 1)
+            self.assertIsNone(self.importer.check(block))
+        for path in glob.glob(acknowledged + "/*.acknowledged"):
+            os.remove(path)
+
+    def test_load_on_one_block(self):
+        self.load([self.name])
+
+    def test_load_on_many_blocks(self):
+        self.load([f"{self.name} {i}" for i in range(20)])
+
+    def setUp(self):
+        self.name = f"{self.id().rsplit('.', 1)[1]}"
+
+
+def client(place, k, blocks, acknowledged, seconds, results):
+    """Puts lines of its own, each another, and writes down each reply as soon as it has it."""
+    signal.signal(signal.SIGTERM, signal.SIG_DFL)
+    dice, count, worst = random.Random(k), 0, 0.0
+    with open(f"{acknowledged}/{k}.acknowledged", "w", buffering=1, encoding="ascii") as out:
+        try:
+            store = stores.open_store(place)
+            end = time.time() + seconds
+            while time.time() < end:
+                count += 1
+                block, start = dice.choice(blocks), 1000 + k * 10_000_000 + count
+                line = f"0 1 GRANT 1 7 {k + 2} {start} {start} n" if count % 2 else f"0 1 REVOKEP 1 7 {k + 2} 0 {start}"
+                began = time.time()
+                (reply,) = store.put_as_written(block, [line])
+                worst = max(worst, time.time() - began)
+                out.write(f"{block}\t{line}\t{reply}\n")
+        except stores.Fault:
+            pass
+    results.put((count, worst))
+
+
+def run_clients(place, kind, blocks, seconds, meanwhile=None):
+    acknowledged = os.path.join(folder, kind)
+    os.makedirs(acknowledged, exist_ok=True)
+    results = multiprocessing.Queue()
+    clients = [multiprocessing.Process(target=client, args=(place, k, blocks, acknowledged, seconds, results)) for k in range(CLIENTS)]
+    for process in clients:
+        process.start()
+    told = []
+    if meanwhile:
+        time.sleep(seconds / 2)
+        meanwhile(clients)
+        for process in clients:
+            process.join()
+    else:
+        told = [results.get() for _ in clients]
+        for process in clients:
+            process.join()
+    return [count for count, _ in told], max((worst for _, worst in told), default=0), acknowledged
+
+
+class SqliteStore(Store, unittest.TestCase):
+    kind = "SQLite"
+
+    def setUp(self):
+        super().setUp()
+        self.importer = sqlite_store()
+        self.place = self.importer.path
+        self.writer_role = "somebody"
+        self.importer.is_sound = lambda b: bool(self.importer.one("SELECT access_base_is_sound(?)", b)[0])
+        self.importer.empty = lambda: self.importer.one("SELECT access_base_empty()")[0]
+
+    def put(self, *requests):
+        return self.importer.put(self.name, self.writer_role, requests)
+
+    def test_triggers(self):
+        store = self.importer
+        store.new("b", 1, 0)
+        store.put_as_written("b", ["4 1 NEW 7"])
+        before = store.base("b")
+        for sql in ("UPDATE blocks SET base = access_base_empty()", "UPDATE blocks SET requests = 9", "DELETE FROM blocks",
+                    "UPDATE blocks SET requests = requests + 1, base = access_base_empty()", "UPDATE blocks SET unit = 2",
+                    "UPDATE OR REPLACE blocks SET id = 9", "INSERT OR REPLACE INTO blocks(id, name, base) VALUES (1, 'c', access_base_empty())",
+                    "INSERT OR REPLACE INTO blocks(name, base) VALUES ('b', access_base_empty())", "DELETE FROM journal",
+                    "UPDATE journal SET reply = 'no'", "INSERT INTO journal(block, number, line, reply) VALUES (1, 2, '5 1 NEW 8', 'done 9 9')",
+                    "INSERT OR REPLACE INTO journal(block, number, line, reply) VALUES (1, 1, '5 1 NEW 8', 'done 0 0')",
+                    "INSERT INTO journal(block, number, line, reply) VALUES (1, 3, '5 1 NEW 8', 'done 0 0')",
+                    "INSERT INTO blocks(name, base) VALUES ('d', zeroblob(27936))", "INSERT INTO blocks(name, base) VALUES ('d', NULL)",
+                    "INSERT INTO put_as_written VALUES ('b', NULL)", "INSERT INTO put VALUES ('b', NULL, 'NEW 8')",
+                    "INSERT INTO put_as_written VALUES (NULL, '4 1 NEW 8')", "INSERT INTO put_as_written VALUES ('b', x'ff')",
+                    "INSERT INTO put_as_written VALUES ('b', CAST(x'3420ff' AS TEXT))"):
+            with self.assertRaises(stores.Fault, msg=sql):
+                store.one(sql)
+        self.assertEqual(store.base("b"), before)
+        self.assertIsNone(store.check("b"))
+
+    def test_arguments(self):
+        one = self.importer.one
+        for sql in ("access_base_may(NULL, 1, 1, 1, 1)", "access_base_may(access_base_empty(), NULL, 1, 1, 1)", "access_base_reply(NULL, 'x')",
+                    "access_base_reply(access_base_empty(), NULL)", "access_base_reply(access_base_empty(), 5)", "access_base_after('x', 'x')",
+                    "access_base_may(access_base_empty(), 1.5, 1, 1, 1)", "access_base_may(access_base_empty(), '1', 1, 1, 1)",
+                    "access_base_reply(zeroblob(50000000), '4 1 NEW 7')", "access_base_may(access_base_empty(), 1, 1, 1)",
+                    "(SELECT count(*) FROM access_base_runs)", "(SELECT count(*) FROM access_base_rules(NULL))"):
+            with self.assertRaises(stores.Fault, msg=sql):
+                one("SELECT " + sql)
+        self.assertEqual(one("SELECT access_base_is_sound(NULL), access_base_is_sound('x'), access_base_is_sound(5)"), (None, 0, 0))
+
+    def test_altered_file_is_found_out(self):
+        self.importer.new("b", 1, 0)
+        self.importer.put_as_written("b", ["4 1 NEW 7", "5 1 GRANT 1 7 2 50 200 y"])
+        self.importer.db.execute("DROP TRIGGER journal_kept")
+        self.importer.db.execute("UPDATE journal SET line = '5 1 GRANT 1 7 2 50 199 y' WHERE number = 2")
+        self.assertIn("other bytes", self.importer.check("b"))
+
+    def test_kill_clients(self):
+        """kill -9 of every client in the middle of a load: nothing acknowledged is lost."""
+        blocks = ["k1", "k2", "k3"]
+        for block in blocks:
+            self.importer.new(block, 1, 0)
+            self.importer.put_as_written(block, ["0 1 NEW 7"])
+
+        def kill(clients):
+            for process in clients:
+                os.kill(process.pid, signal.SIGKILL)
+        acknowledged = run_clients(self.place, self.kind, blocks, SECONDS, kill)[2]
+        self.importer = again = stores.Sqlite(self.place)
+        self.assert_kept(blocks, acknowledged, exactly=False)
+        self.assertEqual(again.check_store(), [])
+
+    def test_full_disk(self):
+        store = self.importer
+        store.new("b", 1, 0)
+        store.put_as_written("b", ["4 1 NEW 7"])
+        pages = store.one("PRAGMA page_count")[0]
+        store.one(f"PRAGMA max_page_count = {pages}")
+        with self.assertRaisesRegex(stores.Fault, "disk is full"):
+            store.put_as_written("b", ["5 1 NEW 8"] * 3000)
+        store.one("PRAGMA max_page_count = 1000000")
+        self.assertEqual(len(store.journal("b")), 1)
+        self.assertIsNone(store.check("b"))
+        self.assertEqual(store.put_as_written("b", ["5 1 NEW 8"]), ["done 0 0"])
+
+    def test_file_that_may_not_grow(self):
+        """A write that the system refuses half way: an error, and nothing of it is kept."""
+        self.importer.new("b", 1, 0)
+        self.importer.put_as_written("b", ["4 1 NEW 7"])
+
+        def limit():
+            signal.signal(signal.SIGXFSZ, signal.SIG_IGN)
+            resource.setrlimit(resource.RLIMIT_FSIZE, (150_000, 150_000))
+        lines = os.path.join(folder, "many.txt")
+        with open(lines, "w", encoding="ascii") as out:
+            out.writelines(f"5 1 GRANT 1 7 {2 + i % 1000} {5 + i} {5 + i} n\n" for i in range(1000))
+        run = subprocess.run([METERS, "--store", self.place, "put", "--as-written", "--file", lines, "b"], preexec_fn=limit, capture_output=True)
+        self.assertEqual(run.returncode, 1, run.stderr)
+        self.assertIn(b"disk", run.stderr)
+        self.assertEqual(self.importer.check_store(), [])
+        self.assertIsNone(self.importer.check("b"))
+
+    @unittest.skipUnless(os.getuid() == 0, "not root, who alone can become somebody else")
+    def test_read_only(self):
+        self.importer.new("b", 1, 0)
+        self.importer.db.close()
+        run = subprocess.run([METERS, "--store", self.place, "put", "--as-written", "b", "4", "1", "NEW", "7"], capture_output=True,
+                             preexec_fn=lambda: (os.setgid(65534), os.setuid(65534)))
+        self.assertEqual((run.returncode, run.stdout), (1, b""))
+        self.assertRegex(run.stderr, b"read-only|cannot be opened")
+        self.importer = stores.Sqlite(self.place)
+        self.assertIsNone(self.importer.check("b"))
+
+    def test_foreign_files(self):
+        path = os.path.join(folder, "foreign.db")
+        with open(path, "wb") as out:
+            out.write(b"not a database at all" * 100)
+        with self.assertRaisesRegex(stores.Fault, "no SQLite database"):
+            stores.Sqlite(path)
+        os.remove(path)
+        other = sqlite3.connect(path)
+        other.execute("CREATE TABLE t(x)")
+        other.close()
+        with self.assertRaisesRegex(stores.Fault, "something else"):
+            stores.Sqlite(path, create=True)
+
+
+@needs_postgres
+class PostgresStore(Store, unittest.TestCase):
+    kind = "PostgreSQL"
+
+    def setUp(self):
+        super().setUp()
+        self.place = socket_of("iris")
+        self.importer = stores.Postgres(self.place)
+        self.writer_role = "anna"
+        self.importer.is_sound = lambda b: self.importer.one("SELECT access_base.is_sound(%s)", b)[0]
+        self.importer.empty = lambda: bytes(self.importer.one("SELECT access_base.empty()")[0])
+        self.name = "p " + self.name
+
+    def put(self, *requests):
+        return stores.Postgres(socket_of("anna")).put(self.name, None, requests)
+
+    def refused(self, store, sql, pattern):
+        with self.assertRaisesRegex(stores.Fault, pattern, msg=sql):
+            store.one(sql)
+
+    def test_roles(self):
+        self.importer.new("roles", 1, 0)
+        self.importer.put_as_written("roles", ["4 1 NEW 7"])
+        self.importer.enrol("roles", "anna", 1)
+        everybody = [stores.Postgres(socket_of(role)) for role in ("anna", "iris", "rita")]
+        for store in everybody:
+            for sql in ("UPDATE meters.blocks SET base = access_base.empty()", "DELETE FROM meters.journal", "DELETE FROM meters.blocks",
+                        "INSERT INTO meters.journal(block, number, line, reply) VALUES (1, 99, 'x', 'y')", "TRUNCATE meters.journal",
+                        "UPDATE meters.requesters SET subject = 1", "SET ROLE meters_owner", "DROP TABLE meters.journal",
+                        "SELECT meters.put_lines(b, '{}') FROM meters.blocks b", "SELECT meters.lock_block('roles')",
+                        "CREATE FUNCTION meters.f() RETURNS int LANGUAGE sql AS 'SELECT 1'", "SELECT 1 FROM meters.blocks FOR UPDATE"):
+                self.refused(store, sql, "permission denied|must be owner")
+        anna, iris, rita = everybody
+        self.refused(anna, "SELECT meters.put_as_written('roles', ARRAY['4 5 NEW 9'])", "permission denied")
+        self.refused(anna, "SELECT meters.enrol('roles', 'anna', 2)", "permission denied")
+        self.refused(rita, "SELECT meters.put('roles', 'NEW 9')", "permission denied")
+        self.refused(iris, "SELECT meters.put('roles', 'NEW 9')", "permission denied")
+        anna.one("SELECT set_config('search_path', 'pg_temp', false)")
+        self.assertEqual(anna.one("SELECT meters.put('roles', 'NEW 9')")[0], "done 0 0")
+        import psycopg
+        with psycopg.connect(socket_of("nobody_there"), autocommit=True) as db, self.assertRaises(psycopg.errors.InsufficientPrivilege):
+            db.execute("SELECT name FROM meters.blocks")
+        self.assertIsNone(rita.check("roles"))
+
+    def test_drop_extension_is_refused(self):
+        with self.assertRaisesRegex(stores.Fault, "cannot drop extension"):
+            stores.Postgres(socket_of("postgres")).one("DROP EXTENSION access_base")
+
+    def test_arguments(self):
+        one = stores.Postgres(socket_of("rita")).one
+        self.assertEqual(one("SELECT access_base.may(NULL, 1, 1, 1, 1)")[0], None)
+        self.assertEqual(one("SELECT access_base.runs(access_base.empty(), NULL, 1, 1)")[0], None)
+        for sql in ("SELECT 'x'::bytea::access_base.base", "SELECT access_base.may(access_base.empty(), 1, 1, 1, -1)",
+                    "SELECT access_base.put(access_base.empty(), E'4 1 NEW 7\\n')", "SELECT access_base.put('', '4 1 NEW 7')",
+                    "SELECT access_base.put(access_base.empty(), repeat('x', 1000000))", "SELECT access_base.authorizations('\\x00')"):
+            with self.assertRaises(stores.Fault, msg=sql):
+                one(sql)
+        self.importer.new("arguments", 1, 0)
+        for sql in ("SELECT meters.put_as_written('arguments', NULL)", "SELECT meters.put_as_written('arguments', ARRAY[NULL]::text[])",
+                    "SELECT meters.put_as_written(NULL, '{}')", "SELECT meters.new_block(NULL)", "SELECT meters.enrol('arguments', 'nobody_at_all', 1)",
+                    "SELECT meters.enrol('arguments', 'anna', 1024)", "SELECT meters.new_block('x', 0)"):
+            with self.assertRaises(stores.Fault, msg=sql):
+                self.importer.one(sql)
+        self.assertEqual(self.importer.put_as_written("arguments", []), [])
+
+    def test_runs_are_multiranges(self):
+        self.importer.new("ranges", 1, 0)
+        self.importer.put_as_written("ranges", ["4 1 NEW 7", "5 1 GRANT 1 7 2 50 59 y", "5 1 GRANT 1 7 2 80 inf y"])
+        row = self.importer.one("SELECT access_base.runs(base, 2, 1, 7)::text, access_base.runs(base, 2, 1, 7) @> 4294967295, "
+                                "access_base.may(base, 2, 1, 7, 60) FROM meters.blocks WHERE name = 'ranges'")
+        self.assertEqual(row, ("{[50,60),[80,)}", True, False))
+
+    def test_kill_server(self):
+        """kill -9 of the server in the middle of a load: after the restart nothing acknowledged is lost, replay is equal."""
+        blocks = ["p k1", "p k2", "p k3"]
+        for block in blocks:
+            self.importer.new(block, 1, 0)
+            self.importer.put_as_written(block, ["0 1 NEW 7"])
+
+        def kill(clients):
+            with open(f"{CLUSTER}/data/postmaster.pid", encoding="ascii") as file:
+                os.kill(int(file.readline()), signal.SIGKILL)
+        acknowledged = run_clients(self.place, self.kind, blocks, SECONDS, kill)[2]
+        cluster("start")
+        self.importer = stores.Postgres(self.place)
+        self.assert_kept(blocks, acknowledged, exactly=False)
+
+    def test_old_snapshot(self):
+        """Under REPEATABLE READ a client that comes too late gets 40001 and nothing is lost."""
+        import psycopg
+        self.importer.new("snapshot", 1, 0)
+        with psycopg.connect(self.place) as db:
+            db.isolation_level = psycopg.IsolationLevel.REPEATABLE_READ
+            db.execute("SELECT 1 FROM meters.blocks")
+            self.importer.put_as_written("snapshot", ["junk"])
+            with self.assertRaises(psycopg.errors.SerializationFailure):
+                db.execute("SELECT meters.put_as_written('snapshot', ARRAY['4 1 NEW 7'])")
+        self.assertIsNone(self.importer.check("snapshot"))
+
+
+# ---- the command and the pictures
+class Command(unittest.TestCase):
+    def meters(self, *words, give="", status=0):
+        run = subprocess.run([METERS, *words], input=give.encode("latin-1"), capture_output=True, cwd=self.folder)
+        self.assertEqual(run.returncode, status, run.stderr.decode())
+        return (run.stdout if status == 0 else run.stderr).decode()
+
+    def setUp(self):
+        self.folder = tempfile.mkdtemp(dir=folder)
+
+    def test_session(self):
+        """The README's session through the command, and everything around it."""
+        readme = open(os.path.join(ROOT, "README.md"), encoding="utf-8").read()
+        lines = readme.split("<<'END'\n")[1].split("END\n")[0]
+        self.meters("new", "s")
+        with open(os.path.join(ROOT, "crates", "session", "stdout"), encoding="ascii") as expected:
+            self.assertEqual(self.meters("put", "--as-written", "s", give=lines).splitlines(), expected.read().splitlines()[:11])
+        self.assertEqual(self.meters("ask", "s", "WHEN", "3", "1", "7"), "55-59 80-150\n")
+        self.assertEqual(len(self.meters("journal", "s").splitlines()), 9)
+        self.assertIn("authorizations: 4", self.meters("show", "s"))
+        self.assertIn("9 requests replayed", self.meters("check"))
+        self.meters("export", "s", "s.base")
+        self.meters("import", "t", "s.base")
+        self.assertEqual(self.meters("put", "t", "NEW", "8"), "done 0 4\n")
+        self.assertIn("exists", self.meters("export", "s", "s.base", status=1))
+        self.assertIn("there is no block", self.meters("ask", "u", "WHEN", "3", "1", "7", status=1))
+        self.assertIn("no sound base", self.meters("import", "u", METERS, status=1))
+        self.assertIn("line 2 has a character", self.meters("put", "--as-written", "s", give="4 1 NEW 9\n4 1 NEW \xff9\n", status=1))
+        self.assertIn("a question is", self.meters("ask", "s", "NEW", "9", status=1))
+        self.assertIn("there is no file", self.meters("--store", "nothing.db", "blocks", status=1))
+
+    def test_dates(self):
+        self.meters("new", "--unit", "day", "--origin", "2020-01-01", "d")
+        self.meters("put", "d", "NEW", "1")
+        self.assertEqual(self.meters("put", "d", "GRANT", "1", "1", "2", "now", "2099-12-31", "n"), "done 1 1\n")
+        self.assertEqual(self.meters("ask", "d", "MAY", "2", "1", "1", "2099-12-31"), "yes\n")
+        self.assertEqual(self.meters("ask", "d", "MAY", "2", "1", "1", "2100-01-01"), "no\n")
+
+    def test_pictures(self):
+        """Both pictures are well-formed and say what is in them, and a browser shows them if there is one."""
+        self.meters("new", "elm")
+        with open(os.path.join(HERE, "picture.txt"), encoding="ascii") as file:
+            self.meters("put", "--as-written", "elm", give=file.read())
+        names = os.path.join(self.folder, "names")
+        with open(names, "w", encoding="utf-8") as out:
+            out.write("subject 2 <Agent> & Söhne\nmode 1 read\n")
+        for picture, words in (("timeline", ["subject 9", "everybody else", "50–59", "#4 withdrawn", "Rule #11"]),
+                               ("chains", ["administrator", "#4 →", "denied 60, withdrawn"])):
+            svg = self.meters(picture, "elm", "7")
+            tree = xml.etree.ElementTree.fromstring(svg)
+            told = " | ".join("".join(part.itertext()) for part in tree.iter("{http://www.w3.org/2000/svg}text"))
+            for word in words:
+                self.assertIn(word, told)
+            self.assertIn("<Agent>", "".join(xml.etree.ElementTree.fromstring(self.meters(picture, "--names", names, "elm", "7")).itertext()))
+            self.meters(picture, "elm", "7", "--out", picture + ".html")
+            self.browser(picture)
+        self.assertIn("has no meter 9", self.meters("timeline", "elm", "9", status=1))
+
+    def browser(self, picture):
+        if not shutil.which("chromium"):
+            return
+        png = os.path.join(self.folder, picture + ".png")
+        try:
+            subprocess.run(["chromium", "--headless=new", "--no-sandbox", "--disable-gpu", f"--user-data-dir={self.folder}/profile",
+                            f"--screenshot={png}", "--window-size=1120,700", f"file://{self.folder}/{picture}.html"],
+                           capture_output=True, timeout=60)
+        except subprocess.TimeoutExpired:
+            print("  skipped: Chromium does not come up on this machine", file=sys.stderr)
+            return
+        if os.path.exists(png):
+            self.assertGreater(os.path.getsize(png), 20_000, "the page is blank")
+
+
+if __name__ == "__main__":
+    unittest.main(verbosity=1, warnings="ignore")
