@@ -5,7 +5,7 @@
  *
  * The base is ACCESS_BASE_BYTES bytes that the caller lends; nothing else is kept between calls. Any bytes may be lent,
  * of any length: what is no sound base is refused with 2 and left as it is. No function allocates, and the deepest
- * takes about 99,000 bytes of stack.
+ * takes about 102,000 bytes of stack.
  *
  * What the caller owes, since no proof reaches beyond the call: a pointer is not NULL and points to as many elements
  * as the length beside it says, also where that is 0; what one call is lent does not overlap; nobody else writes to it
