@@ -26,10 +26,10 @@ use Rattle.model.specs.Requests.{NEW, ADDRULE, DROPRULE, GRANTADM, REVOKEADM, G
 use Rattle.model.specs.Requests.{is, newHead, newRule, insert, without}
 use Rattle.model.specs.Means.{plainly}
 use Rattle.model.specs.Step.{effect}
-use Rattle.theorems.specs.Kinds.{kind-is, is-apart, is-kinds, grantKinds, labelKinds}
-use Rattle.theorems.specs.Rows.{rule-in, label-left}
-use Rattle.theorems.specs.RuleTerms.{ruleTests}
-use Rattle.theorems.specs.Preservation.{sound-after}
+use Rattle.laws.specs.Kinds.{kind-is, is-apart, is-kinds, grantKinds, labelKinds}
+use Rattle.laws.specs.Rows.{rule-in, label-left}
+use Rattle.laws.specs.RuleTerms.{ruleTests}
+use Rattle.laws.specs.Preservation.{sound-after}
 use Rattle.edits.specs.declared.PrivilegeBody.the-variants.{Objects}
 use Rattle.edits.specs.Edits.{Written, written-sound, written-encode, withClock, withAuthorizations, withRules, insertAt}
 use Rattle.edits.specs.Edits.{withPrivileges, withReferrers, privilegesOf}

@@ -15,8 +15,8 @@ use Rattle.model.specs.declared.Privilege.{Privilege}
 use Rattle.model.specs.Base.{isPrivilege, listed}
 use Rattle.model.specs.Requests.{before, insert, without}
 use Rattle.model.specs.Soundness.{chained}
-use Rattle.theorems.specs.Chained.{Pairwise, Passing, chained-all}
-use Rattle.theorems.specs.Privileges.{before-cases, before-trans, the-privilege}
+use Rattle.laws.specs.Chained.{Pairwise, Passing, chained-all}
+use Rattle.laws.specs.Privileges.{before-cases, before-trans, the-privilege}
 use Rattle.edits.specs.Edits.{insertAt, removeAt}
 use Rattle.effects.specs.Effects.{firstIndex}
 

@@ -50,7 +50,7 @@ module _ (M : Means) (Q : Questions) where
 unfoldable pub session : List ℕ → List ℕ
 session input = transcript plainly asDefined (lines input) emptyBase
 
--- ---- the same through the library's answers over lent bytes (`session-bytes` in crate theorems, SessionFacts)
+-- ---- the same through the library's answers over lent bytes (`session-bytes` in crate laws, SessionFacts)
 
 pub record ByteTurn : Type 0 where
   pub reply : Reply
@@ -91,6 +91,15 @@ byteTranscript (l ∷ rest) s =
 
 unfoldable pub byteSession : List ℕ → List ℕ
 byteSession input = byteTranscript (lines input) (encode emptyBase)
+
+-- the base's bytes after lines that are answered one after the other, as in `byteTranscript`
+abbrev pub turns : List (List ℕ) → List ℕ → List ℕ
+turns [] s = s
+turns (l ∷ rest) s = turns rest (byteTurn s (readLine l) .lent)
+
+-- the base's bytes after the session over an input
+abbrev pub bytesAfter : List ℕ → List ℕ
+bytesAfter input = turns (lines input) (encode emptyBase)
 
 -- ---- one line of text over lent bytes, its reply as text in a lent buffer
 

@@ -16,7 +16,7 @@ use Rattle.model.specs.Ranges.{isLabel, isSubject, isObject, isMode, isInstant}
 use Rattle.model.specs.Encoding.{ruleOf}
 use Rattle.model.specs.Stratification.{isStar, stratified}
 use Rattle.model.specs.Soundness.{chained, orStar, sideIn, intervalIn, authorizationIn, ruleIn}
-use Rattle.theorems.specs.Chained.{Pairwise, Passing, chained-all}
+use Rattle.laws.specs.Chained.{Pairwise, Passing, chained-all}
 use Rattle.support.specs.Cover.{authorizationsIn}
 use Rattle.rules.specs.Strata.{rulesIn, ruleAt}
 use Rattle.rules.proofs.Records.{length-records, record-nth, record-mem, mem-record}

@@ -18,7 +18,7 @@ use Rattle.model.specs.Step.{namesObject, namesMode, namesInterval, ruleTermsIn
 use Rattle.model.specs.Soundness.{intervalIn, ruleIn}
 use Rattle.model.specs.FitsFacts.{RuleFits, rule-fits}
 use Rattle.model.specs.StepFacts.{in-range}
-use Rattle.theorems.specs.RuleTerms.{term-in, side-in, ruleTests}
+use Rattle.laws.specs.RuleTerms.{term-in, side-in, ruleTests}
 use Rattle.support.specs.declared.Gap.{Gap}
 use Rattle.support.specs.declared.Gap.the-variants.{At, None}
 use Rattle.support.specs.Gaps.{GapIs}

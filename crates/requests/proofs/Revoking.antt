@@ -28,9 +28,9 @@ use Rattle.model.specs.Requests.{REVOKEREF, is, withdraws, before, without, obj
 use Rattle.model.specs.Means.{plainly}
 use Rattle.model.specs.Step.{effect, full, accepting}
 use Rattle.model.specs.SoundnessFacts.{Sound, sound-tests, sound-bytes}
-use Rattle.theorems.specs.Kinds.{kind-is, is-apart, is-kinds, objectKinds, subjectKinds, labelKinds, withdrawalKinds}
-use Rattle.theorems.specs.KeepFacts.{Sorted}
-use Rattle.theorems.specs.SoundFacts.{sorted}
+use Rattle.laws.specs.Kinds.{kind-is, is-apart, is-kinds, objectKinds, subjectKinds, labelKinds, withdrawalKinds}
+use Rattle.laws.specs.KeepFacts.{Sorted}
+use Rattle.laws.specs.SoundFacts.{sorted}
 use Rattle.encoding.specs.declared.Counts.{Counts}
 use Rattle.encoding.specs.Format.{countsOf, administratorsAt, authorizationsAt}
 use Rattle.encoding.specs.FormatFacts.{decoded-lengths}

@@ -20,7 +20,7 @@ use Rattle.model.specs.Means.{plainly}
 use Rattle.model.specs.Step.{Row, firstNumber, full, effect, accepting, refusal}
 use Rattle.model.specs.StepFacts.{Accepted, accepted, first-none}
 use Rattle.model.specs.Answers.{Answer, answering, request, shown, instantFits, Answered}
-use Rattle.theorems.specs.RequestFacts.{request-accepted, request-refused, request-unsound}
+use Rattle.laws.specs.RequestFacts.{request-accepted, request-refused, request-unsound}
 use Rattle.refusals.specs.declared.Early.the-variants.{Number, Uncovered}
 use Rattle.refusals.specs.Early.{earlyRows, earlyIs, early-numbered, refusal-early}
 

@@ -18,8 +18,8 @@ use Rattle.model.specs.Requests.{NEW, GRANT, DENY, ADDRULE, DROPRULE, GRANTADM,
 use Rattle.model.specs.Requests.{is, grants, labels, withdraws, before, newRule, drops}
 use Rattle.model.specs.Means.{plainly}
 use Rattle.model.specs.Step.{effect, countsHold, full}
-use Rattle.theorems.specs.AuthorizationsAfter.{newAuthorization, granted-authorizations, same-authorizations}
-use Rattle.theorems.specs.Privileges.{changed}
+use Rattle.laws.specs.AuthorizationsAfter.{newAuthorization, granted-authorizations, same-authorizations}
+use Rattle.laws.specs.Privileges.{changed}
 use Rattle.edits.specs.Kept.{length-insertAt}
 use Rattle.effects.specs.Effects.{firstIndex}
 use Rattle.effects.proofs.Places.{insert-place}

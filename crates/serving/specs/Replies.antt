@@ -23,8 +23,8 @@ use Rattle.model.specs.Answers.{Answer, answering, refusing, shown, requestTabl
 use Rattle.model.specs.Answers.{words, request, mayAnswer, whenAnswer}
 use Rattle.model.specs.Text.{Line, order, asksMay, asksWhen, unreadable, newline, readLine, decimal, printReply}
 use Rattle.model.specs.Session.{byteTurn, runsOf}
-use Rattle.theorems.specs.RequestFacts.{request-sound}
-use Rattle.theorems.specs.SessionFacts.{when-most}
+use Rattle.laws.specs.RequestFacts.{request-sound}
+use Rattle.laws.specs.SessionFacts.{when-most}
 use Rattle.answers.specs.Runs.{words-length}
 use Rattle.printing.specs.Print.{RunsFit, longestReply}
 use Rattle.serving.specs.Turns.{Turned}

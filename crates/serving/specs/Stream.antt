@@ -10,9 +10,8 @@ use Rattle.foundation.specs.Tests.{cases, pick}
 use Rattle.model.specs.Base.{emptyBase}
 use Rattle.model.specs.Encoding.{encode}
 use Rattle.model.specs.Text.{newline, extend, split, closed, printReply}
-use Rattle.model.specs.Session.{session, byteTranscript, byteSession}
-use Rattle.theorems.specs.SessionFacts.{session-bytes}
-use Rattle.theorems.specs.Orders.{turns, bytesAfter}
+use Rattle.model.specs.Session.{session, byteTranscript, byteSession, turns, bytesAfter}
+use Rattle.laws.specs.SessionFacts.{session-bytes}
 use Rattle.serving.specs.Turns.{turnOf, replyText}
 use Rattle.serving.specs.Pieces.{ends}
 

@@ -12,9 +12,9 @@ use Rattle.io.specs.Counts.{clamped}
 use Rattle.model.specs.Soundness.{soundBytes}
 use Rattle.model.specs.Base.{emptyBase}
 use Rattle.model.specs.Encoding.{encode}
-use Rattle.model.specs.Session.{session}
+use Rattle.model.specs.Session.{session, bytesAfter}
 use Rattle.theorems.specs.Demand3.{Demand3}
-use Rattle.theorems.specs.Orders.{orders, bytesAfter, demand3-text}
+use Rattle.theorems.specs.Orders.{orders, demand3-text}
 use Rattle.serving.specs.declared.steps.Stepped.{Stepped}
 use Rattle.serving.specs.Turns.{Kept}
 use Rattle.serving.specs.Stream.{Fed, feed, finish, finishBytes, ending, Feeds}

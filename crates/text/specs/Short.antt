@@ -29,9 +29,9 @@ use Rattle.model.specs.Answers.{Answer, answering, refusing, shown, requestTabl
 use Rattle.model.specs.Answers.{words, request, mayAnswer, whenAnswer}
 use Rattle.model.specs.Text.{decimal, printReply}
 use Rattle.model.specs.Session.{runsOf}
-use Rattle.theorems.specs.Preservation.{effect-sound}
-use Rattle.theorems.specs.Rows.{label-left}
-use Rattle.theorems.specs.SessionFacts.{when-most}
+use Rattle.laws.specs.Preservation.{effect-sound}
+use Rattle.laws.specs.Rows.{label-left}
+use Rattle.laws.specs.SessionFacts.{when-most}
 use Rattle.answers.specs.Runs.{words-length}
 use Rattle.printing.specs.Print.{RunsFit}
 use Rattle.printing.specs.Lengths.{decimal-below, done-length, refused-length}

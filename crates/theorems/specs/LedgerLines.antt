@@ -30,15 +30,15 @@ use Rattle.model.specs.SoundnessFacts.{Sound, sound-tests}
 use Rattle.model.specs.Answers.{Answer, requests}
 use Rattle.model.specs.Ledger.{Entry, entry, Ledger, emptyLedger, standing, keepEntries, settle, newEntry, enter}
 use Rattle.model.specs.Ledger.{follow, ledger, linesOf}
-use Rattle.theorems.specs.LedgerFacts.{Framed, framed-keep, framed-append, live-lines, keep-lines}
-use Rattle.theorems.specs.LedgerFacts.{restrict-settle, keep-all, linesOf-append, linesOf-one}
-use Rattle.theorems.specs.Kinds.{grantKinds, intervalKinds, withdrawalKinds, is-kinds, is-apart}
-use Rattle.theorems.specs.SoundFacts.{all-supported}
-use Rattle.theorems.specs.Rows.{starts-first, interval-in}
-use Rattle.theorems.specs.AuthorizationsAfter.{no-takes}
-use Rattle.theorems.specs.Restriction.{withdrawn-all}
-use Rattle.theorems.specs.Preservation.{sound-after, effect-sound}
-use Rattle.theorems.specs.RequestFacts.{request-accepted, request-refused}
+use Rattle.laws.specs.LedgerFacts.{Framed, framed-keep, framed-append, live-lines, keep-lines}
+use Rattle.laws.specs.LedgerFacts.{restrict-settle, keep-all, linesOf-append, linesOf-one}
+use Rattle.laws.specs.Kinds.{grantKinds, intervalKinds, withdrawalKinds, is-kinds, is-apart}
+use Rattle.laws.specs.SoundFacts.{all-supported}
+use Rattle.laws.specs.Rows.{starts-first, interval-in}
+use Rattle.laws.specs.AuthorizationsAfter.{no-takes}
+use Rattle.laws.specs.Restriction.{withdrawn-all}
+use Rattle.laws.specs.Preservation.{sound-after, effect-sound}
+use Rattle.laws.specs.RequestFacts.{request-accepted, request-refused}
 
 -- the base and the ledger say the same
 pub record Agrees (b : Base) (a : Ledger) : Type 0 where

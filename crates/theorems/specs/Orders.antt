@@ -10,7 +10,7 @@ use Rattle.model.specs.Base.{emptyBase}
 use Rattle.model.specs.Encoding.{encode}
 use Rattle.model.specs.Answers.{request, requests}
 use Rattle.model.specs.Text.{Line, order, asksMay, asksWhen, unreadable, lines, readLine}
-use Rattle.model.specs.Session.{byteTurn}
+use Rattle.model.specs.Session.{byteTurn, turns, bytesAfter}
 use Rattle.theorems.specs.Demand3.{Demand3, demand3}
 
 -- the request that a line is, if it is one
@@ -23,15 +23,6 @@ orderIn unreadable = []
 -- the requests among the lines of an input, in order
 abbrev pub orders : List ℕ → List Request
 orders input = each (lines input) (λ l. orderIn (readLine l))
-
--- the base's bytes after lines that are answered one after the other, as in `byteTranscript`
-abbrev pub turns : List (List ℕ) → List ℕ → List ℕ
-turns [] s = s
-turns (l ∷ rest) s = turns rest (byteTurn s (readLine l) .lent)
-
--- the base's bytes after the session over an input
-abbrev pub bytesAfter : List ℕ → List ℕ
-bytesAfter input = turns (lines input) (encode emptyBase)
 
 -- a line leaves what its request leaves
 one-turn : (s : List ℕ) (l : Line) → byteTurn s l .lent ≡ requests (orderIn l) s

@@ -30,15 +30,15 @@ use Rattle.model.specs.SupportFacts.{live-last, live-old, live-new, chain-more}
 use Rattle.model.specs.Survival.{Gives, grant, denial, after, Given, TakesBack, LosesAdministration, Stands, Behind}
 use Rattle.model.specs.Survival.{Survives, end, refused, accepted}
 use Rattle.model.specs.SurvivalFacts.{taken}
-use Rattle.theorems.specs.Kinds.{grantKinds, labelKinds, is-kinds}
-use Rattle.theorems.specs.KeepFacts.{live-keep}
-use Rattle.theorems.specs.SoundFacts.{all-supported}
-use Rattle.theorems.specs.SoundPrivileges.{last-stays}
-use Rattle.theorems.specs.AuthorizationsAfter.{newAuthorization, no-takes, granted-authorizations}
-use Rattle.theorems.specs.AuthorizationsAfter.{same-authorizations}
-use Rattle.theorems.specs.Restriction.{withdrawn-all}
-use Rattle.theorems.specs.Preservation.{sound-after, effect-sound}
-use Rattle.theorems.specs.RequestFacts.{request-accepted, done-passes, number-refused, refused-number}
+use Rattle.laws.specs.Kinds.{grantKinds, labelKinds, is-kinds}
+use Rattle.laws.specs.KeepFacts.{live-keep}
+use Rattle.laws.specs.SoundFacts.{all-supported}
+use Rattle.laws.specs.SoundPrivileges.{last-stays}
+use Rattle.laws.specs.AuthorizationsAfter.{newAuthorization, no-takes, granted-authorizations}
+use Rattle.laws.specs.AuthorizationsAfter.{same-authorizations}
+use Rattle.laws.specs.Restriction.{withdrawn-all}
+use Rattle.laws.specs.Preservation.{sound-after, effect-sound}
+use Rattle.laws.specs.RequestFacts.{request-accepted, done-passes, number-refused, refused-number}
 use Rattle.theorems.specs.PlayFacts.{base-accepted, base-refused, step-sound, baseAfter, after-sound}
 use Rattle.theorems.specs.PlayFacts.{after-bytes, after-base, after-one, after-more, done-accepted, done-label}
 

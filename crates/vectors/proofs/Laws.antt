@@ -21,7 +21,7 @@ use Rattle.model.specs.Encoding.{encode}
 use Rattle.model.specs.EncodingFacts.{encode-sound, empty-sound, sound-length}
 use Rattle.model.specs.Soundness.{soundBytes}
 use Rattle.model.specs.Answers.{create}
-use Rattle.theorems.specs.Served.{created}
+use Rattle.laws.specs.Created.{created}
 use Rattle.serving.specs.Turns.{Turned}
 use Rattle.vectors.specs.Transcripts.{marked, opens, asks, body, Stage, stage, fresh, stands, next}
 use Rattle.vectors.specs.Transcripts.{agrees, standing, reached, remaining}

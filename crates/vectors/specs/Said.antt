@@ -16,7 +16,7 @@ use Rattle.model.specs.Means.{plainly}
 use Rattle.model.specs.Questions.{asDefined}
 use Rattle.model.specs.Text.{newline, space, printReply}
 use Rattle.model.specs.Session.{transcript, byteTranscript}
-use Rattle.theorems.specs.SessionFacts.{same-transcript}
+use Rattle.laws.specs.SessionFacts.{same-transcript}
 use Rattle.serving.specs.Turns.{turnOf, replyText}
 use Rattle.vectors.specs.Transcripts.{marked, opens, asks, tells, body, Stage, stage, fresh, stands, next}
 use Rattle.vectors.specs.Transcripts.{agrees}

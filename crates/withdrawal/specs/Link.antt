@@ -12,8 +12,8 @@ use Rattle.model.specs.Requests.{REVOKE, REVOKEP, REVOKEN, REVOKEADM, is, withd
 use Rattle.model.specs.Means.{plainly}
 use Rattle.model.specs.Step.{effect}
 use Rattle.model.specs.SoundnessFacts.{Sound}
-use Rattle.theorems.specs.Kinds.{is-apart}
-use Rattle.theorems.specs.Restriction.{withdrawn-all}
+use Rattle.laws.specs.Kinds.{is-apart}
+use Rattle.laws.specs.Restriction.{withdrawn-all}
 use Rattle.withdrawal.specs.declared.Cut.{Cut}
 use Rattle.withdrawal.specs.Cuts.{cutTakes, spared}
 

@@ -18,7 +18,7 @@ use Rattle.model.specs.declared.Authorization.{Authorization}
 use Rattle.model.specs.Support.{live}
 use Rattle.model.specs.SupportFacts.{live-mem}
 use Rattle.model.specs.Withdrawal.{pieces, keep}
-use Rattle.theorems.specs.KeepFacts.{Sorted}
+use Rattle.laws.specs.KeepFacts.{Sorted}
 use Rattle.support.specs.Cover.{wantOf, wanted, covers, coveredBy}
 use Rattle.support.specs.Places.{placed, any-append}
 use Rattle.withdrawal.specs.declared.Cut.{Cut}

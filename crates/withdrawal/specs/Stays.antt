@@ -15,8 +15,8 @@ use Rattle.model.specs.declared.Head.{Head}
 use Rattle.model.specs.declared.Authorization.{Authorization}
 use Rattle.model.specs.Support.{supports, supports-rises, supported, supported-step, live}
 use Rattle.model.specs.Withdrawal.{pieces, keep, restrict}
-use Rattle.theorems.specs.KeepFacts.{intervalsOf, live-keep}
-use Rattle.theorems.specs.LedgerFacts.{refine-maximal, keep-append, keep-pieces}
+use Rattle.laws.specs.KeepFacts.{intervalsOf, live-keep}
+use Rattle.laws.specs.LedgerFacts.{refine-maximal, keep-append, keep-pieces}
 use Rattle.support.specs.declared.Want.{Want}
 use Rattle.support.specs.Cover.{wantOf, headFor, wanted, supports-wanted, coveredBy}
 use Rattle.support.specs.Gaps.{any-live}

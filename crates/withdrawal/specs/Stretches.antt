@@ -14,7 +14,7 @@ use Rattle.foundation.specs.Intervals.{interval, inInterval, inInterval-in, inI
 use Rattle.foundation.specs.Intervals.{separate-weaken, unique, maximalFrom, maximalFrom-no, maximalFrom-separate}
 use Rattle.foundation.specs.Intervals.{maximalFrom-covered, within, within-in, within-above, maximal}
 use Rattle.foundation.specs.Intervals.{maximal-separate, maximal-covered}
-use Rattle.theorems.specs.LedgerFacts.{separate-append, covered-append}
+use Rattle.laws.specs.LedgerFacts.{separate-append, covered-append}
 use Rattle.support.specs.First.{first, First, first-of}
 
 -- t is one of the instants from a on, before b

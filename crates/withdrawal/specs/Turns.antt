@@ -14,7 +14,7 @@ use Rattle.foundation.specs.Lists.{Mem}
 use Rattle.model.specs.declared.Head.{Head}
 use Rattle.model.specs.declared.Authorization.{Authorization}
 use Rattle.model.specs.Withdrawal.{pieces, keep}
-use Rattle.theorems.specs.KeepFacts.{intervalsOf, piece-of, pieces-of, Precedes}
+use Rattle.laws.specs.KeepFacts.{intervalsOf, piece-of, pieces-of, Precedes}
 use Rattle.support.specs.Places.{placed}
 use Rattle.withdrawal.specs.declared.Cut.{Cut}
 use Rattle.withdrawal.specs.declared.Stretch.{Stretch}

@@ -9,7 +9,7 @@ use Rattle.foundation.specs.Lists.{Mem}
 use Rattle.model.specs.declared.Head.{Head}
 use Rattle.model.specs.declared.Authorization.{Authorization}
 use Rattle.model.specs.Withdrawal.{keep, restrict}
-use Rattle.theorems.specs.KeepFacts.{Sorted}
+use Rattle.laws.specs.KeepFacts.{Sorted}
 use Rattle.support.specs.Cover.{authorizationsIn}
 use Rattle.support.specs.Places.{placed}
 use Rattle.withdrawal.specs.declared.Cut.{Cut}

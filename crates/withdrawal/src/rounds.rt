@@ -7,7 +7,7 @@ ghost use mathlib.Core.Bool.{true};
 ghost use Prim.Native.Nat.{_+_, _*_, _≤_, _<_};
 ghost use lib.ListN.{length, drop};
 ghost use Rattle.model.specs.Withdrawal.{keep, restrict};
-ghost use Rattle.theorems.specs.KeepFacts.{Sorted};
+ghost use Rattle.laws.specs.KeepFacts.{Sorted};
 ghost use Rattle.support.specs.Cover.{authorizationsIn, rootsIn};
 ghost use Rattle.withdrawal.specs.Cuts.{spared, CutOrdered};
 ghost use Rattle.withdrawal.specs.Bodies.{Body, Holds, Room, Makes, Built};

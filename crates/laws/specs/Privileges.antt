@@ -13,7 +13,7 @@ use Rattle.model.specs.declared.Privilege.{Privilege}
 use Rattle.model.specs.Base.{privilege, isPrivilege, listed}
 use Rattle.model.specs.Requests.{before, insert, without}
 use Rattle.model.specs.Soundness.{chained}
-use Rattle.theorems.specs.Chained.{Pairwise, Passing, chained-all, all-chained, chained-keep}
+use Rattle.laws.specs.Chained.{Pairwise, Passing, chained-all, all-chained, chained-keep}
 
 -- ---- a privilege put in
 

@@ -20,12 +20,12 @@ use Rattle.model.specs.Step.{effect}
 use Rattle.model.specs.StepFacts.{Accepted}
 use Rattle.model.specs.Soundness.{allSupported}
 use Rattle.model.specs.SoundnessFacts.{Sound}
-use Rattle.theorems.specs.Kinds.{grantKinds, withdrawalKinds, is-apart, not-kind}
-use Rattle.theorems.specs.KeepFacts.{live-keep}
-use Rattle.theorems.specs.SoundFacts.{all-supported}
-use Rattle.theorems.specs.Rows.{all-covered}
-use Rattle.theorems.specs.AuthorizationsAfter.{newAuthorization, granted-authorizations, same-authorizations}
-use Rattle.theorems.specs.Restriction.{roots-stay, withdrawn-all}
+use Rattle.laws.specs.Kinds.{grantKinds, withdrawalKinds, is-apart, not-kind}
+use Rattle.laws.specs.KeepFacts.{live-keep}
+use Rattle.laws.specs.SoundFacts.{all-supported}
+use Rattle.laws.specs.Rows.{all-covered}
+use Rattle.laws.specs.AuthorizationsAfter.{newAuthorization, granted-authorizations, same-authorizations}
+use Rattle.laws.specs.Restriction.{roots-stay, withdrawn-all}
 
 module _ (b : Base) (q : Request) (s : Sound b) (g : Accepted b q) where
   -- each instant of a grant or denial is supported

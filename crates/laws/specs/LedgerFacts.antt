@@ -18,7 +18,7 @@ use Rattle.model.specs.Support.{supported, live}
 use Rattle.model.specs.Withdrawal.{authorization, pieces, keep, restrict}
 use Rattle.model.specs.SupportFacts.{live-append}
 use Rattle.model.specs.Ledger.{Entry, entry, standing, keepEntries, settle, linesOf}
-use Rattle.theorems.specs.KeepFacts.{live-pieces}
+use Rattle.laws.specs.KeepFacts.{live-pieces}
 
 -- no entry has an instant behind the last
 abbrev pub Framed : List Entry → Type 0

@@ -19,15 +19,15 @@ use Rattle.model.specs.Step.{optionFits, effect}
 use Rattle.model.specs.StepFacts.{Accepted}
 use Rattle.model.specs.Soundness.{chained, ruleIn, startsFirst, starsMatch, rightDenialsPlain}
 use Rattle.model.specs.SoundnessFacts.{Sound}
-use Rattle.theorems.specs.Kinds.{kind-is}
-use Rattle.theorems.specs.Rows.{requester-in, interval-in, rule-in, starts-first, both-exist, no-circle}
-use Rattle.theorems.specs.Rows.{label-left}
+use Rattle.laws.specs.Kinds.{kind-is}
+use Rattle.laws.specs.Rows.{requester-in, interval-in, rule-in, starts-first, both-exist, no-circle}
+use Rattle.laws.specs.Rows.{label-left}
 use Rattle.model.specs.SoundTests.{order-test, ranges-test, intervals-test, exist-test}
-use Rattle.theorems.specs.SoundPrivileges.{exists-stays, last-stays}
-use Rattle.theorems.specs.Chained.{chained-keep, chained-last}
-use Rattle.theorems.specs.SoundFacts.{rule-label-given}
-use Rattle.theorems.specs.RuleTerms.{term-in, side-tests, side-in, stars-match, ruleTests}
-use Rattle.theorems.specs.RulesAfter.{rule-origin, rules-all, stratified-less}
+use Rattle.laws.specs.SoundPrivileges.{exists-stays, last-stays}
+use Rattle.laws.specs.Chained.{chained-keep, chained-last}
+use Rattle.laws.specs.SoundFacts.{rule-label-given}
+use Rattle.laws.specs.RuleTerms.{term-in, side-tests, side-in, stars-match, ruleTests}
+use Rattle.laws.specs.RulesAfter.{rule-origin, rules-all, stratified-less}
 
 module _ (b : Base) (q : Request) where
   abbrev after : Base

@@ -10,18 +10,18 @@ use Rattle.model.specs.Step.{refusal, effect}
 use Rattle.model.specs.StepFacts.{Accepted, accepted}
 use Rattle.model.specs.Soundness.{sound}
 use Rattle.model.specs.SoundnessFacts.{Sound, sound-tests, tests-sound}
-use Rattle.theorems.specs.SoundPrivileges.{counts-after, order-objects, order-administrators, order-referrers}
-use Rattle.theorems.specs.SoundPrivileges.{ranges-clock, ranges-last, ranges-objects, ranges-administrators}
-use Rattle.theorems.specs.SoundPrivileges.{ranges-referrers, exist-administrators, exist-referrers}
-use Rattle.theorems.specs.SoundPrivileges.{owners-after}
-use Rattle.theorems.specs.SoundRules.{order-rules, ranges-rules, intervals-rules, exist-rules, labels-rules}
-use Rattle.theorems.specs.SoundRules.{stars-after, right-after, strata-after}
-use Rattle.theorems.specs.SoundAuthorizations.{order-authorizations, ranges-authorizations}
-use Rattle.theorems.specs.SoundAuthorizations.{intervals-authorizations, granted-after, denials-after}
-use Rattle.theorems.specs.SoundAuthorizations.{exist-authorizations, agree-after, labels-authorizations}
-use Rattle.theorems.specs.SoundAuthorizations.{labels-apart}
-use Rattle.theorems.specs.SoundAuthors.{authors-after}
-use Rattle.theorems.specs.SoundSupport.{support-after}
+use Rattle.laws.specs.SoundPrivileges.{counts-after, order-objects, order-administrators, order-referrers}
+use Rattle.laws.specs.SoundPrivileges.{ranges-clock, ranges-last, ranges-objects, ranges-administrators}
+use Rattle.laws.specs.SoundPrivileges.{ranges-referrers, exist-administrators, exist-referrers}
+use Rattle.laws.specs.SoundPrivileges.{owners-after}
+use Rattle.laws.specs.SoundRules.{order-rules, ranges-rules, intervals-rules, exist-rules, labels-rules}
+use Rattle.laws.specs.SoundRules.{stars-after, right-after, strata-after}
+use Rattle.laws.specs.SoundAuthorizations.{order-authorizations, ranges-authorizations}
+use Rattle.laws.specs.SoundAuthorizations.{intervals-authorizations, granted-after, denials-after}
+use Rattle.laws.specs.SoundAuthorizations.{exist-authorizations, agree-after, labels-authorizations}
+use Rattle.laws.specs.SoundAuthorizations.{labels-apart}
+use Rattle.laws.specs.SoundAuthors.{authors-after}
+use Rattle.laws.specs.SoundSupport.{support-after}
 
 pub sound-after : (b : Base) (q : Request) → Sound b → Accepted b q → Sound (effect plainly b q)
 sound-after b q s g = record {

@@ -23,16 +23,16 @@ use Rattle.model.specs.Soundness.{chained, rises, intervalIn, authorizationIn, 
 use Rattle.model.specs.Soundness.{denialsPlain, labelsAgree}
 use Rattle.model.specs.SoundnessFacts.{Sound}
 use Rattle.model.specs.SoundTests.{ranges-test, exist-test, labels-test}
-use Rattle.theorems.specs.Kinds.{grantKinds, labelKinds, objectKinds, subjectKinds, modeKinds, intervalKinds}
-use Rattle.theorems.specs.Kinds.{is-kinds, is-apart}
-use Rattle.theorems.specs.Chained.{pairwise-chained}
-use Rattle.theorems.specs.KeepFacts.{apart, Precedes, precedes-rises, precedes-apart}
-use Rattle.theorems.specs.SoundFacts.{granted-before, label-given, rule-label-given}
-use Rattle.theorems.specs.Rows.{now-in, requester-in, object-in, subject-in, mode-in, interval-in, clock-rises}
-use Rattle.theorems.specs.Rows.{starts-first, starts-late, object-exists, label-left}
-use Rattle.theorems.specs.SoundPrivileges.{exists-stays, last-stays}
-use Rattle.theorems.specs.RulesAfter.{RuleOrigin, rule-origin}
-use Rattle.theorems.specs.AuthorizationsAfter.{newAuthorization, each-after, heads-after, sorted-after}
+use Rattle.laws.specs.Kinds.{grantKinds, labelKinds, objectKinds, subjectKinds, modeKinds, intervalKinds}
+use Rattle.laws.specs.Kinds.{is-kinds, is-apart}
+use Rattle.laws.specs.Chained.{pairwise-chained}
+use Rattle.laws.specs.KeepFacts.{apart, Precedes, precedes-rises, precedes-apart}
+use Rattle.laws.specs.SoundFacts.{granted-before, label-given, rule-label-given}
+use Rattle.laws.specs.Rows.{now-in, requester-in, object-in, subject-in, mode-in, interval-in, clock-rises}
+use Rattle.laws.specs.Rows.{starts-first, starts-late, object-exists, label-left}
+use Rattle.laws.specs.SoundPrivileges.{exists-stays, last-stays}
+use Rattle.laws.specs.RulesAfter.{RuleOrigin, rule-origin}
+use Rattle.laws.specs.AuthorizationsAfter.{newAuthorization, each-after, heads-after, sorted-after}
 
 -- what the tests of an authorization's head ask
 abbrev headIn : Head → Bool

@@ -22,11 +22,11 @@ use Rattle.model.specs.Requests.{affects}
 use Rattle.model.specs.Means.{plainly}
 use Rattle.model.specs.Step.{effect}
 use Rattle.model.specs.SoundnessFacts.{Sound}
-use Rattle.theorems.specs.Kinds.{is-apart}
-use Rattle.theorems.specs.KeepFacts.{live-keep, keep-cong}
-use Rattle.theorems.specs.SoundFacts.{all-supported}
-use Rattle.theorems.specs.SoundPrivileges.{controls-stays}
-use Rattle.theorems.specs.AuthorizationsAfter.{withdrawn-authorizations}
+use Rattle.laws.specs.Kinds.{is-apart}
+use Rattle.laws.specs.KeepFacts.{live-keep, keep-cong}
+use Rattle.laws.specs.SoundFacts.{all-supported}
+use Rattle.laws.specs.SoundPrivileges.{controls-stays}
+use Rattle.laws.specs.AuthorizationsAfter.{withdrawn-authorizations}
 
 -- ---- what is taken is affected
 

@@ -15,8 +15,8 @@ use Rattle.model.specs.SupportFacts.{everywhere-live}
 use Rattle.model.specs.Soundness.{rises, startsFirst}
 use Rattle.model.specs.SoundnessFacts.{Sound}
 use Rattle.model.specs.SoundTests.{order-test, intervals-test, labels-test}
-use Rattle.theorems.specs.Chained.{chained-pairwise, chained-both}
-use Rattle.theorems.specs.KeepFacts.{apart, Precedes, Sorted, precedes-trans, tests-precedes}
+use Rattle.laws.specs.Chained.{chained-pairwise, chained-both}
+use Rattle.laws.specs.KeepFacts.{apart, Precedes, Sorted, precedes-trans, tests-precedes}
 
 module _ (b : Base) (s : Sound b) where
   -- start is not above end

@@ -18,7 +18,7 @@ use Rattle.model.specs.EncodingFacts.{decode-encode, encode-sound}
 use Rattle.model.specs.Soundness.{sound, soundBytes}
 use Rattle.model.specs.SoundnessFacts.{sound-bytes}
 use Rattle.model.specs.Answers.{Answer, answering, refusing, requestTable, request, refusalNumber}
-use Rattle.theorems.specs.Preservation.{effect-sound}
+use Rattle.laws.specs.Preservation.{effect-sound}
 
 -- ---- on unsound bytes
 

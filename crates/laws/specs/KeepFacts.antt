@@ -19,7 +19,7 @@ use Rattle.model.specs.Support.{live}
 use Rattle.model.specs.SupportFacts.{live-append}
 use Rattle.model.specs.Withdrawal.{authorization, pieces, keep}
 use Rattle.model.specs.Soundness.{rises, sameHead}
-use Rattle.theorems.specs.Chained.{Pairwise, pairwise-append}
+use Rattle.laws.specs.Chained.{Pairwise, pairwise-append}
 
 -- the intervals of an authorization's instants that p keeps
 abbrev pub intervalsOf : (Head → ℕ → Bool) → Authorization → List Interval

@@ -32,8 +32,8 @@ use Rattle.model.specs.Text.{Line, order, asksMay, asksWhen, unreadable, newlin
 use Rattle.model.specs.Text.{printReply}
 use Rattle.model.specs.Session.{Turn, pairs, turn, transcript, session, ByteTurn, pairsOf, runsOf, whenList, byteTurn}
 use Rattle.model.specs.Session.{byteTranscript, byteSession}
-use Rattle.theorems.specs.Preservation.{effect-sound}
-use Rattle.theorems.specs.RequestFacts.{request-accepted, request-refused}
+use Rattle.laws.specs.Preservation.{effect-sound}
+use Rattle.laws.specs.RequestFacts.{request-accepted, request-refused}
 
 -- a turn through the bytes and one on the base print the same and leave the same base, a sound one
 record Same (x : ByteTurn) (y : Turn) : Type 0 where

@@ -20,12 +20,12 @@ use Rattle.model.specs.Step.{countsHold, effect}
 use Rattle.model.specs.StepFacts.{Accepted}
 use Rattle.model.specs.Soundness.{chained, privilegeIn, ownersApart}
 use Rattle.model.specs.SoundnessFacts.{Sound}
-use Rattle.theorems.specs.Kinds.{objectKinds, subjectKinds, kind-is, is-kinds, is-apart}
-use Rattle.theorems.specs.Rows.{now-in, requester-in, object-in, subject-in, object-exists, object-new}
-use Rattle.theorems.specs.Rows.{not-administrator, not-referrer, counts-in, label-left}
+use Rattle.laws.specs.Kinds.{objectKinds, subjectKinds, kind-is, is-kinds, is-apart}
+use Rattle.laws.specs.Rows.{now-in, requester-in, object-in, subject-in, object-exists, object-new}
+use Rattle.laws.specs.Rows.{not-administrator, not-referrer, counts-in, label-left}
 use Rattle.model.specs.SoundTests.{order-test, ranges-test, exist-test, owners-test}
-use Rattle.theorems.specs.Privileges.{before-cases, before-not, the-privilege, changed, changed-order}
-use Rattle.theorems.specs.Privileges.{changed-before, changed-mem, changed-all, changed-stays, listed-stays}
+use Rattle.laws.specs.Privileges.{before-cases, before-not, the-privilege, changed, changed-order}
+use Rattle.laws.specs.Privileges.{changed-before, changed-mem, changed-all, changed-stays, listed-stays}
 
 -- the request is of this kind, REVOKEADM or REVOKEREF, and names the object o and the subject u
 abbrev pub loses : Request → ℕ → ℕ → ℕ → Bool

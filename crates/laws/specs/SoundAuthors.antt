@@ -17,10 +17,10 @@ use Rattle.model.specs.Step.{effect}
 use Rattle.model.specs.StepFacts.{Accepted}
 use Rattle.model.specs.Soundness.{authorsMay}
 use Rattle.model.specs.SoundnessFacts.{Sound}
-use Rattle.theorems.specs.Kinds.{kind-is}
-use Rattle.theorems.specs.Rows.{may-rule}
-use Rattle.theorems.specs.SoundPrivileges.{loses, refers-stays, controls-stays}
-use Rattle.theorems.specs.RulesAfter.{kept-all}
+use Rattle.laws.specs.Kinds.{kind-is}
+use Rattle.laws.specs.Rows.{may-rule}
+use Rattle.laws.specs.SoundPrivileges.{loses, refers-stays, controls-stays}
+use Rattle.laws.specs.RulesAfter.{kept-all}
 
 module _ (b : Base) (q : Request) where
   abbrev after : Base

@@ -20,10 +20,10 @@ use Rattle.model.specs.Requests.{leave, affects}
 use Rattle.model.specs.Means.{plainly}
 use Rattle.model.specs.Step.{effect}
 use Rattle.model.specs.SoundnessFacts.{Sound}
-use Rattle.theorems.specs.Kinds.{grantKinds, withdrawalKinds, is-apart, not-kind}
-use Rattle.theorems.specs.Chained.{pairwise-last}
-use Rattle.theorems.specs.KeepFacts.{Piece, piece-piece, pieces-of, Precedes, Sorted, keep-sorted}
-use Rattle.theorems.specs.SoundFacts.{interval-rises, label-given, sorted}
+use Rattle.laws.specs.Kinds.{grantKinds, withdrawalKinds, is-apart, not-kind}
+use Rattle.laws.specs.Chained.{pairwise-last}
+use Rattle.laws.specs.KeepFacts.{Piece, piece-piece, pieces-of, Precedes, Sorted, keep-sorted}
+use Rattle.laws.specs.SoundFacts.{interval-rises, label-given, sorted}
 
 -- the authorization that a GRANT or DENY adds
 abbrev pub newAuthorization : Base → Request → Authorization

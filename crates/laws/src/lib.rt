@@ -1,0 +1,1 @@
+// No code: the laws of requests that the crates above need live in specs/.
