@@ -1,6 +1,6 @@
--- What the program has done with its input: which bytes of the base and which line are there, and the digest of the
--- bytes that were handed to be written. That a read gives what was sent, and that what is handed over is written, is
--- left to trust.
+-- What the program has done with its input: which bytes of the base and which line are there, and the digests of the
+-- bytes that were read and of those that were handed to be written. That a read gives what was sent, and that what is
+-- handed over is written, is left to trust.
 use mathlib.Core.Path.{_≡_, refl, sym, ap, _∙_, subst}
 use Prim.Native.Nat.{ℕ, suc, _+_, _*_, _%_, _≤_, _<_}
 use mathlib.Core.Bool.{true}
@@ -8,6 +8,7 @@ use mathlib.Core.List.{List, [], _∷_, _++_, append-nil}
 use lib.IntN.{ℤ, pos}
 use lib.ListN.{length, take, drop, getD}
 use lib.Seq.{drop-cons}
+use native.Mathlib.Omega.{arith}
 use Rattle.io.specs.Counts.{clamped}
 use Rattle.model.specs.Soundness.{soundBytes}
 use Rattle.model.specs.Base.{emptyBase}
@@ -39,6 +40,22 @@ digest sent (c ∷ text) = digest (mixed sent c) text
 abbrev pub arrived : ℤ → List ℕ → List ℕ
 arrived got buf = take (clamped got (length buf)) buf
 
+-- `r` has one read more than `g`, whose bytes are at the front of `buf`
+pub record Fetched (g : Going) (buf : List ℕ) (r : Going) : Type 0 where
+  pub seen : r .seen ≡ digest (g .seen) (arrived (r .got) buf)
+  pub reads : r .reads ≡ g .reads + 1
+
+-- nothing was read between `g` and `r`
+pub record Unread (g r : Going) : Type 0 where
+  pub seen : r .seen ≡ g .seen
+  pub reads : r .reads ≡ g .reads
+  pub got : r .got ≡ g .got
+
+-- `input` is what was read, and it has ended only where a read said so
+pub record Read (input : List ℕ) (r : Going) : Type 0 where
+  pub seen : r .seen ≡ digest 0 input
+  pub asked : r .got ≡ pos 0 → 0 < r .reads
+
 -- of `input`, behind the line `pending`, all but `rest` is answered: the bytes of the base are s′, `left` is the line
 -- that is not ended yet, and its first bytes are kept; `text` was handed to be written
 pub record Answers (s pending input rest : List ℕ) (sent len sent′ : ℕ) (s′ line′ : List ℕ) : Type 0 where
@@ -56,6 +73,7 @@ pub record Answered (s pending input : List ℕ) (sent : ℕ) (r : Going) (s′ 
 
 -- the program is through with its input
 pub record Served (s pending input : List ℕ) (r : Going) (s′ : List ℕ) : Type 0 where
+  pub read : Read input r
   -- the input ended: all of it is answered, and so is its end
   pub ended : r .ok ≡ true → r .got ≡ pos 0 →
       (let f = feed s pending input in
@@ -72,6 +90,7 @@ pub record Served (s pending input : List ℕ) (r : Going) (s′ : List ℕ) : T
 
 -- the program has run on an empty base
 pub record Ran (input : List ℕ) (r : Going) (s′ : List ℕ) : Type 0 where
+  pub read : Read input r
   -- the input ended: the text of the session over it was handed to be written,
   pub ended : r .ok ≡ true → r .got ≡ pos 0 → r .sent ≡ digest 0 (session input)
   -- and demand 3 holds of the requests among its lines and the bytes of the base
@@ -99,6 +118,29 @@ pub digest-next : (sent i : ℕ) (text : List ℕ) → i < length text →
     digest sent (drop i text) ≡ digest (mixed sent (getD text i 0)) (drop (suc i) text)
 unfolding digest
 digest-next sent i text h = rw (drop-cons text i 0 h)
+
+-- one read more
+pub read-more : {input buf : List ℕ} {g r : Going} → Read input g → Fetched g buf r →
+    Read (input ++ arrived (r .got) buf) r
+read-more {input} {buf} {g} {r} w f = record {
+  seen = f .seen ∙ ap (λ (n : ℕ). digest n (arrived (r .got) buf)) (w .seen)
+      ∙ digest-twice 0 input (arrived (r .got) buf);
+  asked = λ z. omega (arith, f .reads);
+}
+
+-- and nothing between that read and `r`
+pub fetched-then : {buf : List ℕ} {g h r : Going} → Fetched g buf h → Unread h r → Fetched g buf r
+fetched-then {buf} {g} f u = record {
+  seen = u .seen ∙ f .seen ∙ ap (λ (z : ℤ). digest (g .seen) (arrived z buf)) (sym (u .got));
+  reads = u .reads ∙ f .reads;
+}
+
+-- no read in between
+pub read-same : {input : List ℕ} {g r : Going} → Read input g → Unread g r → Read input r
+read-same w u = record {
+  seen = u .seen ∙ w .seen;
+  asked = λ z. omega (arith, u .reads, w .asked (sym (u .got) ∙ z));
+}
 
 module _ {s pending : List ℕ} where
   pub answers-none : {line : List ℕ} {len : ℕ} (input : List ℕ) (sent : ℕ) → Kept pending len line →
@@ -155,23 +197,24 @@ module _ {s pending : List ℕ} where
         all = b .all;
       }
 
-  module _ {input s′ line′ : List ℕ} {g : Going} (a : Answered s pending input 0 g s′ line′) where
+  module _ {input s′ line′ : List ℕ} {g : Going} (w : Read input g) (a : Answered s pending input 0 g s′ line′) where
     -- the end of the input was answered
-    pub served-ended : {r : Going} {s″ : List ℕ} → g .ok ≡ true → r .got ≡ pos 0 →
+    pub served-ended : {r : Going} {s″ : List ℕ} → g .ok ≡ true → g .got ≡ pos 0 → Unread g r →
         s″ ≡ finishBytes s′ (a .answers .left) → r .sent ≡ digest (g .sent) (finish s′ (a .answers .left)) →
         soundBytes s″ ≡ true → Served s pending input r s″
-    served-ended {r} ok over bytes handed sound =
+    served-ended {r} ok over u bytes handed sound =
         let f = a .answers in
         let t = finish s′ (f .left) in
         let e = feeds-all (f .feeds) (a .all ok) in
         let n : r .sent ≡ digest 0 (f .text ++ t) =
         handed ∙ ap (λ (n : ℕ). digest n t) (f .handed) ∙ digest-twice 0 (f .text) t in
         record {
+          read = read-same w u;
           ended = λ p q. (
             bytes ∙ ap (λ (x : Fed). finishBytes (x .lent) (x .pending)) (sym e),
             n ∙ ap (λ (x : Fed). digest 0 (ending x)) (sym e),
           );
-          cut = λ p q. absurd (q over);
+          cut = λ p q. absurd (q (u .got ∙ over));
           text = f .text ++ t;
           rest = [];
           front = ap ending e ∙ sym (append-nil (f .text ++ t));
@@ -185,6 +228,7 @@ module _ {s pending : List ℕ} where
     served-cut none sound =
         let f = a .answers in
         record {
+          read = w;
           ended = λ p q. absurd (none p q);
           cut = λ p q. let e = feeds-all (f .feeds) (a .all p) in (
             ap (λ (x : Fed). x .lent) (sym e),
@@ -203,6 +247,7 @@ served-run {s} {input} {s′} {r} z w =
     let e : ending (feed s [] input) ≡ session input = rw z (stream-session input) in
     let b : finishBytes (feed s [] input .lent) (feed s [] input .pending) ≡ bytesAfter input = rw z (stream-base input) in
     record {
+      read = w .read;
       ended = λ p q. w .ended p q .1 ∙ ap (digest 0) e;
       promise = λ p q. subst (Demand3 (orders input)) (sym (w .ended p q .0 ∙ b)) (demand3-text input);
       text = w .text;

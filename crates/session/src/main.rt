@@ -5,23 +5,26 @@
 ghost use mathlib.Core.Path.{_≡_};
 ghost use mathlib.Core.Bool.{true};
 ghost use mathlib.Core.List.{List};
-ghost use Prim.Native.Nat.{ℕ, _≤_};
+ghost use Prim.Native.Nat.{ℕ, _≤_, _<_};
 ghost use lib.IntN.{pos};
 ghost use Rattle.model.specs.Soundness.{soundBytes};
 ghost use Rattle.model.specs.Base.{emptyBase};
 ghost use Rattle.model.specs.Encoding.{encode};
 ghost use Rattle.serving.specs.Turns.{Kept};
 ghost use Rattle.serving.specs.Stream.{finish, finishBytes};
-ghost use Rattle.session.specs.Input.{Ready, mixed, digest, arrived, Answered, Served, Ran};
+ghost use Rattle.session.specs.Input.{Ready, mixed, digest, arrived, Fetched, Unread, Answered, Served, Ran};
 use libc::STDERR_FILENO;
 use libc::STDIN_FILENO;
 use libc::STDOUT_FILENO;
 
-// How many bytes are kept of the line that is not ended yet, how many were handed to be written (modulo 2^64), what
-// the last read answered, and whether every write worked.
+// How many bytes are kept of the line that is not ended yet, the digest of the bytes that were handed to be written,
+// that of the bytes that were read, how many reads there were, what the last one answered, and whether every write
+// worked.
 struct Going {
     len: usize,
     sent: u32,
+    seen: u32,
+    reads: u64,
     got: isize,
     ok: bool,
 }
@@ -39,7 +42,7 @@ fn mix(sent: u32, byte: u8) -> u32
     ((sent as u64 * 257 + byte as u64 + 1) % 4294967291) as u32
 }
 
-// The digest with some bytes more. Contracts tell by it which bytes were handed to be written.
+// The digest with some bytes more. Contracts tell by it which bytes were read, and which were handed to be written.
 fn mix_all(sent: u32, bytes: &[u8]) -> u32
     ensures { λ r. ⌜ r ≡ digest sent (now (bytes .entry)) ⌝ }
 {
@@ -63,12 +66,30 @@ fn put(bytes: &[u8], sent: u32) -> Written
     }
 }
 
+// Reads a piece into the front of `buf`. All that the program reads goes through here.
+fn fetch(g: Going, buf: &mut [u8]) -> Going
+    requires { ⌜ g .reads < 18446744073709551615 ⌝ }
+    ensures { λ r. ⌜ Fetched g (now (buf .exit)) r × (r .len ≡ g .len) × (r .sent ≡ g .sent) × (r .ok ≡ g .ok) ⌝ }
+{
+    let got = libc::read(STDIN_FILENO, buf);
+    let n = io::count(got, buf);
+    let seen = mix_all(g.seen, &buf[..n]);
+    Going {
+        len: g.len,
+        sent: g.sent,
+        seen: seen,
+        reads: g.reads + 1,
+        got: got,
+        ok: g.ok,
+    }
+}
+
 // Answers the lines that end in a piece of input, and writes the replies, as many at a time as there is room for.
 fn serve_piece(s: &mut [u8], line: &mut [u8; 97], g: Going, piece: &[u8], out: &mut [u8]) -> Going
     requires { ⌜ Ready (now s) (now line) (g .len) (now out) ⌝ }
     ensures { λ r. ⌜ ((pending : List ℕ) → Kept pending (g .len) (now (line .entry)) →
         Answered (now (s .entry)) pending (now (piece .entry)) (g .sent) r (now (s .exit)) (now (line .exit)))
-        × (r .got ≡ g .got) × (r .len ≤ 97) × (soundBytes (now (s .exit)) ≡ true) ⌝ }
+        × Unread g r × (r .len ≤ 97) × (soundBytes (now (s .exit)) ≡ true) ⌝ }
 {
     let mut len = g.len;
     let mut sent = g.sent;
@@ -83,6 +104,8 @@ fn serve_piece(s: &mut [u8], line: &mut [u8; 97], g: Going, piece: &[u8], out: &
             return Going {
                 len: len,
                 sent: sent,
+                seen: g.seen,
+                reads: g.reads,
                 got: g.got,
                 ok: false,
             };
@@ -91,6 +114,8 @@ fn serve_piece(s: &mut [u8], line: &mut [u8; 97], g: Going, piece: &[u8], out: &
     Going {
         len: len,
         sent: sent,
+        seen: g.seen,
+        reads: g.reads,
         got: g.got,
         ok: true,
     }
@@ -98,20 +123,14 @@ fn serve_piece(s: &mut [u8], line: &mut [u8; 97], g: Going, piece: &[u8], out: &
 
 // Reads a piece into `buf` and answers its lines. At the end of the input, and where the read fails, there is none.
 fn serve_some(s: &mut [u8], line: &mut [u8; 97], g: Going, buf: &mut [u8], out: &mut [u8]) -> Going
-    requires { ⌜ Ready (now s) (now line) (g .len) (now out) ⌝ }
+    requires { ⌜ Ready (now s) (now line) (g .len) (now out) × (g .reads < 18446744073709551615) ⌝ }
     ensures { λ r. ⌜ ((pending : List ℕ) → Kept pending (g .len) (now (line .entry)) →
         Answered (now (s .entry)) pending (arrived (r .got) (now (buf .exit))) (g .sent) r (now (s .exit))
         (now (line .exit)))
-        × (r .len ≤ 97) × (soundBytes (now (s .exit)) ≡ true) ⌝ }
+        × Fetched g (now (buf .exit)) r × (r .len ≤ 97) × (soundBytes (now (s .exit)) ≡ true) ⌝ }
 {
-    let got = libc::read(STDIN_FILENO, buf);
-    let n = io::count(got, buf);
-    let h = Going {
-        len: g.len,
-        sent: g.sent,
-        got: got,
-        ok: true,
-    };
+    let h = fetch(g, buf);
+    let n = io::count(h.got, buf);
     serve_piece(s, line, h, &buf[..n], out)
 }
 
@@ -121,13 +140,15 @@ fn serve_last(s: &mut [u8], line: &[u8; 97], g: Going, out: &mut [u8]) -> Going
     ensures { λ r. ⌜ ((pending : List ℕ) → Kept pending (g .len) (now (line .entry)) →
         (now (s .exit) ≡ finishBytes (now (s .entry)) pending)
         × (r .sent ≡ digest (g .sent) (finish (now (s .entry)) pending)))
-        × (r .got ≡ g .got) × (soundBytes (now (s .exit)) ≡ true) ⌝ }
+        × Unread g r × (soundBytes (now (s .exit)) ≡ true) ⌝ }
 {
     let n = serving::serve_end(s, line, g.len, out);
     let w = put(&out[..n], g.sent);
     Going {
         len: 0,
         sent: w.sent,
+        seen: g.seen,
+        reads: g.reads,
         got: g.got,
         ok: w.ok,
     }
@@ -149,8 +170,8 @@ fn has_ended(g: Going) -> bool
 }
 
 // Answers line after line until the input ends, or a read or a write fails, and then the end of the input, if it is
-// one. A proved loop has to end, and nothing says that the input does: so it counts its turns down, from a number
-// that no run uses up.
+// one. A proved loop has to end, and nothing says that the input does: so it ends after a number of reads that no run
+// uses up.
 fn serve_input(
     s: &mut [u8],
     line: &mut [u8; 97],
@@ -165,13 +186,13 @@ fn serve_input(
     let mut g = Going {
         len: len,
         sent: 0,
+        seen: 0,
+        reads: 0,
         got: 1,
         ok: true,
     };
-    let mut turns = u64::MAX;
-    while goes_on(g) & (0 < turns) {
+    while goes_on(g) & (g.reads < u64::MAX) {
         g = serve_some(s, line, g, buf, out);
-        turns -= 1;
     }
     if has_ended(g) {
         return serve_last(s, line, g, out);

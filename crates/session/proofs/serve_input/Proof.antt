@@ -4,9 +4,8 @@ use native.Mathlib.Omega.{arith}
 use mathlib.Core.Path.{_≡_, refl, sym, _∙_}
 use mathlib.Core.Bool.{true, true≢false}
 use mathlib.Core.List.{List, [], _++_}
-use Prim.Native.Nat.{ℕ, _≤_}
+use Prim.Native.Nat.{ℕ, suc, _-_, _≤_, _<_}
 use denote.Ref.{now}
-use lib.Dec.{ltb}
 use lib.ListN.{length}
 use Rattle.foundation.specs.Tests.{true-le, and-true}
 use Rattle.model.specs.Soundness.{soundBytes}
@@ -14,12 +13,14 @@ use Rattle.model.specs.EncodingFacts.{sound-length}
 use Rattle.serving.specs.Turns.{Kept}
 use Rattle.serving.specs.Pieces.{kept-front}
 use Rattle.session.specs.declared.Going.{Going}
-use Rattle.session.specs.Input.{arrived, Answered, answers-none, answered-then, served-ended, served-cut}
+use Rattle.session.specs.Input.{arrived, Read, Answered, digest-none, read-more, answers-none, answered-then}
+use Rattle.session.specs.Input.{served-ended, served-cut}
 use Rattle.session.proofs.serve_input.Statement.{statement}
 use Rattle.session.proofs.serve_input.Tie as tie
 
 pub record Inv (s₀ line₀ : List ℕ) (len : ℕ) (buf₀ out₀ s line buf out : List ℕ) (g : Going) : Type 0 where
   pub input : List ℕ
+  pub read : Read input g
   pub answered : (pending : List ℕ) → Kept pending len line₀ → Answered s₀ pending input 0 g s line
   pub sound : soundBytes s ≡ true
   pub few : g .len ≤ 97
@@ -28,16 +29,17 @@ pub record Inv (s₀ line₀ : List ℕ) (len : ℕ) (buf₀ out₀ s line buf o
   pub same : length buf ≡ length buf₀
 
 abbrev Inv-loop : tie.InvT-loop
-Inv-loop s₀ line₀ len buf₀ out₀ g₀ turns₀ s line buf out g turns = Inv s₀ line₀ len buf₀ out₀ s line buf out g
+Inv-loop s₀ line₀ len buf₀ out₀ g₀ s line buf out g = Inv s₀ line₀ len buf₀ out₀ s line buf out g
 
 abbrev μ-loop : tie.MeasureT-loop
-μ-loop s₀ line₀ len buf₀ out₀ g₀ turns₀ s line buf out g turns = turns
+μ-loop s₀ line₀ len buf₀ out₀ g₀ s line buf out g = 18446744073709551615 - g .reads
 
 loop-holds : tie.Need-loop-holds Inv-loop μ-loop
 loop-holds c =
     let d = c .before .before .before in
     record {
       input = [];
+      read = record { seen = sym (digest-none 0); asked = λ z. let w : _≡_ {A = ℕ} 0 1 = cc in omega arith };
       answered = λ q k. record { rest = []; answers = answers-none [] 0 k; all = λ z. refl };
       sound = d .pre .0;
       few = d .pre .2;
@@ -48,39 +50,35 @@ loop-holds c =
 
 serve-some-requires : tie.Need-serve-some-requires Inv-loop μ-loop
 serve-some-requires c κs =
-    let l = c .before .before .before .before .before .before in
+    let n = c .before .before .before .before in
+    let l = n .before .before .before in
     let i = l .loop .inv in
-    (i .sound, omega (arith, i .room, l .before .before .before .before .pre .1), i .few, i .size)
-
-sub-turns : tie.Need-sub-turns Inv-loop μ-loop
-sub-turns c =
-    let t = c .before .before .before .before .before .before .before .before .before .before .before in
-    let l = t .before .before in
-    true-le 1 (l .loop .turns) (and-true (t .before .goes-on .result) (ltb 0 (l .loop .turns)) (t .if1 .taken) .1)
+    let test = and-true (n .before .before .goes-on .result) _ (n .if1 .taken) .1 in (
+      (i .sound, omega (arith, i .room, l .before .before .before .before .pre .1), i .few, i .size),
+      true-le (suc (l .loop .g .reads)) 18446744073709551615 test,
+    )
 
 loop-less : tie.Need-loop-less Inv-loop μ-loop
 loop-less c =
-    let t = c .before .before .before .before .before .before .before .before .before .before .before in
-    let l = t .before .before in
-    omega (
-      arith,
-      true-le 1 (l .loop .turns) (and-true (t .before .goes-on .result) (ltb 0 (l .loop .turns)) (t .if1 .taken) .1),
-    )
+    let t = c .before .before .before .before .before .before in
+    let n = t .before .before .before .before .before in
+    let l = n .before .before .before in
+    let test = and-true (n .before .before .goes-on .result) _ (n .if1 .taken) .1 in
+    omega (arith, t .serve-some .ensures .1 .reads, true-le (suc (l .loop .g .reads)) 18446744073709551615 test)
 
 loop-again : tie.Need-loop-again Inv-loop μ-loop
 loop-again c =
     let t = c .before .before .before .before .before .before in
     let n = t .before .before .before .before .before in
-    let l = n .before .before in
-    let i = l .loop .inv in
+    let i = n .before .before .before .loop .inv in
     let e = t .serve-some .ensures in
-    let ok = n .before .goes-on .ensures
-    (and-true (n .before .goes-on .result) (ltb 0 (l .loop .turns)) (n .if1 .taken) .0) in
+    let ok = n .before .before .goes-on .ensures (and-true (n .before .before .goes-on .result) _ (n .if1 .taken) .0) in
     record {
       input = i .input ++ arrived (t .serve-some .result .got) (t .serve-some .last .1 .1 .1 .0);
+      read = read-more (i .read) (e .1);
       answered = λ q h. let a = i .answered q h in answered-then a ok (e .0 (a .answers .left) (a .answers .kept));
-      sound = e .2;
-      few = e .1;
+      sound = e .3;
+      few = e .2;
       size = e .0 _ (kept-front (i .few) (i .size)) .answers .kept .size;
       room = t .serve-some .kept .1 .1 .1 .1 .0 ∙ i .room;
       same = t .serve-some .kept .1 .1 .1 .0 ∙ i .same;
@@ -88,62 +86,63 @@ loop-again c =
 
 serve-last-requires : tie.Need-serve-last-requires Inv-loop μ-loop
 serve-last-requires c κs =
-    let l = c .before .before .before .before .before .before .before in
+    let l = c .before .before .before .before .before .before .before .before in
     let i = l .loop .inv in
     (i .sound, omega (arith, i .room, l .before .before .before .before .pre .1), i .few, i .size)
 
 same-length : tie.Need-same-length Inv-loop μ-loop
 same-length c =
     let t = c .before .before .before .before in
-    let d = t .before .before .before .before .before .before .before .before .before .before .before .before in
+    let d = t .before .before .before .before .before .before .before .before .before .before .before .before .before in
     sound-length _ (t .serve-last .ensures .2) ∙ sym (sound-length (now (d .args .s)) (d .pre .0))
 
 same-length-2 : tie.Need-same-length-2 Inv-loop μ-loop
 same-length-2 c =
     let t = c .before .before .before .before in
-    t .before .before .before .before .before .before .before .before .loop .inv .same
+    t .before .before .before .before .before .before .before .before .before .loop .inv .same
 
 same-length-3 : tie.Need-same-length-3 Inv-loop μ-loop
 same-length-3 c =
     let t = c .before .before .before .before in
-    t .serve-last .kept .1 .1 .1 .0 ∙ t .before .before .before .before .before .before .before .before .loop .inv .room
+    t .serve-last .kept .1 .1 .1 .0
+    ∙ t .before .before .before .before .before .before .before .before .before .loop .inv .room
 
 returns : tie.Need-returns Inv-loop μ-loop
 returns c =
     let t = c .before .before .before .before in
     let n = t .before .before .before .before in
-    let i = n .before .before .before .before .loop .inv in
+    let i = n .before .before .before .before .before .loop .inv in
     let e = t .serve-last .ensures in
     let over = n .before .has-ended .ensures .0 (n .if2 .taken) in (
       i .input,
       λ q h. let a = i .answered q h in
           let last = e .0 (a .answers .left) (a .answers .kept) in
-          served-ended a (over .0) (e .1 ∙ over .1) (last .0) (last .1) (e .2),
+          served-ended (i .read) a (over .0) (over .1) (e .1) (last .0) (last .1) (e .2),
     )
 
 same-length-4 : tie.Need-same-length-4 Inv-loop μ-loop
 same-length-4 c =
-    let l = c .before .before .before .before in
+    let l = c .before .before .before .before .before in
     let d = l .before .before .before .before in
     sound-length _ (l .loop .inv .sound) ∙ sym (sound-length (now (d .args .s)) (d .pre .0))
 
 same-length-5 : tie.Need-same-length-5 Inv-loop μ-loop
-same-length-5 c = c .before .before .before .before .loop .inv .same
+same-length-5 c = c .before .before .before .before .before .loop .inv .same
 
 same-length-6 : tie.Need-same-length-6 Inv-loop μ-loop
-same-length-6 c = c .before .before .before .before .loop .inv .room
+same-length-6 c = c .before .before .before .before .before .loop .inv .room
 
 returns-2 : tie.Need-returns-2 Inv-loop μ-loop
 returns-2 c =
-    let i = c .before .before .before .before .loop .inv in
+    let i = c .before .before .before .before .before .loop .inv in
     let n = c .before .has-ended .ensures .1 in (
       i .input,
-      λ q h. served-cut (i .answered q h) (λ ok zero. true≢false (sym (n ok zero) ∙ c .if2 .left)) (i .sound),
+      λ q h. served-cut (i .read) (i .answered q h) (λ ok zero. true≢false (sym (n ok zero) ∙ c .if2 .left)) (i .sound),
     )
 
 pub serve-input-spec : {M : Type 1} → statement M
 serve-input-spec =
     tie.close
-    (tie.spec Inv-loop μ-loop loop-holds (λ c κs. search needs) serve-some-requires sub-turns loop-less loop-again
+    (tie.spec Inv-loop μ-loop loop-holds (λ c κs. search needs) serve-some-requires loop-less loop-again
     (λ c κs. search needs) serve-last-requires same-length same-length-2 same-length-3 returns same-length-4
     same-length-5 same-length-6 returns-2)

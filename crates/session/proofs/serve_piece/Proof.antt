@@ -6,6 +6,8 @@ use mathlib.Core.Bool.{true, false≢true}
 use mathlib.Core.List.{List}
 use Prim.Native.Nat.{ℕ, _-_, _≤_, _<_, _^_}
 use denote.Ref.{now}
+use mir.Syntax.{w64}
+use mir.Val.{toZ, ofZ}
 use lib.ListN.{length, drop}
 use lib.Seq.{length-take-le, drop-length}
 use Rattle.model.specs.Soundness.{soundBytes}
@@ -83,13 +85,16 @@ returns c =
     let t = p .before .before .before .before .before .before in
     let l = t .before .before .before .before .before in
     let i = l .loop .inv in
-    let e = t .serve-lines .ensures in (
+    let e = t .serve-lines .ensures in
+    let g = l .before .before .before .before .args .g in
+    let known = c .struct-told .given in
+    let bits : toZ w64 (ofZ w64 (g .got)) ≡ g .got = search needs in (
       λ q h. let a = i .answers q h in record {
         rest = drop (t .serve-lines .result .at) (now (l .before .before .before .before .args .piece));
         answers = answers-step a (e .0 (a .left) (a .kept)) (p .put .ensures);
         all = λ z. absurd (false≢true z);
       },
-      search needs,
+      record { seen = search needs; reads = search needs; got = bits },
       e .1,
       e .0 _ (kept-front (i .few) (i .size)) .sound,
     )
