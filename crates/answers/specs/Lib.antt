@@ -1,4 +1,1 @@
 pub mod Asking
-pub mod Relevant
-pub mod Runs
-pub mod Walk

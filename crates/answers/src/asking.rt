@@ -9,11 +9,11 @@ ghost use Rattle.model.specs.Soundness.{soundBytes};
 ghost use Rattle.model.specs.Step.{firstNumber};
 ghost use Rattle.model.specs.Answers.{answering, accessIn, mayReply, mayAnswer, whenAnswer};
 ghost use Rattle.answers.specs.Asking.{accessRows, replyRuns};
-use crate::walk::holds_at;
-use crate::walk::list_runs;
 use model::Access;
 use model::Question;
 use model::Reply;
+use scan::holds_at;
+use scan::list_runs;
 
 // What is asked about is in range.
 fn access_in(x: Access) -> bool

@@ -3,23 +3,12 @@ ghost use mathlib.Core.Path.{_≡_};
 ghost use Rattle.model.specs.Answers.{answering, mayAnswer, whenAnswer};
 
 mod asking;
-mod relevant;
-mod runs;
-mod walk;
 
 pub use asking::may_sound;
 pub use asking::when_sound;
 use model::Access;
 use model::Question;
 use model::Reply;
-
-// What is known of the intervals while they are written down: how many are in the list, whether the instants are
-// inside one, and where that began.
-pub struct Track {
-    pub count: usize,
-    pub inside: bool,
-    pub from: u32,
-}
 
 // MAY over bytes of any length: may the subject do it to the object at the instant?
 pub fn may(s: &[u8], q: Question) -> Reply

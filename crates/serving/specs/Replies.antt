@@ -25,7 +25,7 @@ use Rattle.model.specs.Text.{Line, order, asksMay, asksWhen, unreadable, newlin
 use Rattle.model.specs.Session.{byteTurn, runsOf}
 use Rattle.laws.specs.RequestFacts.{request-sound}
 use Rattle.laws.specs.SessionFacts.{when-most}
-use Rattle.answers.specs.Runs.{words-length}
+use Rattle.scan.specs.Runs.{words-length}
 use Rattle.printing.specs.Print.{RunsFit, longestReply}
 use Rattle.serving.specs.Turns.{Turned}
 

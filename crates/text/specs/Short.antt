@@ -32,7 +32,7 @@ use Rattle.model.specs.Session.{runsOf}
 use Rattle.laws.specs.Preservation.{effect-sound}
 use Rattle.laws.specs.Rows.{label-left}
 use Rattle.laws.specs.SessionFacts.{when-most}
-use Rattle.answers.specs.Runs.{words-length}
+use Rattle.scan.specs.Runs.{words-length}
 use Rattle.printing.specs.Print.{RunsFit}
 use Rattle.printing.specs.Lengths.{decimal-below, done-length, refused-length}
 

@@ -1,0 +1,3 @@
+pub mod Relevant
+pub mod Runs
+pub mod Walk
