@@ -14,8 +14,7 @@ use Rattle.foundation.specs.declared.Interval.{Interval}
 use Rattle.foundation.specs.Marks.{next}
 use Rattle.model.specs.declared.Authorization.{Authorization}
 use Rattle.model.specs.declared.Rule.{Rule}
-use Rattle.model.specs.Means.{boundaries, marksOf, ruleMarks}
-use Rattle.model.specs.HoldsSteady.{marks}
+use Rattle.model.specs.Means.{boundaries, marksOf, ruleMarks, marks}
 
 -- ---- any marks: t is the given instant, and d is the answer for none
 

@@ -1,33 +1,33 @@
 -- What is held, in 01's words ("Rules"): an inductive reading of `holds` in Rules, with no rounds and no fuel in it.
 -- An inductive type is the smallest set closed under its constructors.
--- THEOREM `held` in HeldFacts: with stratified rules `holds always auths rules t p ≡ true` exactly if
--- `Held auths rules t p`. THEOREM `may-held` there: MAY says yes exactly if the access is held and its denial is not.
+-- THEOREM `held` in HeldFacts: with stratified rules `holds always b t p ≡ true` exactly if `Held b t p`.
+-- THEOREM `may-held` there: MAY says yes exactly if the access is held and its denial is not.
 use mathlib.Core.Path.{_≡_}
 use Prim.Native.Nat.{ℕ, zero, suc, _≤_}
 use mathlib.Core.Bool.{true}
-use mathlib.Core.List.{List}
 use Rattle.foundation.specs.Lists.{Mem}
 use Rattle.foundation.specs.Intervals.{inInterval}
 use Rattle.model.specs.declared.Authorization.{Authorization}
 use Rattle.model.specs.declared.Rule.{Rule}
 use Rattle.model.specs.declared.Operator.{Operator}
 use Rattle.model.specs.declared.Operator.the-variants.{Whenever, AsLongAs, WheneverNot, Unless}
+use Rattle.model.specs.Base.{Base}
 use Rattle.model.specs.Stratification.{stratum}
 use Rattle.model.specs.Rules.{Pattern, fits, derivesFor, rightOf}
 
 -- 01: "given by a line": an authorization that covers t is what is looked for
-pub record ByAuthorization (auths : List Authorization) (t : ℕ) (p : Pattern) : Type 0 where
+pub record ByAuthorization (b : Base) (t : ℕ) (p : Pattern) : Type 0 where
   pub authorization : Authorization
-  pub listed : Mem authorization auths
+  pub listed : Mem authorization (b .authorizations)
   pub covers : inInterval (authorization .interval) t ≡ true
   pub fitting : fits p (authorization .head) ≡ true
 
-module _ (rules : List Rule) (k : ℕ) where
+module _ (b : Base) (k : ℕ) where
   -- 01: "In its interval": r is a rule of rank k with the operator o, its left side is what is looked for, and its
   -- interval has t
   pub record Applies (o : Operator) (r : Rule) (t : ℕ) (p : Pattern) : Type 0 where
-    pub listed : Mem r rules
-    pub rank : stratum rules r ≡ k
+    pub listed : Mem r (b .rules)
+    pub rank : stratum (b .rules) r ≡ k
     pub operator : r .operator ≡ o
     pub left : derivesFor p r ≡ true
     pub inside : inInterval (r .interval) t ≡ true
@@ -51,10 +51,10 @@ module _ (rules : List Rule) (k : ℕ) where
 
 -- 01: "Held means given by a line or by a rule, denied or not": what is held by authorizations and by the rules of
 -- the ranks below k
-abbrev pub HeldBelow : List Authorization → List Rule → ℕ → ℕ → Pattern → Type 0
-HeldBelow auths rules zero t p = ByAuthorization auths t p
-HeldBelow auths rules (suc k) t p = HeldUpTo rules k (HeldBelow auths rules k) t p
+abbrev pub HeldBelow : Base → ℕ → ℕ → Pattern → Type 0
+HeldBelow b zero t p = ByAuthorization b t p
+HeldBelow b (suc k) t p = HeldUpTo b k (HeldBelow b k) t p
 
 -- held by the ranks below some k
-abbrev pub Held : List Authorization → List Rule → ℕ → Pattern → Type 0
-Held auths rules t p = (k : ℕ) × HeldBelow auths rules k t p
+abbrev pub Held : Base → ℕ → Pattern → Type 0
+Held b t p = (k : ℕ) × HeldBelow b k t p

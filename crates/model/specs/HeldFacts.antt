@@ -4,7 +4,6 @@ use mathlib.Core.Logic.{_↔_}
 use Prim.Native.Nat.{ℕ, zero, suc, _*_, _≤_}
 use native.Mathlib.Omega.{arith}
 use mathlib.Core.Bool.{Bool, true, false, not, _&&_, true≢false, false≢true}
-use mathlib.Core.List.{List}
 use lib.Dec.{leb, ltb, eqb}
 use lib.ListN.{length}
 use Rattle.foundation.specs.Tests.{cases, le-true, true-le, false-le, true-eq, not-true}
@@ -12,7 +11,6 @@ use Rattle.foundation.specs.Tests.{and-true, and-intro, or-intro-left, or-true-
 use Rattle.foundation.specs.Lists.{anyb, Mem, any-mem, mem-any}
 use Rattle.foundation.specs.Closure.{iter}
 use Rattle.foundation.specs.Intervals.{inInterval, always, always-all, all-always}
-use Rattle.model.specs.declared.Authorization.{Authorization}
 use Rattle.model.specs.declared.Rule.{Rule}
 use Rattle.model.specs.declared.Operator.{Operator}
 use Rattle.model.specs.declared.Operator.the-variants.{Whenever, AsLongAs, WheneverNot, Unless}
@@ -29,49 +27,56 @@ use Rattle.model.specs.HoldsLaws.{settled-at, at-stratum}
 use Rattle.model.specs.Held.{ByAuthorization, Applies, HeldUpTo, HeldBelow, Held}
 use Rattle.model.specs.Held.{lower, whenever, asLongAs, wheneverNot, unless}
 
-module _ (auths : List Authorization) (rules : List Rule) where
-  -- the definitions for these authorizations and rules, in short
+module _ (base : Base) where
+  -- the definitions for this base, in short
   abbrev below : ℕ → Fact → Bool
-  below = derivedBelow always auths rules
+  below = derivedBelow always base
 
   abbrev holding : (Fact → Bool) → ℕ → Pattern → Bool
-  holding = holdsBy always auths rules
+  holding = holdsBy always base
 
   abbrev Below : ℕ → ℕ → Pattern → Type 0
-  Below = HeldBelow auths rules
+  Below = HeldBelow base
 
   abbrev UpTo : ℕ → ℕ → Pattern → Type 0
-  UpTo k = HeldUpTo rules k (Below k)
+  UpTo k = HeldUpTo base k (Below k)
 
   -- ---- by an authorization or by a rule
 
-  by-given : (S : Fact → Bool) (t : ℕ) (p : Pattern) → ByAuthorization auths t p → holding S t p ≡ true
-  by-given S t p g =
-      or-intro-left (anyb (fits p) (live t auths)) (anyb (λ r. derivesFor p r && S (fact r (p .access) t)) rules)
-      (mem-any (fits p) (live t auths) (g .authorization .head)
-      (mem-live t auths (g .authorization) (g .listed) (g .covers)) (g .fitting))
+  abbrev direct : ℕ → Pattern → Bool
+  direct t p = anyb (fits p) (live t (base .authorizations))
 
-  by-rule : (S : Fact → Bool) (t : ℕ) (p : Pattern) (r : Rule) → Mem r rules → derivesFor p r ≡ true →
+  abbrev derivesIt : (Fact → Bool) → ℕ → Pattern → Rule → Bool
+  derivesIt S t p r = derivesFor p r && S (fact r (p .access) t)
+
+  by-given : (S : Fact → Bool) (t : ℕ) (p : Pattern) → ByAuthorization base t p → holding S t p ≡ true
+  by-given S t p g =
+      or-intro-left (direct t p) (anyb (derivesIt S t p) (base .rules))
+      (mem-any (fits p) (live t (base .authorizations)) (g .authorization .head)
+      (mem-live t (base .authorizations) (g .authorization) (g .listed) (g .covers)) (g .fitting))
+
+  by-rule : (S : Fact → Bool) (t : ℕ) (p : Pattern) (r : Rule) → Mem r (base .rules) → derivesFor p r ≡ true →
       S (fact r (p .access) t) ≡ true → holding S t p ≡ true
   by-rule S t p r m d e =
-      or-true-right (anyb (fits p) (live t auths)) (anyb (λ r. derivesFor p r && S (fact r (p .access) t)) rules)
-      (mem-any (λ r. derivesFor p r && S (fact r (p .access) t)) rules r m
+      or-true-right (direct t p) (anyb (derivesIt S t p) (base .rules))
+      (mem-any (derivesIt S t p) (base .rules) r m
       (and-intro (derivesFor p r) (S (fact r (p .access) t)) d e))
 
   -- and in no other way
-  either : {X : Type 0} (S : Fact → Bool) (t : ℕ) (p : Pattern) → holding S t p ≡ true → (ByAuthorization auths t p → X) →
-      ((r : Rule) → Mem r rules → derivesFor p r ≡ true → S (fact r (p .access) t) ≡ true → X) → X
+  either : {X : Type 0} (S : Fact → Bool) (t : ℕ) (p : Pattern) → holding S t p ≡ true →
+      (ByAuthorization base t p → X) →
+      ((r : Rule) → Mem r (base .rules) → derivesFor p r ≡ true → S (fact r (p .access) t) ≡ true → X) → X
   either S t p e f g =
-      or-cases (anyb (fits p) (live t auths)) (anyb (λ r. derivesFor p r && S (fact r (p .access) t)) rules) e
-      (λ a. let m = any-mem (fits p) (live t auths) a in
-      let l = live-mem t auths (m .0) (m .1) in
+      or-cases (direct t p) (anyb (derivesIt S t p) (base .rules)) e
+      (λ a. let m = any-mem (fits p) (live t (base .authorizations)) a in
+      let l = live-mem t (base .authorizations) (m .0) (m .1) in
       f (record { authorization = l .0; listed = l .1; covers = l .3; fitting = ap (fits p) (l .2) ∙ m .2 }))
-      (λ a. let m = any-mem (λ r. derivesFor p r && S (fact r (p .access) t)) rules a in
+      (λ a. let m = any-mem (derivesIt S t p) (base .rules) a in
       let w = and-true (derivesFor p (m .0)) (S (fact (m .0) (p .access) t)) (m .2) in
       g (m .0) (m .1) (w .0) (w .1))
 
   -- what an authorization gives is held by every rank
-  given-below : (k : ℕ) {t : ℕ} {p : Pattern} → ByAuthorization auths t p → Below k t p
+  given-below : (k : ℕ) {t : ℕ} {p : Pattern} → ByAuthorization base t p → Below k t p
   given-below zero g = g
   given-below (suc k) g = lower (given-below k g)
 
@@ -80,7 +85,7 @@ module _ (auths : List Authorization) (rules : List Rule) where
   module _ (k : ℕ) (settled : (t : ℕ) (p : Pattern) → (holding (below k) t p ≡ true) ↔ Below k t p) where
     -- what the operator of a rule allows, from what rounds have found
     allowed : (S : Fact → Bool) → ((u : ℕ) (q : Pattern) → holding S u q ≡ true → UpTo k u q) →
-        (o : Operator) (r : Rule) (t : ℕ) (p : Pattern) → Applies rules k o r t p →
+        (o : Operator) (r : Rule) (t : ℕ) (p : Pattern) → Applies base k o r t p →
         operate always o (λ u. holding S u (rightOf r (p .access))) (λ u. holding (below k) u (rightOf r (p .access)))
         (r .interval .start) t ≡ true → UpTo k t p
     allowed S h Whenever r t p a e = whenever r a (h t (rightOf r (p .access)) e)
@@ -96,17 +101,17 @@ module _ (auths : List Authorization) (rules : List Rule) where
         (always-all (r .interval .start) t (λ u. not (holding (below k) u q)) e u i j)))
 
     -- what rounds find is held
-    rounds-held : (n t : ℕ) (p : Pattern) → holding (rounds auths rules k n) t p ≡ true → UpTo k t p
+    rounds-held : (n t : ℕ) (p : Pattern) → holding (rounds base k n) t p ≡ true → UpTo k t p
     unfolding iter
     rounds-held zero t p e = lower (settled t p .0 e)
-    rounds-held (suc n) t p e = either (rounds auths rules k (suc n)) t p e (λ g. lower (given-below k g))
+    rounds-held (suc n) t p e = either (rounds base k (suc n)) t p e (λ g. lower (given-below k g))
         (λ r m d s.
-        let S = rounds auths rules k n in
-        let i = stratum rules r in
+        let S = rounds base k n in
+        let i = stratum (base .rules) r in
         let x = fact r (p .access) t in
         cases (ltb i k)
         (λ l. lower (settled t p .0 (by-rule (below k) t p r m d (rw l at s))))
-        (λ l. let w = and-true (eqb i k) (derives always auths rules (below k) S x) (rw l at s) in
+        (λ l. let w = and-true (eqb i k) (derives always base (below k) S x) (rw l at s) in
         let q = rightOf r (p .access) in
         let v = and-true (inInterval (r .interval) t) (operate always (r .operator) (λ u. holding S u q)
         (λ u. holding (below k) u q) (r .interval .start) t) (w .1) in
@@ -114,7 +119,7 @@ module _ (auths : List Authorization) (rules : List Rule) where
         (record { listed = m; rank = true-eq i k (w .0); operator = refl; left = d; inside = v .0 }) (v .1)))
 
     -- what a rule of the rank gives holds
-    gives : {t : ℕ} {p : Pattern} (o : Operator) (r : Rule) → Applies rules k o r t p →
+    gives : {t : ℕ} {p : Pattern} (o : Operator) (r : Rule) → Applies base k o r t p →
         operate always o (λ u. holding (below (suc k)) u (rightOf r (p .access)))
         (λ u. holding (below k) u (rightOf r (p .access))) (r .interval .start) t ≡ true →
         holding (below (suc k)) t p ≡ true
@@ -123,7 +128,7 @@ module _ (auths : List Authorization) (rules : List Rule) where
         let from : Operator → Bool =
         λ o. operate always o (right (below (suc k))) (right (below k)) (r .interval .start) t in
         by-rule (below (suc k)) t p r (a .listed) (a .left)
-        (at-stratum auths rules k (fact r (p .access) t) (a .listed) (a .rank)
+        (at-stratum base k (fact r (p .access) t) (a .listed) (a .rank)
         ∙ and-intro (inInterval (r .interval) t) (from (r .operator)) (a .inside) (ap from (a .operator) ∙ e))
 
     not-below : (u : ℕ) (q : Pattern) → (Below k u q → ⊥) → not (holding (below k) u q) ≡ true
@@ -134,7 +139,7 @@ module _ (auths : List Authorization) (rules : List Rule) where
     unfolding iter
     held-found {t} {p} (lower h) = either (below k) t p (settled t p .1 h) (by-given (below (suc k)) t p)
         (λ r m d e. by-rule (below (suc k)) t p r m d
-        (rounds-below auths rules k 0 (omega arith) (fact r (p .access) t) e))
+        (rounds-below base k 0 (omega arith) (fact r (p .access) t) e))
     held-found (whenever r a h) = gives Whenever r a (held-found h)
     held-found {t} {p} (asLongAs r a h) = gives AsLongAs r a
         (all-always (r .interval .start) t (λ u. holding (below (suc k)) u (rightOf r (p .access)))
@@ -148,47 +153,47 @@ module _ (auths : List Authorization) (rules : List Rule) where
 
   -- what holds by the strata below k is what is held below rank k
   pub held-below : (k t : ℕ) (p : Pattern) →
-      (holdsBy always auths rules (derivedBelow always auths rules k) t p ≡ true) ↔ HeldBelow auths rules k t p
+      (holdsBy always base (derivedBelow always base k) t p ≡ true) ↔ HeldBelow base k t p
   unfolding derivedBelow
   held-below zero t p = (
     (λ e. either (below 0) t p e (λ g. g) (λ r m d s. absurd (false≢true s))),
     by-given (below 0) t p,
   )
   held-below (suc k) t p =
-      (rounds-held k (held-below k) (enough always auths rules) t p, held-found k (held-below k))
+      (rounds-held k (held-below k) (enough always base) t p, held-found k (held-below k))
 
-  module _ (s : stratified rules ≡ true) where
+  module _ (s : stratified (base .rules) ≡ true) where
     -- no rule's rank is above twice their number: further ranks add nothing
-    ranks-end : (k : ℕ) (x : Fact) → Mem (x .rule) rules → below k x ≡ true → below (suc (2 * length rules)) x ≡ true
-    ranks-end zero x m e = settled-at auths rules 0 x m (below-stratum auths rules 0 x e) (omega arith) ∙ e
-    ranks-end (suc k) x m e = cases (leb (suc k) (suc (2 * length rules)))
-        (λ l. settled-at auths rules (suc k) x m (below-stratum auths rules (suc k) x e)
-        (true-le (suc k) (suc (2 * length rules)) l) ∙ e)
-        (λ l. let i = stratum rules (x .rule) in
-        let b : suc i ≤ k =
-        omega (arith, stratum-few rules s (x .rule) m, false-le (suc k) (suc (2 * length rules)) l) in
-        ranks-end k x m (rw (le-true (suc i) k b) at (closed auths rules k x m ∙ e)))
+    abbrev last : ℕ
+    last = suc (2 * length (base .rules))
+
+    ranks-end : (k : ℕ) (x : Fact) → Mem (x .rule) (base .rules) → below k x ≡ true → below last x ≡ true
+    ranks-end zero x m e = settled-at base 0 x m (below-stratum base 0 x e) (omega arith) ∙ e
+    ranks-end (suc k) x m e = cases (leb (suc k) last)
+        (λ l. settled-at base (suc k) x m (below-stratum base (suc k) x e) (true-le (suc k) last l) ∙ e)
+        (λ l. let i = stratum (base .rules) (x .rule) in
+        let b : suc i ≤ k = omega (arith, stratum-few (base .rules) s (x .rule) m, false-le (suc k) last l) in
+        ranks-end k x m (rw (le-true (suc i) k b) at (closed base k x m ∙ e)))
 
     -- THEOREM: what holds is what is held
-    pub held : (t : ℕ) (p : Pattern) → (holds always auths rules t p ≡ true) ↔ Held auths rules t p
+    pub held : (t : ℕ) (p : Pattern) → (holds always base t p ≡ true) ↔ Held base t p
     unfolding holds
     held t p = (
-      (λ e. (suc (2 * length rules), held-below (suc (2 * length rules)) t p .0 e)),
-      (λ h. let S = below (suc (2 * length rules)) in
+      (λ e. (last, held-below last t p .0 e)),
+      (λ h. let S = below last in
           either (below (h .0)) t p (held-below (h .0) t p .1 (h .1)) (by-given S t p)
           (λ r m d e. by-rule S t p r m d (ranks-end (h .0) (fact r (p .access) t) m e))),
     )
 
 -- THEOREM. 01: "MAY is yes exactly if a positive authorization is held and no denial is"
 pub may-held : (b : Base) → stratified (b .rules) ≡ true → (x : Access) (t : ℕ) → (may b x t ≡ true)
-    ↔ (Held (b .authorizations) (b .rules) t (asked x false)
-    × (Held (b .authorizations) (b .rules) t (asked x true) → ⊥))
+    ↔ (Held b t (asked x false) × (Held b t (asked x true) → ⊥))
 unfolding may mayWith
 may-held b s x t =
-    let positive = holds always (b .authorizations) (b .rules) t (asked x false) in
-    let denial = holds always (b .authorizations) (b .rules) t (asked x true) in
-    let positively = held (b .authorizations) (b .rules) s t (asked x false) in
-    let denied = held (b .authorizations) (b .rules) s t (asked x true) in (
+    let positive = holds always b t (asked x false) in
+    let denial = holds always b t (asked x true) in
+    let positively = held b s t (asked x false) in
+    let denied = held b s t (asked x true) in (
       (λ e. let w = and-true positive (not denial) e in
           (positively .0 (w .0), λ h. true≢false (sym (denied .1 h) ∙ not-true denial (w .1)))),
       (λ h. and-intro positive (not denial) (positively .1 (h .0))

@@ -5,65 +5,65 @@ use mathlib.Core.Logic.{inl}
 use Prim.Native.Nat.{ℕ, zero, suc, _≤_, _<_}
 use native.Mathlib.Omega.{arith}
 use mathlib.Core.Bool.{Bool, true, false≢true}
-use mathlib.Core.List.{List}
 use lib.Dec.{leb, ltb, eqb}
 use Rattle.foundation.specs.Tests.{cases, true-le, false-le, le-true, true-eq, and-true}
 use Rattle.foundation.specs.Lists.{Mem}
 use Rattle.foundation.specs.Closure.{iter, settled, least}
 use Rattle.foundation.specs.Intervals.{always}
 use Rattle.foundation.specs.Marks.{rep}
-use Rattle.model.specs.declared.Authorization.{Authorization}
-use Rattle.model.specs.declared.Rule.{Rule}
+use Rattle.model.specs.Base.{Base}
 use Rattle.model.specs.Stratification.{stratum}
 use Rattle.model.specs.Rules.{Fact, fact, round, enough, derivedBelow}
-use Rattle.model.specs.HoldsSteady.{marks, Stead, Part, round-steady, round-mono}
+use Rattle.model.specs.Means.{allMarks}
+use Rattle.model.specs.HoldsSteady.{Stead, Part, round-steady, round-mono}
 use Rattle.model.specs.HoldsKeys.{keys, keys-enough, in-keys, round-local}
 
-module _ (auths : List Authorization) (rules : List Rule) where
-  -- the definitions for these authorizations and rules, in short
+module _ (base : Base) where
+  -- the definitions for this base, in short
   abbrev stage : ℕ → (Fact → Bool) → (Fact → Bool) → Fact → Bool
-  stage = round always auths rules
+  stage = round always base
 
   abbrev below : ℕ → Fact → Bool
-  below = derivedBelow always auths rules
+  below = derivedBelow always base
 
   -- steady, and a part of what one more round makes of it
   abbrev Good : ℕ → (Fact → Bool) → (Fact → Bool) → Type 0
-  Good k L S = Stead auths rules S × Part S (stage k L S)
+  Good k L S = Stead base S × Part S (stage k L S)
 
-  good-round : (k : ℕ) (L S : Fact → Bool) → Stead auths rules L → Good k L S → Good k L (stage k L S)
-  good-round k L S c g = (round-steady auths rules k L S c (g .0), round-mono auths rules k L S (stage k L S) (g .1))
+  good-round : (k : ℕ) (L S : Fact → Bool) → Stead base L → Good k L S → Good k L (stage k L S)
+  good-round k L S c g = (round-steady base k L S c (g .0), round-mono base k L S (stage k L S) (g .1))
 
   -- n rounds of stratum k
   abbrev pub rounds : ℕ → ℕ → Fact → Bool
   rounds k n = iter (λ S. stage k (below k) S) n (below k)
 
-  pub below-stratum : (k : ℕ) (x : Fact) → derivedBelow always auths rules k x ≡ true → stratum rules (x .rule) < k
+  pub below-stratum : (k : ℕ) (x : Fact) → derivedBelow always base k x ≡ true →
+      stratum (base .rules) (x .rule) < k
   unfolding derivedBelow iter
   below-stratum zero x e = absurd (false≢true e)
   below-stratum (suc k) x e =
-      let n = stratum rules (x .rule) in
+      let n = stratum (base .rules) (x .rule) in
       cases (ltb n k)
       (λ p. let l = true-le (suc n) k p in omega arith)
       (λ p. let z = true-eq n k (and-true (eqb n k) _ (rw p at e) .0) in omega arith)
 
   -- what lower strata derive stays
   below-part : (k : ℕ) → Part (below k) (stage k (below k) (below k))
-  below-part k x e = rw (le-true (suc (stratum rules (x .rule))) k (below-stratum k x e)) e
+  below-part k x e = rw (le-true (suc (stratum (base .rules) (x .rule))) k (below-stratum k x e)) e
 
-  rounds-good : (k : ℕ) → Stead auths rules (below k) → (n : ℕ) → Good k (below k) (rounds k n)
+  rounds-good : (k : ℕ) → Stead base (below k) → (n : ℕ) → Good k (below k) (rounds k n)
   unfolding iter
   rounds-good k c zero = (c, below-part k)
   rounds-good k c (suc n) = good-round k (below k) (rounds k n) c (rounds-good k c n)
 
   -- what the rules derive changes at marks only
-  pub below-steady : (k : ℕ) → Stead auths rules (derivedBelow always auths rules k)
+  pub below-steady : (k : ℕ) → Stead base (derivedBelow always base k)
   unfolding derivedBelow
   below-steady zero = λ r m x a t h e. refl
-  below-steady (suc k) = rounds-good k (below-steady k) (enough always auths rules) .0
+  below-steady (suc k) = rounds-good k (below-steady k) (enough always base) .0
 
   -- and so it is after each round
-  pub rounds-steady : (k n : ℕ) → Stead auths rules (rounds k n)
+  pub rounds-steady : (k n : ℕ) → Stead base (rounds k n)
   rounds-steady k n = rounds-good k (below-steady k) n .0
 
   -- each round only adds,
@@ -76,36 +76,36 @@ module _ (auths : List Authorization) (rules : List Rule) where
       subst (λ (i : ℕ). rounds k i x ≡ true) q e)
 
   -- so that what one of the first derives is derived at last
-  pub rounds-below : (k n : ℕ) → n ≤ enough always auths rules → (x : Fact) → rounds k n x ≡ true →
-      derivedBelow always auths rules (suc k) x ≡ true
+  pub rounds-below : (k n : ℕ) → n ≤ enough always base → (x : Fact) → rounds k n x ≡ true →
+      derivedBelow always base (suc k) x ≡ true
   unfolding derivedBelow
-  rounds-below k n h x e = rounds-grow k n (enough always auths rules) h x e
+  rounds-below k n h x e = rounds-grow k n (enough always base) h x e
 
   -- THEOREM 4, closed: one more round of stratum k adds nothing
-  pub closed : (k : ℕ) (x : Fact) → Mem (x .rule) rules →
-      round always auths rules k (derivedBelow always auths rules k) (derivedBelow always auths rules (suc k)) x
-      ≡ derivedBelow always auths rules (suc k) x
+  pub closed : (k : ℕ) (x : Fact) → Mem (x .rule) (base .rules) →
+      round always base k (derivedBelow always base k) (derivedBelow always base (suc k)) x
+      ≡ derivedBelow always base (suc k) x
   unfolding derivedBelow
   closed k x m =
       let r = x .rule in
       let y = x .access in
       let L = below k in
       let S = below (suc k) in
-      let a = rep (marks auths rules) (x .at) in
-      round-steady auths rules k L S (below-steady k) (below-steady (suc k)) r m y (a .0) (x .at) (a .2) (a .3)
-      ∙ sym (settled (keys auths rules y) (λ S. stage k L S) (λ S. Good k L S)
+      let a = rep (allMarks base) (x .at) in
+      round-steady base k L S (below-steady k) (below-steady (suc k)) r m y (a .0) (x .at) (a .2) (a .3)
+      ∙ sym (settled (keys base y) (λ S. stage k L S) (λ S. Good k L S)
       (λ S g. good-round k L S (below-steady k) g)
-      (λ S Q g g′ h z w. round-local auths rules y S Q (g .0) (g′ .0) h k L z w)
+      (λ S Q g g′ h z w. round-local base y S Q (g .0) (g′ .0) h k L z w)
       (λ S g z w. g .1 z w)
-      L (below-steady k, below-part k) (enough always auths rules) (keys-enough auths rules y)
-      (fact r y (a .0)) (in-keys auths rules y r y (a .0) m (inl refl, inl refl, inl refl) (a .1)))
+      L (below-steady k, below-part k) (enough always base) (keys-enough base y)
+      (fact r y (a .0)) (in-keys base y r y (a .0) m (inl refl, inl refl, inl refl) (a .1)))
       ∙ sym (below-steady (suc k) r m y (a .0) (x .at) (a .2) (a .3))
 
   -- THEOREM 4, smallest: a part of every set that has the lower strata in it and is closed under stratum k's rules
-  pub smallest : (k : ℕ) (Q : Fact → Bool) → ((x : Fact) → derivedBelow always auths rules k x ≡ true → Q x ≡ true) →
-      ((x : Fact) → round always auths rules k (derivedBelow always auths rules k) Q x ≡ true → Q x ≡ true) →
-      (x : Fact) → derivedBelow always auths rules (suc k) x ≡ true → Q x ≡ true
+  pub smallest : (k : ℕ) (Q : Fact → Bool) → ((x : Fact) → derivedBelow always base k x ≡ true → Q x ≡ true) →
+      ((x : Fact) → round always base k (derivedBelow always base k) Q x ≡ true → Q x ≡ true) →
+      (x : Fact) → derivedBelow always base (suc k) x ≡ true → Q x ≡ true
   unfolding derivedBelow
   smallest k Q a b x e =
-      least (λ S. stage k (below k) S) (round-mono auths rules k (below k)) (below k) Q a b
-      (enough always auths rules) x e
+      least (λ S. stage k (below k) S) (round-mono base k (below k)) (below k) Q a b
+      (enough always base) x e

@@ -12,31 +12,32 @@ use Rattle.foundation.specs.Tests.{pick, cases}
 use Rattle.foundation.specs.Lists.{Mem, mem-map, combine, combine-length, in-combine, combine-mem}
 use Rattle.foundation.specs.Intervals.{inInterval, always}
 use Rattle.foundation.specs.Marks.{rep}
-use Rattle.model.specs.declared.Authorization.{Authorization}
 use Rattle.model.specs.declared.Rule.{Rule}
 use Rattle.model.specs.declared.Access.{Access}
+use Rattle.model.specs.Base.{Base}
 use Rattle.model.specs.Stratification.{isStar, stratum}
 use Rattle.model.specs.Rules.{Pattern, Fact, fact, rightOf, holdsBy, rightBy, round, enough}
 use Rattle.model.specs.RightFacts.{right-cong, operate-cong}
-use Rattle.model.specs.HoldsSteady.{marks-length, rule-marks-length, marks, Stead, holds-cong}
+use Rattle.model.specs.Means.{allMarks}
+use Rattle.model.specs.HoldsSteady.{marks-length, rule-marks-length, Stead, holds-cong}
 
 abbrev access : ℕ → ℕ → ℕ → Access
 access s m o = record { subject = s; mode = m; object = o }
 
-module _ (auths : List Authorization) (rules : List Rule) where
-  -- the definitions for these authorizations and rules, in short
+module _ (base : Base) where
+  -- the definitions for this base, in short
   abbrev holding : (Fact → Bool) → ℕ → Pattern → Bool
-  holding = holdsBy always auths rules
+  holding = holdsBy always base
 
   abbrev right : (Fact → Bool) → (Fact → Bool) → Pattern → ℕ → Bool
-  right = rightBy always auths rules
+  right = rightBy always base
 
   abbrev stage : ℕ → (Fact → Bool) → (Fact → Bool) → Fact → Bool
-  stage = round always auths rules
+  stage = round always base
 
   -- n, and that number of every rule's right side
   abbrev numbers : (Rule → ℕ) → ℕ → List ℕ
-  numbers f n = n ∷ map f rules
+  numbers f n = n ∷ map f (base .rules)
 
   abbrev subjects : Access → List ℕ
   subjects x = numbers (λ r. r .right .subject) (x .subject)
@@ -51,15 +52,15 @@ module _ (auths : List Authorization) (rules : List Rule) where
   abbrev pub Near : Access → Access → Type 0
   Near x y = Mem (y .subject) (subjects x) × Mem (y .mode) (modes x) × Mem (y .object) (objects x)
 
-  right-number : (f : Rule → ℕ) (n : ℕ) (r : Rule) → Mem r rules → Mem (f r) (numbers f n)
-  right-number f n r m = inr (mem-map f rules r m)
+  right-number : (f : Rule → ℕ) (n : ℕ) (r : Rule) → Mem r (base .rules) → Mem (f r) (numbers f n)
+  right-number f n r m = inr (mem-map f (base .rules) r m)
 
-  starred-number : (f : Rule → ℕ) (n k : ℕ) (r : Rule) → Mem r rules → Mem k (numbers f n) →
+  starred-number : (f : Rule → ℕ) (n k : ℕ) (r : Rule) → Mem r (base .rules) → Mem k (numbers f n) →
       Mem (pick (isStar (f r)) k (f r)) (numbers f n)
   starred-number f n k r m a = cases (isStar (f r)) (λ e. rw e a) (λ e. rw e (right-number f n r m))
 
   -- the right side of a rule leads to nothing that is not near
-  right-near : (x y : Access) (r : Rule) → Mem r rules → Near x y → Near x (rightOf r y .access)
+  right-near : (x y : Access) (r : Rule) → Mem r (base .rules) → Near x y → Near x (rightOf r y .access)
   unfolding rightOf
   right-near x y r m a = (
     starred-number (λ r. r .right .subject) (x .subject) (y .subject) r m (a .0),
@@ -74,9 +75,9 @@ module _ (auths : List Authorization) (rules : List Rule) where
   -- the facts about them, at 0 and at the marks
   pub keys : Access → List Fact
   unfolding accesses
-  keys x = combine (λ (f : ℕ → Fact). f) (combine fact rules (accesses x)) (0 ∷ marks auths rules)
+  keys x = combine (λ (f : ℕ → Fact). f) (combine fact (base .rules) (accesses x)) (0 ∷ allMarks base)
 
-  pub keys-enough : (x : Access) → length (keys x) ≤ enough always auths rules
+  pub keys-enough : (x : Access) → length (keys x) ≤ enough always base
   unfolding keys
   keys-enough x = le-step (le-of-eq
       (simp (combine-length, length-map, length-append, marks-length, rule-marks-length, mul-assoc)))
@@ -95,35 +96,39 @@ module _ (auths : List Authorization) (rules : List Rule) where
       let e : y ≡ access (b .0) (b .1) (a .1) = a .4 ∙ ap (λ (f : ℕ → Access). f (a .1)) (b .4) in
       subst (Near x) (sym e) (b .2, b .3, a .3)
 
-  pub in-keys : (x : Access) (r : Rule) (y : Access) (t : ℕ) → Mem r rules → Near x y →
-      Mem t (0 ∷ marks auths rules) →
+  pub in-keys : (x : Access) (r : Rule) (y : Access) (t : ℕ) → Mem r (base .rules) → Near x y →
+      Mem t (0 ∷ allMarks base) →
       Mem (fact r y t) (keys x)
   unfolding keys
   in-keys x r y t m a n =
-      in-combine (λ (f : ℕ → Fact). f) (combine fact rules (accesses x)) (0 ∷ marks auths rules) (fact r y) t
-      (in-combine fact rules (accesses x) r y m (in-accesses x y a)) n
+      in-combine (λ (f : ℕ → Fact). f) (combine fact (base .rules) (accesses x)) (0 ∷ allMarks base)
+      (fact r y) t
+      (in-combine fact (base .rules) (accesses x) r y m (in-accesses x y a)) n
 
-  keys-near : (x : Access) (z : Fact) → Mem z (keys x) → Mem (z .rule) rules × Near x (z .access)
+  keys-near : (x : Access) (z : Fact) → Mem z (keys x) → Mem (z .rule) (base .rules) × Near x (z .access)
   unfolding keys
   keys-near x z m =
-      let a = combine-mem (λ (f : ℕ → Fact). f) (combine fact rules (accesses x)) (0 ∷ marks auths rules) z m in
-      let b = combine-mem fact rules (accesses x) (a .0) (a .2) in
+      let a = combine-mem (λ (f : ℕ → Fact). f) (combine fact (base .rules) (accesses x)) (0 ∷ allMarks base)
+      z m in
+      let b = combine-mem fact (base .rules) (accesses x) (a .0) (a .2) in
       let e : z ≡ fact (b .0) (b .1) (a .1) = a .4 ∙ ap (λ (f : ℕ → Fact). f (a .1)) (b .4) in
-      subst (λ (z : Fact). Mem (z .rule) rules × Near x (z .access)) (sym e) (b .2, accesses-near x (b .1) (b .3))
+      subst (λ (z : Fact). Mem (z .rule) (base .rules) × Near x (z .access)) (sym e)
+      (b .2, accesses-near x (b .1) (b .3))
 
   -- two steady sets that agree on the keys of x agree on all that facts about x can rest on
-  module _ (x : Access) (S Q : Fact → Bool) (c : Stead auths rules S) (d : Stead auths rules Q)
+  module _ (x : Access) (S Q : Fact → Bool) (c : Stead base S) (d : Stead base Q)
       (h : (z : Fact) → Mem z (keys x) → S z ≡ Q z) where
-    everywhere : (r : Rule) (y : Access) (u : ℕ) → Mem r rules → Near x y → S (fact r y u) ≡ Q (fact r y u)
+    everywhere : (r : Rule) (y : Access) (u : ℕ) → Mem r (base .rules) → Near x y →
+        S (fact r y u) ≡ Q (fact r y u)
     everywhere r y u m n =
-        let a = rep (marks auths rules) u in
+        let a = rep (allMarks base) u in
         c r m y (a .0) u (a .2) (a .3)
         ∙ h (fact r y (a .0)) (in-keys x r y (a .0) m n (a .1))
         ∙ sym (d r m y (a .0) u (a .2) (a .3))
 
     right-local : (L : Fact → Bool) (p : Pattern) → Near x (p .access) → (u : ℕ) → right L S p u ≡ right L Q p u
     right-local L p n u = right-cong (holding S u) (holding Q u) (holding L u) (holding L u) p
-        (λ q e. holds-cong auths rules S Q u u q refl
+        (λ q e. holds-cong base S Q u u q refl
         (λ r m. everywhere r (q .access) u m (subst (Near x) (sym e) n)))
         (λ q e. refl)
 
@@ -132,7 +137,7 @@ module _ (auths : List Authorization) (rules : List Rule) where
         let a = keys-near x z m in
         let r = z .rule in
         let p = rightOf r (z .access) in
-        let n = stratum rules r in
+        let n = stratum (base .rules) r in
         ap (λ (v : Bool). pick (ltb n k) (L z) (eqb n k && (inInterval (r .interval) (z .at) && v)))
         (operate-cong (right L S p) (right L Q p) (right L L p)
         (right-local L p (right-near x (z .access) r (a .0) (a .1)))

@@ -3,18 +3,17 @@ use mathlib.Core.Path.{_≡_, refl, sym, ap, _∙_}
 use Prim.Native.Nat.{ℕ, zero, suc, _*_, _≤_, _<_}
 use native.Mathlib.Omega.{arith}
 use mathlib.Core.Bool.{Bool, true, false, not, _&&_, _||_, Bool·beq}
-use mathlib.Core.List.{List}
 use lib.Dec.{leb, eqb}
 use lib.ListN.{length}
 use Rattle.foundation.specs.Tests.{pick, cases, le-true, le-false, true-le, false-le, eq-true, and-true, and-intro}
 use Rattle.foundation.specs.Lists.{anyb, Mem, any-cong-mem}
 use Rattle.foundation.specs.Graph.{heavy}
 use Rattle.foundation.specs.Intervals.{inInterval, always, always-cong}
-use Rattle.model.specs.declared.Authorization.{Authorization}
 use Rattle.model.specs.declared.Rule.{Rule}
 use Rattle.model.specs.declared.Operator.{Operator}
 use Rattle.model.specs.declared.Operator.the-variants.{Whenever, AsLongAs, WheneverNot, Unless}
 use Rattle.model.specs.declared.Access.{Access}
+use Rattle.model.specs.Base.{Base}
 use Rattle.model.specs.Support.{live}
 use Rattle.model.specs.Stratification.{precedes, negating, weight, stratified, stratum, precedes-feeds}
 use Rattle.model.specs.Stratification.{heavy-negates}
@@ -57,96 +56,102 @@ operate-settled AsLongAs f g h p q a t = always-cong a t f h p
 operate-settled WheneverNot f g h p q a t = ap not (q refl t)
 operate-settled Unless f g h p q a t = always-cong a t (λ u. not (g u)) (λ u. not (h u)) (λ u. ap not (q refl u))
 
-module _ (auths : List Authorization) (rules : List Rule) where
+module _ (base : Base) where
   abbrev below : ℕ → Fact → Bool
-  below = derivedBelow always auths rules
+  below = derivedBelow always base
 
   -- what the rules derive, all strata together
   abbrev pub derived : Fact → Bool
-  derived = derivedBelow always auths rules (suc (2 * length rules))
+  derived = derivedBelow always base (suc (2 * length (base .rules)))
 
   -- what counts as held on a right side at u
   abbrev pub holding : ℕ → Pattern → Bool
-  holding u p = rightHolds (holds always auths rules u) (holds always auths rules u) p
+  holding u p = rightHolds (holds always base u) (holds always base u) p
 
   -- 01: "Held means given by a line or by a rule, denied or not"
-  pub holds-law : (t : ℕ) (p : Pattern) → holds always auths rules t p
-      ≡ anyb (fits p) (live t auths) || anyb (λ r. derivesFor p r && derived (fact r (p .access) t)) rules
+  pub holds-law : (t : ℕ) (p : Pattern) → holds always base t p
+      ≡ anyb (fits p) (live t (base .authorizations))
+      || anyb (λ r. derivesFor p r && derived (fact r (p .access) t)) (base .rules)
   unfolding holds
   holds-law t p = refl
 
   -- ---- stratum by stratum
 
-  below-keep : (k : ℕ) (x : Fact) → Mem (x .rule) rules → stratum rules (x .rule) < k → below (suc k) x ≡ below k x
-  below-keep k x m h = sym (closed auths rules k x m) ∙ rw (le-true (suc (stratum rules (x .rule))) k h)
+  below-keep : (k : ℕ) (x : Fact) → Mem (x .rule) (base .rules) → stratum (base .rules) (x .rule) < k →
+      below (suc k) x ≡ below k x
+  below-keep k x m h = sym (closed base k x m) ∙ rw (le-true (suc (stratum (base .rules) (x .rule))) k h)
 
   -- what the strata below k have settled stays
-  below-upto : (k n : ℕ) (x : Fact) → Mem (x .rule) rules → stratum rules (x .rule) < k → k ≤ n →
-      below n x ≡ below k x
+  below-upto : (k n : ℕ) (x : Fact) → Mem (x .rule) (base .rules) → stratum (base .rules) (x .rule) < k →
+      k ≤ n → below n x ≡ below k x
   below-upto k zero x m h l = absurd (omega arith)
   below-upto k (suc n) x m h l = cases (leb k n)
       (λ e. let i = true-le k n e in below-keep n x m (omega arith) ∙ below-upto k n x m h i)
       (λ e. let i = false-le k n e in let q : suc n ≡ k = omega arith in ap (λ (j : ℕ). below j x) q)
 
   -- so what a rule derives is settled with its stratum
-  pub settled-at : (k : ℕ) (x : Fact) → Mem (x .rule) rules → stratum rules (x .rule) < k →
-      k ≤ suc (2 * length rules) → derived x ≡ derivedBelow always auths rules k x
-  settled-at k x m h l = below-upto k (suc (2 * length rules)) x m h l
+  pub settled-at : (k : ℕ) (x : Fact) → Mem (x .rule) (base .rules) → stratum (base .rules) (x .rule) < k →
+      k ≤ suc (2 * length (base .rules)) → derived x ≡ derivedBelow always base k x
+  settled-at k x m h l = below-upto k (suc (2 * length (base .rules))) x m h l
 
   -- a stratum is closed under its rules
-  pub at-stratum : (k : ℕ) (x : Fact) → Mem (x .rule) rules → stratum rules (x .rule) ≡ k →
-      derivedBelow always auths rules (suc k) x
-      ≡ derives always auths rules (derivedBelow always auths rules k) (derivedBelow always auths rules (suc k)) x
+  pub at-stratum : (k : ℕ) (x : Fact) → Mem (x .rule) (base .rules) → stratum (base .rules) (x .rule) ≡ k →
+      derivedBelow always base (suc k) x
+      ≡ derives always base (derivedBelow always base k) (derivedBelow always base (suc k)) x
   at-stratum k x m e =
-      let n = stratum rules (x .rule) in
-      sym (closed auths rules k x m) ∙ rw (le-false (suc n) k (omega arith), eq-true n k e)
+      let n = stratum (base .rules) (x .rule) in
+      sym (closed base k x m) ∙ rw (le-false (suc n) k (omega arith), eq-true n k e)
 
   -- what holds of a pattern rests on what the rules derive that derive for it
-  pub holds-fit : (S Q : Fact → Bool) (t : ℕ) (p : Pattern) → ((r : Rule) → Mem r rules → derivesFor p r ≡ true →
+  pub holds-fit : (S Q : Fact → Bool) (t : ℕ) (p : Pattern) →
+      ((r : Rule) → Mem r (base .rules) → derivesFor p r ≡ true →
       S (fact r (p .access) t) ≡ Q (fact r (p .access) t)) →
-      holdsBy always auths rules S t p ≡ holdsBy always auths rules Q t p
+      holdsBy always base S t p ≡ holdsBy always base Q t p
   holds-fit S Q t p h =
       let x : Rule → Fact = λ r. fact r (p .access) t in
-      ap (λ (b : Bool). anyb (fits p) (live t auths) || b)
-      (any-cong-mem (λ r. derivesFor p r && S (x r)) (λ r. derivesFor p r && Q (x r)) rules
+      ap (λ (b : Bool). anyb (fits p) (live t (base .authorizations)) || b)
+      (any-cong-mem (λ r. derivesFor p r && S (x r)) (λ r. derivesFor p r && Q (x r)) (base .rules)
       (λ r m. cases (derivesFor p r) (λ e. rw e (h r m e)) (λ e. rw e)))
 
-  pub holds-same : (S : Fact → Bool) (t : ℕ) (p : Pattern) → ((r : Rule) → Mem r rules → derivesFor p r ≡ true →
+  pub holds-same : (S : Fact → Bool) (t : ℕ) (p : Pattern) →
+      ((r : Rule) → Mem r (base .rules) → derivesFor p r ≡ true →
       derived (fact r (p .access) t) ≡ S (fact r (p .access) t)) →
-      holdsBy always auths rules S t p ≡ holds always auths rules t p
+      holdsBy always base S t p ≡ holds always base t p
   holds-same S t p h = holds-fit S derived t p (λ r m e. sym (h r m e)) ∙ sym (holds-law t p)
 
-  module _ (s : stratified rules ≡ true) where
-    module _ (r : Rule) (m : Mem r rules) where
+  module _ (s : stratified (base .rules) ≡ true) where
+    module _ (r : Rule) (m : Mem r (base .rules)) where
       -- what feeders derive is settled with the rule's stratum
       fed-settled : (u : ℕ) (p : Pattern) → Fed r p →
-          holdsBy always auths rules (below (suc (stratum rules r))) u p ≡ holds always auths rules u p
-      fed-settled u p h = holds-same (below (suc (stratum rules r))) u p (λ q k e.
-          settled-at (suc (stratum rules r)) (fact q (p .access) u) k
-          (omega (arith, feeder-not-above rules s q r k m (h q e))) (omega (arith, stratum-few rules s r m)))
+          holdsBy always base (below (suc (stratum (base .rules) r))) u p ≡ holds always base u p
+      fed-settled u p h = holds-same (below (suc (stratum (base .rules) r))) u p (λ q k e.
+          settled-at (suc (stratum (base .rules) r)) (fact q (p .access) u) k
+          (omega (arith, feeder-not-above (base .rules) s q r k m (h q e)))
+          (omega (arith, stratum-few (base .rules) s r m)))
 
       -- and before it where the steps count
       pub strictly-settled : (u : ℕ) (p : Pattern) → StrictlyFed r p →
-          holdsBy always auths rules (below (stratum rules r)) u p ≡ holds always auths rules u p
-      strictly-settled u p h = holds-same (below (stratum rules r)) u p (λ q k e.
+          holdsBy always base (below (stratum (base .rules) r)) u p ≡ holds always base u p
+      strictly-settled u p h = holds-same (below (stratum (base .rules) r)) u p (λ q k e.
           let l = h q e in
-          settled-at (stratum rules r) (fact q (p .access) u) k
-          (feeder-below rules s q r k m (l .0) (l .1)) (omega (arith, stratum-few rules s r m)))
+          settled-at (stratum (base .rules) r) (fact q (p .access) u) k
+          (feeder-below (base .rules) s q r k m (l .0) (l .1))
+          (omega (arith, stratum-few (base .rules) s r m)))
 
     -- 01, the operators: a rule derives its left side at the instants of its interval where its operator allows it, the
     -- right side being looked at in all that holds, of whatever stratum
-    pub derived-law : (r : Rule) → Mem r rules → (x : Access) (t : ℕ) →
+    pub derived-law : (r : Rule) → Mem r (base .rules) → (x : Access) (t : ℕ) →
         derived (fact r x t)
         ≡ inInterval (r .interval) t
         && operate always (r .operator) (λ u. holding u (rightOf r x)) (λ u. holding u (rightOf r x))
         (r .interval .start) t
     derived-law r m x t =
-        let n = stratum rules r in
+        let n = stratum (base .rules) r in
         let p = rightOf r x in
-        let now : ℕ → Pattern → Bool = holdsBy always auths rules (below (suc n)) in
-        let before : ℕ → Pattern → Bool = holdsBy always auths rules (below n) in
-        let all : ℕ → Pattern → Bool = holds always auths rules in
-        settled-at (suc n) (fact r x t) m (omega arith) (omega (arith, stratum-few rules s r m))
+        let now : ℕ → Pattern → Bool = holdsBy always base (below (suc n)) in
+        let before : ℕ → Pattern → Bool = holdsBy always base (below n) in
+        let all : ℕ → Pattern → Bool = holds always base in
+        settled-at (suc n) (fact r x t) m (omega arith) (omega (arith, stratum-few (base .rules) s r m))
         ∙ at-stratum n (fact r x t) m refl
         ∙ ap (λ (b : Bool). inInterval (r .interval) t && b) (operate-settled (r .operator)
         (λ u. rightHolds (now u) (before u) p) (λ u. rightHolds (before u) (before u) p) (λ u. holding u p)

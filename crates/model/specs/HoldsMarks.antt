@@ -14,8 +14,6 @@ use Rattle.foundation.specs.Closure.{iter}
 use Rattle.foundation.specs.Intervals.{inInterval, none?, always}
 use Rattle.foundation.specs.Marks.{Steady, not-steady, walk, walk-maximal}
 use Rattle.foundation.specs.Counting.{maximal-count}
-use Rattle.model.specs.declared.Authorization.{Authorization}
-use Rattle.model.specs.declared.Rule.{Rule}
 use Rattle.model.specs.declared.Operator.{Operator}
 use Rattle.model.specs.declared.Operator.the-variants.{Whenever, AsLongAs, WheneverNot, Unless}
 use Rattle.model.specs.declared.Access.{Access}
@@ -27,7 +25,7 @@ use Rattle.model.specs.Rules.{derivedBelow, holds, asked, may, when}
 use Rattle.model.specs.Means.{marksOf, ruleMarks, allMarks}
 use Rattle.model.specs.Questions.{alwaysAt, mayAtMarks, whenAtMarks}
 use Rattle.model.specs.RightFacts.{right-cong}
-use Rattle.model.specs.HoldsSteady.{marks-length, rule-marks-length, marks, Stead, holds-cong, holds-steady}
+use Rattle.model.specs.HoldsSteady.{marks-length, rule-marks-length, Stead, holds-cong, holds-steady}
 use Rattle.model.specs.HoldsSteady.{right-by-steady}
 use Rattle.model.specs.HoldsFacts.{rounds, rounds-steady, below-steady}
 
@@ -46,66 +44,67 @@ operate-at n ms Unless f g c d a t = always-at n ms a t (λ u. not (g u)) (not-s
 
 -- ---- what holds, at marks
 
-module _ (n : ℕ) (auths : List Authorization) (rules : List Rule) where
+module _ (n : ℕ) (base : Base) where
   abbrev at : ℕ → ℕ → (ℕ → Bool) → Bool
-  at = alwaysAt n (marks auths rules)
+  at = alwaysAt n (allMarks base)
 
-  -- the definitions for these authorizations and rules, in short: plainly, and at marks
+  -- the definitions for this base, in short: plainly, and at marks
   abbrev right : (Fact → Bool) → (Fact → Bool) → Pattern → ℕ → Bool
-  right = rightBy always auths rules
+  right = rightBy always base
 
   abbrev rightAt : (Fact → Bool) → (Fact → Bool) → Pattern → ℕ → Bool
-  rightAt = rightBy at auths rules
+  rightAt = rightBy at base
 
   abbrev below : ℕ → Fact → Bool
-  below = derivedBelow always auths rules
+  below = derivedBelow always base
 
   abbrev belowAt : ℕ → Fact → Bool
-  belowAt = derivedBelow at auths rules
+  belowAt = derivedBelow at base
 
   abbrev roundsAt : ℕ → ℕ → Fact → Bool
-  roundsAt k j = iter (λ S. round at auths rules k (belowAt k) S) j (belowAt k)
+  roundsAt k j = iter (λ S. round at base k (belowAt k) S) j (belowAt k)
 
   -- the same about the rules at hand
   abbrev Agree : (Fact → Bool) → (Fact → Bool) → Type 0
-  Agree S Q = (x : Fact) → Mem (x .rule) rules → S x ≡ Q x
+  Agree S Q = (x : Fact) → Mem (x .rule) (base .rules) → S x ≡ Q x
 
   holds-agree : (S Q : Fact → Bool) → Agree S Q → (t : ℕ) (p : Pattern) →
-      holdsBy always auths rules S t p ≡ holdsBy at auths rules Q t p
-  holds-agree S Q h t p = holds-cong auths rules S Q t t p refl (λ r m. h (fact r (p .access) t) m)
+      holdsBy always base S t p ≡ holdsBy at base Q t p
+  holds-agree S Q h t p = holds-cong base S Q t t p refl (λ r m. h (fact r (p .access) t) m)
 
   right-agree : (L L′ S S′ : Fact → Bool) → Agree L L′ → Agree S S′ → (p : Pattern) → right L S p ≡ rightAt L′ S′ p
   right-agree L L′ S S′ h k p = fun-ext (λ u. right-cong
-      (holdsBy always auths rules S u) (holdsBy at auths rules S′ u)
-      (holdsBy always auths rules L u) (holdsBy at auths rules L′ u) p
+      (holdsBy always base S u) (holdsBy at base S′ u)
+      (holdsBy always base L u) (holdsBy at base L′ u) p
       (λ q e. holds-agree S S′ k u q) (λ q e. holds-agree L L′ h u q))
 
-  round-agree : (k : ℕ) (L L′ S S′ : Fact → Bool) → Stead auths rules L → Stead auths rules S →
-      Agree L L′ → Agree S S′ → Agree (round always auths rules k L S) (round at auths rules k L′ S′)
+  round-agree : (k : ℕ) (L L′ S S′ : Fact → Bool) → Stead base L → Stead base S →
+      Agree L L′ → Agree S S′ → Agree (round always base k L S) (round at base k L′ S′)
   round-agree k L L′ S S′ c d g h x m =
       let r = x .rule in
       let p = rightOf r (x .access) in
-      let i = stratum rules r in
+      let i = stratum (base .rules) r in
       ap₂ (λ (l v : Bool). pick (ltb i k) l (eqb i k && (inInterval (r .interval) (x .at) && v))) (g x m)
-      (operate-at n (marks auths rules) (r .operator) (right L S p) (right L L p)
-      (right-by-steady auths rules L S c d p) (right-by-steady auths rules L L c c p) (r .interval .start) (x .at)
+      (operate-at n (allMarks base) (r .operator) (right L S p) (right L L p)
+      (right-by-steady base L S c d p) (right-by-steady base L L c c p) (r .interval .start) (x .at)
       ∙ ap₂ (λ (same lower : ℕ → Bool). operate at (r .operator) same lower (r .interval .start) (x .at))
       (right-agree L L′ S S′ g h p) (right-agree L L′ L L′ g g p))
 
-  rounds-agree : (k : ℕ) → Agree (below k) (belowAt k) → (j : ℕ) → Agree (rounds auths rules k j) (roundsAt k j)
+  rounds-agree : (k : ℕ) → Agree (below k) (belowAt k) → (j : ℕ) → Agree (rounds base k j) (roundsAt k j)
   unfolding iter
   rounds-agree k h zero = h
-  rounds-agree k h (suc j) = round-agree k (below k) (belowAt k) (rounds auths rules k j) (roundsAt k j)
-      (below-steady auths rules k) (rounds-steady auths rules k j) h (rounds-agree k h j)
+  rounds-agree k h (suc j) = round-agree k (below k) (belowAt k) (rounds base k j) (roundsAt k j)
+      (below-steady base k) (rounds-steady base k j) h (rounds-agree k h j)
 
   below-agree : (k : ℕ) → Agree (below k) (belowAt k)
   unfolding derivedBelow
   below-agree zero = λ x m. refl
-  below-agree (suc k) = rounds-agree k (below-agree k) (enough always auths rules)
+  below-agree (suc k) = rounds-agree k (below-agree k) (enough always base)
 
-  holds-at : (t : ℕ) (p : Pattern) → holds always auths rules t p ≡ holds at auths rules t p
+  holds-at : (t : ℕ) (p : Pattern) → holds always base t p ≡ holds at base t p
   unfolding holds
-  holds-at t p = let k = suc (2 * length rules) in holds-agree (below k) (belowAt k) (below-agree k) t p
+  holds-at t p =
+      let k = suc (2 * length (base .rules)) in holds-agree (below k) (belowAt k) (below-agree k) t p
 
 -- ---- MAY and WHEN
 
@@ -116,15 +115,13 @@ may-steady b x a t h e = ap₂ (λ (y z : Bool). y && not z) (same false) (same 
     k : ℕ
     k = suc (2 * length (b .rules))
 
-    same : (negative : Bool) → holds always (b .authorizations) (b .rules) t (asked x negative)
-        ≡ holds always (b .authorizations) (b .rules) a (asked x negative)
-    same negative = holds-steady (b .authorizations) (b .rules) (derivedBelow always (b .authorizations) (b .rules) k)
-        (below-steady (b .authorizations) (b .rules) k) (asked x negative) a t h e
+    same : (negative : Bool) → holds always b t (asked x negative) ≡ holds always b a (asked x negative)
+    same negative = holds-steady b (derivedBelow always b k) (below-steady b k) (asked x negative) a t h e
 
 pub may-marks : (n : ℕ) (b : Base) (x : Access) (t : ℕ) → may b x t ≡ mayAtMarks n b x t
 unfolding may mayAtMarks
-may-marks n b x t = ap₂ (λ (y z : Bool). y && not z) (holds-at n (b .authorizations) (b .rules) t (asked x false))
-    (holds-at n (b .authorizations) (b .rules) t (asked x true))
+may-marks n b x t =
+    ap₂ (λ (y z : Bool). y && not z) (holds-at n b t (asked x false)) (holds-at n b t (asked x true))
 
 pub when-marks : (n : ℕ) (b : Base) (x : Access) → when b x ≡ whenAtMarks n b x
 unfolding when whenAtMarks

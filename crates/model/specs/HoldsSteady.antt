@@ -5,23 +5,24 @@ use mathlib.Core.Logic.{inl, inr}
 use Prim.Native.Nat.{ℕ, suc, _*_}
 use native.Mathlib.Omega.{arith}
 use mathlib.Core.Bool.{Bool, true, _&&_, _||_}
-use mathlib.Core.List.{List, [], _∷_, _++_}
+use mathlib.Core.List.{List, [], _∷_}
 use lib.Dec.{ltb, eqb}
 use lib.ListN.{length}
 use Rattle.foundation.specs.Tests.{pick, cases, and-mono, or-mono}
 use Rattle.foundation.specs.Lists.{anyb, Mem, any-mono, any-cong-mem}
 use Rattle.foundation.specs.declared.Interval.{Interval}
 use Rattle.foundation.specs.Intervals.{inInterval, inInterval-true, always}
-use Rattle.foundation.specs.Marks.{Steady, clear-both}
+use Rattle.foundation.specs.Marks.{clear, Steady, clear-both}
 use Rattle.model.specs.declared.Head.{Head}
 use Rattle.model.specs.declared.Authorization.{Authorization}
 use Rattle.model.specs.declared.Rule.{Rule}
 use Rattle.model.specs.declared.Access.{Access}
+use Rattle.model.specs.Base.{Base}
 use Rattle.model.specs.Support.{live}
 use Rattle.model.specs.Stratification.{stratum}
 use Rattle.model.specs.Rules.{Pattern, Fact, fact, fits, derivesFor, rightOf, operate, holdsBy, rightBy}
 use Rattle.model.specs.Rules.{derives, round}
-use Rattle.model.specs.Means.{boundaries, marksOf, ruleMarks}
+use Rattle.model.specs.Means.{boundaries, marksOf, ruleMarks, allMarks}
 use Rattle.model.specs.SupportMarks.{interval-steady, live-steady}
 use Rattle.model.specs.RightFacts.{right-mono, right-steady, operate-steady, operate-mono}
 
@@ -48,40 +49,47 @@ rule-marks-length (r ∷ rs) = ap (λ (n : ℕ). suc (suc n)) (rule-marks-length
 abbrev pub Part : (Fact → Bool) → (Fact → Bool) → Type 0
 Part S Q = (x : Fact) → S x ≡ true → Q x ≡ true
 
-module _ (auths : List Authorization) (rules : List Rule) where
-  abbrev pub marks : List ℕ
-  marks = marksOf auths ++ ruleMarks rules
+module _ (base : Base) where
+  abbrev marks : List ℕ
+  marks = allMarks base
 
   -- S changes at marks only
   abbrev pub Stead : (Fact → Bool) → Type 0
-  Stead S = (r : Rule) → Mem r rules → (x : Access) → Steady (λ t. S (fact r x t)) marks
+  Stead S = (r : Rule) → Mem r (base .rules) → (x : Access) → Steady (λ t. S (fact r x t)) marks
 
-  -- the definitions for these authorizations and rules, in short
+  -- the definitions for this base, in short
   abbrev holding : (Fact → Bool) → ℕ → Pattern → Bool
-  holding = holdsBy always auths rules
+  holding = holdsBy always base
 
   abbrev right : (Fact → Bool) → (Fact → Bool) → Pattern → ℕ → Bool
-  right = rightBy always auths rules
+  right = rightBy always base
 
   abbrev derived : (Fact → Bool) → (Fact → Bool) → Fact → Bool
-  derived = derives always auths rules
+  derived = derives always base
 
   abbrev stage : ℕ → (Fact → Bool) → (Fact → Bool) → Fact → Bool
-  stage = round always auths rules
+  stage = round always base
 
   -- ---- what is built from steady sets is steady
 
   -- what holds of a pattern rests on the authorizations at the instant and on the facts about the pattern's access
-  pub holds-cong : (S Q : Fact → Bool) (t u : ℕ) (p : Pattern) → live t auths ≡ live u auths →
-      ((r : Rule) → Mem r rules → S (fact r (p .access) t) ≡ Q (fact r (p .access) u)) → holding S t p ≡ holding Q u p
+  pub holds-cong : (S Q : Fact → Bool) (t u : ℕ) (p : Pattern) →
+      live t (base .authorizations) ≡ live u (base .authorizations) →
+      ((r : Rule) → Mem r (base .rules) → S (fact r (p .access) t) ≡ Q (fact r (p .access) u)) →
+      holding S t p ≡ holding Q u p
   holds-cong S Q t u p l h = ap₂ (λ (x y : Bool). x || y) (ap (λ (hs : List Head). anyb (fits p) hs) l)
       (any-cong-mem (λ r. derivesFor p r && S (fact r (p .access) t))
-      (λ r. derivesFor p r && Q (fact r (p .access) u)) rules
+      (λ r. derivesFor p r && Q (fact r (p .access) u)) (base .rules)
       (λ r m. ap (λ (b : Bool). derivesFor p r && b) (h r m)))
+
+  -- no mark of an authorization, and none of a rule, lies between a and t
+  unmarked : (a t : ℕ) → clear marks a t ≡ true →
+      (clear (marksOf (base .authorizations)) a t ≡ true) × (clear (ruleMarks (base .rules)) a t ≡ true)
+  unmarked = clear-both (marksOf (base .authorizations)) (ruleMarks (base .rules))
 
   pub holds-steady : (S : Fact → Bool) → Stead S → (p : Pattern) → Steady (λ t. holding S t p) marks
   holds-steady S c p a t h e = holds-cong S S t a p
-      (live-steady auths a t h (clear-both (marksOf auths) (ruleMarks rules) a t e .0))
+      (live-steady (base .authorizations) a t h (unmarked a t e .0))
       (λ r m. c r m (p .access) a t h e)
 
   pub right-by-steady : (L S : Fact → Bool) → Stead L → Stead S → (p : Pattern) → Steady (right L S p) marks
@@ -90,7 +98,7 @@ module _ (auths : List Authorization) (rules : List Rule) where
   derives-steady : (L S : Fact → Bool) → Stead L → Stead S → Stead (derived L S)
   derives-steady L S c d r m x a t h e =
       let p = rightOf r x in
-      let i = rule-steady rules r m a t h (clear-both (marksOf auths) (ruleMarks rules) a t e .1) in
+      let i = rule-steady (base .rules) r m a t h (unmarked a t e .1) in
       cases (inInterval (r .interval) a)
       (λ y. rw (i, y) (operate-steady marks (right L S p) (right L L p)
       (right-by-steady L S c d p) (right-by-steady L L c c p)
@@ -99,7 +107,8 @@ module _ (auths : List Authorization) (rules : List Rule) where
 
   pub round-steady : (k : ℕ) (L S : Fact → Bool) → Stead L → Stead S → Stead (stage k L S)
   round-steady k L S c d r m x a t h e =
-      ap₂ (λ (y z : Bool). pick (ltb (stratum rules r) k) y (eqb (stratum rules r) k && z)) (c r m x a t h e)
+      let n = stratum (base .rules) r in
+      ap₂ (λ (y z : Bool). pick (ltb n k) y (eqb n k && z)) (c r m x a t h e)
       (derives-steady L S c d r m x a t h e)
 
   -- ---- from more facts no less is derived
@@ -109,8 +118,8 @@ module _ (auths : List Authorization) (rules : List Rule) where
       let x : Rule → Fact = λ r. fact r (p .access) t in
       let s : Rule → Bool = λ r. derivesFor p r && S (x r) in
       let q : Rule → Bool = λ r. derivesFor p r && Q (x r) in
-      or-mono (anyb (fits p) (live t auths)) (anyb s rules) (anyb q rules)
-      (any-mono s q rules (λ r. and-mono (derivesFor p r) (S (x r)) (Q (x r)) (h (x r))))
+      or-mono (anyb (fits p) (live t (base .authorizations))) (anyb s (base .rules)) (anyb q (base .rules))
+      (any-mono s q (base .rules) (λ r. and-mono (derivesFor p r) (S (x r)) (Q (x r)) (h (x r))))
 
   derives-mono : (L S Q : Fact → Bool) → Part S Q → Part (derived L S) (derived L Q)
   derives-mono L S Q h x =
@@ -124,7 +133,7 @@ module _ (auths : List Authorization) (rules : List Rule) where
 
   pub round-mono : (k : ℕ) (L S Q : Fact → Bool) → Part S Q → Part (stage k L S) (stage k L Q)
   round-mono k L S Q h x e =
-      let n = stratum rules (x .rule) in
+      let n = stratum (base .rules) (x .rule) in
       cases (ltb n k)
       (λ p. rw p (rw p at e))
       (λ p. rw p (and-mono (eqb n k) (derived L S x) (derived L Q x) (derives-mono L S Q h x) (rw p at e)))

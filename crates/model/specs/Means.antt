@@ -39,8 +39,11 @@ abbrev pub ruleMarks : List Rule → List ℕ
 ruleMarks [] = []
 ruleMarks (r ∷ rest) = r .interval .start ∷ suc (r .interval .end) ∷ ruleMarks rest
 
+abbrev pub marks : List Authorization → List Rule → List ℕ
+marks auths rules = marksOf auths ++ ruleMarks rules
+
 abbrev pub allMarks : Base → List ℕ
-allMarks b = marksOf (b .authorizations) ++ ruleMarks (b .rules)
+allMarks b = marks (b .authorizations) (b .rules)
 
 unfoldable pub keepAt : ℕ → List ℕ → (Head → ℕ → Bool) → List Authorization → List Authorization
 unfolding walk

@@ -11,7 +11,6 @@ use Rattle.foundation.specs.Closure.{iter}
 use Rattle.foundation.specs.declared.Interval.{Interval}
 use Rattle.foundation.specs.Intervals.{inInterval, maximal, always}
 use Rattle.model.specs.declared.Head.{Head}
-use Rattle.model.specs.declared.Authorization.{Authorization}
 use Rattle.model.specs.declared.Rule.{Rule}
 use Rattle.model.specs.declared.Operator.{Operator}
 use Rattle.model.specs.declared.Operator.the-variants.{Whenever, AsLongAs, WheneverNot, Unless}
@@ -95,12 +94,12 @@ operate every AsLongAs same lower start t = every start t same
 operate every WheneverNot same lower start t = not (lower t)
 operate every Unless same lower start t = every start t (λ u. not (lower u))
 
-module _ (every : ℕ → ℕ → (ℕ → Bool) → Bool) (auths : List Authorization) (rules : List Rule) where
+module _ (every : ℕ → ℕ → (ℕ → Bool) → Bool) (b : Base) where
   -- 01: "Held means given by a line or by a rule, denied or not", S saying what rules derive
   abbrev pub holdsBy : (Fact → Bool) → ℕ → Pattern → Bool
   holdsBy S t p =
-      let byRule = anyb (λ r. let d = S (fact r (p .access) t) in derivesFor p r && d) rules in
-      anyb (fits p) (live t auths) || byRule
+      let byRule = anyb (λ r. let d = S (fact r (p .access) t) in derivesFor p r && d) (b .rules) in
+      anyb (fits p) (live t (b .authorizations)) || byRule
 
   -- whether the right side p counts as held, instant by instant
   abbrev pub rightBy : (Fact → Bool) → (Fact → Bool) → Pattern → ℕ → Bool
@@ -117,7 +116,7 @@ module _ (every : ℕ → ℕ → (ℕ → Bool) → Bool) (auths : List Authori
   -- one round in stratum k: what lower strata derive stays, what a rule of the stratum derives is added
   abbrev pub round : ℕ → (Fact → Bool) → (Fact → Bool) → Fact → Bool
   round k lower S x =
-      let n = stratum rules (x .rule) in
+      let n = stratum (b .rules) (x .rule) in
       let l = lower x in
       let d = derives lower S x in
       pick (ltb n k) l (eqb n k && d)
@@ -125,8 +124,9 @@ module _ (every : ℕ → ℕ → (ℕ → Bool) → Bool) (auths : List Authori
   -- rounds enough that one more would add nothing (`closed`): one for each rule, subject, mode, object and mark
   abbrev pub enough : ℕ
   enough =
-      let n = suc (length rules) in
-      suc (length rules * (n * (n * (n * suc (2 * length auths + 2 * length rules)))))
+      let m = length (b .rules) in
+      let n = suc m in
+      suc (m * (n * (n * (n * suc (2 * length (b .authorizations) + 2 * m)))))
 
   -- 01: "What is held is built rank by rank, each the smallest set closed under its rules": what the strata below k derive
   unfoldable pub derivedBelow : ℕ → Fact → Bool
@@ -136,7 +136,7 @@ module _ (every : ℕ → ℕ → (ℕ → Bool) → Bool) (auths : List Authori
 
   unfoldable pub holds : ℕ → Pattern → Bool
   unfolding derivedBelow
-  holds t p = holdsBy (derivedBelow (suc (2 * length rules))) t p
+  holds t p = holdsBy (derivedBelow (suc (2 * length (b .rules)))) t p
 
 -- any grantor, any option
 abbrev pub asked : Access → Bool → Pattern
@@ -145,9 +145,7 @@ asked x negative = record { access = x; negative = negative; grantor = star; opt
 -- 01: "MAY is yes exactly if a positive authorization is held and no denial is"
 unfoldable pub mayWith : (ℕ → ℕ → (ℕ → Bool) → Bool) → Base → Access → ℕ → Bool
 unfolding holds
-mayWith every b x t =
-    holds every (b .authorizations) (b .rules) t (asked x false)
-    && not (holds every (b .authorizations) (b .rules) t (asked x true))
+mayWith every b x t = holds every b t (asked x false) && not (holds every b t (asked x true))
 
 unfoldable pub may : Base → Access → ℕ → Bool
 unfolding mayWith

@@ -10,11 +10,9 @@ use lib.Dec.{eqb}
 use lib.ListN.{length, getD}
 use Rattle.foundation.specs.Tests.{agree, true-eq, and-true, and-intro}
 use Rattle.foundation.specs.Lists.{anyb, any-mem, mem-any}
-use Rattle.model.specs.declared.Authorization.{Authorization}
 use Rattle.model.specs.declared.Rule.{Rule}
 use Rattle.model.specs.declared.Access.{Access}
 use Rattle.model.specs.Encoding.{ruleOf, bit}
-use Rattle.model.specs.Base.{Base}
 use Rattle.model.specs.Support.{live}
 use Rattle.model.specs.Rules.{fits, standsFor, derivesFor, asked, may}
 use Rattle.model.specs.SideFacts.{stands-is, derives-is}
@@ -22,12 +20,12 @@ use Rattle.support.specs.Cover.{authorizationsIn}
 use Rattle.rules.specs.Masks.{maskOf}
 use Rattle.rules.specs.Strata.{rulesIn, ruleAt}
 use Rattle.rules.proofs.Masks.{mask-inside}
-use Rattle.questions.specs.Table.{truth, heldIn, Right}
+use Rattle.questions.specs.Table.{truth, heldIn}
 use Rattle.questions.specs.FromMarkToMark.{may-answer}
 use Rattle.questions.specs.Drawn.{counted, placeOf, accessOf}
 use Rattle.questions.specs.Places.{at-place}
 use Rattle.questions.specs.Feeding.{common, in-common, mask-rule, mask-number}
-use Rattle.plan.specs.Scene.{numberIn, derivesOn, Prepared, bitsOf, mayBeSet, At}
+use Rattle.plan.specs.Scene.{numberIn, derivesOn, baseIn, Prepared, bitsOf, mayBeSet, At}
 
 module _ (lines : List ℕ) (na : ℕ) (body : List ℕ) (n : ℕ) (U L S F M P K : List ℕ) (l g top : ℕ)
     (ready : Prepared lines na body n U L S F M P K l g top) (t : ℕ) (T : List ℕ) (at : At lines na body n U t T)
@@ -76,7 +74,7 @@ module _ (lines : List ℕ) (na : ℕ) (body : List ℕ) (n : ℕ) (U L S F M P 
         let same : y ≡ x = at-place U x there (r .left .object) (true-eq (r .left .object) (x .object) (v .0)) in
         let c = counted U y in
         let d = standsFor r y in
-        let f = truth (authorizationsIn na lines) rules t r y in
+        let f = truth (baseIn lines na body n) t r y in
         let z : standsFor r x ≡ true = subst (λ (y : Access). standsFor r y ≡ true) same
         (and-true c d (and-true (c && d) f (at .has (placeOf U x) i (w .1)) .0) .1) in
         let m = numbering .ruled i h in
@@ -91,17 +89,12 @@ module _ (lines : List ℕ) (na : ℕ) (body : List ℕ) (n : ℕ) (U L S F M P 
   abbrev pub held : Bool → Bool
   held negative = anyb (fits (asked x negative)) (live t (authorizationsIn na lines)) || given negative
 
-  pub read-off : (b : Base) → authorizationsIn na lines ≡ b .authorizations → rulesIn n body ≡ b .rules →
-      held false && not (held true) ≡ may b x t
-  read-off b ea er =
-      let auths = authorizationsIn na lines in
+  pub read-off : held false && not (held true) ≡ may (baseIn lines na body n) x t
+  read-off =
+      let base = baseIn lines na body n in
       let X = bitsOf lines na body n U T in
-      let both : (negative : Bool) → held negative ≡ heldIn auths rules X t (asked x negative) =
-      λ negative. ap (λ (d : Bool). anyb (fits (asked x negative)) (live t auths) || d) (sym (by-rule negative)) in
-      let right : Right (b .authorizations) (b .rules) (counted U) t X =
-      subst (λ (rs : List Rule). Right (b .authorizations) rs (counted U) t X) er
-      (subst (λ (xs : List Authorization). Right xs rules (counted U) t X) ea (at .right)) in
+      let both : (negative : Bool) → held negative ≡ heldIn base X t (asked x negative) =
+      λ negative. ap (λ (d : Bool). anyb (fits (asked x negative)) (live t (authorizationsIn na lines)) || d)
+      (sym (by-rule negative)) in
       ap₂ (λ (p q : Bool). p && not q) (both false) (both true)
-      ∙ ap₂ (λ (xs : List Authorization) (rs : List Rule).
-      heldIn xs rs X t (asked x false) && not (heldIn xs rs X t (asked x true))) ea er
-      ∙ may-answer b (counted U) t X right x there
+      ∙ may-answer base (counted U) t X (at .right) x there

@@ -14,6 +14,7 @@ use Rattle.model.specs.declared.Authorization.{Authorization}
 use Rattle.model.specs.declared.Rule.{Rule}
 use Rattle.model.specs.declared.Access.{Access}
 use Rattle.model.specs.Ranges.{isMode}
+use Rattle.model.specs.Base.{Base}
 use Rattle.model.specs.Encoding.{authorizationOf, bit}
 use Rattle.model.specs.Stratification.{fitsOption, negates, stratified, stratum}
 use Rattle.model.specs.Rules.{fitsGrantor}
@@ -73,12 +74,27 @@ Lit lines na masks spots t direct =
 
 -- ---- the scene
 
+-- A base with these authorizations and rules and no privileges: what holds looks at nothing else
+abbrev pub bareBase : List Authorization → List Rule → Base
+bareBase auths rules = record {
+  clock = 0;
+  last = 0;
+  objects = [];
+  administrators = [];
+  referrers = [];
+  authorizations = auths;
+  rules = rules;
+}
+
 -- a rule's number is its place; labels tell the rules apart
 abbrev pub numberIn : List Rule → Rule → ℕ
 numberIn [] r = 0
 numberIn (q ∷ rest) r = let i = numberIn rest r in pick (eqb (q .label) (r .label)) 0 (suc i)
 
 module _ (lines : List ℕ) (na : ℕ) (body : List ℕ) (n : ℕ) where
+  abbrev pub baseIn : Base
+  baseIn = bareBase (authorizationsIn na lines) (rulesIn n body)
+
   -- what soundness says of the two bodies
   pub record Grounds : Type 0 where
     pub lines-few : na ≤ 1024
@@ -114,14 +130,14 @@ module _ (lines : List ℕ) (na : ℕ) (body : List ℕ) (n : ℕ) where
 
     -- the bits that may be set at t
     abbrev pub mayBeSet : ℕ → ℕ → ℕ → Bool
-    mayBeSet t = planned.derivedAt (authorizationsIn na lines) (rulesIn n body) (counted U) t
+    mayBeSet t = planned.derivedAt baseIn (counted U) t
         (numberIn (rulesIn n body)) (placeOf U) (ruleAt body) (accessOf U (ruleAt body))
 
     -- the table before serves at t
     abbrev pub Serves : ℕ → List ℕ → Type 0
-    Serves t T = Before (authorizationsIn na lines) (rulesIn n body) (counted U) (bitsOf T) t
+    Serves t T = Before baseIn (counted U) (bitsOf T) t
 
     -- the table says what the rules derive at t
     pub record At (t : ℕ) (T : List ℕ) : Type 0 where
       pub has : Has T (mayBeSet t)
-      pub right : Right (authorizationsIn na lines) (rulesIn n body) (counted U) t (bitsOf T)
+      pub right : Right baseIn (counted U) t (bitsOf T)

@@ -24,7 +24,7 @@ use Rattle.questions.specs.Table.{Inward, RightBelow}
 use Rattle.questions.specs.Planned.{stratum-right}
 use Rattle.questions.specs.Drawn.{Direct, Drawn, counted, placeOf, leads, accessOf, activeAt, freshAt}
 use Rattle.questions.specs.DrawnFacts.{drawn-inward, drawn-fit, node-leads, stands}
-use Rattle.plan.specs.Scene.{numberIn, livingAt, Prepared, bitsOf, mayBeSet, Serves, At}
+use Rattle.plan.specs.Scene.{numberIn, livingAt, baseIn, Prepared, bitsOf, mayBeSet, Serves, At}
 use Rattle.plan.specs.Words.{mask-and, numbersIn, level-holds, bit-zero}
 
 module _ (lines : List ℕ) (na : ℕ) (body : List ℕ) (n : ℕ) (U : List ℕ) where
@@ -33,7 +33,7 @@ module _ (lines : List ℕ) (na : ℕ) (body : List ℕ) (n : ℕ) (U : List ℕ
     pub size : length T ≡ places
     pub words : (i : ℕ) → getD T i 0 < wordBound
     pub has : Has T (mayBeSet lines na body n U t)
-    pub right : RightBelow (authorizationsIn na lines) (rulesIn n body) (counted U) t k (bitsOf lines na body n U T)
+    pub right : RightBelow (baseIn lines na body n) (counted U) t k (bitsOf lines na body n U T)
 
   -- an empty table is right before the first stratum
   pub none-done : (t : ℕ) (T : List ℕ) → length T ≡ places → ((i : ℕ) → getD T i 0 ≡ 0) → Done t 0 T
@@ -93,9 +93,9 @@ module _ (lines : List ℕ) (na : ℕ) (body : List ℕ) (n : ℕ) (U L S F M P 
       record {
         few = ready .grounds .rules-few;
         inside = fits;
-        fit = λ r p h q. drawn-fit (rulesIn n body) U (numberIn (rulesIn n body)) (ruleAt body) (ready .listed)
-            (ready .few) (ready .grounds .numbering) (ready .grounds .shaped) t k (plan (stageAt t k) S F) (drawn t k)
-            r p (omega (arith, count)) q;
+        fit = λ r p h q. drawn-fit (baseIn lines na body n) U (numberIn (rulesIn n body)) (ruleAt body)
+            (ready .listed) (ready .few) (ready .grounds .numbering) (ready .grounds .shaped)
+            t k (plan (stageAt t k) S F) (drawn t k) r p (omega (arith, count)) q;
         size = d .size;
         flags = len;
         words = d .words;
@@ -107,17 +107,16 @@ module _ (lines : List ℕ) (na : ℕ) (body : List ℕ) (n : ℕ) (U L S F M P 
       Direct (authorizationsIn na lines) t U (rulesIn n body) (ruleAt body) direct → Done lines na body n U t k T₀ →
       Smallest (plan (stageAt t k) S F) before direct T₀ T → Done lines na body n U t (suc k) T
   stratum-done t k before direct T₀ T h was dir d z =
-      let auths = authorizationsIn na lines in
-      let rules = rulesIn n body in
-      let number = numberIn rules in
+      let base = baseIn lines na body n in
+      let number = numberIn (rulesIn n body) in
       let rule = ruleAt body in
       let pl = plan (stageAt t k) S F in
       let gr = ready .grounds in
-      let w = stratum-right auths rules (counted U) t number (placeOf U) rule (accessOf U rule) (gr .strata)
-      (drawn-inward rules U number rule (ready .listed) (ready .few) (gr .numbering) (gr .shaped))
+      let w = stratum-right base (counted U) t number (placeOf U) rule (accessOf U rule) (gr .strata)
+      (drawn-inward base U number rule (ready .listed) (ready .few) (gr .numbering) (gr .shaped))
       (bitsOf lines na body n U before) was k (omega (arith, count)) pl before direct
-      (stands rules U number rule (ready .listed) (ready .few) (gr .numbering) (gr .shaped) t k pl (drawn t k)
-      auths before direct dir) T₀ (d .has) (d .right) T z in
+      (stands base U number rule (ready .listed) (ready .few) (gr .numbering) (gr .shaped) t k pl (drawn t k)
+      before direct dir) T₀ (d .has) (d .right) T z in
       record { size = z .size; words = z .words; has = w .0; right = w .1 }
 
   -- after the highest stratum that a rule about these subjects has, all is right
@@ -129,8 +128,8 @@ module _ (lines : List ℕ) (na : ℕ) (body : List ℕ) (n : ℕ) (U L S F M P 
         has = d .has;
         right = λ r x o. d .right r x o (omega (
           arith,
-          ready .highest r (o .0) (node-leads rules U (numberIn rules) (ruleAt body) (ready .listed) (ready .few)
-              (gr .numbering) (gr .shaped) r x o),
+          ready .highest r (o .0) (node-leads (baseIn lines na body n) U (numberIn rules) (ruleAt body) (ready .listed)
+              (ready .few) (gr .numbering) (gr .shaped) r x o),
         ));
       }
 

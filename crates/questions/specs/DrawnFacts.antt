@@ -13,6 +13,7 @@ use Rattle.foundation.specs.Intervals.{inInterval}
 use Rattle.model.specs.declared.Authorization.{Authorization}
 use Rattle.model.specs.declared.Rule.{Rule}
 use Rattle.model.specs.declared.Access.{Access}
+use Rattle.model.specs.Base.{Base}
 use Rattle.model.specs.Ranges.{isMode}
 use Rattle.model.specs.Encoding.{bit}
 use Rattle.model.specs.Support.{live}
@@ -37,9 +38,16 @@ asked : (active looks was wants led inside level now right : Bool) → active �
 asked active looks was wants led true level now right e l v o g w = rw (e, l, v, o, g, w)
 asked active looks was wants led false level now right e l v o g w = rw (e, l)
 
-module _ (rules : List Rule) (U : List ℕ) (number : Rule → ℕ) (rule : ℕ → Rule)
-    (subjects-ok : Subjects rules U) (few : length U ≤ subjects) (numbering : Numbering rules number rule)
-    (shaped : (r : Rule) → Mem r rules → Shaped r) where
+module _ (base : Base) (U : List ℕ) (number : Rule → ℕ) (rule : ℕ → Rule)
+    (subjects-ok : Subjects (base .rules) U) (few : length U ≤ subjects)
+    (numbering : Numbering (base .rules) number rule)
+    (shaped : (r : Rule) → Mem r (base .rules) → Shaped r) where
+  abbrev auths : List Authorization
+  auths = base .authorizations
+
+  abbrev rules : List Rule
+  rules = base .rules
+
   subject-axis : Coordinate (among U) (λ v. indexOf v U) (λ j. getD U j 0) (subjectCode U) (length U) subjects
   subject-axis = subject-coordinate U (subjects-ok .apart) few
 
@@ -53,7 +61,7 @@ module _ (rules : List Rule) (U : List ℕ) (number : Rule → ℕ) (rule : ℕ 
 
   -- ---- a rule that stands for an access that counts
 
-  module _ (r : Rule) (x : Access) (n : Node rules (counted U) r x) where
+  module _ (r : Rule) (x : Access) (n : Node base (counted U) r x) where
     same-object : r .left .object ≡ x .object
     same-object = true-eq (r .left .object) (x .object) (stands-is r x .0 (n .2) .2)
 
@@ -62,7 +70,7 @@ module _ (rules : List Rule) (U : List ℕ) (number : Rule → ℕ) (rule : ℕ 
         let f : eqb (r .left .subject) (x .subject) ≡ true = rw e at (stands-is r x .0 (n .2) .0) in
         rw (e, true-eq (r .left .subject) (x .subject) f) (listed U x (n .1)))
 
-  pub drawn-inward : Inward rules (counted U)
+  pub drawn-inward : Inward base (counted U)
   unfolding rightOf
   drawn-inward r x n =
       let s = r .right .subject in
@@ -71,7 +79,7 @@ module _ (rules : List Rule) (U : List ℕ) (number : Rule → ℕ) (rule : ℕ 
       (side-in subject-axis s (x .subject) (right-listed r (n .0) (node-leads r x n)) (listed U x (n .1)))
       (side-in mode-coordinate m (x .mode) (shaped r (n .0) .right) (proper U x (n .1)))
 
-  module _ (r : Rule) (x : Access) (n : Node rules (counted U) r x) where
+  module _ (r : Rule) (x : Access) (n : Node base (counted U) r x) where
     node-back : (rule (number r) ≡ r) × (accessOf U rule (number r) (placeOf U x) ≡ x)
     node-back =
         let w = numbering .numbered r (n .0) .1 in
@@ -130,7 +138,7 @@ module _ (rules : List Rule) (U : List ℕ) (number : Rule → ℕ) (rule : ℕ 
 
     -- ---- from the right side of a rule to its left side
 
-    module _ (r : Rule) (x : Access) (n : Node rules (counted U) r x) where
+    module _ (r : Rule) (x : Access) (n : Node base (counted U) r x) where
       abbrev i : ℕ
       i = number r
 
@@ -187,7 +195,7 @@ module _ (rules : List Rule) (U : List ℕ) (number : Rule → ℕ) (rule : ℕ 
       member : Mem (rule i) rules
       member = numbering .ruled i h .0
 
-      left-node : leads U (rule i) ≡ true → Node rules (counted U) (rule i) (leftAt i p)
+      left-node : leads U (rule i) ≡ true → Node base (counted U) (rule i) (leftAt i p)
       left-node e =
           let r = rule i in
           let x = leftAt i p in (
@@ -217,14 +225,14 @@ module _ (rules : List Rule) (U : List ℕ) (number : Rule → ℕ) (rule : ℕ 
 
     -- ---- what the plan derives
 
-    module _ (auths : List Authorization) (before direct : List ℕ) (fit : Direct auths t U rules rule direct) where
+    module _ (before direct : List ℕ) (fit : Direct auths t U rules rule direct) where
       abbrev table : List ℕ → Bits
-      table T = bits auths rules (counted U) t number (placeOf U) rule (accessOf U rule) T
+      table T = bits base (counted U) t number (placeOf U) rule (accessOf U rule) T
 
       abbrev NoneWrong : List ℕ → Type 0
-      NoneWrong T = Has T (derivedAt auths rules (counted U) t number (placeOf U) rule (accessOf U rule))
+      NoneWrong T = Has T (derivedAt base (counted U) t number (placeOf U) rule (accessOf U rule))
 
-      module _ (T : List ℕ) (h : NoneWrong T) (r : Rule) (x : Access) (n : Node rules (counted U) r x) where
+      module _ (T : List ℕ) (h : NoneWrong T) (r : Rule) (x : Access) (n : Node base (counted U) r x) where
         abbrev word : ℕ
         word = getD T (placeOf U (rightOf r x .access)) 0
 
@@ -237,14 +245,14 @@ module _ (rules : List Rule) (U : List ℕ) (number : Rule → ℕ) (rule : ℕ 
             let p = placeOf U y in
             let a = accessOf U rule j p in
             let z : a ≡ y = at-place U y (drawn-inward r x n) (rule j .left .object) (feeds-object (rule j) r g) in
-            let d = and-true (counted U a && standsFor (rule j) a) (truth auths rules t (rule j) a) (h p j e) .0 in
+            let d = and-true (counted U a && standsFor (rule j) a) (truth base t (rule j) a) (h p j e) .0 in
             ap (standsFor (rule j)) (sym z) ∙ and-true (counted U a) (standsFor (rule j) a) d .1
 
         -- the right side is as the rule wants by the plan where it is by the theory
         node-wants :
             wantsBy (linkOf pl (number r) .feed) (linkOf pl (number r) .negating) word
             (getD direct (placeOf U (rightOf r x .access)) 0) (number r)
-            ≡ sense (r .operator) (rightIn auths rules (table T) t r x)
+            ≡ sense (r .operator) (rightIn base (table T) t r x)
         node-wants =
             let i = number r in
             let p = placeOf U (rightOf r x .access) in
@@ -258,11 +266,11 @@ module _ (rules : List Rule) (U : List ℕ) (number : Rule → ℕ) (rule : ℕ 
             let g : bit i (pl .stage .negating) ≡ negates r =
             ap (λ (m : ℕ). bit i m) (drawn .negating) ∙ mask-number rules number rule numbering negates r (n .0) in
             ap₂ (λ (a b : Bool). not (Bool·beq a b)) (ap₂ (λ (a b : Bool). a || b) d e) g
-            ∙ sense-differs (r .operator) (rightIn auths rules (table T) t r x)
+            ∙ sense-differs (r .operator) (rightIn base (table T) t r x)
 
         node-gives : stratum rules r ≡ k →
             gives pl before direct T (number r) (placeOf U (rightOf r x .access))
-            ≡ snap auths rules (table before) t (table T) r x
+            ≡ snap base (table before) t (table T) r x
         node-gives e =
             let i = number r in
             let p = placeOf U (rightOf r x .access) in
@@ -276,13 +284,13 @@ module _ (rules : List Rule) (U : List ℕ) (number : Rule → ℕ) (rule : ℕ 
             (bit i (pl .stage .fresh) || bit i (getD before (aim pl i p) 0))
             (wantsBy (linkOf pl i .feed) (linkOf pl i .negating) word (getD direct p 0) i)
             (leads U r) (inInterval (r .interval) t) (eqb (stratum rules r) k) (freshAt t r || table before r x)
-            (sense (r .operator) (rightIn auths rules (table T) t r x))
+            (sense (r .operator) (rightIn base (table T) t r x))
             a (node-leads r x n) (eq-true (stratum rules r) k e) (node-looks r x n)
             (ap₂ (λ (a b : Bool). a || b) f b) node-wants
 
       -- a rule that derives by the plan is of the stratum, and stands for an access whose right side is there
       given : (T : List ℕ) (i p : ℕ) → i < length rules → p < length U * modes → gives pl before direct T i p ≡ true →
-          (r : Rule) × (x : Access) × Node rules (counted U) r x × (stratum rules r ≡ k) × (number r ≡ i)
+          (r : Rule) × (x : Access) × Node base (counted U) r x × (stratum rules r ≡ k) × (number r ≡ i)
           × (placeOf U (rightOf r x .access) ≡ p)
       given T i p h l e =
           let r = rule i in
@@ -304,16 +312,16 @@ module _ (rules : List Rule) (U : List ℕ) (number : Rule → ℕ) (rule : ℕ 
             left-origin i p h l led (w .1),
           )
 
-    pub stands : (auths : List Authorization) (before direct : List ℕ) → Direct auths t U rules rule direct →
-        Stands auths rules (counted U) t number (placeOf U) rule (accessOf U rule)
-        (bits auths rules (counted U) t number (placeOf U) rule (accessOf U rule) before) k pl before direct
-    stands auths before direct fit = record {
+    pub stands : (before direct : List ℕ) → Direct auths t U rules rule direct →
+        Stands base (counted U) t number (placeOf U) rule (accessOf U rule)
+        (bits base (counted U) t number (placeOf U) rule (accessOf U rule) before) k pl before direct
+    stands before direct fit = record {
       back = λ r x n. node-back r x n;
       seen = λ r x n e. (
         rw (drawn .count) (numbering .numbered r (n .0) .0),
         rw (drawn .used) (place-in U (rightOf r x .access) (drawn-inward r x n)),
         node-aim r x n,
       );
-      test = λ T h r x n e. node-gives auths before direct fit T h r x n e;
-      only = λ T h i p l m e. given auths before direct fit T i p (rw (drawn .count) at l) (rw (drawn .used) at m) e;
+      test = λ T h r x n e. node-gives before direct fit T h r x n e;
+      only = λ T h i p l m e. given before direct fit T i p (rw (drawn .count) at l) (rw (drawn .used) at m) e;
     }

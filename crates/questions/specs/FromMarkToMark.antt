@@ -5,69 +5,65 @@ use mathlib.Core.Path.{_≡_, sym, ap₂, _∙_, subst}
 use Prim.Native.Nat.{ℕ, suc, _*_, _-_, _≤_, _<_}
 use native.Mathlib.Omega.{arith}
 use mathlib.Core.Bool.{Bool, true, false, not, _&&_, false≢true}
-use mathlib.Core.List.{List}
 use lib.ListN.{length}
 use Rattle.foundation.specs.Lists.{Mem}
 use Rattle.foundation.specs.Intervals.{always}
 use Rattle.foundation.specs.Marks.{next, clear, next-above, next-clear}
-use Rattle.model.specs.declared.Authorization.{Authorization}
 use Rattle.model.specs.declared.Rule.{Rule}
 use Rattle.model.specs.declared.Access.{Access}
 use Rattle.model.specs.Base.{Base}
 use Rattle.model.specs.Stratification.{stratified}
 use Rattle.model.specs.StratificationFacts.{stratum-few}
 use Rattle.model.specs.Rules.{Pattern, holds, asked, may}
-use Rattle.model.specs.HoldsSteady.{marks}
+use Rattle.model.specs.Means.{allMarks}
 use Rattle.model.specs.SideFacts.{derives-stands}
 use Rattle.model.specs.HoldsFacts.{below-steady}
 use Rattle.model.specs.HoldsLaws.{holds-same}
 use Rattle.questions.specs.Operators.{lasting}
 use Rattle.questions.specs.Table.{Bits, asFacts, heldIn, Before, Sound, RightBelow, Right}
 
-module _ (auths : List Authorization) (rules : List Rule) (D : Access → Bool) where
+module _ (base : Base) (D : Access → Bool) where
   -- where every rule that looks back starts at t or later, any table serves as the one before
   pub before-first : (P : Bits) (t : ℕ) →
-      ((r : Rule) → Mem r rules → lasting (r .operator) ≡ true → t ≤ r .interval .start) → Before auths rules D P t
+      ((r : Rule) → Mem r (base .rules) → lasting (r .operator) ≡ true → t ≤ r .interval .start) →
+      Before base D P t
   before-first P t h r x n l u q b = absurd (omega (arith, h r (n .0) l))
 
   -- between marks nothing changes
-  pub before-next : (X : Bits) (a t : ℕ) → a < t → clear (marks auths rules) a (t - 1) ≡ true →
-      Right auths rules D a X → Before auths rules D X t
+  pub before-next : (X : Bits) (a t : ℕ) → a < t → clear (allMarks base) a (t - 1) ≡ true →
+      Right base D a X → Before base D X t
   before-next X a t h c w r x n l u q b =
       let e : t - 1 ≡ u = omega arith in
-      w r x n ∙ sym (below-steady auths rules (suc (2 * length rules)) r (n .0) x a u (omega arith)
-      (subst (λ (v : ℕ). clear (marks auths rules) a v ≡ true) e c))
+      w r x n ∙ sym (below-steady base (suc (2 * length (base .rules))) r (n .0) x a u (omega arith)
+      (subst (λ (v : ℕ). clear (allMarks base) a v ≡ true) e c))
 
   -- so the table of one mark serves as the one before the next
-  pub before-mark : (X : Bits) (a d : ℕ) → a < d → Right auths rules D a X →
-      Before auths rules D X (next a (marks auths rules) d)
+  pub before-mark : (X : Bits) (a d : ℕ) → a < d → Right base D a X →
+      Before base D X (next a (allMarks base) d)
   before-mark X a d h w =
-      let m = next a (marks auths rules) d in
-      let l = next-above a (marks auths rules) d h in
-      before-next X a m l (next-clear a (marks auths rules) d (m - 1) (omega arith)) w
+      let m = next a (allMarks base) d in
+      let l = next-above a (allMarks base) d h in
+      before-next X a m l (next-clear a (allMarks base) d (m - 1) (omega arith)) w
 
   -- with every stratum swept all is right
-  pub all-right : stratified rules ≡ true → (t : ℕ) (X : Bits) →
-      RightBelow auths rules D t (suc (2 * length rules)) X →
-      Right auths rules D t X
-  all-right s t X h r x n = h r x n (omega (arith, stratum-few rules s r (n .0)))
+  pub all-right : stratified (base .rules) ≡ true → (t : ℕ) (X : Bits) →
+      RightBelow base D t (suc (2 * length (base .rules))) X → Right base D t X
+  all-right s t X h r x n = h r x n (omega (arith, stratum-few (base .rules) s r (n .0)))
 
   -- the first stratum finds an empty table right
-  pub none-right : (t : ℕ) → Sound auths rules D t (λ r x. false) × RightBelow auths rules D t 0 (λ r x. false)
+  pub none-right : (t : ℕ) → Sound base D t (λ r x. false) × RightBelow base D t 0 (λ r x. false)
   none-right t = ((λ r x n e. absurd (false≢true e)), (λ r x n h. absurd (omega arith)))
 
   -- what holds is read off a table that is right
-  pub answer : (t : ℕ) (X : Bits) → Right auths rules D t X → (p : Pattern) → D (p .access) ≡ true →
-      heldIn auths rules X t p ≡ holds always auths rules t p
-  answer t X w p d = holds-same auths rules (asFacts X) t p
+  pub answer : (t : ℕ) (X : Bits) → Right base D t X → (p : Pattern) → D (p .access) ≡ true →
+      heldIn base X t p ≡ holds always base t p
+  answer t X w p d = holds-same base (asFacts X) t p
       (λ r m e. sym (w r (p .access) (m, d, derives-stands p r e)))
 
 -- and so is the answer to MAY
-pub may-answer : (b : Base) (D : Access → Bool) (t : ℕ) (X : Bits) → Right (b .authorizations) (b .rules) D t X →
+pub may-answer : (b : Base) (D : Access → Bool) (t : ℕ) (X : Bits) → Right b D t X →
     (x : Access) → D x ≡ true →
-    heldIn (b .authorizations) (b .rules) X t (asked x false)
-    && not (heldIn (b .authorizations) (b .rules) X t (asked x true)) ≡ may b x t
+    heldIn b X t (asked x false) && not (heldIn b X t (asked x true)) ≡ may b x t
 unfolding may
 may-answer b D t X w x d =
-    ap₂ (λ (y z : Bool). y && not z) (answer (b .authorizations) (b .rules) D t X w (asked x false) d)
-    (answer (b .authorizations) (b .rules) D t X w (asked x true) d)
+    ap₂ (λ (y z : Bool). y && not z) (answer b D t X w (asked x false) d) (answer b D t X w (asked x true) d)

@@ -5,16 +5,15 @@ use mathlib.Core.Path.{_≡_, refl, sym, _∙_, subst}
 use Prim.Native.Nat.{ℕ, zero, suc, _*_, _-_, _≤_, _<_}
 use native.Mathlib.Omega.{arith}
 use mathlib.Core.Bool.{Bool, true, not, _&&_, _||_}
-use mathlib.Core.List.{List}
 use lib.Dec.{ltb, eqb}
 use lib.ListN.{length}
 use Rattle.foundation.specs.Tests.{pick, cases, agree, le-false, true-eq, eq-true, and-true, and-intro, or-cases, or-intro-left, or-true-right}
 use Rattle.foundation.specs.Lists.{anyb, Mem, any-mem, mem-any}
 use Rattle.foundation.specs.Closure.{iter}
 use Rattle.foundation.specs.Intervals.{inInterval, inInterval-true, always}
-use Rattle.model.specs.declared.Authorization.{Authorization}
 use Rattle.model.specs.declared.Rule.{Rule}
 use Rattle.model.specs.declared.Access.{Access}
+use Rattle.model.specs.Base.{Base}
 use Rattle.model.specs.Support.{live}
 use Rattle.model.specs.Stratification.{negating, stratified, stratum}
 use Rattle.model.specs.StratificationFacts.{feeder-below}
@@ -27,24 +26,24 @@ use Rattle.questions.specs.Operators.{lasting, sense, operate-back, oper
 use Rattle.questions.specs.Table.{Bits, asFacts, gate, truth, heldIn, rightIn, snap, Node, Inward, Before, Sound, RightBelow, ClosedAt, gate-first, instant-before, now-law}
 
 -- from more facts about the rules at hand no less holds
-holds-more : (auths : List Authorization) (rules : List Rule) (S Q : Fact → Bool) (t : ℕ) (p : Pattern) →
-    ((r : Rule) → Mem r rules → S (fact r (p .access) t) ≡ true → Q (fact r (p .access) t) ≡ true) →
-    holdsBy always auths rules S t p ≡ true → holdsBy always auths rules Q t p ≡ true
-holds-more auths rules S Q t p h e =
+holds-more : (base : Base) (S Q : Fact → Bool) (t : ℕ) (p : Pattern) →
+    ((r : Rule) → Mem r (base .rules) → S (fact r (p .access) t) ≡ true → Q (fact r (p .access) t) ≡ true) →
+    holdsBy always base S t p ≡ true → holdsBy always base Q t p ≡ true
+holds-more base S Q t p h e =
     let x : Rule → Fact = λ r. fact r (p .access) t in
     let s : Rule → Bool = λ r. derivesFor p r && S (x r) in
     let q : Rule → Bool = λ r. derivesFor p r && Q (x r) in
-    let direct = anyb (fits p) (live t auths) in
-    or-cases direct (anyb s rules) e
-    (λ a. or-intro-left direct (anyb q rules) a)
-    (λ a. let m = any-mem s rules a in
+    let direct = anyb (fits p) (live t (base .authorizations)) in
+    or-cases direct (anyb s (base .rules)) e
+    (λ a. or-intro-left direct (anyb q (base .rules)) a)
+    (λ a. let m = any-mem s (base .rules) a in
     let w = and-true (derivesFor p (m .0)) (S (x (m .0))) (m .2) in
-    or-true-right direct (anyb q rules) (mem-any q rules (m .0) (m .1)
+    or-true-right direct (anyb q (base .rules)) (mem-any q (base .rules) (m .0) (m .1)
     (and-intro (derivesFor p (m .0)) (Q (x (m .0))) (w .0) (h (m .0) (m .1) (w .1)))))
 
-module _ (auths : List Authorization) (rules : List Rule) (s : stratified rules ≡ true) (D : Access → Bool)
-    (inward : Inward rules D) (P : Bits) (t : ℕ) (before : Before auths rules D P t)
-    (k : ℕ) (X : Bits) (sound : Sound auths rules D t X) (right-below : RightBelow auths rules D t k X) where
+module _ (base : Base) (s : stratified (base .rules) ≡ true) (D : Access → Bool)
+    (inward : Inward base D) (P : Bits) (t : ℕ) (before : Before base D P t)
+    (k : ℕ) (X : Bits) (sound : Sound base D t X) (right-below : RightBelow base D t k X) where
   -- ---- the table filled up: where its bits do not count, with what is derived
 
   counts : Rule → Access → Bool
@@ -52,36 +51,38 @@ module _ (auths : List Authorization) (rules : List Rule) (s : stratified rules 
 
   filled : Bits
   unfolding counts
-  filled r x = pick (counts r x) (X r x) (truth auths rules t r x)
+  filled r x = pick (counts r x) (X r x) (truth base t r x)
 
   -- a bit counts, or is filled up
-  split : (r : Rule) (x : Access) → Mem r rules → {Z : Type 0} → (Node rules D r x → filled r x ≡ X r x → Z) →
-      (filled r x ≡ truth auths rules t r x → Z) → Z
+  split : (r : Rule) (x : Access) → Mem r (base .rules) → {Z : Type 0} →
+      (Node base D r x → filled r x ≡ X r x → Z) →
+      (filled r x ≡ truth base t r x → Z) → Z
   unfolding filled
   split r x m f g = cases (counts r x)
       (λ e. let w = and-true (D x) (standsFor r x) e in f (m, w .0, w .1) (rw e))
       (λ e. g (rw e))
 
-  filled-node : (r : Rule) (x : Access) → Node rules D r x → filled r x ≡ X r x
+  filled-node : (r : Rule) (x : Access) → Node base D r x → filled r x ≡ X r x
   unfolding filled
   filled-node r x n = rw (and-intro (D x) (standsFor r x) (n .1) (n .2))
 
-  filled-sound : (r : Rule) (x : Access) → Mem r rules → filled r x ≡ true → truth auths rules t r x ≡ true
+  filled-sound : (r : Rule) (x : Access) → Mem r (base .rules) → filled r x ≡ true → truth base t r x ≡ true
   filled-sound r x m e = split r x m (λ n q. sound r x n (sym q ∙ e)) (λ q. sym q ∙ e)
 
-  filled-below : (r : Rule) (x : Access) → Mem r rules → stratum rules r < k → filled r x ≡ truth auths rules t r x
+  filled-below : (r : Rule) (x : Access) → Mem r (base .rules) → stratum (base .rules) r < k →
+      filled r x ≡ truth base t r x
   filled-below r x m h = split r x m (λ n q. q ∙ right-below r x n h) (λ q. q)
 
   -- of an access that counts the same holds by the filled table
-  held-filled : (p : Pattern) → D (p .access) ≡ true → heldIn auths rules X t p ≡ heldIn auths rules filled t p
-  held-filled p d = holds-fit auths rules (asFacts X) (asFacts filled) t p
+  held-filled : (p : Pattern) → D (p .access) ≡ true → heldIn base X t p ≡ heldIn base filled t p
+  held-filled p d = holds-fit base (asFacts X) (asFacts filled) t p
       (λ r m e. sym (filled-node r (p .access) (m, d, derives-stands p r e)))
 
-  right-filled : (r : Rule) (x : Access) → Node rules D r x →
-      rightIn auths rules X t r x ≡ rightIn auths rules filled t r x
+  right-filled : (r : Rule) (x : Access) → Node base D r x →
+      rightIn base X t r x ≡ rightIn base filled t r x
   right-filled r x n =
-      let E = heldIn auths rules X t in
-      let F = heldIn auths rules filled t in
+      let E = heldIn base X t in
+      let F = heldIn base filled t in
       let same : (p : Pattern) → p .access ≡ rightOf r x .access → E p ≡ F p =
       λ p e. held-filled p (subst (λ (y : Access). D y ≡ true) (sym e) (inward r x n)) in
       right-cong E F E F (rightOf r x) same same
@@ -89,43 +90,43 @@ module _ (auths : List Authorization) (rules : List Rule) (s : stratified rules 
   -- ---- what the filled table says of right sides of stratum k
 
   -- what holds by it does hold
-  held-sound : (p : Pattern) → heldIn auths rules filled t p ≡ true →
-      heldIn auths rules (truth auths rules t) t p ≡ true
-  held-sound p = holds-more auths rules (asFacts filled) (asFacts (truth auths rules t)) t p
+  held-sound : (p : Pattern) → heldIn base filled t p ≡ true →
+      heldIn base (truth base t) t p ≡ true
+  held-sound p = holds-more base (asFacts filled) (asFacts (truth base t)) t p
       (λ r m. filled-sound r (p .access) m)
 
-  module _ (r : Rule) (m : Mem r rules) (h : stratum rules r ≡ k) where
+  module _ (r : Rule) (m : Mem r (base .rules)) (h : stratum (base .rules) r ≡ k) where
     -- and it is right of what only lower strata derive
     held-exact : (p : Pattern) → StrictlyFed r p →
-        heldIn auths rules filled t p ≡ heldIn auths rules (truth auths rules t) t p
-    held-exact p f = holds-fit auths rules (asFacts filled) (asFacts (truth auths rules t)) t p
+        heldIn base filled t p ≡ heldIn base (truth base t) t p
+    held-exact p f = holds-fit base (asFacts filled) (asFacts (truth base t)) t p
         (λ q j e. let g = f q e in
-        filled-below q (p .access) j (omega (arith, feeder-below rules s q r j m (g .0) (g .1))))
+        filled-below q (p .access) j (omega (arith, feeder-below (base .rules) s q r j m (g .0) (g .1))))
 
-    right-sound : (x : Access) → rightIn auths rules filled t r x ≡ true →
-        rightIn auths rules (truth auths rules t) t r x ≡ true
+    right-sound : (x : Access) → rightIn base filled t r x ≡ true →
+        rightIn base (truth base t) t r x ≡ true
     right-sound x e =
-        let F = heldIn auths rules filled t in
-        let G = heldIn auths rules (truth auths rules t) t in
+        let F = heldIn base filled t in
+        let G = heldIn base (truth base t) t in
         sym (right-settled r x G F G (λ p f. refl) held-exact)
         ∙ right-mono F G F (rightOf r x) held-sound e
 
     right-exact : negating (r .operator) ≡ true → (x : Access) →
-        rightIn auths rules filled t r x ≡ rightIn auths rules (truth auths rules t) t r x
+        rightIn base filled t r x ≡ rightIn base (truth base t) t r x
     right-exact g x =
-        let F = heldIn auths rules filled t in
-        right-settled r x F F (heldIn auths rules (truth auths rules t) t)
+        let F = heldIn base filled t in
+        right-settled r x F F (heldIn base (truth base t) t)
         (λ p f. held-exact p (strictly-fed r g p f)) held-exact
 
   -- a bit that the sweep sets is right
-  pub set-right : (r : Rule) (x : Access) → Node rules D r x → stratum rules r ≡ k →
-      snap auths rules P t X r x ≡ true → truth auths rules t r x ≡ true
+  pub set-right : (r : Rule) (x : Access) → Node base D r x → stratum (base .rules) r ≡ k →
+      snap base P t X r x ≡ true → truth base t r x ≡ true
   set-right r x n h e =
-      let right : Bits → Bool = λ Y. rightIn auths rules Y t r x in
-      let T = truth auths rules t in
+      let right : Bits → Bool = λ Y. rightIn base Y t r x in
+      let T = truth base t in
       let w = and-true (gate P t r x) (sense (r .operator) (right X)) e in
       let q = right-filled r x n in
-      now-law auths rules s D P t before r x n
+      now-law base s D P t before r x n
       ∙ and-intro (gate P t r x) (sense (r .operator) (right T)) (w .0)
       (sense-more (r .operator) (right X) (right T)
       (λ a. right-sound r (n .0) h x (sym q ∙ a))
@@ -133,64 +134,65 @@ module _ (auths : List Authorization) (rules : List Rule) (s : stratified rules 
 
   -- ---- when no more can be set
 
-  module _ (few : k ≤ 2 * length rules) (shut : ClosedAt auths rules D P t k X) where
+  module _ (few : k ≤ 2 * length (base .rules)) (shut : ClosedAt base D P t k X) where
     abbrev lower : Fact → Bool
-    lower = derivedBelow always auths rules k
+    lower = derivedBelow always base k
 
     abbrev stage : ℕ → Fact → Bool
-    stage n = rounds auths rules k n
+    stage n = rounds base k n
 
     -- what lower strata derive is in the table
-    lower-in : (r : Rule) (x : Access) → Mem r rules → lower (fact r x t) ≡ true → filled r x ≡ true
+    lower-in : (r : Rule) (x : Access) → Mem r (base .rules) → lower (fact r x t) ≡ true → filled r x ≡ true
     lower-in r x m e =
-        let h = below-stratum auths rules k (fact r x t) e in
-        filled-below r x m h ∙ settled-at auths rules k (fact r x t) m h (omega arith) ∙ e
+        let h = below-stratum base k (fact r x t) e in
+        filled-below r x m h ∙ settled-at base k (fact r x t) m h (omega arith) ∙ e
 
     -- what a round of stratum k derives is derived at last, at any instant
-    round-true : (n : ℕ) → n ≤ enough always auths rules → (r : Rule) (x : Access) (u : ℕ) → Mem r rules →
-        stage n (fact r x u) ≡ true → truth auths rules u r x ≡ true
+    round-true : (n : ℕ) → n ≤ enough always base → (r : Rule) (x : Access) (u : ℕ) → Mem r (base .rules) →
+        stage n (fact r x u) ≡ true → truth base u r x ≡ true
     round-true n l r x u m e =
         let y = fact r x u in
-        let b = rounds-below auths rules k n l y e in
-        settled-at auths rules (suc k) y m (below-stratum auths rules (suc k) y b) (omega arith) ∙ b
+        let b = rounds-below base k n l y e in
+        settled-at base (suc k) y m (below-stratum base (suc k) y b) (omega arith) ∙ b
 
     -- one round more, the table having what the first n derive at t
-    module _ (n : ℕ) (l : suc n ≤ enough always auths rules)
-        (found : (r : Rule) (x : Access) → Mem r rules → stage n (fact r x t) ≡ true → filled r x ≡ true)
-        (r : Rule) (x : Access) (w : Node rules D r x) (h : stratum rules r ≡ k) where
+    module _ (n : ℕ) (l : suc n ≤ enough always base)
+        (found : (r : Rule) (x : Access) → Mem r (base .rules) → stage n (fact r x t) ≡ true →
+        filled r x ≡ true)
+        (r : Rule) (x : Access) (w : Node base D r x) (h : stratum (base .rules) r ≡ k) where
       -- the right side, as the round looks at it, up to the stratum and below it
       abbrev same : ℕ → Bool
-      same u = rightBy always auths rules lower (stage n) (rightOf r x) u
+      same u = rightBy always base lower (stage n) (rightOf r x) u
 
       abbrev under : ℕ → Bool
-      under u = rightBy always auths rules lower lower (rightOf r x) u
+      under u = rightBy always base lower lower (rightOf r x) u
 
       abbrev allowed : ℕ → Bool
       allowed u = operate always (r .operator) same under (r .interval .start) u
 
       abbrev F : Pattern → Bool
-      F = heldIn auths rules filled t
+      F = heldIn base filled t
 
       -- the strata below are right about what only they derive, and so is the table
-      under-exact : (p : Pattern) → StrictlyFed r p → holdsBy always auths rules lower t p ≡ F p
+      under-exact : (p : Pattern) → StrictlyFed r p → holdsBy always base lower t p ≡ F p
       under-exact p f =
           subst (λ (j : ℕ).
-          holdsBy always auths rules (derivedBelow always auths rules j) t p ≡ holds always auths rules t p)
-          h (strictly-settled auths rules s r (w .0) t p f)
-          ∙ holds-law auths rules t p ∙ sym (held-exact r (w .0) h p f)
+          holdsBy always base (derivedBelow always base j) t p ≡ holds always base t p)
+          h (strictly-settled base s r (w .0) t p f)
+          ∙ holds-law base t p ∙ sym (held-exact r (w .0) h p f)
 
       -- so a right side that the round finds held is held by the table
-      same-in : same t ≡ true → rightIn auths rules X t r x ≡ true
+      same-in : same t ≡ true → rightIn base X t r x ≡ true
       same-in e =
-          let L = holdsBy always auths rules lower t in
+          let L = holdsBy always base lower t in
           right-filled r x w
           ∙ sym (right-settled r x F L F (λ p f. refl) under-exact)
-          ∙ right-mono (holdsBy always auths rules (stage n) t) F L (rightOf r x)
-          (λ p. holds-more auths rules (stage n) (asFacts filled) t p (λ q m. found q (p .access) m)) e
+          ∙ right-mono (holdsBy always base (stage n) t) F L (rightOf r x)
+          (λ p. holds-more base (stage n) (asFacts filled) t p (λ q m. found q (p .access) m)) e
 
-      under-is : negating (r .operator) ≡ true → under t ≡ rightIn auths rules X t r x
+      under-is : negating (r .operator) ≡ true → under t ≡ rightIn base X t r x
       under-is g =
-          let L = holdsBy always auths rules lower t in
+          let L = holdsBy always base lower t in
           right-settled r x L L F (λ p f. under-exact p (strictly-fed r g p f)) under-exact
           ∙ sym (right-filled r x w)
 
@@ -203,39 +205,40 @@ module _ (auths : List Authorization) (rules : List Rule) (s : stratified rules 
           (λ a. cases (lasting (r .operator))
           (λ f. let v = instant-before r t i a in
           let u = t - 1 in
+          let j = stratum (base .rules) r in
           let o = and-intro (inInterval (r .interval) u) (allowed u) (v .2)
           (operate-back (r .operator) same under (r .interval .start) u t f (v .0) e) in
           rw (f, a) (before r x w f u (v .0) (v .1) ∙ round-true (suc n) l r x u (w .0)
-          (rw (le-false (suc (stratum rules r)) k (omega arith), eq-true (stratum rules r) k h) o)))
+          (rw (le-false (suc j) k (omega arith), eq-true j k h) o)))
           (λ f. rw f))
 
-      derived-in : derives always auths rules lower (stage n) (fact r x t) ≡ true → filled r x ≡ true
+      derived-in : derives always base lower (stage n) (fact r x t) ≡ true → filled r x ≡ true
       derived-in e =
           let o = r .operator in
           let a = and-true (inInterval (r .interval) t) (allowed t) e in
           filled-node r x w
-          ∙ shut r x w h (and-intro (gate P t r x) (sense o (rightIn auths rules X t r x))
+          ∙ shut r x w h (and-intro (gate P t r x) (sense o (rightIn base X t r x))
           (and-intro (inInterval (r .interval) t) (not (lasting o) || eqb t (r .interval .start) || P r x)
           (a .0) (was-open (a .0) (a .1)))
-          (operate-now o same under (rightIn auths rules X t r x) (r .interval .start) t
+          (operate-now o same under (rightIn base X t r x) (r .interval .start) t
           (inInterval-true (r .interval) t (a .0) .0) same-in under-is (a .1)))
 
     -- by induction over the rounds: what they derive at t is in the table
-    found-in : (n : ℕ) → n ≤ enough always auths rules → (r : Rule) (x : Access) → Mem r rules →
+    found-in : (n : ℕ) → n ≤ enough always base → (r : Rule) (x : Access) → Mem r (base .rules) →
         stage n (fact r x t) ≡ true → filled r x ≡ true
     unfolding iter
     found-in zero l r x m e = lower-in r x m e
     found-in (suc n) l r x m e = split r x m
-        (λ w q. cases (ltb (stratum rules r) k)
+        (λ w q. cases (ltb (stratum (base .rules) r) k)
         (λ b. lower-in r x m (rw b at e))
-        (λ b. let d = derives always auths rules lower (stage n) (fact r x t) in
-        let a = and-true (eqb (stratum rules r) k) d (rw b at e) in
-        derived-in n l (found-in n (omega arith)) r x w (true-eq (stratum rules r) k (a .0)) (a .1)))
+        (λ b. let d = derives always base lower (stage n) (fact r x t) in
+        let a = and-true (eqb (stratum (base .rules) r) k) d (rw b at e) in
+        derived-in n l (found-in n (omega arith)) r x w (true-eq (stratum (base .rules) r) k (a .0)) (a .1)))
         (λ q. q ∙ round-true (suc n) l r x t m e)
 
     -- after the sweep of stratum k the table is right below k + 1
-    pub swept : RightBelow auths rules D t (suc k) X
+    pub swept : RightBelow base D t (suc k) X
     unfolding derivedBelow
-    swept r x n h = agree (X r x) (truth auths rules t r x) (sound r x n)
-        (λ e. sym (filled-node r x n) ∙ found-in (enough always auths rules) (omega arith) r x (n .0)
-        (sym (settled-at auths rules (suc k) (fact r x t) (n .0) h (omega arith)) ∙ e))
+    swept r x n h = agree (X r x) (truth base t r x) (sound r x n)
+        (λ e. sym (filled-node r x n) ∙ found-in (enough always base) (omega arith) r x (n .0)
+        (sym (settled-at base (suc k) (fact r x t) (n .0) h (omega arith)) ∙ e))

@@ -4,15 +4,14 @@ use mathlib.Core.Path.{_≡_, sym, ap, _∙_, subst}
 use Prim.Native.Nat.{ℕ, suc, _-_, _≤_, _<_}
 use native.Mathlib.Omega.{arith}
 use mathlib.Core.Bool.{Bool, true, false, not, _&&_, _||_}
-use mathlib.Core.List.{List}
 use lib.Dec.{eqb}
 use Rattle.foundation.specs.Tests.{cases, true-eq, false-eq, or-true}
 use Rattle.foundation.specs.Lists.{Mem}
 use Rattle.foundation.specs.Intervals.{inInterval, inInterval-in, inInterval-true, always}
-use Rattle.model.specs.declared.Authorization.{Authorization}
 use Rattle.model.specs.declared.Rule.{Rule}
 use Rattle.model.specs.declared.Operator.{Operator}
 use Rattle.model.specs.declared.Access.{Access}
+use Rattle.model.specs.Base.{Base}
 use Rattle.model.specs.Stratification.{stratified, stratum}
 use Rattle.model.specs.Rules.{Pattern, Fact, fact, standsFor, rightOf, rightHolds, operate, holdsBy, holds}
 use Rattle.model.specs.RightFacts.{right-cong}
@@ -33,14 +32,14 @@ asFacts X x = X (x .rule) (x .access)
 abbrev pub gate : Bits → ℕ → Bits
 gate P t r x = inInterval (r .interval) t && (not (lasting (r .operator)) || eqb t (r .interval .start) || P r x)
 
-module _ (auths : List Authorization) (rules : List Rule) where
+module _ (base : Base) where
   -- what the rules do derive at t
   abbrev pub truth : ℕ → Bits
-  truth t r x = derived auths rules (fact r x t)
+  truth t r x = derived base (fact r x t)
 
   -- what holds at t, X saying what is derived then
   abbrev pub heldIn : Bits → ℕ → Pattern → Bool
-  heldIn X t p = holdsBy always auths rules (asFacts X) t p
+  heldIn X t p = holdsBy always base (asFacts X) t p
 
   -- whether the rule's right side counts as held
   abbrev pub rightIn : Bits → ℕ → Rule → Access → Bool
@@ -52,35 +51,35 @@ module _ (auths : List Authorization) (rules : List Rule) where
 
 -- ---- the bits that count: those at the accesses of D, of rules that stand for the access
 
-abbrev pub Node : List Rule → (Access → Bool) → Rule → Access → Type 0
-Node rules D r x = Mem r rules × (D x ≡ true) × (standsFor r x ≡ true)
+abbrev pub Node : Base → (Access → Bool) → Rule → Access → Type 0
+Node base D r x = Mem r (base .rules) × (D x ≡ true) × (standsFor r x ≡ true)
 
 -- the right side of a rule leads from accesses that count to such
-abbrev pub Inward : List Rule → (Access → Bool) → Type 0
-Inward rules D = (r : Rule) (x : Access) → Node rules D r x → D (rightOf r x .access) ≡ true
+abbrev pub Inward : Base → (Access → Bool) → Type 0
+Inward base D = (r : Rule) (x : Access) → Node base D r x → D (rightOf r x .access) ≡ true
 
-module _ (auths : List Authorization) (rules : List Rule) (D : Access → Bool) where
+module _ (base : Base) (D : Access → Bool) where
   -- P is right about the instant before t, as far as operators look back to it
   abbrev pub Before : Bits → ℕ → Type 0
-  Before P t = (r : Rule) (x : Access) → Node rules D r x → lasting (r .operator) ≡ true →
-      (u : ℕ) → suc u ≡ t → r .interval .start ≤ u → P r x ≡ truth auths rules u r x
+  Before P t = (r : Rule) (x : Access) → Node base D r x → lasting (r .operator) ≡ true →
+      (u : ℕ) → suc u ≡ t → r .interval .start ≤ u → P r x ≡ truth base u r x
 
   -- what X says is derived at t
   abbrev pub Sound : ℕ → Bits → Type 0
-  Sound t X = (r : Rule) (x : Access) → Node rules D r x → X r x ≡ true → truth auths rules t r x ≡ true
+  Sound t X = (r : Rule) (x : Access) → Node base D r x → X r x ≡ true → truth base t r x ≡ true
 
   -- X is right about t: for the rules of the strata below k, for all rules
   abbrev pub RightBelow : ℕ → ℕ → Bits → Type 0
-  RightBelow t k X = (r : Rule) (x : Access) → Node rules D r x → stratum rules r < k →
-      X r x ≡ truth auths rules t r x
+  RightBelow t k X = (r : Rule) (x : Access) → Node base D r x → stratum (base .rules) r < k →
+      X r x ≡ truth base t r x
 
   abbrev pub Right : ℕ → Bits → Type 0
-  Right t X = (r : Rule) (x : Access) → Node rules D r x → X r x ≡ truth auths rules t r x
+  Right t X = (r : Rule) (x : Access) → Node base D r x → X r x ≡ truth base t r x
 
   -- a rule of stratum k that derives now, X and P being the tables, is in X
   abbrev pub ClosedAt : Bits → ℕ → ℕ → Bits → Type 0
-  ClosedAt P t k X = (r : Rule) (x : Access) → Node rules D r x → stratum rules r ≡ k →
-      snap auths rules P t X r x ≡ true → X r x ≡ true
+  ClosedAt P t k X = (r : Rule) (x : Access) → Node base D r x → stratum (base .rules) r ≡ k →
+      snap base P t X r x ≡ true → X r x ≡ true
 
 -- ---- now
 
@@ -97,24 +96,24 @@ instant-before r t i e =
     let w = inInterval-true (r .interval) t i in
     (omega arith, omega arith, inInterval-in (r .interval) (t - 1) (omega arith) (omega arith))
 
-module _ (auths : List Authorization) (rules : List Rule) where
+module _ (base : Base) where
   -- read off what is derived, the right side is as it is
   pub right-truth : (t : ℕ) (r : Rule) (x : Access) →
-      rightIn auths rules (truth auths rules t) t r x ≡ holding auths rules t (rightOf r x)
+      rightIn base (truth base t) t r x ≡ holding base t (rightOf r x)
   right-truth t r x =
-      let X = truth auths rules t in
-      let all : Pattern → Bool = holds always auths rules t in
-      right-cong (heldIn auths rules X t) all (heldIn auths rules X t) all (rightOf r x)
-      (λ p e. sym (holds-law auths rules t p)) (λ p e. sym (holds-law auths rules t p))
+      let X = truth base t in
+      let all : Pattern → Bool = holds always base t in
+      right-cong (heldIn base X t) all (heldIn base X t) all (rightOf r x)
+      (λ p e. sym (holds-law base t p)) (λ p e. sym (holds-law base t p))
 
-  module _ (s : stratified rules ≡ true) (D : Access → Bool) (P : Bits) (t : ℕ) (before : Before auths rules D P t)
-      (r : Rule) (x : Access) (n : Node rules D r x) where
+  module _ (s : stratified (base .rules) ≡ true) (D : Access → Bool) (P : Bits) (t : ℕ)
+      (before : Before base D P t) (r : Rule) (x : Access) (n : Node base D r x) where
     abbrev o : Operator
     o = r .operator
 
     -- the right side, instant by instant, and what the operator allows
     abbrev right : ℕ → Bool
-    right u = holding auths rules u (rightOf r x)
+    right u = holding base u (rightOf r x)
 
     abbrev allowed : ℕ → Bool
     allowed u = operate always (r .operator) right right (r .interval .start) u
@@ -132,7 +131,7 @@ module _ (auths : List Authorization) (rules : List Rule) where
         subst (λ (v : ℕ). inInterval (r .interval) v ≡ true) (sym v) (w .2) in
         cases (lasting o)
         (λ f. let p : P r x ≡ allowed u = before r x n f u q (omega (arith, w .1))
-        ∙ derived-law auths rules s r (n .0) x u ∙ rw inside in
+        ∙ derived-law base s r (n .0) x u ∙ rw inside in
         rw (f, e, p))
         (λ f. rw f)
 
@@ -151,7 +150,7 @@ module _ (auths : List Authorization) (rules : List Rule) where
         subst (λ (v : ℕ). allowed v ≡ was && sense o (right v)) q (later i e (t - 1) q))
 
     -- what is derived now is what the rules make of it and of what was derived before
-    pub now-law : truth auths rules t r x ≡ snap auths rules P t (truth auths rules t) r x
-    now-law = derived-law auths rules s r (n .0) x t
+    pub now-law : truth base t r x ≡ snap base P t (truth base t) r x
+    now-law = derived-law base s r (n .0) x t
         ∙ cases (inInterval (r .interval) t) (λ i. rw i (inner i)) (λ i. rw i)
         ∙ ap (λ (b : Bool). gate P t r x && sense o b) (sym (right-truth t r x))

@@ -20,9 +20,9 @@ use Rattle.encoding.specs.Format.{countsOf, authorizationsAt, rulesAt}
 use Rattle.support.specs.Cover.{authorizationsIn}
 use Rattle.rules.specs.Strata.{rulesIn}
 use Rattle.refusals.proofs.Places.{lent, base-sound, authorizations-in, rules-in, fitting, there, authorizations-lent, rules-lent}
-use Rattle.plan.specs.Scene.{Grounds}
+use Rattle.plan.specs.Scene.{bareBase, Grounds}
 use Rattle.plan.specs.Grounds.{grounds}
-use Rattle.scan.specs.Walk.{bare, bare-may, bare-when, mayIn, whenIn}
+use Rattle.scan.specs.Walk.{bare-may, bare-when, mayIn, whenIn}
 
 module _ (s : List ℕ) (e : soundBytes s ≡ true) (c : Counts) (q : c ≡ countsOf s) (la ra : ℕ)
     (al : la ≡ authorizationsAt c) (ar : ra ≡ rulesAt c) where
@@ -52,11 +52,11 @@ module _ (s : List ℕ) (e : soundBytes s ≡ true) (c : Counts) (q : c ≡ coun
   pub may-decoded : (x : Access) (t : ℕ) →
       mayIn (lent s la) (c .authorizations) (lent s ra) (c .rules) x t ≡ may (decode s) x t
   may-decoded x t =
-      ap₂ (λ (xs : List Authorization) (rs : List Rule). may (bare xs rs) x t) as-lines as-rules
+      ap₂ (λ (xs : List Authorization) (rs : List Rule). may (bareBase xs rs) x t) as-lines as-rules
       ∙ bare-may (decode s) x t
 
   pub when-decoded : (x : Access) →
       whenIn (lent s la) (c .authorizations) (lent s ra) (c .rules) x ≡ when (decode s) x
   when-decoded x =
-      ap₂ (λ (xs : List Authorization) (rs : List Rule). when (bare xs rs) x) as-lines as-rules
+      ap₂ (λ (xs : List Authorization) (rs : List Rule). when (bareBase xs rs) x) as-lines as-rules
       ∙ bare-when (decode s) x

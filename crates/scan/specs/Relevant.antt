@@ -15,6 +15,7 @@ use Rattle.model.specs.declared.Authorization.{Authorization}
 use Rattle.model.specs.declared.Rule.{Rule}
 use Rattle.model.specs.declared.Access.{Access}
 use Rattle.model.specs.Ranges.{isSubject, isMode, isObject, lastInstant}
+use Rattle.model.specs.Base.{Base}
 use Rattle.model.specs.Stratification.{fitsOption}
 use Rattle.model.specs.Rules.{Pattern, fitsGrantor, fits, rightOf, holds, asked, mayWith, may, when}
 use Rattle.model.specs.SideFacts.{fits-is}
@@ -24,9 +25,9 @@ use Rattle.rules.specs.Strata.{rulesIn, ruleAt}
 use Rattle.questions.specs.Table.{Node, Inward}
 use Rattle.questions.specs.Drawn.{indexOf, among, counted}
 use Rattle.questions.specs.DrawnFacts.{drawn-inward}
-use Rattle.questions.specs.Relevance.{Alike, kept-fits, holds-alike}
-use Rattle.plan.specs.Scene.{fitsRight, numberIn, Gathered, Grounds}
-use Rattle.scan.specs.Walk.{bare, mayIn, whenIn}
+use Rattle.questions.specs.Relevance.{Alike, withAuthorizations, kept-fits, holds-alike}
+use Rattle.plan.specs.Scene.{fitsRight, numberIn, bareBase, baseIn, Gathered, Grounds}
+use Rattle.scan.specs.Walk.{mayIn, whenIn}
 
 -- an authorization is for an access, positive or a denial
 abbrev pub isFor : Access → Head → Bool
@@ -48,8 +49,11 @@ module _ (p : Pattern) (h : Head) (e : fits p h ≡ true) where
       and-four (eqb (h .object) (p .access .object)) (Bool·beq (h .negative) (p .negative))
       (fitsGrantor (p .grantor) (h .grantor)) (fitsOption (p .option) (h .option)) .1 (w .2, w .3, w .4, w .5)
 
-module _ (U : List ℕ) (rules : List Rule) (inward : Inward rules (counted U)) (x : Access)
+module _ (U : List ℕ) (base : Base) (inward : Inward base (counted U)) (x : Access)
     (there : counted U x ≡ true) where
+  abbrev rules : List Rule
+  rules = base .rules
+
   -- what fits a pattern whose subject is among U is to one of U
   to-counted : (p : Pattern) → counted U (p .access) ≡ true → (a : Authorization) → fits p (a .head) ≡ true →
       among U (a .head .subject) ≡ true
@@ -69,7 +73,7 @@ module _ (U : List ℕ) (rules : List Rule) (inward : Inward rules (counted U)) 
       and-intro (among U (h .subject)) (isFor x h || anyb (fitsRight h) rules) (to-counted (asked x true) there a e)
       (or-intro-left (isFor x h) (anyb (fitsRight h) rules) (or-true-right g (fits (asked x true) h) e))
 
-  right-matters : (r : Rule) (y : Access) → Node rules (counted U) r y → (a : Authorization) →
+  right-matters : (r : Rule) (y : Access) → Node base (counted U) r y → (a : Authorization) →
       fits (rightOf r y) (a .head) ≡ true → matters U rules x a ≡ true
   unfolding rightOf
   right-matters r y n a e =
@@ -79,27 +83,30 @@ module _ (U : List ℕ) (rules : List Rule) (inward : Inward rules (counted U)) 
       (or-true-right (isFor x h) (anyb (fitsRight h) rules)
       (mem-any (fitsRight h) rules r (n .0) (fits-rest (rightOf r y) h e)))
 
-  module _ (auths : List Authorization) where
-    abbrev those : List Authorization
-    those = keepIf (matters U rules x) auths
+  -- the base with those that matter
+  abbrev those : List Authorization
+  those = keepIf (matters U rules x) (base .authorizations)
 
-    same-right : Alike rules (counted U) inward auths (keepIf (matters U rules x) auths)
-    same-right r y n t = kept-fits (matters U rules x) (rightOf r y) auths t (right-matters r y n)
+  abbrev narrow : Base
+  narrow = withAuthorizations base those
 
-    same-held : (t : ℕ) (negative : Bool) →
-        holds always auths rules t (asked x negative) ≡ holds always those rules t (asked x negative)
-    same-held t negative =
-        holds-alike rules (counted U) inward auths those same-right t (asked x negative) there
-        (kept-fits (matters U rules x) (asked x negative) auths t (asked-matters negative))
+  same-right : Alike base (counted U) inward (base .authorizations) those
+  same-right r y n t =
+      kept-fits (matters U rules x) (rightOf r y) (base .authorizations) t (right-matters r y n)
 
-    pub may-kept : (t : ℕ) →
-        may (bare auths rules) x t ≡ may (bare (keepIf (matters U rules x) auths) rules) x t
-    unfolding may mayWith
-    may-kept t = ap₂ (λ (a b : Bool). a && not b) (same-held t false) (same-held t true)
+  same-held : (t : ℕ) (negative : Bool) →
+      holds always base t (asked x negative) ≡ holds always narrow t (asked x negative)
+  same-held t negative =
+      holds-alike base (counted U) inward (base .authorizations) those same-right t (asked x negative) there
+      (kept-fits (matters U rules x) (asked x negative) (base .authorizations) t (asked-matters negative))
 
-    pub when-kept : when (bare auths rules) x ≡ when (bare (keepIf (matters U rules x) auths) rules) x
-    unfolding when
-    when-kept = λ i. maximal 0 lastInstant (λ t. may-kept t i)
+  pub may-kept : (t : ℕ) → may base x t ≡ may narrow x t
+  unfolding may mayWith
+  may-kept t = ap₂ (λ (a b : Bool). a && not b) (same-held t false) (same-held t true)
+
+  pub when-kept : when base x ≡ when narrow x
+  unfolding when
+  when-kept = λ i. maximal 0 lastInstant (λ t. may-kept t i)
 
 -- ---- bodies
 
@@ -132,8 +139,9 @@ pub narrowed : (lines : List ℕ) (na : ℕ) (body : List ℕ) (n : ℕ) (x : Ac
 narrowed lines na body n x k bytes U m g a found w room =
     let rules = rulesIn n body in
     let auths = authorizationsIn na lines in
+    let base = baseIn lines na body n in
     let there = asked-counts U x a (found .first) (found .listed .some) in
-    let inward = drawn-inward rules U (numberIn rules) (ruleAt body) (found .listed)
+    let inward = drawn-inward base U (numberIn rules) (ruleAt body) (found .listed)
     (omega (arith, found .count, found .few)) (g .numbering) (g .shaped) in
     let few = w .few in
     let most = g .lines-few in
@@ -151,9 +159,9 @@ narrowed lines na body n x k bytes U m g a found w room =
             (subst (λ (ys : List Authorization). Mem b ys) (w .those) i) .0);
       };
       same-may = λ t.
-          may-kept U rules inward x there auths t
-          ∙ ap (λ (ys : List Authorization). may (bare ys rules) x t) (sym (w .those));
+          may-kept U base inward x there t
+          ∙ ap (λ (ys : List Authorization). may (bareBase ys rules) x t) (sym (w .those));
       same-when =
-          when-kept U rules inward x there auths
-          ∙ ap (λ (ys : List Authorization). when (bare ys rules) x) (sym (w .those));
+          when-kept U base inward x there
+          ∙ ap (λ (ys : List Authorization). when (bareBase ys rules) x) (sym (w .those));
     }

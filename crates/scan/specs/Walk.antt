@@ -2,7 +2,7 @@
 -- the next mark (`steady`), and WHEN has no more intervals than fit (`most`).
 use mathlib.Core.Path.{_≡_, refl, sym, ap, ap₂, _∙_, subst}
 use mathlib.Core.Logic.{inl, inr}
-use Prim.Native.Nat.{ℕ, suc, _+_, _*_, _-_, _≤_, _<_}
+use Prim.Native.Nat.{ℕ, zero, suc, _+_, _*_, _-_, _≤_, _<_}
 use native.Mathlib.Omega.{arith}
 use mathlib.Core.Bool.{Bool, true, false, not, _&&_, _||_}
 use mathlib.Core.List.{List, [], _++_}
@@ -12,7 +12,8 @@ use lib.ListN.{length, take, getD}
 use Rattle.foundation.specs.Tests.{le-true, true-le, eq-true, ne-false, and-true, and-intro, or-true-right, or-false}
 use Rattle.foundation.specs.Lists.{anyb}
 use Rattle.foundation.specs.declared.Interval.{Interval}
-use Rattle.foundation.specs.Intervals.{maximal}
+use Rattle.foundation.specs.Closure.{iter}
+use Rattle.foundation.specs.Intervals.{always, maximal}
 use Rattle.foundation.specs.Marks.{next, next-above, next-clear}
 use Rattle.model.specs.declared.Authorization.{Authorization}
 use Rattle.model.specs.declared.Rule.{Rule}
@@ -21,9 +22,10 @@ use Rattle.model.specs.Ranges.{isSubject, isMode, isObject, lastInstant}
 use Rattle.model.specs.Base.{Base}
 use Rattle.model.specs.Encoding.{authorizationOf, ruleOf}
 use Rattle.model.specs.Support.{live}
-use Rattle.model.specs.Rules.{fits, asked, may, when, mayWith}
+use Rattle.model.specs.Rules.{Pattern, Fact, fits, holdsBy, round, enough, derivedBelow, holds, asked, may, when}
+use Rattle.model.specs.Rules.{mayWith}
 use Rattle.model.specs.Answers.{accessIn, words}
-use Rattle.model.specs.HoldsSteady.{marks}
+use Rattle.model.specs.Means.{marks}
 use Rattle.model.specs.HoldsMarks.{may-steady, when-count}
 use Rattle.marks.specs.Least.{Found, next-is}
 use Rattle.support.specs.Cover.{authorizationsIn}
@@ -31,28 +33,34 @@ use Rattle.rules.specs.Masks.{maskOf}
 use Rattle.rules.specs.Strata.{rulesIn}
 use Rattle.rules.proofs.Records.{length-records}
 use Rattle.questions.specs.Drawn.{indexOf, among, counted, placeOf}
-use Rattle.plan.specs.Scene.{derivesOn, Prepared, At}
+use Rattle.plan.specs.Scene.{derivesOn, bareBase, baseIn, Prepared, At}
 use Rattle.plan.specs.Reading.{read-off}
 
--- a base with these authorizations and rules: MAY and WHEN look at nothing else
-abbrev pub bare : List Authorization → List Rule → Base
-bare auths rules = record {
-  clock = 0;
-  last = 0;
-  objects = [];
-  administrators = [];
-  referrers = [];
-  authorizations = auths;
-  rules = rules;
-}
+-- ---- MAY and WHEN look at a base's authorizations and rules only
 
-pub bare-may : (b : Base) (x : Access) (t : ℕ) → may (bare (b .authorizations) (b .rules)) x t ≡ may b x t
-unfolding may mayWith
-bare-may b x t = refl
+module _ (b : Base) where
+  abbrev bare : Base
+  bare = bareBase (b .authorizations) (b .rules)
 
-pub bare-when : (b : Base) (x : Access) → when (bare (b .authorizations) (b .rules)) x ≡ when b x
-unfolding when may mayWith
-bare-when b x = refl
+  bare-below : (k : ℕ) → derivedBelow always bare k ≡ derivedBelow always b k
+  unfolding derivedBelow
+  bare-below zero = refl
+  bare-below (suc k) =
+      λ i x. iter (λ S. round always b k (bare-below k i) S) (enough always b) (bare-below k i) x
+
+  bare-holds : (t : ℕ) (p : Pattern) → holds always bare t p ≡ holds always b t p
+  unfolding holds
+  bare-holds t p =
+      ap (λ (S : Fact → Bool). holdsBy always b S t p) (bare-below (suc (2 * length (b .rules))))
+
+  pub bare-may : (x : Access) (t : ℕ) → may (bareBase (b .authorizations) (b .rules)) x t ≡ may b x t
+  unfolding may mayWith
+  bare-may x t =
+      ap₂ (λ (y z : Bool). y && not z) (bare-holds t (asked x false)) (bare-holds t (asked x true))
+
+  pub bare-when : (x : Access) → when (bareBase (b .authorizations) (b .rules)) x ≡ when b x
+  unfolding when
+  bare-when x = λ i. maximal 0 lastInstant (λ t. bare-may x t i)
 
 -- held by a rule of the word; else by an authorization or not
 by-rule : (a : Bool) (w d m : ℕ) → d ≡ m → (bitAnd w d ≡ 0 → ⊥) → true ≡ a || not (eqb (bitAnd w m) 0)
@@ -118,11 +126,11 @@ module _ (lines : List ℕ) (na : ℕ) (body : List ℕ) (n : ℕ) where
 
   -- MAY's answer by the authorizations and rules
   abbrev pub mayIn : Access → ℕ → Bool
-  mayIn x t = may (bare (authorizationsIn na lines) (rulesIn n body)) x t
+  mayIn x t = may (baseIn lines na body n) x t
 
   -- and WHEN's
   abbrev pub whenIn : Access → List Interval
-  whenIn x = when (bare (authorizationsIn na lines) (rulesIn n body)) x
+  whenIn x = when (baseIn lines na body n) x
 
   -- the answer r is read off a table that says what the rules derive at t, whose first subject is that of the access
   abbrev pub ReadOff : List ℕ → Access → ℕ → Bool → Type 0
@@ -140,15 +148,14 @@ module _ (lines : List ℕ) (na : ℕ) (body : List ℕ) (n : ℕ) where
       (le-true (suc (indexOf (x .subject) U)) (length U) (omega (arith, first, ready .listed .some))) moded in
       let place : placeOf U x ≡ x .mode - 1 = omega (arith, first) in
       e ∙ ap (λ (p : ℕ). let word = getD T p 0 in heldBy word x t false && not (heldBy word x t true)) (sym place)
-      ∙ read-off lines na body n U L S F M P K l g top ready t T at x there (bare (authorizationsIn na lines) (rulesIn n body))
-      refl refl
+      ∙ read-off lines na body n U L S F M P K l g top ready t T at x there
 
   -- between marks the answer does not change
   pub steady : (x : Access) (t m : ℕ) →
       m ≡ next t (marks (authorizationsIn na lines) (rulesIn n body)) 4294967296 →
       (u : ℕ) → t ≤ u → u < m → mayIn x u ≡ mayIn x t
   steady x t m e u h k =
-      may-steady (bare (authorizationsIn na lines) (rulesIn n body)) x t u h
+      may-steady (baseIn lines na body n) x t u h
       (next-clear t (marks (authorizationsIn na lines) (rulesIn n body)) 4294967296 u (omega (arith, e)))
 
   -- no more intervals than there are authorizations and rules, and one
@@ -156,7 +163,7 @@ module _ (lines : List ℕ) (na : ℕ) (body : List ℕ) (n : ℕ) where
   unfolding when
   most x h k = omega (
     arith,
-    when-count (bare (authorizationsIn na lines) (rulesIn n body)) x,
+    when-count (baseIn lines na body n) x,
     length-records 24 authorizationOf na lines,
     length-records 28 ruleOf n body,
   )

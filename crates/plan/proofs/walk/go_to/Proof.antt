@@ -7,7 +7,7 @@ use mathlib.Core.List.{List}
 use denote.Ref.{now}
 use lib.ListN.{take, replicate}
 use Rattle.foundation.specs.Marks.{next, next-above}
-use Rattle.model.specs.HoldsSteady.{marks}
+use Rattle.model.specs.Means.{marks}
 use Rattle.support.specs.Cover.{authorizationsIn}
 use Rattle.rules.specs.Strata.{rulesIn}
 use Rattle.plan.specs.Scene.{At}
