@@ -29,7 +29,7 @@ module _ (b : Base) (k : ℕ) where
     pub listed : Mem r (b .rules)
     pub rank : stratum (b .rules) r ≡ k
     pub operator : r .operator ≡ o
-    pub left : derivesFor p r ≡ true
+    pub left : derivesFor b p r ≡ true
     pub inside : inInterval (r .interval) t ≡ true
 
   -- 01: "What is held is built rank by rank, each the smallest set closed under its rules": what is held up to rank

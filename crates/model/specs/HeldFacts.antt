@@ -47,7 +47,7 @@ module _ (base : Base) where
   direct t p = anyb (fits p) (live t (base .authorizations))
 
   abbrev derivesIt : (Fact → Bool) → ℕ → Pattern → Rule → Bool
-  derivesIt S t p r = derivesFor p r && S (fact r (p .access) t)
+  derivesIt S t p r = derivesFor base p r && S (fact r (p .access) t)
 
   by-given : (S : Fact → Bool) (t : ℕ) (p : Pattern) → ByAuthorization base t p → holding S t p ≡ true
   by-given S t p g =
@@ -55,24 +55,25 @@ module _ (base : Base) where
       (mem-any (fits p) (live t (base .authorizations)) (g .authorization .head)
       (mem-live t (base .authorizations) (g .authorization) (g .listed) (g .covers)) (g .fitting))
 
-  by-rule : (S : Fact → Bool) (t : ℕ) (p : Pattern) (r : Rule) → Mem r (base .rules) → derivesFor p r ≡ true →
-      S (fact r (p .access) t) ≡ true → holding S t p ≡ true
+  by-rule : (S : Fact → Bool) (t : ℕ) (p : Pattern) (r : Rule) → Mem r (base .rules) →
+      derivesFor base p r ≡ true → S (fact r (p .access) t) ≡ true → holding S t p ≡ true
   by-rule S t p r m d e =
       or-true-right (direct t p) (anyb (derivesIt S t p) (base .rules))
       (mem-any (derivesIt S t p) (base .rules) r m
-      (and-intro (derivesFor p r) (S (fact r (p .access) t)) d e))
+      (and-intro (derivesFor base p r) (S (fact r (p .access) t)) d e))
 
   -- and in no other way
   either : {X : Type 0} (S : Fact → Bool) (t : ℕ) (p : Pattern) → holding S t p ≡ true →
       (ByAuthorization base t p → X) →
-      ((r : Rule) → Mem r (base .rules) → derivesFor p r ≡ true → S (fact r (p .access) t) ≡ true → X) → X
+      ((r : Rule) → Mem r (base .rules) → derivesFor base p r ≡ true → S (fact r (p .access) t) ≡ true → X) →
+      X
   either S t p e f g =
       or-cases (direct t p) (anyb (derivesIt S t p) (base .rules)) e
       (λ a. let m = any-mem (fits p) (live t (base .authorizations)) a in
       let l = live-mem t (base .authorizations) (m .0) (m .1) in
       f (record { authorization = l .0; listed = l .1; covers = l .3; fitting = ap (fits p) (l .2) ∙ m .2 }))
       (λ a. let m = any-mem (derivesIt S t p) (base .rules) a in
-      let w = and-true (derivesFor p (m .0)) (S (fact (m .0) (p .access) t)) (m .2) in
+      let w = and-true (derivesFor base p (m .0)) (S (fact (m .0) (p .access) t)) (m .2) in
       g (m .0) (m .1) (w .0) (w .1))
 
   -- what an authorization gives is held by every rank

@@ -24,29 +24,33 @@ use Rattle.model.specs.HoldsFacts.{closed}
 use Rattle.model.specs.StratificationFacts.{feeder-not-above, feeder-below, stratum-few}
 
 -- what fits a rule's right side is derived by a rule that it looks at
-fit-precedes : (q r : Rule) (x : Access) → derivesFor (rightOf r x) q ≡ true → precedes q r ≡ true
-fit-precedes q r x e = precedes-feeds q r ∙ fit-feeds q r x e
+fit-precedes : (base : Base) (q r : Rule) (x : Access) → derivesFor base (rightOf r x) q ≡ true →
+    precedes q r ≡ true
+fit-precedes base q r x e = precedes-feeds q r ∙ fit-feeds base q r x e
 
 -- what holds of p is derived only by rules that r looks at
-abbrev pub Fed : Rule → Pattern → Type 0
-Fed r p = (q : Rule) → derivesFor p q ≡ true → precedes q r ≡ true
+abbrev pub Fed : Base → Rule → Pattern → Type 0
+Fed base r p = (q : Rule) → derivesFor base p q ≡ true → precedes q r ≡ true
 
 -- and by steps that count in a rank
-abbrev pub StrictlyFed : Rule → Pattern → Type 0
-StrictlyFed r p = (q : Rule) → derivesFor p q ≡ true → (precedes q r ≡ true) × (heavy weight q r ≡ true)
+abbrev pub StrictlyFed : Base → Rule → Pattern → Type 0
+StrictlyFed base r p =
+    (q : Rule) → derivesFor base p q ≡ true → (precedes q r ≡ true) × (heavy weight q r ≡ true)
 
 -- each step to a rule with WHENEVERNOT or UNLESS counts
-pub strictly-fed : (r : Rule) → negating (r .operator) ≡ true → (p : Pattern) → Fed r p → StrictlyFed r p
-strictly-fed r g p h q e = (h q e, heavy-negates q r ∙ g)
+pub strictly-fed : (base : Base) (r : Rule) → negating (r .operator) ≡ true → (p : Pattern) → Fed base r p →
+    StrictlyFed base r p
+strictly-fed base r g p h q e = (h q e, heavy-negates q r ∙ g)
 
 -- A rule's right side looks up to the rule's stratum only at what those derive that the rule looks at, and below it
 -- only at what those of them derive whose step counts: where that is settled, `all` being what holds at last, so is
 -- the right side.
-pub right-settled : (r : Rule) (x : Access) (same lower all : Pattern → Bool) →
-    ((p : Pattern) → Fed r p → same p ≡ all p) → ((p : Pattern) → StrictlyFed r p → lower p ≡ all p) →
+pub right-settled : (base : Base) (r : Rule) (x : Access) (same lower all : Pattern → Bool) →
+    ((p : Pattern) → Fed base r p → same p ≡ all p) →
+    ((p : Pattern) → StrictlyFed base r p → lower p ≡ all p) →
     rightHolds same lower (rightOf r x) ≡ rightHolds all all (rightOf r x)
-right-settled r x same lower all h k =
-    right-own same all lower all (rightOf r x) (h (rightOf r x) (λ q e. fit-precedes q r x e))
+right-settled base r x same lower all h k =
+    right-own same all lower all (rightOf r x) (h (rightOf r x) (λ q e. fit-precedes base q r x e))
 
 -- a negating operator looks at its second test, the others at their first
 operate-settled : (o : Operator) (f g h : ℕ → Bool) → ((u : ℕ) → f u ≡ h u) →
@@ -71,7 +75,7 @@ module _ (base : Base) where
   -- 01: "Held means given by a line or by a rule, denied or not"
   pub holds-law : (t : ℕ) (p : Pattern) → holds always base t p
       ≡ anyb (fits p) (live t (base .authorizations))
-      || anyb (λ r. derivesFor p r && derived (fact r (p .access) t)) (base .rules)
+      || anyb (λ r. derivesFor base p r && derived (fact r (p .access) t)) (base .rules)
   unfolding holds
   holds-law t p = refl
 
@@ -104,17 +108,17 @@ module _ (base : Base) where
 
   -- what holds of a pattern rests on what the rules derive that derive for it
   pub holds-fit : (S Q : Fact → Bool) (t : ℕ) (p : Pattern) →
-      ((r : Rule) → Mem r (base .rules) → derivesFor p r ≡ true →
+      ((r : Rule) → Mem r (base .rules) → derivesFor base p r ≡ true →
       S (fact r (p .access) t) ≡ Q (fact r (p .access) t)) →
       holdsBy always base S t p ≡ holdsBy always base Q t p
   holds-fit S Q t p h =
       let x : Rule → Fact = λ r. fact r (p .access) t in
       ap (λ (b : Bool). anyb (fits p) (live t (base .authorizations)) || b)
-      (any-cong-mem (λ r. derivesFor p r && S (x r)) (λ r. derivesFor p r && Q (x r)) (base .rules)
-      (λ r m. cases (derivesFor p r) (λ e. rw e (h r m e)) (λ e. rw e)))
+      (any-cong-mem (λ r. derivesFor base p r && S (x r)) (λ r. derivesFor base p r && Q (x r)) (base .rules)
+      (λ r m. cases (derivesFor base p r) (λ e. rw e (h r m e)) (λ e. rw e)))
 
   pub holds-same : (S : Fact → Bool) (t : ℕ) (p : Pattern) →
-      ((r : Rule) → Mem r (base .rules) → derivesFor p r ≡ true →
+      ((r : Rule) → Mem r (base .rules) → derivesFor base p r ≡ true →
       derived (fact r (p .access) t) ≡ S (fact r (p .access) t)) →
       holdsBy always base S t p ≡ holds always base t p
   holds-same S t p h = holds-fit S derived t p (λ r m e. sym (h r m e)) ∙ sym (holds-law t p)
@@ -122,7 +126,7 @@ module _ (base : Base) where
   module _ (s : stratified (base .rules) ≡ true) where
     module _ (r : Rule) (m : Mem r (base .rules)) where
       -- what feeders derive is settled with the rule's stratum
-      fed-settled : (u : ℕ) (p : Pattern) → Fed r p →
+      fed-settled : (u : ℕ) (p : Pattern) → Fed base r p →
           holdsBy always base (below (suc (stratum (base .rules) r))) u p ≡ holds always base u p
       fed-settled u p h = holds-same (below (suc (stratum (base .rules) r))) u p (λ q k e.
           settled-at (suc (stratum (base .rules) r)) (fact q (p .access) u) k
@@ -130,7 +134,7 @@ module _ (base : Base) where
           (omega (arith, stratum-few (base .rules) s r m)))
 
       -- and before it where the steps count
-      pub strictly-settled : (u : ℕ) (p : Pattern) → StrictlyFed r p →
+      pub strictly-settled : (u : ℕ) (p : Pattern) → StrictlyFed base r p →
           holdsBy always base (below (stratum (base .rules) r)) u p ≡ holds always base u p
       strictly-settled u p h = holds-same (below (stratum (base .rules) r)) u p (λ q k e.
           let l = h q e in
@@ -155,7 +159,7 @@ module _ (base : Base) where
         ∙ at-stratum n (fact r x t) m refl
         ∙ ap (λ (b : Bool). inInterval (r .interval) t && b) (operate-settled (r .operator)
         (λ u. rightHolds (now u) (before u) p) (λ u. rightHolds (before u) (before u) p) (λ u. holding u p)
-        (λ u. right-settled r x (now u) (before u) (all u) (fed-settled r m u) (strictly-settled r m u))
-        (λ g u. right-settled r x (before u) (before u) (all u)
-        (λ p h. strictly-settled r m u p (strictly-fed r g p h)) (strictly-settled r m u))
+        (λ u. right-settled base r x (now u) (before u) (all u) (fed-settled r m u) (strictly-settled r m u))
+        (λ g u. right-settled base r x (before u) (before u) (all u)
+        (λ p h. strictly-settled r m u p (strictly-fed base r g p h)) (strictly-settled r m u))
         (r .interval .start) t)

@@ -78,9 +78,9 @@ module _ (base : Base) where
       ((r : Rule) → Mem r (base .rules) → S (fact r (p .access) t) ≡ Q (fact r (p .access) u)) →
       holding S t p ≡ holding Q u p
   holds-cong S Q t u p l h = ap₂ (λ (x y : Bool). x || y) (ap (λ (hs : List Head). anyb (fits p) hs) l)
-      (any-cong-mem (λ r. derivesFor p r && S (fact r (p .access) t))
-      (λ r. derivesFor p r && Q (fact r (p .access) u)) (base .rules)
-      (λ r m. ap (λ (b : Bool). derivesFor p r && b) (h r m)))
+      (any-cong-mem (λ r. derivesFor base p r && S (fact r (p .access) t))
+      (λ r. derivesFor base p r && Q (fact r (p .access) u)) (base .rules)
+      (λ r m. ap (λ (b : Bool). derivesFor base p r && b) (h r m)))
 
   -- no mark of an authorization, and none of a rule, lies between a and t
   unmarked : (a t : ℕ) → clear marks a t ≡ true →
@@ -116,10 +116,10 @@ module _ (base : Base) where
   holds-mono : (S Q : Fact → Bool) → Part S Q → (t : ℕ) (p : Pattern) → holding S t p ≡ true → holding Q t p ≡ true
   holds-mono S Q h t p =
       let x : Rule → Fact = λ r. fact r (p .access) t in
-      let s : Rule → Bool = λ r. derivesFor p r && S (x r) in
-      let q : Rule → Bool = λ r. derivesFor p r && Q (x r) in
+      let s : Rule → Bool = λ r. derivesFor base p r && S (x r) in
+      let q : Rule → Bool = λ r. derivesFor base p r && Q (x r) in
       or-mono (anyb (fits p) (live t (base .authorizations))) (anyb s (base .rules)) (anyb q (base .rules))
-      (any-mono s q (base .rules) (λ r. and-mono (derivesFor p r) (S (x r)) (Q (x r)) (h (x r))))
+      (any-mono s q (base .rules) (λ r. and-mono (derivesFor base p r) (S (x r)) (Q (x r)) (h (x r))))
 
   derives-mono : (L S Q : Fact → Bool) → Part S Q → Part (derived L S) (derived L Q)
   derives-mono L S Q h x =

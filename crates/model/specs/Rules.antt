@@ -44,16 +44,17 @@ fits p h =
     && fitsOption (p .option) (h .option)
 
 -- 01: "A starred rule stands for one rule per subject or mode": the accesses on the left of the rules it stands for
-unfoldable pub standsFor : Rule → Access → Bool
-standsFor r x =
+-- in the base. Objects are not starred, so nothing in the base is looked at.
+unfoldable pub standsFor : Base → Rule → Access → Bool
+standsFor b r x =
     (isStar (r .left .subject) || eqb (r .left .subject) (x .subject))
     && (isStar (r .left .mode) || eqb (r .left .mode) (x .mode))
     && eqb (r .left .object) (x .object)
 
 -- 01: "The left side is never transferable and its granter is the author": what the rule derives is what is looked for
-unfoldable pub derivesFor : Pattern → Rule → Bool
-derivesFor p r =
-    standsFor r (p .access)
+unfoldable pub derivesFor : Base → Pattern → Rule → Bool
+derivesFor b p r =
+    standsFor b r (p .access)
     && Bool·beq (r .left .negative) (p .negative)
     && fitsGrantor (p .grantor) (r .author)
     && fitsOption (p .option) false
@@ -98,7 +99,7 @@ module _ (every : ℕ → ℕ → (ℕ → Bool) → Bool) (b : Base) where
   -- 01: "Held means given by a line or by a rule, denied or not", S saying what rules derive
   abbrev pub holdsBy : (Fact → Bool) → ℕ → Pattern → Bool
   holdsBy S t p =
-      let byRule = anyb (λ r. let d = S (fact r (p .access) t) in derivesFor p r && d) (b .rules) in
+      let byRule = anyb (λ r. let d = S (fact r (p .access) t) in derivesFor b p r && d) (b .rules) in
       anyb (fits p) (live t (b .authorizations)) || byRule
 
   -- whether the right side p counts as held, instant by instant

@@ -9,6 +9,7 @@ use Rattle.foundation.specs.Tests.{pick, cases, true-eq, and-three, and-four, a
 use Rattle.model.specs.declared.Head.{Head}
 use Rattle.model.specs.declared.Rule.{Rule}
 use Rattle.model.specs.declared.Access.{Access}
+use Rattle.model.specs.Base.{Base}
 use Rattle.model.specs.Stratification.{isStar, meets, fitsOption, feeds}
 use Rattle.model.specs.Rules.{Pattern, fits, fitsGrantor, standsFor, derivesFor, rightOf}
 
@@ -27,28 +28,29 @@ fits-is p h = and-six
     (fitsOption (p .option) (h .option))
 
 -- x is on the left of a rule that r stands for
-pub stands-is : (r : Rule) (x : Access) → (standsFor r x ≡ true)
+pub stands-is : (b : Base) (r : Rule) (x : Access) → (standsFor b r x ≡ true)
     ↔ ((isStar (r .left .subject) || eqb (r .left .subject) (x .subject) ≡ true)
     × (isStar (r .left .mode) || eqb (r .left .mode) (x .mode) ≡ true)
     × (eqb (r .left .object) (x .object) ≡ true))
 unfolding standsFor
-stands-is r x = and-three
+stands-is b r x = and-three
     (isStar (r .left .subject) || eqb (r .left .subject) (x .subject))
     (isStar (r .left .mode) || eqb (r .left .mode) (x .mode)) (eqb (r .left .object) (x .object))
 
 -- what r derives is what is looked for
-pub derives-is : (p : Pattern) (r : Rule) → (derivesFor p r ≡ true)
-    ↔ ((standsFor r (p .access) ≡ true)
+pub derives-is : (b : Base) (p : Pattern) (r : Rule) → (derivesFor b p r ≡ true)
+    ↔ ((standsFor b r (p .access) ≡ true)
     × (Bool·beq (r .left .negative) (p .negative) ≡ true)
     × (fitsGrantor (p .grantor) (r .author) ≡ true)
     × (fitsOption (p .option) false ≡ true))
 unfolding derivesFor
-derives-is p r = and-four (standsFor r (p .access)) (Bool·beq (r .left .negative) (p .negative))
+derives-is b p r = and-four (standsFor b r (p .access)) (Bool·beq (r .left .negative) (p .negative))
     (fitsGrantor (p .grantor) (r .author)) (fitsOption (p .option) false)
 
 -- a rule that derives what is looked for stands for its access
-pub derives-stands : (p : Pattern) (r : Rule) → derivesFor p r ≡ true → standsFor r (p .access) ≡ true
-derives-stands p r e = derives-is p r .0 e .0
+pub derives-stands : (b : Base) (p : Pattern) (r : Rule) → derivesFor b p r ≡ true →
+    standsFor b r (p .access) ≡ true
+derives-stands b p r e = derives-is b p r .0 e .0
 
 -- ---- feeding
 
@@ -75,11 +77,11 @@ fit-meets n m z e = cases (isStar n)
     (λ a. cases (isStar m) (λ b. rw (a, b)) (λ b. rw (a, b) (rw (a, b) at e)))
 
 -- what fits a rule's right side is derived by a rule that feeds it
-pub fit-feeds : (q r : Rule) (x : Access) → derivesFor (rightOf r x) q ≡ true → feeds q r ≡ true
+pub fit-feeds : (b : Base) (q r : Rule) (x : Access) → derivesFor b (rightOf r x) q ≡ true → feeds q r ≡ true
 unfolding rightOf
-fit-feeds q r x e =
-    let d = derives-is (rightOf r x) q .0 e in
-    let s = stands-is q (rightOf r x .access) .0 (d .0) in
+fit-feeds b q r x e =
+    let d = derives-is b (rightOf r x) q .0 e in
+    let s = stands-is b q (rightOf r x .access) .0 (d .0) in
     feeds-is q r .1 (
       d .1,
       s .2,
@@ -90,7 +92,7 @@ fit-feeds q r x e =
     )
 
 -- and a rule that feeds it derives that where it stands for the access that r looks for
-pub feeds-fit : (q r : Rule) (x : Access) → feeds q r ≡ true → standsFor q (rightOf r x .access) ≡ true →
-    derivesFor (rightOf r x) q ≡ true
+pub feeds-fit : (b : Base) (q r : Rule) (x : Access) → feeds q r ≡ true →
+    standsFor b q (rightOf r x .access) ≡ true → derivesFor b (rightOf r x) q ≡ true
 unfolding rightOf
-feeds-fit q r x e s = let w = feeds-is q r .0 e in derives-is (rightOf r x) q .1 (s, w .0, w .4, w .5)
+feeds-fit b q r x e s = let w = feeds-is q r .0 e in derives-is b (rightOf r x) q .1 (s, w .0, w .4, w .5)

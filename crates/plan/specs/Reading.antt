@@ -13,6 +13,7 @@ use Rattle.foundation.specs.Lists.{anyb, any-mem, mem-any}
 use Rattle.model.specs.declared.Rule.{Rule}
 use Rattle.model.specs.declared.Access.{Access}
 use Rattle.model.specs.Encoding.{ruleOf, bit}
+use Rattle.model.specs.Base.{Base}
 use Rattle.model.specs.Support.{live}
 use Rattle.model.specs.Rules.{fits, standsFor, derivesFor, asked, may}
 use Rattle.model.specs.SideFacts.{stands-is, derives-is}
@@ -30,6 +31,9 @@ use Rattle.plan.specs.Scene.{numberIn, derivesOn, baseIn, Prepared, bits
 module _ (lines : List ℕ) (na : ℕ) (body : List ℕ) (n : ℕ) (U L S F M P K : List ℕ) (l g top : ℕ)
     (ready : Prepared lines na body n U L S F M P K l g top) (t : ℕ) (T : List ℕ) (at : At lines na body n U t T)
     (x : Access) (there : counted U x ≡ true) where
+  abbrev base : Base
+  base = baseIn lines na body n
+
   abbrev rules : List Rule
   rules = rulesIn n body
 
@@ -42,20 +46,21 @@ module _ (lines : List ℕ) (na : ℕ) (body : List ℕ) (n : ℕ) (U L S F M P 
 
   module _ (negative : Bool) where
     abbrev derived : Rule → Bool
-    derived r = derivesFor (asked x negative) r && bitsOf lines na body n U T r x
+    derived r = derivesFor base (asked x negative) r && bitsOf lines na body n U T r x
 
     -- what is asked of a rule's left side besides the subject and the mode
-    on-object : (r : Rule) → derivesFor (asked x negative) r ≡ true → derivesOn (x .object) negative r ≡ true
+    on-object : (r : Rule) → derivesFor base (asked x negative) r ≡ true →
+        derivesOn (x .object) negative r ≡ true
     on-object r e =
-        let w = derives-is (asked x negative) r .0 e in
+        let w = derives-is base (asked x negative) r .0 e in
         and-intro (eqb (r .left .object) (x .object)) (Bool·beq (r .left .negative) negative)
-        (stands-is r x .0 (w .0) .2) (w .1)
+        (stands-is base r x .0 (w .0) .2) (w .1)
 
     found : anyb derived rules ≡ true → given negative ≡ true
     found e =
         let w = any-mem derived rules e in
         let r = w .0 in
-        let v = and-true (derivesFor (asked x negative) r) (bitsOf lines na body n U T r x) (w .2) in
+        let v = and-true (derivesFor base (asked x negative) r) (bitsOf lines na body n U T r x) (w .2) in
         in-common word (maskOf (derivesOn (x .object) negative) rules) (numberIn rules r) (v .1)
         (mask-number rules (numberIn rules) (ruleAt body) (ready .grounds .numbering) (derivesOn (x .object) negative) r
         (w .1) ∙ on-object r (v .0))
@@ -73,14 +78,15 @@ module _ (lines : List ℕ) (na : ℕ) (body : List ℕ) (n : ℕ) (U L S F M P 
         let y = accessOf U (ruleAt body) i (placeOf U x) in
         let same : y ≡ x = at-place U x there (r .left .object) (true-eq (r .left .object) (x .object) (v .0)) in
         let c = counted U y in
-        let d = standsFor r y in
-        let f = truth (baseIn lines na body n) t r y in
-        let z : standsFor r x ≡ true = subst (λ (y : Access). standsFor r y ≡ true) same
+        let d = standsFor base r y in
+        let f = truth base t r y in
+        let z : standsFor base r x ≡ true = subst (λ (y : Access). standsFor base r y ≡ true) same
         (and-true c d (and-true (c && d) f (at .has (placeOf U x) i (w .1)) .0) .1) in
         let m = numbering .ruled i h in
         mem-any derived rules r (m .0)
-        (and-intro (derivesFor (asked x negative) r) (bitsOf lines na body n U T r x)
-        (derives-is (asked x negative) r .1 (z, v .1, refl, refl)) (ap (λ (j : ℕ). bit j word) (m .1) ∙ w .1))
+        (and-intro (derivesFor base (asked x negative) r) (bitsOf lines na body n U T r x)
+        (derives-is base (asked x negative) r .1 (z, v .1, refl, refl))
+        (ap (λ (j : ℕ). bit j word) (m .1) ∙ w .1))
 
     by-rule : anyb derived rules ≡ given negative
     by-rule = agree (anyb derived rules) (given negative) found back
@@ -91,7 +97,6 @@ module _ (lines : List ℕ) (na : ℕ) (body : List ℕ) (n : ℕ) (U L S F M P 
 
   pub read-off : held false && not (held true) ≡ may (baseIn lines na body n) x t
   read-off =
-      let base = baseIn lines na body n in
       let X = bitsOf lines na body n U T in
       let both : (negative : Bool) → held negative ≡ heldIn base X t (asked x negative) =
       λ negative. ap (λ (d : Bool). anyb (fits (asked x negative)) (live t (authorizationsIn na lines)) || d)

@@ -63,11 +63,11 @@ module _ (base : Base) (U : List ℕ) (number : Rule → ℕ) (rule : ℕ → Ru
 
   module _ (r : Rule) (x : Access) (n : Node base (counted U) r x) where
     same-object : r .left .object ≡ x .object
-    same-object = true-eq (r .left .object) (x .object) (stands-is r x .0 (n .2) .2)
+    same-object = true-eq (r .left .object) (x .object) (stands-is base r x .0 (n .2) .2)
 
     pub node-leads : leads U r ≡ true
     node-leads = cases (isStar (r .left .subject)) (λ e. rw e) (λ e.
-        let f : eqb (r .left .subject) (x .subject) ≡ true = rw e at (stands-is r x .0 (n .2) .0) in
+        let f : eqb (r .left .subject) (x .subject) ≡ true = rw e at (stands-is base r x .0 (n .2) .0) in
         rw (e, true-eq (r .left .subject) (x .subject) f) (listed U x (n .1)))
 
   pub drawn-inward : Inward base (counted U)
@@ -163,7 +163,7 @@ module _ (base : Base) (U : List ℕ) (number : Rule → ℕ) (rule : ℕ → Ru
       unfolding rightOf
       node-aim =
           let s = shaped r (n .0) in
-          let q = stands-is r x .0 (n .2) in
+          let q = stands-is base r x .0 (n .2) in
           aim-law i p (own .0)
           ∙ rw (own .1, place-subject j m m-below, place-mode j m m-below)
           (ap₂ (λ (a b : ℕ). a * modes + b)
@@ -203,7 +203,7 @@ module _ (base : Base) (U : List ℕ) (number : Rule → ℕ) (rule : ℕ → Ru
             and-intro (among U (x .subject)) (isMode (x .mode))
                 (subject-axis .there (aimed-subject i p) (subject-in i p l) .0)
                 (mode-coordinate .there (aimed-mode i p) (mode-in i p h) .0),
-            stands-is r x .1 (
+            stands-is base r x .1 (
               stand-there subject-axis (r .left .subject) (p / modes) e,
               stand-there mode-coordinate (r .left .mode) (p % modes) (shaped r member .left),
               eq-true (r .left .object) (r .left .object) refl,
@@ -238,15 +238,16 @@ module _ (base : Base) (U : List ℕ) (number : Rule → ℕ) (rule : ℕ → Ru
 
         -- a rule whose bit is set at the place where r looks, and that feeds r, stands for what r looks for
         stood : (j : ℕ) → bit j word ≡ true → feeds (rule j) r ≡ true →
-            standsFor (rule j) (rightOf r x .access) ≡ true
+            standsFor base (rule j) (rightOf r x .access) ≡ true
         unfolding rightOf
         stood j e g =
             let y = rightOf r x .access in
             let p = placeOf U y in
             let a = accessOf U rule j p in
             let z : a ≡ y = at-place U y (drawn-inward r x n) (rule j .left .object) (feeds-object (rule j) r g) in
-            let d = and-true (counted U a && standsFor (rule j) a) (truth base t (rule j) a) (h p j e) .0 in
-            ap (standsFor (rule j)) (sym z) ∙ and-true (counted U a) (standsFor (rule j) a) d .1
+            let s : Access → Bool = standsFor base (rule j) in
+            let d = and-true (counted U a && s a) (truth base t (rule j) a) (h p j e) .0 in
+            ap s (sym z) ∙ and-true (counted U a) (s a) d .1
 
         -- the right side is as the rule wants by the plan where it is by the theory
         node-wants :
@@ -262,7 +263,8 @@ module _ (base : Base) (U : List ℕ) (number : Rule → ℕ) (rule : ℕ → Ru
             fit i p (w .0) (place-in U (rightOf r x .access) (drawn-inward r x n))
             ∙ ap (λ (q : Rule). anyb (fits (soughtAt U q p)) (live t auths)) (w .1)
             ∙ ap (λ (q : Pattern). anyb (fits q) (live t auths)) (sought r x n) in
-            let e = ap (λ (m : ℕ). not (eqb (bitAnd word m) 0)) f ∙ fed rules number rule numbering r x word stood in
+            let e = ap (λ (m : ℕ). not (eqb (bitAnd word m) 0)) f
+            ∙ fed rules number rule numbering base r x word stood in
             let g : bit i (pl .stage .negating) ≡ negates r =
             ap (λ (m : ℕ). bit i m) (drawn .negating) ∙ mask-number rules number rule numbering negates r (n .0) in
             ap₂ (λ (a b : Bool). not (Bool·beq a b)) (ap₂ (λ (a b : Bool). a || b) d e) g

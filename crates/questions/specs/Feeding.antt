@@ -15,6 +15,7 @@ use Rattle.foundation.specs.Tests.{cases, agree, eq-true, true-eq, false-eq, ne
 use Rattle.foundation.specs.Lists.{anyb, Mem, any-mem, mem-any}
 use Rattle.model.specs.declared.Rule.{Rule}
 use Rattle.model.specs.declared.Access.{Access}
+use Rattle.model.specs.Base.{Base}
 use Rattle.model.specs.Encoding.{bit}
 use Rattle.model.specs.Stratification.{feeds}
 use Rattle.model.specs.Rules.{standsFor, derivesFor, rightOf}
@@ -62,13 +63,14 @@ module _ (rules : List Rule) (number : Rule → ℕ) (rule : ℕ → Rule) (numb
 
   -- Where each rule of a word that feeds r stands for the access that r looks for, one of them feeds r exactly if one
   -- derives what r looks for
-  module _ (r : Rule) (x : Access) (word : ℕ) (stood : (j : ℕ) → bit j word ≡ true → feeds (rule j) r ≡ true →
-      standsFor (rule j) (rightOf r x .access) ≡ true) where
+  module _ (base : Base) (r : Rule) (x : Access) (word : ℕ)
+      (stood : (j : ℕ) → bit j word ≡ true → feeds (rule j) r ≡ true →
+      standsFor base (rule j) (rightOf r x .access) ≡ true) where
     abbrev feeders : ℕ
     feeders = feedersOf rules r
 
     abbrev derivesIt : Rule → Bool
-    derivesIt q = derivesFor (rightOf r x) q && bit (number q) word
+    derivesIt q = derivesFor base (rightOf r x) q && bit (number q) word
 
     fed-derives : (j : ℕ) → bit j word ≡ true → bit j feeders ≡ true → anyb derivesIt rules ≡ true
     fed-derives j e f =
@@ -76,14 +78,14 @@ module _ (rules : List Rule) (number : Rule → ℕ) (rule : ℕ → Rule) (numb
         let w = numbering .ruled j l in
         let g : feeds (rule j) r ≡ true = sym (mask-rule (λ q. feeds q r) j l) ∙ f in
         mem-any derivesIt rules (rule j) (w .0)
-        (and-intro (derivesFor (rightOf r x) (rule j)) (bit (number (rule j)) word)
-        (feeds-fit (rule j) r x g (stood j e g)) (ap (λ (v : ℕ). bit v word) (w .1) ∙ e))
+        (and-intro (derivesFor base (rightOf r x) (rule j)) (bit (number (rule j)) word)
+        (feeds-fit base (rule j) r x g (stood j e g)) (ap (λ (v : ℕ). bit v word) (w .1) ∙ e))
 
     pub fed : not (eqb (bitAnd word feeders) 0) ≡ anyb derivesIt rules
     fed = agree (not (eqb (bitAnd word feeders) 0)) (anyb derivesIt rules)
         (λ e. let w = common word feeders e in fed-derives (w .0) (w .1) (w .2))
         (λ e. let w = any-mem derivesIt rules e in
         let q = w .0 in
-        let v = and-true (derivesFor (rightOf r x) q) (bit (number q) word) (w .2) in
+        let v = and-true (derivesFor base (rightOf r x) q) (bit (number q) word) (w .2) in
         in-common word feeders (number q) (v .1)
-        (mask-number (λ q. feeds q r) q (w .1) ∙ fit-feeds q r x (v .0)))
+        (mask-number (λ q. feeds q r) q (w .1) ∙ fit-feeds base q r x (v .0)))

@@ -58,7 +58,7 @@ module _ (base : Base) (D : Access → Bool) where
   pub answer : (t : ℕ) (X : Bits) → Right base D t X → (p : Pattern) → D (p .access) ≡ true →
       heldIn base X t p ≡ holds always base t p
   answer t X w p d = holds-same base (asFacts X) t p
-      (λ r m e. sym (w r (p .access) (m, d, derives-stands p r e)))
+      (λ r m e. sym (w r (p .access) (m, d, derives-stands base p r e)))
 
 -- and so is the answer to MAY
 pub may-answer : (b : Base) (D : Access → Bool) (t : ℕ) (X : Bits) → Right b D t X →

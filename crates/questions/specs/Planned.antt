@@ -31,7 +31,7 @@ module _ (base : Base) (D : Access → Bool) (t : ℕ)
   derivedAt p i =
       let r = rule i in
       let x = access i p in
-      D x && standsFor r x && truth base t r x
+      D x && standsFor base r x && truth base t r x
 
   -- the place of the right side
   abbrev pub origin : Rule → Access → ℕ
@@ -62,7 +62,7 @@ module _ (base : Base) (D : Access → Bool) (t : ℕ)
     there r x n =
         let b = st .back r x n in
         let T : Rule → Access → Bool = truth base t in
-        ap₂ (λ (r : Rule) (x : Access). D x && standsFor r x && T r x) (b .0) (b .1)
+        ap₂ (λ (r : Rule) (x : Access). D x && standsFor base r x && T r x) (b .0) (b .1)
         ∙ rw (n .1, n .2)
 
     table-sound : (T : List ℕ) → Has T derivedAt → Sound base D t (bits T)

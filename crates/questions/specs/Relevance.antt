@@ -19,7 +19,8 @@ use Rattle.model.specs.declared.Access.{Access}
 use Rattle.model.specs.Base.{Base}
 use Rattle.model.specs.Support.{live}
 use Rattle.model.specs.Stratification.{stratum}
-use Rattle.model.specs.Rules.{Pattern, Fact, fact, fits, derivesFor, rightOf, operate, holdsBy, rightBy, derives, enough, derivedBelow, holds}
+use Rattle.model.specs.Rules.{Pattern, Fact, fact, fits, standsFor, derivesFor, rightOf, operate, holdsBy, rightBy}
+use Rattle.model.specs.Rules.{derives, enough, derivedBelow, holds}
 use Rattle.model.specs.SideFacts.{derives-stands}
 use Rattle.model.specs.RightFacts.{right-mono, right-own}
 use Rattle.model.specs.HoldsFacts.{below-stratum, rounds, closed}
@@ -96,17 +97,18 @@ module _ (base : Base) (D : Access → Bool) (inward : Inward base D) where
   held-more : (A B : List Authorization) (S Q : Fact → Bool) → Within S Q → (t : ℕ) (p : Pattern) →
       D (p .access) ≡ true → direct A t p ≡ direct B t p →
       holdsBy always (by A) S t p ≡ true → holdsBy always (by B) Q t p ≡ true
+  unfolding derivesFor standsFor
   held-more A B S Q h t p d q e =
-      let s : Rule → Bool = λ r. derivesFor p r && S (fact r (p .access) t) in
-      let z : Rule → Bool = λ r. derivesFor p r && Q (fact r (p .access) t) in
+      let s : Rule → Bool = λ r. derivesFor (by A) p r && S (fact r (p .access) t) in
+      let z : Rule → Bool = λ r. derivesFor (by B) p r && Q (fact r (p .access) t) in
       or-cases (direct A t p) (anyb s (base .rules)) e
       (λ a. or-intro-left (direct B t p) (anyb z (base .rules)) (sym q ∙ a))
       (λ a. let m = any-mem s (base .rules) a in
       let r = m .0 in
-      let w = and-true (derivesFor p r) (S (fact r (p .access) t)) (m .2) in
+      let w = and-true (derivesFor (by A) p r) (S (fact r (p .access) t)) (m .2) in
       or-true-right (direct B t p) (anyb z (base .rules)) (mem-any z (base .rules) r (m .1)
-      (and-intro (derivesFor p r) (Q (fact r (p .access) t)) (w .0)
-      (h r (p .access) (m .1, d, derives-stands p r (w .0)) t (w .1)))))
+      (and-intro (derivesFor (by B) p r) (Q (fact r (p .access) t)) (w .0)
+      (h r (p .access) (m .1, d, derives-stands base p r (w .0)) t (w .1)))))
 
   held-same : (A B : List Authorization) (S Q : Fact → Bool) → Within S Q → Within Q S → (t : ℕ) (p : Pattern) →
       D (p .access) ≡ true → direct A t p ≡ direct B t p →

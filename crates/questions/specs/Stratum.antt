@@ -31,15 +31,15 @@ holds-more : (base : Base) (S Q : Fact → Bool) (t : ℕ) (p : Pattern) →
     holdsBy always base S t p ≡ true → holdsBy always base Q t p ≡ true
 holds-more base S Q t p h e =
     let x : Rule → Fact = λ r. fact r (p .access) t in
-    let s : Rule → Bool = λ r. derivesFor p r && S (x r) in
-    let q : Rule → Bool = λ r. derivesFor p r && Q (x r) in
+    let s : Rule → Bool = λ r. derivesFor base p r && S (x r) in
+    let q : Rule → Bool = λ r. derivesFor base p r && Q (x r) in
     let direct = anyb (fits p) (live t (base .authorizations)) in
     or-cases direct (anyb s (base .rules)) e
     (λ a. or-intro-left direct (anyb q (base .rules)) a)
     (λ a. let m = any-mem s (base .rules) a in
-    let w = and-true (derivesFor p (m .0)) (S (x (m .0))) (m .2) in
+    let w = and-true (derivesFor base p (m .0)) (S (x (m .0))) (m .2) in
     or-true-right direct (anyb q (base .rules)) (mem-any q (base .rules) (m .0) (m .1)
-    (and-intro (derivesFor p (m .0)) (Q (x (m .0))) (w .0) (h (m .0) (m .1) (w .1)))))
+    (and-intro (derivesFor base p (m .0)) (Q (x (m .0))) (w .0) (h (m .0) (m .1) (w .1)))))
 
 module _ (base : Base) (s : stratified (base .rules) ≡ true) (D : Access → Bool)
     (inward : Inward base D) (P : Bits) (t : ℕ) (before : Before base D P t)
@@ -47,7 +47,7 @@ module _ (base : Base) (s : stratified (base .rules) ≡ true) (D : Access → B
   -- ---- the table filled up: where its bits do not count, with what is derived
 
   counts : Rule → Access → Bool
-  counts r x = D x && standsFor r x
+  counts r x = D x && standsFor base r x
 
   filled : Bits
   unfolding counts
@@ -59,12 +59,12 @@ module _ (base : Base) (s : stratified (base .rules) ≡ true) (D : Access → B
       (filled r x ≡ truth base t r x → Z) → Z
   unfolding filled
   split r x m f g = cases (counts r x)
-      (λ e. let w = and-true (D x) (standsFor r x) e in f (m, w .0, w .1) (rw e))
+      (λ e. let w = and-true (D x) (standsFor base r x) e in f (m, w .0, w .1) (rw e))
       (λ e. g (rw e))
 
   filled-node : (r : Rule) (x : Access) → Node base D r x → filled r x ≡ X r x
   unfolding filled
-  filled-node r x n = rw (and-intro (D x) (standsFor r x) (n .1) (n .2))
+  filled-node r x n = rw (and-intro (D x) (standsFor base r x) (n .1) (n .2))
 
   filled-sound : (r : Rule) (x : Access) → Mem r (base .rules) → filled r x ≡ true → truth base t r x ≡ true
   filled-sound r x m e = split r x m (λ n q. sound r x n (sym q ∙ e)) (λ q. sym q ∙ e)
@@ -76,7 +76,7 @@ module _ (base : Base) (s : stratified (base .rules) ≡ true) (D : Access → B
   -- of an access that counts the same holds by the filled table
   held-filled : (p : Pattern) → D (p .access) ≡ true → heldIn base X t p ≡ heldIn base filled t p
   held-filled p d = holds-fit base (asFacts X) (asFacts filled) t p
-      (λ r m e. sym (filled-node r (p .access) (m, d, derives-stands p r e)))
+      (λ r m e. sym (filled-node r (p .access) (m, d, derives-stands base p r e)))
 
   right-filled : (r : Rule) (x : Access) → Node base D r x →
       rightIn base X t r x ≡ rightIn base filled t r x
@@ -97,7 +97,7 @@ module _ (base : Base) (s : stratified (base .rules) ≡ true) (D : Access → B
 
   module _ (r : Rule) (m : Mem r (base .rules)) (h : stratum (base .rules) r ≡ k) where
     -- and it is right of what only lower strata derive
-    held-exact : (p : Pattern) → StrictlyFed r p →
+    held-exact : (p : Pattern) → StrictlyFed base r p →
         heldIn base filled t p ≡ heldIn base (truth base t) t p
     held-exact p f = holds-fit base (asFacts filled) (asFacts (truth base t)) t p
         (λ q j e. let g = f q e in
@@ -108,15 +108,15 @@ module _ (base : Base) (s : stratified (base .rules) ≡ true) (D : Access → B
     right-sound x e =
         let F = heldIn base filled t in
         let G = heldIn base (truth base t) t in
-        sym (right-settled r x G F G (λ p f. refl) held-exact)
+        sym (right-settled base r x G F G (λ p f. refl) held-exact)
         ∙ right-mono F G F (rightOf r x) held-sound e
 
     right-exact : negating (r .operator) ≡ true → (x : Access) →
         rightIn base filled t r x ≡ rightIn base (truth base t) t r x
     right-exact g x =
         let F = heldIn base filled t in
-        right-settled r x F F (heldIn base (truth base t) t)
-        (λ p f. held-exact p (strictly-fed r g p f)) held-exact
+        right-settled base r x F F (heldIn base (truth base t) t)
+        (λ p f. held-exact p (strictly-fed base r g p f)) held-exact
 
   -- a bit that the sweep sets is right
   pub set-right : (r : Rule) (x : Access) → Node base D r x → stratum (base .rules) r ≡ k →
@@ -174,7 +174,7 @@ module _ (base : Base) (s : stratified (base .rules) ≡ true) (D : Access → B
       F = heldIn base filled t
 
       -- the strata below are right about what only they derive, and so is the table
-      under-exact : (p : Pattern) → StrictlyFed r p → holdsBy always base lower t p ≡ F p
+      under-exact : (p : Pattern) → StrictlyFed base r p → holdsBy always base lower t p ≡ F p
       under-exact p f =
           subst (λ (j : ℕ).
           holdsBy always base (derivedBelow always base j) t p ≡ holds always base t p)
@@ -186,14 +186,14 @@ module _ (base : Base) (s : stratified (base .rules) ≡ true) (D : Access → B
       same-in e =
           let L = holdsBy always base lower t in
           right-filled r x w
-          ∙ sym (right-settled r x F L F (λ p f. refl) under-exact)
+          ∙ sym (right-settled base r x F L F (λ p f. refl) under-exact)
           ∙ right-mono (holdsBy always base (stage n) t) F L (rightOf r x)
           (λ p. holds-more base (stage n) (asFacts filled) t p (λ q m. found q (p .access) m)) e
 
       under-is : negating (r .operator) ≡ true → under t ≡ rightIn base X t r x
       under-is g =
           let L = holdsBy always base lower t in
-          right-settled r x L L F (λ p f. under-exact p (strictly-fed r g p f)) under-exact
+          right-settled base r x L L F (λ p f. under-exact p (strictly-fed base r g p f)) under-exact
           ∙ sym (right-filled r x w)
 
       -- and where the operator looks back, the rule derived at the instant before

@@ -52,7 +52,7 @@ module _ (base : Base) where
 -- ---- the bits that count: those at the accesses of D, of rules that stand for the access
 
 abbrev pub Node : Base → (Access → Bool) → Rule → Access → Type 0
-Node base D r x = Mem r (base .rules) × (D x ≡ true) × (standsFor r x ≡ true)
+Node base D r x = Mem r (base .rules) × (D x ≡ true) × (standsFor base r x ≡ true)
 
 -- the right side of a rule leads from accesses that count to such
 abbrev pub Inward : Base → (Access → Bool) → Type 0

@@ -23,7 +23,7 @@ use Rattle.model.specs.Base.{Base}
 use Rattle.model.specs.Encoding.{authorizationOf, ruleOf}
 use Rattle.model.specs.Support.{live}
 use Rattle.model.specs.Rules.{Pattern, Fact, fits, holdsBy, round, enough, derivedBelow, holds, asked, may, when}
-use Rattle.model.specs.Rules.{mayWith}
+use Rattle.model.specs.Rules.{standsFor, derivesFor, mayWith}
 use Rattle.model.specs.Answers.{accessIn, words}
 use Rattle.model.specs.Means.{marks}
 use Rattle.model.specs.HoldsMarks.{may-steady, when-count}
@@ -43,13 +43,13 @@ module _ (b : Base) where
   bare = bareBase (b .authorizations) (b .rules)
 
   bare-below : (k : ℕ) → derivedBelow always bare k ≡ derivedBelow always b k
-  unfolding derivedBelow
+  unfolding derivedBelow derivesFor standsFor
   bare-below zero = refl
   bare-below (suc k) =
       λ i x. iter (λ S. round always b k (bare-below k i) S) (enough always b) (bare-below k i) x
 
   bare-holds : (t : ℕ) (p : Pattern) → holds always bare t p ≡ holds always b t p
-  unfolding holds
+  unfolding holds derivesFor standsFor
   bare-holds t p =
       ap (λ (S : Fact → Bool). holdsBy always b S t p) (bare-below (suc (2 * length (b .rules))))
 
