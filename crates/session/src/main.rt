@@ -1,7 +1,7 @@
-// The program `session`: requests and questions as text on standard input, one a line, and a reply a line on standard
-// output. It reads what comes and answers each line as soon as it is ended, so that it serves in a pipe and at a
-// terminal. At the end of the input it answers the line that is not ended. A read or a write that fails ends it, and
-// then that line is not answered.
+// The program `session`: requests and questions as text on standard input, one a line, and a reply a line on
+// standard output. It reads what comes and answers each line as soon as it is ended, so that it serves in a
+// pipe and at a terminal. At the end of the input it answers the line that is not ended. A read or a write
+// that fails ends it, and then that line is not answered.
 ghost use mathlib.Core.Path.{_≡_};
 ghost use mathlib.Core.Bool.{true};
 ghost use mathlib.Core.List.{List};
@@ -16,9 +16,10 @@ ghost use Rattle.session.specs.Input.{Ready, mixed, digest, arrived, Ans
 use libc::STDERR_FILENO;
 use libc::STDIN_FILENO;
 use libc::STDOUT_FILENO;
+use model::BASE_BYTES;
 
-// How many bytes are kept of the line that is not ended yet, how many were handed to be written (modulo 2^64), what
-// the last read answered, and whether every write worked.
+// How many bytes are kept of the line that is not ended yet, how many were handed to be written (modulo
+// 2^64), what the last read answered, and whether every write worked.
 struct Going {
     len: usize,
     sent: u32,
@@ -63,7 +64,8 @@ fn put(bytes: &[u8], sent: u32) -> Written
     }
 }
 
-// Answers the lines that end in a piece of input, and writes the replies, as many at a time as there is room for.
+// Answers the lines that end in a piece of input, and writes the replies, as many at a time as there is room
+// for.
 fn serve_piece(s: &mut [u8], line: &mut [u8; 97], g: Going, piece: &[u8], out: &mut [u8]) -> Going
     requires { ⌜ Ready (now s) (now line) (g .len) (now out) ⌝ }
     ensures { λ r. ⌜ ((pending : List ℕ) → Kept pending (g .len) (now (line .entry)) →
@@ -96,7 +98,8 @@ fn serve_piece(s: &mut [u8], line: &mut [u8; 97], g: Going, piece: &[u8], out: &
     }
 }
 
-// Reads a piece into `buf` and answers its lines. At the end of the input, and where the read fails, there is none.
+// Reads a piece into `buf` and answers its lines. At the end of the input, and where the read fails, there is
+// none.
 fn serve_some(s: &mut [u8], line: &mut [u8; 97], g: Going, buf: &mut [u8], out: &mut [u8]) -> Going
     requires { ⌜ Ready (now s) (now line) (g .len) (now out) ⌝ }
     ensures { λ r. ⌜ ((pending : List ℕ) → Kept pending (g .len) (now (line .entry)) →
@@ -148,9 +151,9 @@ fn has_ended(g: Going) -> bool
     g.ok & (g.got == 0)
 }
 
-// Answers line after line until the input ends, or a read or a write fails, and then the end of the input, if it is
-// one. A proved loop has to end, and nothing says that the input does: so it counts its turns down, from a number
-// that no run uses up.
+// Answers line after line until the input ends, or a read or a write fails, and then the end of the input, if
+// it is one. A proved loop has to end, and nothing says that the input does: so it counts its turns down,
+// from a number that no run uses up.
 fn serve_input(
     s: &mut [u8],
     line: &mut [u8; 97],
@@ -207,7 +210,7 @@ fn tell(g: Going) {
 
 // Starts with an empty base.
 fn main() {
-    let mut s = [0u8; 27936];
+    let mut s = [0u8; BASE_BYTES];
     base::create(&mut s);
     tell(run(&mut s));
 }
