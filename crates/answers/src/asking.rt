@@ -19,7 +19,7 @@ use scan::list_runs;
 fn access_in(x: Access) -> bool
     ensures { λ r. ⌜ r ≡ accessIn x ⌝ }
 {
-    refusals::subject_in(x.subject) & refusals::mode_in(x.mode) & refusals::object_in(x.object)
+    lookup::subject_in(x.subject) & lookup::mode_in(x.mode) & lookup::object_in(x.object)
 }
 
 // The first of rows 3 and 6 that applies, or 0.
@@ -30,7 +30,7 @@ fn refusal_of(s: &[u8], x: Access) -> u32
     if !access_in(x) {
         return 3;
     }
-    if !refusals::exists(s, x.object) {
+    if !lookup::exists(s, x.object) {
         return 6;
     }
     0

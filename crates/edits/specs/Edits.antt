@@ -2,12 +2,11 @@
 use mathlib.Core.Path.{_≡_, ap}
 use Prim.Native.Nat.{ℕ, suc, _+_, _-_}
 use mathlib.Core.Bool.{true}
-use mathlib.Core.List.{List, _∷_, _++_}
+use mathlib.Core.List.{List, _++_}
 use lib.ListN.{length, take, drop, replicate}
 use Rattle.model.specs.declared.Privilege.{Privilege}
-use Rattle.model.specs.declared.Authorization.{Authorization}
-use Rattle.model.specs.declared.Rule.{Rule}
 use Rattle.model.specs.Base.{Base}
+use Rattle.model.specs.Effects.{withClock, withLast, withObjects, withAdministrators, withReferrers}
 use Rattle.model.specs.Encoding.{encode, decode}
 use Rattle.model.specs.Soundness.{soundBytes}
 use Rattle.model.specs.SoundnessFacts.{sound-bytes}
@@ -20,71 +19,9 @@ use Rattle.edits.specs.declared.PrivilegeBody.the-variants.{Objects, Adm
 
 -- ---- a base with one part replaced
 
-abbrev pub withClock : ℕ → ℕ → Base → Base
-withClock clock last b = record {
-  clock = clock;
-  last = last;
-  objects = b .objects;
-  administrators = b .administrators;
-  referrers = b .referrers;
-  authorizations = b .authorizations;
-  rules = b .rules;
-}
-
-abbrev pub withObjects : List Privilege → Base → Base
-withObjects ps b = record {
-  clock = b .clock;
-  last = b .last;
-  objects = ps;
-  administrators = b .administrators;
-  referrers = b .referrers;
-  authorizations = b .authorizations;
-  rules = b .rules;
-}
-
-abbrev pub withAdministrators : List Privilege → Base → Base
-withAdministrators ps b = record {
-  clock = b .clock;
-  last = b .last;
-  objects = b .objects;
-  administrators = ps;
-  referrers = b .referrers;
-  authorizations = b .authorizations;
-  rules = b .rules;
-}
-
-abbrev pub withReferrers : List Privilege → Base → Base
-withReferrers ps b = record {
-  clock = b .clock;
-  last = b .last;
-  objects = b .objects;
-  administrators = b .administrators;
-  referrers = ps;
-  authorizations = b .authorizations;
-  rules = b .rules;
-}
-
-abbrev pub withAuthorizations : List Authorization → Base → Base
-withAuthorizations as′ b = record {
-  clock = b .clock;
-  last = b .last;
-  objects = b .objects;
-  administrators = b .administrators;
-  referrers = b .referrers;
-  authorizations = as′;
-  rules = b .rules;
-}
-
-abbrev pub withRules : List Rule → Base → Base
-withRules rs b = record {
-  clock = b .clock;
-  last = b .last;
-  objects = b .objects;
-  administrators = b .administrators;
-  referrers = b .referrers;
-  authorizations = b .authorizations;
-  rules = rs;
-}
+-- the clock and the last label
+abbrev pub withStamp : ℕ → ℕ → Base → Base
+withStamp clock last b = withClock clock (withLast last b)
 
 -- the privileges of one of the three bodies, and the base with them replaced
 abbrev pub privilegesOf : PrivilegeBody → Base → List Privilege
@@ -98,10 +35,6 @@ withPrivileges Administrators ps b = withAdministrators ps b
 withPrivileges Referrers ps b = withReferrers ps b
 
 -- ---- lists
-
--- x put before the element at i, or at the end where i is the length
-abbrev pub insertAt : {A : Type 0} → ℕ → A → List A → List A
-insertAt i x xs = take i xs ++ (x ∷ drop i xs)
 
 -- without the element at i
 abbrev pub removeAt : {A : Type 0} → ℕ → List A → List A
@@ -165,8 +98,8 @@ withRuleCount n c = record {
 
 -- ---- bytes
 
--- s with the `old` bytes at `at` made `new` ones: what stands behind them is moved, and the end is cut or filled with
--- zeros, so that the length remains
+-- s with the `old` bytes at `at` made `new` ones: what stands behind them is moved, and the end is cut or
+-- filled with zeros, so that the length remains
 unfoldable pub resized : ℕ → ℕ → ℕ → List ℕ → List ℕ
 resized at old new s =
     take (at + new) s ++ take (length s - at - new) (drop (at + old) s ++ replicate (old - new) 0)

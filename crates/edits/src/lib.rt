@@ -1,19 +1,27 @@
-// Edits of a base in bytes: one record put into a body or taken out of it, the authorizations replaced, the clock and
-// the last label set. Each leaves the bytes of the base so edited. They start from the bytes of a base that fits.
+// Edits of a base in bytes: one record put into a body or taken out of it, the authorizations replaced, the
+// clock and the last label set. Each leaves the bytes of the base so edited. They start from the bytes of a
+// base that fits.
 ghost use mathlib.Core.Path.{_≡_};
 ghost use mathlib.Core.Bool.{true};
 ghost use Prim.Native.Nat.{_+_, _*_, _≤_, _<_};
 ghost use lib.ListN.{length, take};
-ghost use Rattle.foundation.specs.Lists.{each};
+ghost use Rattle.foundation.specs.Lists.{each, insertAt};
 ghost use Rattle.foundation.specs.Bytes.{records};
 ghost use Rattle.model.specs.Ranges.{mostObjects, mostAuthorizations, mostRules};
 ghost use Rattle.model.specs.Encoding.{encode, decode, authorizationOf, authorizationBytes};
 ghost use Rattle.fields.specs.Field.{splice};
 ghost use Rattle.encoding.specs.Format.{contentsOf, countsFit};
-ghost use Rattle.edits.specs.Edits.{resized, Written, withClock, withAuthorizations, withRules, withPrivileges, privilegesOf, privilegesAt, privilegeCount, withPrivilegeCount, withAuthorizationCount, withRuleCount, insertAt, removeAt};
+ghost use Rattle.edits.specs.Edits.{resized, Written, withStamp};
+ghost use Rattle.model.specs.Effects.{withAuthorizations, withRules};
+ghost use Rattle.edits.specs.Edits.{withPrivileges, privilegesOf, privilegesAt, privilegeCount};
+ghost use Rattle.edits.specs.Edits.{withPrivilegeCount, withAuthorizationCount, withRuleCount};
+ghost use Rattle.edits.specs.Edits.{removeAt};
 use encoding::Counts;
+use model::AUTHORIZATION_BYTES;
 use model::Authorization;
+use model::PRIVILEGE_BYTES;
 use model::Privilege;
+use model::RULE_BYTES;
 use model::Rule;
 
 // The bodies that hold privileges.
@@ -23,8 +31,8 @@ pub enum PrivilegeBody {
     Referrers,
 }
 
-// Makes the `old` bytes at a place `new` ones: what stands behind them is moved, and the end is cut or filled with
-// zeros.
+// Makes the `old` bytes at a place `new` ones: what stands behind them is moved, and the end is cut or filled
+// with zeros.
 fn resize(s: &mut [u8], at: usize, old: usize, new: usize)
     requires { ⌜ (at + old ≤ length (now s)) × (at + new ≤ length (now s)) ⌝ }
     ensures { λ _. ⌜ now (s .exit) ≡ resized at old new (now (s .entry)) ⌝ }
@@ -132,8 +140,8 @@ pub fn insert_rule(s: &mut [u8], i: usize, r: Rule)
         ≡ encode (withRules (insertAt i r (decode (now (s .entry)) .rules)) (decode (now (s .entry)))) ⌝ }
 {
     let c = encoding::counts_of(s);
-    let at = encoding::rules_at(c) + 28 * i;
-    reshape(s, at, 0, 28, with_rule_count(c, c.rules + 1));
+    let at = encoding::rules_at(c) + RULE_BYTES * i;
+    reshape(s, at, 0, RULE_BYTES, with_rule_count(c, c.rules + 1));
     encoding::put_rule(s, at, r);
 }
 
@@ -144,8 +152,8 @@ pub fn remove_rule(s: &mut [u8], i: usize)
         ≡ encode (withRules (removeAt i (decode (now (s .entry)) .rules)) (decode (now (s .entry)))) ⌝ }
 {
     let c = encoding::counts_of(s);
-    let at = encoding::rules_at(c) + 28 * i;
-    reshape(s, at, 28, 0, with_rule_count(c, c.rules - 1));
+    let at = encoding::rules_at(c) + RULE_BYTES * i;
+    reshape(s, at, RULE_BYTES, 0, with_rule_count(c, c.rules - 1));
 }
 
 // Puts an authorization before the one at i, or behind the last.
@@ -153,35 +161,19 @@ pub fn insert_authorization(s: &mut [u8], i: usize, a: Authorization)
     requires { ⌜ Written (now s) × (i ≤ length (decode (now s) .authorizations))
         × (length (decode (now s) .authorizations) < mostAuthorizations) ⌝ }
     ensures { λ _. ⌜ now (s .exit)
-        ≡ encode (withAuthorizations (insertAt i a (decode (now (s .entry)) .authorizations)) (decode (now (s .entry)))) ⌝ }
+        ≡ encode (withAuthorizations (insertAt i a (decode (now (s .entry)) .authorizations))
+        (decode (now (s .entry)))) ⌝ }
 {
     let c = encoding::counts_of(s);
-    let at = encoding::authorizations_at(c) + 24 * i;
+    let at = encoding::authorizations_at(c) + AUTHORIZATION_BYTES * i;
     reshape(
         s,
         at,
         0,
-        24,
+        AUTHORIZATION_BYTES,
         with_authorization_count(c, c.authorizations + 1),
     );
     encoding::put_authorization(s, at, a);
-}
-
-// Takes the authorization at i out.
-pub fn remove_authorization(s: &mut [u8], i: usize)
-    requires { ⌜ Written (now s) × (i < length (decode (now s) .authorizations)) ⌝ }
-    ensures { λ _. ⌜ now (s .exit)
-        ≡ encode (withAuthorizations (removeAt i (decode (now (s .entry)) .authorizations)) (decode (now (s .entry)))) ⌝ }
-{
-    let c = encoding::counts_of(s);
-    let at = encoding::authorizations_at(c) + 24 * i;
-    reshape(
-        s,
-        at,
-        24,
-        0,
-        with_authorization_count(c, c.authorizations - 1),
-    );
 }
 
 // Puts a privilege before the one at i of a body, or behind the last.
@@ -189,15 +181,16 @@ pub fn insert_privilege(s: &mut [u8], k: PrivilegeBody, i: usize, p: Privilege)
     requires { ⌜ Written (now s) × (i ≤ length (privilegesOf k (decode (now s))))
         × (length (privilegesOf k (decode (now s))) < mostObjects) ⌝ }
     ensures { λ _. ⌜ now (s .exit)
-        ≡ encode (withPrivileges k (insertAt i p (privilegesOf k (decode (now (s .entry))))) (decode (now (s .entry)))) ⌝ }
+        ≡ encode (withPrivileges k (insertAt i p (privilegesOf k (decode (now (s .entry)))))
+        (decode (now (s .entry)))) ⌝ }
 {
     let c = encoding::counts_of(s);
-    let at = privileges_at(c, k) + 4 * i;
+    let at = privileges_at(c, k) + PRIVILEGE_BYTES * i;
     reshape(
         s,
         at,
         0,
-        4,
+        PRIVILEGE_BYTES,
         with_privilege_count(c, k, privilege_count(c, k) + 1),
     );
     encoding::put_privilege(s, at, p);
@@ -207,14 +200,15 @@ pub fn insert_privilege(s: &mut [u8], k: PrivilegeBody, i: usize, p: Privilege)
 pub fn remove_privilege(s: &mut [u8], k: PrivilegeBody, i: usize)
     requires { ⌜ Written (now s) × (i < length (privilegesOf k (decode (now s)))) ⌝ }
     ensures { λ _. ⌜ now (s .exit)
-        ≡ encode (withPrivileges k (removeAt i (privilegesOf k (decode (now (s .entry))))) (decode (now (s .entry)))) ⌝ }
+        ≡ encode (withPrivileges k (removeAt i (privilegesOf k (decode (now (s .entry)))))
+        (decode (now (s .entry)))) ⌝ }
 {
     let c = encoding::counts_of(s);
-    let at = privileges_at(c, k) + 4 * i;
+    let at = privileges_at(c, k) + PRIVILEGE_BYTES * i;
     reshape(
         s,
         at,
-        4,
+        PRIVILEGE_BYTES,
         0,
         with_privilege_count(c, k, privilege_count(c, k) - 1),
     );
@@ -225,24 +219,26 @@ pub fn replace_authorizations(s: &mut [u8], body: &[u8], m: usize)
     requires { ⌜ Written (now s) × (m ≤ mostAuthorizations) × (m * 24 ≤ length (now body))
         × (take (24 * m) (now body) ≡ each (records 24 authorizationOf m (now body)) authorizationBytes) ⌝ }
     ensures { λ _. ⌜ now (s .exit)
-        ≡ encode (withAuthorizations (records 24 authorizationOf m (now (body .entry))) (decode (now (s .entry)))) ⌝ }
+        ≡ encode (withAuthorizations (records 24 authorizationOf m (now (body .entry)))
+        (decode (now (s .entry)))) ⌝ }
 {
     let c = encoding::counts_of(s);
     let at = encoding::authorizations_at(c);
     reshape(
         s,
         at,
-        24 * (c.authorizations as usize),
-        24 * m,
+        AUTHORIZATION_BYTES * (c.authorizations as usize),
+        AUTHORIZATION_BYTES * m,
         with_authorization_count(c, m as u16),
     );
-    fields::copy(s, at, body, 24 * m);
+    fields::copy(s, at, body, AUTHORIZATION_BYTES * m);
 }
 
 // Sets the clock.
 pub fn set_clock(s: &mut [u8], clock: u32)
     requires { ⌜ Written (now s) ⌝ }
-    ensures { λ _. ⌜ now (s .exit) ≡ encode (withClock clock (decode (now (s .entry)) .last) (decode (now (s .entry)))) ⌝ }
+    ensures { λ _. ⌜ now (s .exit) ≡ encode
+        (withStamp clock (decode (now (s .entry)) .last) (decode (now (s .entry)))) ⌝ }
 {
     fields::put32(s, 4, clock);
 }
@@ -250,7 +246,8 @@ pub fn set_clock(s: &mut [u8], clock: u32)
 // Sets the last label given.
 pub fn set_last(s: &mut [u8], last: u16)
     requires { ⌜ Written (now s) ⌝ }
-    ensures { λ _. ⌜ now (s .exit) ≡ encode (withClock (decode (now (s .entry)) .clock) last (decode (now (s .entry)))) ⌝ }
+    ensures { λ _. ⌜ now (s .exit) ≡ encode
+        (withStamp (decode (now (s .entry)) .clock) last (decode (now (s .entry)))) ⌝ }
 {
     fields::put16(s, 8, last);
 }

@@ -1,4 +1,5 @@
--- Rules taken out from the last to the first: what is left on the way, and a turn of the loop. Assumes nothing.
+-- Rules taken out from the last to the first: what is left on the way, and a turn of the loop. Assumes
+-- nothing.
 use mathlib.Core.Path.{_≡_, sym, ap, _∙_, subst}
 use mathlib.Core.Logic.{⊎-elim}
 use Prim.Native.Nat.{ℕ, zero, suc, _-_, _≤_, _<_}
@@ -14,9 +15,10 @@ use Rattle.model.specs.declared.Rule.{Rule}
 use Rattle.model.specs.Base.{Base}
 use Rattle.model.specs.Encoding.{encode, decode}
 use Rattle.model.specs.FitsFacts.{BaseFits}
-use Rattle.edits.specs.Edits.{Written, withRules, removeAt}
-use Rattle.edits.specs.Kept.{fits-rules}
-use Rattle.effects.proofs.Laws.{Holds, holds}
+use Rattle.edits.specs.Edits.{Written, removeAt}
+use Rattle.model.specs.Effects.{withRules}
+use Rattle.edits.proofs.Kept.{fits-rules}
+use Rattle.effects.proofs.AllowedEffects.{Holds, holds}
 
 -- ---- lists
 
@@ -26,7 +28,8 @@ module _ {A : Type 0} (k : A → Bool) where
   partly i xs = take i xs ++ keepIf k (drop i xs)
 
   partly-all : (xs : List A) → xs ≡ partly (length xs) xs
-  partly-all xs = sym ((λ j. take-all (length xs) xs (omega arith) j ++ keepIf k (drop-length xs j)) ∙ append-nil xs)
+  partly-all xs = sym ((λ j. take-all (length xs) xs (omega arith) j ++ keepIf k (drop-length xs j))
+      ∙ append-nil xs)
 
   pub kept-length : (xs : List A) → length (keepIf k xs) ≤ length xs
   kept-length [] = omega arith
@@ -81,7 +84,8 @@ module _ (k : Rule → Bool) (b : Base) where
         (partly-all k (b .rules) ∙ ap (λ (n : ℕ). partly k n (b .rules)) (sym h)),
   )
 
-  pub drop-ends : (s : List ℕ) (i : ℕ) → i ≡ 0 → Dropped k b i s → s ≡ encode (withRules (keepIf k (b .rules)) b)
+  pub drop-ends : (s : List ℕ) (i : ℕ) → i ≡ 0 → Dropped k b i s →
+      s ≡ encode (withRules (keepIf k (b .rules)) b)
   drop-ends s i e v = v .1 ∙ ap (λ (n : ℕ). encode (left n)) e
 
   pub dropped-holds : BaseFits b → (i : ℕ) (s : List ℕ) → Dropped k b i s → Holds (left i) s
@@ -106,7 +110,8 @@ module _ (k : Rule → Bool) (b : Base) where
         (dropped-holds f i s v .written, omega (arith, l, e))
 
     module _ (r : Rule) (e : drop (i - 1) (decode s .rules) ≡ r ∷ drop (suc (i - 1)) (decode s .rules)) where
-      read : drop (i - 1) (partly k (suc (i - 1)) (b .rules)) ≡ r ∷ drop (suc (i - 1)) (partly k (suc (i - 1)) (b .rules))
+      read : drop (i - 1) (partly k (suc (i - 1)) (b .rules)) ≡ r
+          ∷ drop (suc (i - 1)) (partly k (suc (i - 1)) (b .rules))
       read = subst (λ (rs : List Rule). drop (i - 1) rs ≡ r ∷ drop (suc (i - 1)) rs) turn-rules e
 
       pub turn-keeps : k r ≡ true → Dropped k b (i - 1) s

@@ -1,5 +1,5 @@
-pub mod Laws
+pub mod AllowedEffects
 pub mod Reading
 pub mod Dropping
-pub mod Places
+pub mod PrivilegePlaces
 pub mod Changes

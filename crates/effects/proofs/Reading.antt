@@ -10,13 +10,14 @@ use lib.Seq.{drop-drop}
 use Rattle.foundation.specs.Bytes.{records}
 use Rattle.model.specs.Encoding.{decode, privilegeOf, ruleOf}
 use Rattle.encoding.specs.Format.{countsOf, rulesAt}
-use Rattle.encoding.specs.FormatFacts.{decoded-objects, decoded-administrators, decoded-referrers, decoded-rules}
-use Rattle.encoding.specs.FormatFacts.{decoded-lengths}
-use Rattle.encoding.proofs.Records.{rest, rest-step}
+use Rattle.encoding.proofs.FormatFacts.{decoded-objects, decoded-administrators, decoded-referrers}
+use Rattle.encoding.proofs.FormatFacts.{decoded-rules}
+use Rattle.encoding.proofs.FormatFacts.{decoded-lengths}
+use Rattle.foundation.specs.Records.{rest, rest-step}
 use Rattle.edits.specs.declared.PrivilegeBody.{PrivilegeBody}
 use Rattle.edits.specs.declared.PrivilegeBody.the-variants.{Objects, Administrators, Referrers}
 use Rattle.edits.specs.Edits.{Written, privilegesOf, privilegesAt, privilegeCount}
-use Rattle.edits.proofs.Laws.{written-length}
+use Rattle.edits.proofs.EditedBytes.{written-length}
 
 module _ {R : Type 0} (w : ℕ) (f : List ℕ → R) where
   -- the records from the i-th on
@@ -60,7 +61,8 @@ rules-body s W = record {
 }
 
 pub privileges-body : (k : PrivilegeBody) (s : List ℕ) → Written s →
-    Body 4 privilegeOf (privilegesOf k (decode s)) (privilegeCount k (countsOf s)) (privilegesAt k (countsOf s)) s
+    Body 4 privilegeOf (privilegesOf k (decode s)) (privilegeCount k (countsOf s))
+    (privilegesAt k (countsOf s)) s
 privileges-body Objects s W = record {
   read = decoded-objects s;
   count = decoded-lengths s .0;

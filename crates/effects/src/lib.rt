@@ -1,5 +1,5 @@
-// What an accepted request does to the bytes of a sound base, for the requests that withdraw no instants, and of
-// REVOKEADM what is not about authorizations.
+// What an accepted request does to the bytes of a sound base, for the requests that withdraw no instants, and
+// of REVOKEADM what is not about authorizations.
 ghost use mathlib.Core.Path.{_≡_};
 ghost use mathlib.Core.Bool.{true};
 ghost use mathlib.Core.List.{_∷_, []};
@@ -13,7 +13,8 @@ ghost use Rattle.model.specs.Requests.{before, without};
 ghost use Rattle.model.specs.Encoding.{encode, decode};
 ghost use Rattle.model.specs.Means.{plainly};
 ghost use Rattle.model.specs.Step.{effect};
-ghost use Rattle.edits.specs.Edits.{Written, withClock, withAdministrators};
+ghost use Rattle.edits.specs.Edits.{Written, withStamp};
+ghost use Rattle.model.specs.Effects.{withAdministrators};
 ghost use Rattle.effects.specs.Effects.{Allowed};
 
 mod privileges;
@@ -23,19 +24,18 @@ mod rules;
 use edits::PrivilegeBody;
 use encoding::rule_of;
 use model::Request;
-pub use privileges::is_held;
 use privileges::put_privilege;
 use privileges::take_privilege;
 use records::authorization_of;
 use records::body_of;
 use records::owner_of;
-pub use records::privilege_of;
+use records::privilege_of;
 pub use rules::drop_rules;
 
 // Sets the clock and the last label.
 fn stamp(s: &mut [u8], clock: u32, last: u16)
     requires { ⌜ Written (now s) ⌝ }
-    ensures { λ _. ⌜ now (s .exit) ≡ encode (withClock clock last (decode (now (s .entry)))) ⌝ }
+    ensures { λ _. ⌜ now (s .exit) ≡ encode (withStamp clock last (decode (now (s .entry)))) ⌝ }
 {
     edits::set_clock(s, clock);
     edits::set_last(s, last);
@@ -98,27 +98,28 @@ pub fn grant_privilege(s: &mut [u8], q: Request)
     put_privilege(s, body_of(q.kind), privilege_of(q));
 }
 
-// REVOKEREF: the privilege is taken out, and with it the subject's rules with the object on the right, unless he
-// administers it.
+// REVOKEREF: the privilege is taken out, and with it the subject's rules with the object on the right, unless
+// he administers it.
 pub fn revoke_referrer(s: &mut [u8], q: Request)
     requires { ⌜ Allowed (REVOKEREF ∷ []) (now s) q ⌝ }
     ensures { λ _. ⌜ now (s .exit) ≡ encode (effect plainly (decode (now (s .entry))) q) ⌝ }
 {
     let p = privilege_of(q);
-    let administers = is_held(s, PrivilegeBody::Administrators, p);
+    let administers = lookup::administers(s, q.object, q.subject);
     edits::set_clock(s, q.now);
     take_privilege(s, PrivilegeBody::Referrers, p);
     drop_rules(s, q, false, administers);
 }
 
-// REVOKEADM, of the privileges: that of the subject is taken out. The rules go by `drop_rules`. Nothing is asked of
-// the authorizations, so that this may be done before it is known whether they find room.
+// REVOKEADM, of the privileges: that of the subject is taken out. The rules go by `drop_rules`. Nothing is
+// asked of the authorizations, so that this may be done before it is known whether they find room.
 pub fn remove_administrator(s: &mut [u8], q: Request)
     requires { ⌜ Written (now s) × PrivilegeFits (privilege (q .object) (q .subject))
         × (chained before (decode (now s) .administrators) ≡ true)
         × (listed (decode (now s) .administrators) (q .object) (q .subject) ≡ true) ⌝ }
     ensures { λ _. ⌜ now (s .exit)
-        ≡ encode (withAdministrators (without (q .object) (q .subject) (decode (now (s .entry)) .administrators)) (decode (now (s .entry)))) ⌝ }
+        ≡ encode (withAdministrators (without (q .object) (q .subject)
+        (decode (now (s .entry)) .administrators)) (decode (now (s .entry)))) ⌝ }
 {
     take_privilege(s, PrivilegeBody::Administrators, privilege_of(q));
 }

@@ -12,21 +12,20 @@ ghost use Rattle.model.specs.Soundness.{chained};
 ghost use Rattle.edits.specs.Edits.{Written, privilegesOf, withPrivileges};
 ghost use Rattle.effects.specs.Effects.{firstIndex};
 use edits::PrivilegeBody;
+use lookup::is_before;
+use model::PRIVILEGE_BYTES;
 use model::Privilege;
 
 // The privilege at i of a body.
 fn nth_privilege(s: &[u8], k: PrivilegeBody, i: usize) -> Privilege
     requires { ⌜ Written (now s) × (i < length (privilegesOf k (decode (now s)))) ⌝ }
-    ensures { λ r. ⌜ drop i (privilegesOf k (decode (now (s .entry)))) ≡ r ∷ drop (suc i) (privilegesOf k (decode (now (s .entry)))) ⌝ }
+    ensures { λ r. ⌜ drop i (privilegesOf k (decode (now (s .entry)))) ≡ r
+        ∷ drop (suc i) (privilegesOf k (decode (now (s .entry)))) ⌝ }
 {
-    encoding::privilege_at(s, edits::privileges_at(encoding::counts_of(s), k) + 4 * i)
-}
-
-// Whether a privilege stands before another: by object, then subject.
-fn is_before(p: Privilege, q: Privilege) -> bool
-    ensures { λ r. ⌜ r ≡ before p q ⌝ }
-{
-    (p.object < q.object) | ((p.object == q.object) & (p.subject < q.subject))
+    encoding::privilege_at(
+        s,
+        edits::privileges_at(encoding::counts_of(s), k) + PRIVILEGE_BYTES * i,
+    )
 }
 
 // How many privileges of a body stand before the first that a privilege is before.
@@ -45,28 +44,12 @@ fn place_of(s: &[u8], k: PrivilegeBody, p: Privilege) -> usize
     i
 }
 
-// Whether a privilege is one of a body.
-pub fn is_held(s: &[u8], k: PrivilegeBody, p: Privilege) -> bool
-    requires { ⌜ Written (now s) ⌝ }
-    ensures { λ r. ⌜ r ≡ listed (privilegesOf k (decode (now (s .entry)))) (p .object) (p .subject) ⌝ }
-{
-    let n = edits::privilege_count(encoding::counts_of(s), k) as usize;
-    let mut i = 0;
-    while i < n {
-        let x = nth_privilege(s, k, i);
-        if (x.object == p.object) & (x.subject == p.subject) {
-            return true;
-        }
-        i += 1;
-    }
-    false
-}
-
 // Puts a privilege in its place.
 pub fn put_privilege(s: &mut [u8], k: PrivilegeBody, p: Privilege)
     requires { ⌜ Written (now s) × (length (privilegesOf k (decode (now s))) < mostObjects) ⌝ }
     ensures { λ _. ⌜ now (s .exit)
-        ≡ encode (withPrivileges k (insert p (privilegesOf k (decode (now (s .entry))))) (decode (now (s .entry)))) ⌝ }
+        ≡ encode (withPrivileges k (insert p (privilegesOf k (decode (now (s .entry)))))
+        (decode (now (s .entry)))) ⌝ }
 {
     let i = place_of(s, k, p);
     edits::insert_privilege(s, k, i, p);
@@ -77,7 +60,8 @@ pub fn take_privilege(s: &mut [u8], k: PrivilegeBody, p: Privilege)
     requires { ⌜ Written (now s) × (chained before (privilegesOf k (decode (now s))) ≡ true)
         × (listed (privilegesOf k (decode (now s))) (p .object) (p .subject) ≡ true) ⌝ }
     ensures { λ _. ⌜ now (s .exit)
-        ≡ encode (withPrivileges k (without (p .object) (p .subject) (privilegesOf k (decode (now (s .entry))))) (decode (now (s .entry)))) ⌝ }
+        ≡ encode (withPrivileges k (without (p .object) (p .subject)
+        (privilegesOf k (decode (now (s .entry))))) (decode (now (s .entry)))) ⌝ }
 {
     let i = place_of(s, k, p) - 1;
     edits::remove_privilege(s, k, i);

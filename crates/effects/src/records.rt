@@ -7,8 +7,12 @@ ghost use Rattle.model.specs.FitsFacts.{PrivilegeFits, AuthorizationFits};
 ghost use Rattle.effects.specs.Effects.{bodyOf};
 use edits::PrivilegeBody;
 use model::Authorization;
+use model::DENY;
+use model::GRANT;
+use model::GRANTADM;
 use model::Head;
 use model::Privilege;
+use model::REVOKEADM;
 use model::Request;
 
 // The authorization that a grant or denial makes under a label.
@@ -24,8 +28,8 @@ pub fn authorization_of(q: Request, label: u16) -> Authorization
             subject: q.subject as u16,
             object: q.object as u16,
             mode: q.mode as u8,
-            negative: q.kind == 3,
-            option: (q.kind == 2) & q.option,
+            negative: q.kind == DENY,
+            option: (q.kind == GRANT) & q.option,
             granted: q.now,
         },
         interval: interval,
@@ -58,7 +62,7 @@ pub fn owner_of(q: Request) -> Privilege
 pub fn body_of(kind: u32) -> PrivilegeBody
     ensures { λ r. ⌜ r ≡ bodyOf kind ⌝ }
 {
-    if (kind == 9) | (kind == 10) {
+    if (kind == GRANTADM) | (kind == REVOKEADM) {
         return PrivilegeBody::Administrators;
     }
     PrivilegeBody::Referrers

@@ -6,21 +6,27 @@ ghost use Prim.Native.Nat.{suc, _<_};
 ghost use lib.ListN.{length, drop};
 ghost use Rattle.foundation.specs.Lists.{keepIf};
 ghost use Rattle.model.specs.Encoding.{encode, decode};
-ghost use Rattle.edits.specs.Edits.{Written, withRules};
+ghost use Rattle.edits.specs.Edits.{Written};
+ghost use Rattle.model.specs.Effects.{withRules};
 ghost use Rattle.effects.specs.Effects.{dropsBy};
+use model::RULE_BYTES;
 use model::Request;
 use model::Rule;
 
 // The rule at i.
 fn nth_rule(s: &[u8], i: usize) -> Rule
     requires { ⌜ Written (now s) × (i < length (decode (now s) .rules)) ⌝ }
-    ensures { λ r. ⌜ drop i (decode (now (s .entry)) .rules) ≡ r ∷ drop (suc i) (decode (now (s .entry)) .rules) ⌝ }
+    ensures { λ r. ⌜ drop i (decode (now (s .entry)) .rules) ≡ r
+        ∷ drop (suc i) (decode (now (s .entry)) .rules) ⌝ }
 {
-    encoding::rule_at(s, encoding::rules_at(encoding::counts_of(s)) + 28 * i)
+    encoding::rule_at(
+        s,
+        encoding::rules_at(encoding::counts_of(s)) + RULE_BYTES * i,
+    )
 }
 
-// Whether a request removes a rule: DROPRULE that of its label; REVOKEADM and REVOKEREF those that their subject may no
-// longer have, who refers to the object, or administers it, as is told.
+// Whether a request removes a rule: DROPRULE that of its label; REVOKEADM and REVOKEREF those that their
+// subject may no longer have, who refers to the object, or administers it, as is told.
 fn is_dropped(q: Request, refers: bool, administers: bool, r: Rule) -> bool
     ensures { λ x. ⌜ x ≡ dropsBy refers administers q r ⌝ }
 {
@@ -41,7 +47,8 @@ fn is_dropped(q: Request, refers: bool, administers: bool, r: Rule) -> bool
 pub fn drop_rules(s: &mut [u8], q: Request, refers: bool, administers: bool)
     requires { ⌜ Written (now s) ⌝ }
     ensures { λ _. ⌜ now (s .exit)
-        ≡ encode (withRules (keepIf (λ r. not (dropsBy refers administers q r)) (decode (now (s .entry)) .rules)) (decode (now (s .entry)))) ⌝ }
+        ≡ encode (withRules (keepIf (λ r. not (dropsBy refers administers q r))
+        (decode (now (s .entry)) .rules)) (decode (now (s .entry)))) ⌝ }
 {
     let c = encoding::counts_of(s);
     let mut i = c.rules as usize;

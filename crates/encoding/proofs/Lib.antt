@@ -1,7 +1,10 @@
--- `Records` has the laws of a body of records, `Places` those of a record's fields at a place, `Masks` those of flag
--- bytes, `Contents` those of the counts, and `Empty` those of an empty base.
+-- `RecordFields` has the laws of a record's fields at a place, `FlagBytes` those of flag bytes, `Contents`
+-- those of the counts, `Empty` those of an empty base, `OwnBytes` says that records depend on their own bytes
+-- alone, and `InsertedRecord` has the laws of a record put between others.
 pub mod Contents
 pub mod Empty
-pub mod Masks
-pub mod Places
-pub mod Records
+pub mod FlagBytes
+pub mod RecordFields
+pub mod OwnBytes
+pub mod InsertedRecord
+pub mod FormatFacts

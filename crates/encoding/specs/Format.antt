@@ -1,14 +1,18 @@
--- The format of a base's bytes, test by test, as code asks it: `format-is` says that bytes pass exactly if they are the
--- encoding of their decoding.
-use Prim.Native.Nat.{ℕ, zero, suc, _+_, _*_}
-use mathlib.Core.Bool.{Bool, true, false, _&&_}
-use mathlib.Core.List.{List, [], _∷_, _++_}
+-- The format of a base's bytes, test by test, as code asks it: `format-is` says that bytes pass exactly if
+-- they are the encoding of their decoding.
+use Prim.Native.Nat.{ℕ, _+_, _*_}
+use mathlib.Core.Bool.{Bool, _&&_}
+use mathlib.Core.List.{List}
 use lib.Dec.{leb, ltb, eqb}
 use lib.ListN.{length, take, drop, getD}
 use Rattle.foundation.specs.Lists.{allb}
-use Rattle.foundation.specs.Bytes.{le, bytesOf, records, eqList}
-use Rattle.model.specs.Ranges.{between, mostObjects, mostAdministrators, mostReferrers, mostAuthorizations, mostRules}
-use Rattle.model.specs.Encoding.{size, mark, contents}
+use Rattle.foundation.specs.Bytes.{le, records, eqList}
+use Rattle.model.specs.Ranges.{between, mostObjects, mostAdministrators, mostReferrers, mostAuthorizations}
+use Rattle.model.specs.Ranges.{mostRules}
+use Rattle.model.specs.declared.Privilege.{Privilege}
+use Rattle.model.specs.declared.Authorization.{Authorization}
+use Rattle.model.specs.declared.Rule.{Rule}
+use Rattle.model.specs.Encoding.{size, mark, contents, privilegeOf, authorizationOf, ruleOf}
 use Rattle.encoding.specs.declared.Counts.{Counts}
 
 -- the counts that the contents name
@@ -23,6 +27,20 @@ countsOf s = record {
 
 abbrev pub contentsOf : Counts → List ℕ
 contentsOf c = contents (c .objects) (c .administrators) (c .referrers) (c .authorizations) (c .rules)
+
+-- the n privileges, authorizations or rules that s begins with
+abbrev pub privilegesIn : ℕ → List ℕ → List Privilege
+privilegesIn n s = records 4 privilegeOf n s
+
+abbrev pub authorizationsIn : ℕ → List ℕ → List Authorization
+authorizationsIn n s = records 24 authorizationOf n s
+
+abbrev pub rulesIn : ℕ → List ℕ → List Rule
+rulesIn n s = records 28 ruleOf n s
+
+-- the rule at i of them
+abbrev pub ruleAt : List ℕ → ℕ → Rule
+ruleAt s i = ruleOf (drop (i * 28) s)
 
 -- where the bodies start, and where the last one ends
 abbrev pub administratorsAt : Counts → ℕ

@@ -1,2 +1,2 @@
 pub mod Format
-pub mod FormatFacts
+pub mod Insertions

@@ -7,9 +7,14 @@ ghost use Rattle.foundation.specs.Bytes.{eqList};
 ghost use Rattle.fields.specs.Field.{splice};
 ghost use Rattle.model.specs.Encoding.{mark};
 ghost use Rattle.model.specs.Answers.{create};
-ghost use Rattle.encoding.specs.Format.{countsOf, contentsOf, countsFit, headingFits, administratorsAt, referrersAt, authorizationsAt, rulesAt, endAt};
+ghost use Rattle.encoding.specs.Format.{countsOf, contentsOf, countsFit, headingFits, administratorsAt};
+ghost use Rattle.encoding.specs.Format.{referrersAt, authorizationsAt, rulesAt, endAt};
 use crate::Counts;
 use crate::bodies::put_pair;
+use model::AUTHORIZATION_BYTES;
+use model::BASE_BYTES;
+use model::PRIVILEGE_BYTES;
+use model::RULE_BYTES;
 use model::Reply;
 
 // Whether a base begins with the mark.
@@ -58,35 +63,35 @@ pub fn counts_fit(c: Counts) -> bool
 pub fn administrators_at(c: Counts) -> usize
     ensures { λ r. ⌜ r ≡ administratorsAt c ⌝ }
 {
-    32 + 4 * (c.objects as usize)
+    32 + PRIVILEGE_BYTES * (c.objects as usize)
 }
 
 // Where the referrers start.
 pub fn referrers_at(c: Counts) -> usize
     ensures { λ r. ⌜ r ≡ referrersAt c ⌝ }
 {
-    administrators_at(c) + 4 * (c.administrators as usize)
+    administrators_at(c) + PRIVILEGE_BYTES * (c.administrators as usize)
 }
 
 // Where the authorizations start.
 pub fn authorizations_at(c: Counts) -> usize
     ensures { λ r. ⌜ r ≡ authorizationsAt c ⌝ }
 {
-    referrers_at(c) + 4 * (c.referrers as usize)
+    referrers_at(c) + PRIVILEGE_BYTES * (c.referrers as usize)
 }
 
 // Where the rules start.
 pub fn rules_at(c: Counts) -> usize
     ensures { λ r. ⌜ r ≡ rulesAt c ⌝ }
 {
-    authorizations_at(c) + 24 * (c.authorizations as usize)
+    authorizations_at(c) + AUTHORIZATION_BYTES * (c.authorizations as usize)
 }
 
 // Where the last body ends.
 pub fn end_at(c: Counts) -> usize
     ensures { λ r. ⌜ r ≡ endAt c ⌝ }
 {
-    rules_at(c) + 28 * (c.rules as usize)
+    rules_at(c) + RULE_BYTES * (c.rules as usize)
 }
 
 // Writes the contents at a place: for each body where it starts and how many records it has.
@@ -121,9 +126,10 @@ pub fn heading_fits(s: &[u8]) -> bool
 
 // Makes an empty base in a lent buffer; one of another length is refused with 2.
 pub fn create(s: &mut [u8]) -> Reply
-    ensures { λ r. ⌜ (r ≡ create (now (s .entry)) .reply) × (now (s .exit) ≡ create (now (s .entry)) .lent) ⌝ }
+    ensures { λ r. ⌜ (r ≡ create (now (s .entry)) .reply)
+        × (now (s .exit) ≡ create (now (s .entry)) .lent) ⌝ }
 {
-    if s.len() != 27936 {
+    if s.len() != BASE_BYTES {
         return Reply::Refused(2);
     }
     fields::clear(s);

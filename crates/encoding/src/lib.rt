@@ -2,6 +2,7 @@
 mod bodies;
 mod flags;
 mod heading;
+mod insertion;
 mod terms;
 
 pub use bodies::authorization_at;
@@ -34,6 +35,8 @@ pub use heading::put_counts;
 pub use heading::put_mark;
 pub use heading::referrers_at;
 pub use heading::rules_at;
+pub use insertion::insert_authorization;
+pub use insertion::place_of;
 pub use terms::rule_of;
 
 // How many records each body has.

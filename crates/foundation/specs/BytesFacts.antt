@@ -1,5 +1,6 @@
--- Bytes written back as they were read: a byte (`byte-kept`), a number (`number-kept`), zeros (`zeros-kept`), a body
--- of records (`body-kept`). What stands behind a body, and at a record's place in it (`behind-at`, `record-in`).
+-- Bytes written back as they were read: a byte (`byte-kept`), a number (`number-kept`), zeros (`zeros-kept`),
+-- a body of records (`body-kept`). What stands behind a body, and at a record's place in it (`behind-at`,
+-- `record-in`).
 use mathlib.Core.Path.{_≡_, refl, sym, ap, _∙_}
 use mathlib.Core.Logic.{inl, inr}
 use Prim.Native.Nat.{ℕ, zero, suc, _+_, _*_, _/_, _%_, _≤_, _<_}
@@ -8,8 +9,8 @@ use native.Mathlib.Omega.{arith}
 use mathlib.Core.Bool.{Bool, true, _&&_}
 use mathlib.Core.List.{List, [], _∷_, _++_, append-assoc}
 use lib.Dec.{eqb}
-use lib.ListN.{length, drop, getD, replicate, length-drop}
-use lib.Seq.{drop-cons, drop-drop, drop-append-add, getD-drop}
+use lib.ListN.{length, take, drop, getD, replicate, length-drop, take-append-drop}
+use lib.Seq.{drop-cons, drop-drop, drop-append-add, drop-append-le, getD-drop}
 use Rattle.foundation.specs.Tests.{cases, and-true, true-eq, false-eq}
 use Rattle.foundation.specs.Lists.{Mem, each}
 use Rattle.foundation.specs.Bytes.{le, bytesOf, records}
@@ -40,22 +41,39 @@ each-below (suc n) p e g h =
 
 -- ---- numbers
 
--- the number that stands in w bytes, written there
-number-front : (w : ℕ) (s : List ℕ) → w ≤ length s → Bytes s → bytesOf w (le w s) ++ drop w s ≡ s
-number-front zero s h b = refl
-number-front (suc w) [] h b = absurd (not-suc-le-zero h)
-number-front (suc w) (x ∷ s) h b =
-    let l : x < 256 = b 0 in
-    let m : (x + 256 * le w s) % 256 ≡ x = omega arith in
-    let d : (x + 256 * le w s) / 256 ≡ le w s = omega arith in
-    λ i. m i ∷ (ap (λ (n : ℕ). bytesOf w n ++ drop w s) d
-    ∙ number-front w s (le-of-suc-le-suc h) (λ j. b (suc j))) i
+-- the number that stands in w bytes, written
+bytesOf-le : (w : ℕ) (s : List ℕ) → w ≤ length s → Bytes s → bytesOf w (le w s) ≡ take w s
+bytesOf-le zero s h k = refl
+bytesOf-le (suc w) [] h k = absurd (not-suc-le-zero h)
+bytesOf-le (suc w) (b ∷ s) h k =
+    let l : b < 256 = k 0 in
+    let m : (b + 256 * le w s) % 256 ≡ b = omega arith in
+    let d : (b + 256 * le w s) / 256 ≡ le w s = omega arith in
+    λ i. m i ∷ (ap (bytesOf w) d ∙ bytesOf-le w s (le-of-suc-le-suc h) (λ j. k (suc j))) i
 
 -- the same at a place
+pub bytesOf-le-at : (w o : ℕ) (s : List ℕ) → o + w ≤ length s → Bytes s →
+    bytesOf w (le w (drop o s)) ≡ take w (drop o s)
+bytesOf-le-at w o s h k = bytesOf-le w (drop o s) (rw (length-drop o s) (omega arith)) (bytes-drop o s k)
+
+-- with what stands behind it
 pub number-kept : (w at : ℕ) (s : List ℕ) → at + w ≤ length s → Bytes s →
     bytesOf w (le w (drop at s)) ++ drop (at + w) s ≡ drop at s
-number-kept w at s h b = ap (λ (t : List ℕ). bytesOf w (le w (drop at s)) ++ t) (sym (drop-drop w at s))
-    ∙ number-front w (drop at s) (rw (length-drop at s) (omega arith)) (bytes-drop at s b)
+number-kept w at s h b =
+    ap (λ (t : List ℕ). t ++ drop (at + w) s) (bytesOf-le-at w at s h b)
+    ∙ ap (λ (t : List ℕ). take w (drop at s) ++ t) (sym (drop-drop w at s))
+    ∙ take-append-drop w (drop at s)
+
+-- a number depends on its own bytes
+pub le-own : (w : ℕ) (x y : List ℕ) → w ≤ length x → le w (x ++ y) ≡ le w x
+le-own zero x y h = refl
+le-own (suc w) [] y h = absurd (not-suc-le-zero h)
+le-own (suc w) (b ∷ x) y h = ap (λ (n : ℕ). b + 256 * n) (le-own w x y (le-of-suc-le-suc h))
+
+pub field-own : (w o : ℕ) (x y : List ℕ) → o + w ≤ length x → le w (drop o (x ++ y)) ≡ le w (drop o x)
+field-own w o x y h =
+    ap (le w) (drop-append-le o x y (omega arith))
+    ∙ le-own w (drop o x) y (rw (length-drop o x) (omega arith))
 
 -- a byte that is written as it stands
 pub byte-kept : (n at : ℕ) (s : List ℕ) → at < length s → n ≡ getD s at 0 → n ∷ drop (suc at) s ≡ drop at s
@@ -68,14 +86,11 @@ zeros-kept (x ∷ s) h =
 
 -- ---- records
 
-pub length-records : {A : Type 0} (w : ℕ) (f : List ℕ → A) (n : ℕ) (s : List ℕ) → length (records w f n s) ≡ n
-length-records w f zero s = refl
-length-records w f (suc n) s = ap suc (length-records w f n (drop w s))
-
 -- `one`: a clean record is kept
 module _ {A : Type 0} (w : ℕ) (f : List ℕ → A) (enc : A → List ℕ) (Clean : List ℕ → Type 0)
     (one : (s : List ℕ) → w ≤ length s → Bytes s → Clean s → enc (f s) ++ drop w s ≡ s) where
-  records-kept : (n : ℕ) (s : List ℕ) → w * n ≤ length s → Bytes s → ((i : ℕ) → i < n → Clean (drop (w * i) s)) →
+  records-kept : (n : ℕ) (s : List ℕ) → w * n ≤ length s → Bytes s →
+      ((i : ℕ) → i < n → Clean (drop (w * i) s)) →
       each (records w f n s) enc ++ drop (w * n) s ≡ s
   records-kept zero s h b c = rw (mul-zero w)
   records-kept (suc n) s h b c =

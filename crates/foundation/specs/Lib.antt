@@ -8,5 +8,7 @@ pub mod Intervals
 pub mod Marks
 pub mod Counting
 pub mod Bytes
+pub mod Records
 pub mod BytesFacts
+pub mod Masks
 pub mod Runs

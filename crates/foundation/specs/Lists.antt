@@ -1,14 +1,15 @@
--- Lists of any element: tests of their members, tests joined by &&, membership, what is kept, and what two lists make
--- together.
+-- Lists of any element: tests of their members, tests joined by &&, membership, what is kept, what is put in
+-- at a place, and what two lists make together.
 use mathlib.Core.Path.{_≡_, refl, sym, ap, _∙_, subst}
 use mathlib.Core.Logic.{_⊎_, inl, inr, Lift, ⊎-elim}
 use Prim.Native.Nat.{ℕ, _*_}
 use native.Mathlib.Omega.{arith}
 use native.Mathlib.Nat.{zero-mul}
 use mathlib.Core.Bool.{Bool, true, false, _&&_, _||_, false≢true}
-use mathlib.Core.List.{List, [], _∷_, _++_, map}
-use lib.ListN.{length, length-append, length-map}
-use Rattle.foundation.specs.Tests.{pick, cases, must-fail, and-true, and-intro, or-true-right}
+use mathlib.Core.List.{List, [], _∷_, _++_, map, append-assoc}
+use lib.ListN.{length, take, drop, take-append-drop, length-append, length-map}
+use Rattle.foundation.specs.Tests.{pick, cases, must-fail, and-true, and-intro, or-true-right, or-assoc}
+use Rattle.foundation.specs.Tests.{or-swap}
 
 -- one of the list passes the test. The rest is asked only where the first fails
 abbrev pub anyb {ℓ} : {A : Type ℓ} → (A → Bool) → List A → Bool
@@ -129,7 +130,8 @@ pub last-mem {ℓ} : {A : Type ℓ} (x : A) (xs : List A) (z : A) → Mem x (xs 
 last-mem x xs z m =
     ⊎-elim (λ n. inl n) (λ n. inr (⊎-elim (λ e. e) (λ o. absurd (o .lower)) n)) (append-mem x xs (z ∷ []) m)
 
-pub mem-map {ℓ κ} : {A : Type ℓ} {B : Type κ} (f : A → B) (xs : List A) (x : A) → Mem x xs → Mem (f x) (map f xs)
+pub mem-map {ℓ κ} : {A : Type ℓ} {B : Type κ} (f : A → B) (xs : List A) (x : A) → Mem x xs →
+    Mem (f x) (map f xs)
 mem-map f [] x m = absurd (m .lower)
 mem-map f (y ∷ xs) x (inl e) = inl (ap f e)
 mem-map f (y ∷ xs) x (inr m) = inr (mem-map f xs x m)
@@ -159,9 +161,15 @@ pub length-each {ℓ κ} : {A : Type ℓ} {B : Type κ} (xs : List A) (f : A →
 length-each [] f n h = sym (zero-mul n)
 length-each (x ∷ xs) f n h = length-append (f x) (each xs f) ∙ rw (h x, length-each xs f n h) (omega arith)
 
+pub each-append {ℓ κ} : {A : Type ℓ} {B : Type κ} (xs ys : List A) (f : A → List B) →
+    each (xs ++ ys) f ≡ each xs f ++ each ys f
+each-append [] ys f = refl
+each-append (x ∷ xs) ys f = rw (each-append xs ys f) (sym (append-assoc (f x) (each xs f) (each ys f)))
+
 -- ---- what is kept
 
-pub keepIf-mem : {A : Type 0} (p : A → Bool) (xs : List A) (x : A) → Mem x xs → p x ≡ true → Mem x (keepIf p xs)
+pub keepIf-mem : {A : Type 0} (p : A → Bool) (xs : List A) (x : A) → Mem x xs → p x ≡ true →
+    Mem x (keepIf p xs)
 keepIf-mem p [] x m e = m
 keepIf-mem p (y ∷ ys) x (inl q) e = rw (rw q at e) (inl q)
 keepIf-mem p (y ∷ ys) x (inr m) e = cases (p y)
@@ -179,11 +187,37 @@ kept p (y ∷ ys) x m = cases (p y)
 pub mem-keepIf : {A : Type 0} (p : A → Bool) (xs : List A) (x : A) → Mem x (keepIf p xs) → p x ≡ true
 mem-keepIf p xs x m = kept p xs x m .1
 
-pub keepIf-append : {A : Type 0} (p : A → Bool) (xs ys : List A) → keepIf p (xs ++ ys) ≡ keepIf p xs ++ keepIf p ys
+pub keepIf-append : {A : Type 0} (p : A → Bool) (xs ys : List A) →
+    keepIf p (xs ++ ys) ≡ keepIf p xs ++ keepIf p ys
 keepIf-append p [] ys = refl
 keepIf-append p (x ∷ xs) ys = cases (p x)
     (λ e. rw (e, keepIf-append p xs ys))
     (λ e. rw (e, keepIf-append p xs ys))
+
+-- ---- elements put in at a place
+
+-- ys with xs in front of those from index k on
+unfoldable pub placed : {A : Type 0} → ℕ → List A → List A → List A
+placed k xs ys = take k ys ++ (xs ++ drop k ys)
+
+-- x put before the element at k, or at the end where k is the length
+abbrev pub insertAt : {A : Type 0} → ℕ → A → List A → List A
+insertAt k x ys = placed k (x ∷ []) ys
+
+pub any-append : {A : Type 0} (p : A → Bool) (xs ys : List A) → anyb p (xs ++ ys) ≡ anyb p xs || anyb p ys
+any-append p [] ys = refl
+any-append p (x ∷ xs) ys =
+    ap (λ (b : Bool). p x || b) (any-append p xs ys) ∙ sym (or-assoc (p x) (anyb p xs) (anyb p ys))
+
+-- wherever x is put, it is one more
+pub any-placed : {A : Type 0} (p : A → Bool) (k : ℕ) (x : A) (ys : List A) →
+    anyb p (insertAt k x ys) ≡ p x || anyb p ys
+unfolding placed
+any-placed {A} p k x ys =
+    any-append p (take k ys) (x ∷ drop k ys)
+    ∙ or-swap (anyb p (take k ys)) (p x) (anyb p (drop k ys))
+    ∙ ap (λ (b : Bool). p x || b) (sym (any-append p (take k ys) (drop k ys))
+    ∙ ap (anyb p) (take-append-drop k ys))
 
 -- ---- two lists together
 
@@ -195,7 +229,8 @@ module _ {A B C : Type 0} (f : A → B → C) where
   pub combine-length : (xs : List A) (ys : List B) → length (combine xs ys) ≡ length xs * length ys
   combine-length xs ys = length-each xs (λ x. map (f x) ys) (length ys) (λ x. length-map ys (f x))
 
-  pub in-combine : (xs : List A) (ys : List B) (x : A) (y : B) → Mem x xs → Mem y ys → Mem (f x y) (combine xs ys)
+  pub in-combine : (xs : List A) (ys : List B) (x : A) (y : B) → Mem x xs → Mem y ys →
+      Mem (f x y) (combine xs ys)
   in-combine xs ys x y a b = mem-each xs (λ x. map (f x) ys) x (f x y) a (mem-map (f x) ys y b)
 
   pub combine-mem : (xs : List A) (ys : List B) (z : C) → Mem z (combine xs ys) →

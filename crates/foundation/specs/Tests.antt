@@ -118,7 +118,8 @@ and-three a b c = (
   (λ w. and-intro (a && b) c (and-intro a b (w .0) (w .1)) (w .2)),
 )
 
-pub and-four : (a b c d : Bool) → (a && b && c && d ≡ true) ↔ ((a ≡ true) × (b ≡ true) × (c ≡ true) × (d ≡ true))
+pub and-four : (a b c d : Bool) → (a && b && c && d ≡ true) ↔ ((a ≡ true) × (b ≡ true) × (c ≡ true)
+    × (d ≡ true))
 and-four a b c d = (
   (λ e. let w = and-three (a && b) c d .0 e in let v = and-true a b (w .0) in (v .0, v .1, w .1, w .2)),
   (λ w. and-three (a && b) c d .1 (and-intro a b (w .0) (w .1), w .2, w .3)),
@@ -170,6 +171,12 @@ pub or-assoc : (a b c : Bool) → a || b || c ≡ a || (b || c)
 or-assoc true b c = refl
 or-assoc false b c = refl
 
+-- one test before another
+pub or-swap : (a b c : Bool) → a || (b || c) ≡ b || (a || c)
+or-swap true true c = refl
+or-swap true false c = refl
+or-swap false b c = refl
+
 pub or-mono : (a b c : Bool) → (b ≡ true → c ≡ true) → a || b ≡ true → a || c ≡ true
 or-mono a b c h e = or-cases a b e (or-intro-left a c) (λ p. or-true-right a c (h p))
 
@@ -190,3 +197,8 @@ beq-eq false false e = refl
 pub beq-self : (a : Bool) → Bool·beq a a ≡ true
 beq-self true = refl
 beq-self false = refl
+
+pub beq-yes : (a b : Bool) → a ≡ true → b ≡ Bool·beq a b
+beq-yes true true e = refl
+beq-yes true false e = refl
+beq-yes false b e = absurd (false≢true e)

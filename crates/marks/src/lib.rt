@@ -1,5 +1,5 @@
-// The next mark: the least instant above a given one at which something can change, because an authorization or a
-// rule starts there or ended right before.
+// The next mark: the least instant above a given one at which something can change, because an authorization
+// or a rule starts there or ended right before.
 ghost use mathlib.Core.Path.{_≡_};
 ghost use mathlib.Core.List.{_++_};
 ghost use Prim.Native.Nat.{_+_, _*_, _≤_};
@@ -9,6 +9,8 @@ ghost use Rattle.foundation.specs.Marks.{next};
 ghost use Rattle.model.specs.Encoding.{authorizationOf, ruleOf};
 ghost use Rattle.model.specs.Means.{marksOf, ruleMarks};
 ghost use Rattle.marks.specs.Marks.{sooner, marksIn};
+use model::AUTHORIZATION_BYTES;
+use model::RULE_BYTES;
 
 // m, if it is above t and below r; else r.
 fn nearer(t: u32, m: u64, r: u64) -> u64
@@ -20,8 +22,9 @@ fn nearer(t: u32, m: u64, r: u64) -> u64
     r
 }
 
-// The least mark above t of n records, or d where none is below d. A record is w bytes wide, with its start at o and
-// its end right behind that. A mark can be 2^32, right after the last instant, so marks are 64-bit numbers.
+// The least mark above t of n records, or d where none is below d. A record is w bytes wide, with its start
+// at o and its end right behind that. A mark can be 2^32, right after the last instant, so marks are 64-bit
+// numbers.
 pub fn next_in(s: &[u8], n: usize, w: usize, o: usize, t: u32, d: u64) -> u64
     requires { ⌜ (n * w ≤ length (now s)) × (o + 8 ≤ w) ⌝ }
     ensures { λ r. ⌜ r ≡ next t (marksIn w o n (now (s .entry))) d ⌝ }
@@ -48,6 +51,6 @@ pub fn next_mark(lines: &[u8], n: usize, rules: &[u8], k: usize, t: u32) -> u64
         4294967296
         ⌝ }
 {
-    let d = next_in(rules, k, 28, 20, t, 4294967296);
-    next_in(lines, n, 24, 16, t, d)
+    let d = next_in(rules, k, RULE_BYTES, 20, t, 4294967296);
+    next_in(lines, n, AUTHORIZATION_BYTES, 16, t, d)
 }

@@ -1,12 +1,12 @@
 -- The base as bytes (01, "The base as bytes"). Theorem 6: EncodingFacts.
-use Prim.Native.Nat.{ℕ, _+_, _-_, _*_, _/_, _%_, _^_}
-use mathlib.Core.Bool.{Bool, true, false}
+use Prim.Native.Nat.{ℕ, _+_, _-_, _*_}
+use mathlib.Core.Bool.{Bool}
 use mathlib.Core.List.{List, [], _∷_, _++_}
-use lib.Dec.{eqb}
 use lib.ListN.{length, replicate, drop, getD}
 use Rattle.foundation.specs.Tests.{pick}
 use Rattle.foundation.specs.Lists.{each}
 use Rattle.foundation.specs.Bytes.{le, bytesOf, records}
+pub use Rattle.foundation.specs.Masks.{asBit, bit}
 use Rattle.foundation.specs.Intervals.{interval}
 use Rattle.model.specs.declared.Privilege.{Privilege}
 use Rattle.model.specs.declared.Authorization.{Authorization}
@@ -27,13 +27,6 @@ abbrev pub mark : List ℕ
 mark = 77 ∷ 82 ∷ 66 ∷ 49 ∷ []
 
 -- ---- flags
-
-abbrev pub asBit : Bool → ℕ
-asBit true = 1
-asBit false = 0
-
-abbrev pub bit : ℕ → ℕ → Bool
-bit k flags = eqb (flags / 2 ^ k % 2) 1
 
 -- 01: "Flags: bit 0 set is a denial, bit 1 set is transferable, the other bits are clear"
 abbrev pub headFlags : Bool → Bool → ℕ

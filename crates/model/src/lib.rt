@@ -2,6 +2,46 @@
 
 use foundation::Interval;
 
+// The bytes of a base, of an object with a subject, of an authorization and of a rule in it.
+pub const BASE_BYTES: usize = 27936;
+
+pub const PRIVILEGE_BYTES: usize = 4;
+
+pub const AUTHORIZATION_BYTES: usize = 24;
+
+pub const RULE_BYTES: usize = 28;
+
+// The bytes of 1,024 authorizations, the most that a base has.
+pub const BODY_BYTES: usize = 24576;
+
+// The bytes of the longest reply.
+pub const REPLY_BYTES: usize = 24001;
+
+// The kinds of requests.
+pub const NEW: u32 = 1;
+
+pub const GRANT: u32 = 2;
+
+pub const DENY: u32 = 3;
+
+pub const REVOKE: u32 = 4;
+
+pub const REVOKEP: u32 = 5;
+
+pub const REVOKEN: u32 = 6;
+
+pub const ADDRULE: u32 = 7;
+
+pub const DROPRULE: u32 = 8;
+
+pub const GRANTADM: u32 = 9;
+
+pub const REVOKEADM: u32 = 10;
+
+pub const GRANTREF: u32 = 11;
+
+pub const REVOKEREF: u32 = 12;
+
 // An object with a subject: the object's owner, one of its administrators, or one of its referrers.
 pub struct Privilege {
     pub object: u16,

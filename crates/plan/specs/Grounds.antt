@@ -17,9 +17,8 @@ use Rattle.model.specs.Encoding.{ruleOf}
 use Rattle.model.specs.Stratification.{isStar, stratified}
 use Rattle.model.specs.Soundness.{chained, orStar, sideIn, intervalIn, authorizationIn, ruleIn}
 use Rattle.laws.specs.Chained.{Pairwise, Passing, chained-all}
-use Rattle.support.specs.Cover.{authorizationsIn}
-use Rattle.rules.specs.Strata.{rulesIn, ruleAt}
-use Rattle.rules.proofs.Records.{length-records, record-nth, record-mem, mem-record}
+use Rattle.encoding.specs.Format.{authorizationsIn, rulesIn, ruleAt}
+use Rattle.foundation.specs.Records.{length-records, record-nth, record-mem, mem-record}
 use Rattle.questions.specs.Drawn.{Numbering, Shaped}
 use Rattle.plan.specs.Scene.{numberIn, Grounds}
 

@@ -17,10 +17,8 @@ use Rattle.model.specs.Base.{Base}
 use Rattle.model.specs.Support.{live}
 use Rattle.model.specs.Rules.{fits, standsFor, derivesFor, asked, may}
 use Rattle.model.specs.SideFacts.{stands-is, derives-is}
-use Rattle.support.specs.Cover.{authorizationsIn}
-use Rattle.rules.specs.Masks.{maskOf}
-use Rattle.rules.specs.Strata.{rulesIn, ruleAt}
-use Rattle.rules.proofs.Masks.{mask-inside}
+use Rattle.encoding.specs.Format.{authorizationsIn, rulesIn, ruleAt}
+use Rattle.foundation.specs.Masks.{maskOf, mask-inside}
 use Rattle.questions.specs.Table.{truth, heldIn}
 use Rattle.questions.specs.FromMarkToMark.{may-answer}
 use Rattle.questions.specs.Drawn.{counted, placeOf, accessOf}

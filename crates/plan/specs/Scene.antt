@@ -18,9 +18,9 @@ use Rattle.model.specs.Base.{Base}
 use Rattle.model.specs.Encoding.{authorizationOf, bit}
 use Rattle.model.specs.Stratification.{fitsOption, negates, stratified, stratum}
 use Rattle.model.specs.Rules.{fitsGrantor}
-use Rattle.support.specs.Cover.{authorizationsIn}
-use Rattle.rules.specs.Masks.{maskOf}
-use Rattle.rules.specs.Strata.{rulesIn, ruleAt, feedersOf, Holds}
+use Rattle.encoding.specs.Format.{authorizationsIn, rulesIn, ruleAt}
+use Rattle.foundation.specs.Masks.{maskOf}
+use Rattle.rules.specs.Strata.{feedersOf, Holds}
 use Rattle.sweep.specs.Sweep.{subjects, modes, places, looksBy}
 use Rattle.sweep.specs.Progress.{Has}
 use Rattle.questions.specs.Table.{Bits, Before, Right}

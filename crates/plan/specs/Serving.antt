@@ -9,8 +9,7 @@ use Rattle.foundation.specs.Lists.{Mem}
 use Rattle.foundation.specs.Marks.{next, next-clear}
 use Rattle.model.specs.declared.Rule.{Rule}
 use Rattle.model.specs.Means.{marks}
-use Rattle.support.specs.Cover.{authorizationsIn}
-use Rattle.rules.specs.Strata.{rulesIn}
+use Rattle.encoding.specs.Format.{authorizationsIn, rulesIn}
 use Rattle.questions.specs.Operators.{lasting}
 use Rattle.questions.specs.FromMarkToMark.{before-first, before-next}
 use Rattle.questions.specs.Drawn.{counted}

@@ -13,10 +13,10 @@ use Rattle.foundation.specs.Intervals.{inInterval}
 use Rattle.model.specs.declared.Rule.{Rule}
 use Rattle.model.specs.Encoding.{ruleOf, bit}
 use Rattle.model.specs.Stratification.{negates, stratum}
-use Rattle.support.specs.Cover.{authorizationsIn}
-use Rattle.rules.specs.Masks.{maskOf}
-use Rattle.rules.specs.Strata.{rulesIn, ruleAt, feedersOf}
-use Rattle.rules.proofs.Records.{length-records}
+use Rattle.encoding.specs.Format.{authorizationsIn, rulesIn, ruleAt}
+use Rattle.foundation.specs.Masks.{maskOf}
+use Rattle.rules.specs.Strata.{feedersOf}
+use Rattle.foundation.specs.Records.{length-records}
 use Rattle.sweep.specs.declared.Stage.{Stage}
 use Rattle.sweep.specs.Sweep.{modes, places, Plan, plan, aim}
 use Rattle.sweep.specs.Progress.{wordBound, Has, Ready, Smallest}

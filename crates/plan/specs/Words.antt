@@ -25,11 +25,10 @@ use Rattle.model.specs.Encoding.{authorizationOf, ruleOf, asBit, bit}
 use Rattle.model.specs.Support.{live}
 use Rattle.model.specs.Stratification.{fitsOption}
 use Rattle.model.specs.Rules.{Pattern, fits, fitsGrantor}
-use Rattle.support.specs.Cover.{authorizationsIn}
-use Rattle.rules.specs.Masks.{maskOf}
-use Rattle.rules.specs.Strata.{rulesIn, ruleAt, Holds}
-use Rattle.rules.proofs.Records.{length-records, place-zero, place-step, record-mem, mem-record}
-use Rattle.rules.proofs.Masks.{bit-le, bit-true, half, mask-lt, mask-at}
+use Rattle.encoding.specs.Format.{authorizationsIn, rulesIn, ruleAt}
+use Rattle.foundation.specs.Masks.{maskOf, bit-le, bit-true, half, mask-lt, mask-at}
+use Rattle.rules.specs.Strata.{Holds}
+use Rattle.foundation.specs.Records.{length-records, place-zero, place-step, record-mem, mem-record}
 use Rattle.sweep.proofs.Laws.{or-digit, digit-le}
 use Rattle.sweep.specs.Sweep.{subjects, modes}
 use Rattle.questions.specs.Drawn.{indexOf, among, Subjects, soughtAt, Direct}

@@ -5,7 +5,7 @@ ghost use Prim.Native.Nat.{_*_, _≤_, _<_};
 ghost use lib.ListN.{length, take};
 ghost use Rattle.foundation.specs.Lists.{Mem};
 ghost use Rattle.model.specs.declared.Rule.{Rule};
-ghost use Rattle.rules.specs.Strata.{rulesIn};
+ghost use Rattle.encoding.specs.Format.{rulesIn};
 ghost use Rattle.questions.specs.Operators.{lasting};
 ghost use Rattle.plan.specs.Scene.{Prepared, At};
 use crate::Outline;

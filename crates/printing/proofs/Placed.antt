@@ -6,7 +6,7 @@ use native.Mathlib.Omega.{arith}
 use lib.ListN.{length, take, drop, take-append-drop, length-append}
 use lib.Seq.{take-at}
 use Rattle.fields.specs.Field.{splice}
-use Rattle.fields.proofs.Laws.{length-splice, splice-join}
+use Rattle.fields.proofs.ByteLaws.{length-splice, splice-join}
 use Rattle.model.specs.declared.Reply.{Reply}
 use Rattle.model.specs.Text.{printReply}
 use Rattle.model.specs.Session.{runsOf}

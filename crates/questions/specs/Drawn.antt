@@ -17,7 +17,7 @@ use Rattle.model.specs.Encoding.{bit}
 use Rattle.model.specs.Support.{live}
 use Rattle.model.specs.Stratification.{isStar, negates, stratum}
 use Rattle.model.specs.Rules.{Pattern, fits}
-use Rattle.rules.specs.Masks.{maskOf}
+use Rattle.foundation.specs.Masks.{maskOf}
 use Rattle.rules.specs.Strata.{feedersOf}
 use Rattle.sweep.specs.Sweep.{subjects, modes, Plan}
 use Rattle.questions.specs.Operators.{lasting}

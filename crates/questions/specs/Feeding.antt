@@ -20,9 +20,8 @@ use Rattle.model.specs.Encoding.{bit}
 use Rattle.model.specs.Stratification.{feeds}
 use Rattle.model.specs.Rules.{standsFor, derivesFor, rightOf}
 use Rattle.model.specs.SideFacts.{fit-feeds, feeds-fit}
-use Rattle.rules.specs.Masks.{maskOf}
+use Rattle.foundation.specs.Masks.{maskOf, mask-nth, mask-inside}
 use Rattle.rules.specs.Strata.{feedersOf}
-use Rattle.rules.proofs.Masks.{mask-nth, mask-inside}
 use Rattle.sweep.proofs.Laws.{and-digit, bit-none, bit-both}
 use Rattle.questions.specs.Drawn.{Numbering}
 

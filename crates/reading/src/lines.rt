@@ -20,9 +20,17 @@ use crate::places::option_term_at;
 use crate::places::side_at;
 use crate::places::term_at;
 use foundation::Interval;
+use model::ADDRULE;
 use model::Access;
+use model::DENY;
+use model::DROPRULE;
+use model::GRANT;
+use model::NEW;
 use model::OptionTerm;
 use model::Question;
+use model::REVOKE;
+use model::REVOKEN;
+use model::REVOKEP;
 use model::Request;
 use model::RuleTerms;
 use model::SideTerms;
@@ -104,7 +112,8 @@ fn plain(kind: u32, time: u32, who: u32, label: u32, object: u32, subject: u32) 
 // NEW: an object.
 fn object_line(s: &[u8], at: usize, kind: u32, time: u32, who: u32) -> Parsed
     requires { ⌜ length (now s) ≤ 96 ⌝ }
-    ensures { λ r. ⌜ lineOf r ≡ orUnreadable (whole (objectLine kind time who (fieldsLeft (now (s .entry)) at))) ⌝ }
+    ensures { λ r. ⌜ lineOf r ≡ orUnreadable
+        (whole (objectLine kind time who (fieldsLeft (now (s .entry)) at))) ⌝ }
 {
     let object = number_at(s, at);
     let q = plain(kind, time, who, 0, object.value, 0);
@@ -114,7 +123,8 @@ fn object_line(s: &[u8], at: usize, kind: u32, time: u32, who: u32) -> Parsed
 // REVOKE, DROPRULE: a label.
 fn label_line(s: &[u8], at: usize, kind: u32, time: u32, who: u32) -> Parsed
     requires { ⌜ length (now s) ≤ 96 ⌝ }
-    ensures { λ r. ⌜ lineOf r ≡ orUnreadable (whole (labelLine kind time who (fieldsLeft (now (s .entry)) at))) ⌝ }
+    ensures { λ r. ⌜ lineOf r ≡ orUnreadable
+        (whole (labelLine kind time who (fieldsLeft (now (s .entry)) at))) ⌝ }
 {
     let label = number_at(s, at);
     let q = plain(kind, time, who, label.value, 0, 0);
@@ -210,7 +220,7 @@ fn rule_line(s: &[u8], at: usize, time: u32, who: u32) -> Parsed
     let q = Request {
         now: time,
         requester: who,
-        kind: 7,
+        kind: ADDRULE,
         label: 0,
         mode: 0,
         object: 0,
@@ -274,19 +284,19 @@ fn order_line(s: &[u8], at: usize, kind: u32, time: u32, who: u32) -> Parsed
     ensures { λ r. ⌜ lineOf r
         ≡ orUnreadable (whole (readerFor kind time who (fieldsLeft (now (s .entry)) at))) ⌝ }
 {
-    if kind == 1 {
+    if kind == NEW {
         return object_line(s, at, kind, time, who);
     }
-    if kind == 2 {
+    if kind == GRANT {
         return grant_line(s, at, time, who);
     }
-    if kind == 7 {
+    if kind == ADDRULE {
         return rule_line(s, at, time, who);
     }
-    if (kind == 4) | (kind == 8) {
+    if (kind == REVOKE) | (kind == DROPRULE) {
         return label_line(s, at, kind, time, who);
     }
-    if (kind == 3) | (kind == 5) | (kind == 6) {
+    if (kind == DENY) | (kind == REVOKEP) | (kind == REVOKEN) {
         return interval_line(s, at, kind, time, who);
     }
     privilege_line(s, at, kind, time, who)

@@ -6,11 +6,24 @@ ghost use lib.ListN.{length};
 ghost use Rattle.foundation.specs.Tests.{pick};
 ghost use Rattle.foundation.specs.Lists.{allb};
 ghost use Rattle.foundation.specs.Bytes.{eqList};
-ghost use Rattle.model.specs.Text.{isDigit, valueFrom, leadingZero, number, instant, term, option, optionTerm};
+ghost use Rattle.model.specs.Text.{isDigit, valueFrom, leadingZero, number, instant, term, option};
+ghost use Rattle.model.specs.Text.{optionTerm};
 ghost use Rattle.model.specs.Text.{sign, operator, oneOf, grammar};
 ghost use Rattle.reading.specs.Fields.{told};
 ghost use Rattle.reading.specs.Lines.{readerFor};
+use model::ADDRULE;
+use model::DENY;
+use model::DROPRULE;
+use model::GRANT;
+use model::GRANTADM;
+use model::GRANTREF;
+use model::NEW;
 use model::OptionTerm;
+use model::REVOKE;
+use model::REVOKEADM;
+use model::REVOKEN;
+use model::REVOKEP;
+use model::REVOKEREF;
 use model::Term;
 
 // A number, if one is known.
@@ -195,18 +208,18 @@ pub fn operator_of(s: &[u8]) -> KnownNumber
 pub fn kind_of(s: &[u8]) -> KnownNumber
     ensures { λ r. ⌜ oneOf grammar (now (s .entry)) ≡ told (r .known) (readerFor (r .value)) ⌝ }
 {
-    let k = coded(s, b"REVOKEREF", 12, 0);
-    let k = coded(s, b"GRANTREF", 11, k);
-    let k = coded(s, b"REVOKEADM", 10, k);
-    let k = coded(s, b"GRANTADM", 9, k);
-    let k = coded(s, b"DROPRULE", 8, k);
-    let k = coded(s, b"ADDRULE", 7, k);
-    let k = coded(s, b"REVOKEN", 6, k);
-    let k = coded(s, b"REVOKEP", 5, k);
-    let k = coded(s, b"REVOKE", 4, k);
-    let k = coded(s, b"DENY", 3, k);
-    let k = coded(s, b"GRANT", 2, k);
-    let k = coded(s, b"NEW", 1, k);
+    let k = coded(s, b"REVOKEREF", REVOKEREF, 0);
+    let k = coded(s, b"GRANTREF", GRANTREF, k);
+    let k = coded(s, b"REVOKEADM", REVOKEADM, k);
+    let k = coded(s, b"GRANTADM", GRANTADM, k);
+    let k = coded(s, b"DROPRULE", DROPRULE, k);
+    let k = coded(s, b"ADDRULE", ADDRULE, k);
+    let k = coded(s, b"REVOKEN", REVOKEN, k);
+    let k = coded(s, b"REVOKEP", REVOKEP, k);
+    let k = coded(s, b"REVOKE", REVOKE, k);
+    let k = coded(s, b"DENY", DENY, k);
+    let k = coded(s, b"GRANT", GRANT, k);
+    let k = coded(s, b"NEW", NEW, k);
     KnownNumber {
         known: k != 0,
         value: k,

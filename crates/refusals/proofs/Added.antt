@@ -3,42 +3,17 @@ use mathlib.Core.Path.{_≡_, ap, ap₂, _∙_}
 use mathlib.Core.List.{List, [], _∷_, _++_, append-assoc}
 use Prim.Native.Nat.{ℕ, _+_, _*_, _≤_}
 use native.Mathlib.Omega.{arith}
-use lib.ListN.{length, take, drop, List·getD-append}
+use lib.ListN.{length, take, drop}
 use lib.Seq.{drop-at, length-take-le}
-use Rattle.foundation.specs.Intervals.{interval}
+use Rattle.foundation.specs.Records.{records-split, records-copy}
 use Rattle.fields.specs.Field.{splice}
-use Rattle.fields.proofs.Laws.{splice-join}
+use Rattle.fields.proofs.ByteLaws.{splice-join}
 use Rattle.model.specs.declared.Rule.{Rule}
-use Rattle.model.specs.Requests.{operatorOf}
-use Rattle.model.specs.Encoding.{bit, optionOf, ruleOf, ruleBytes}
+use Rattle.model.specs.Encoding.{ruleOf, ruleBytes}
 use Rattle.model.specs.FitsFacts.{RuleFits}
 use Rattle.model.specs.EncodingFacts.{rule-back}
-use Rattle.support.proofs.Parts.{records-split, records-copy}
-use Rattle.support.proofs.Insertion.{le-own, field-own}
-use Rattle.rules.specs.Strata.{rulesIn}
-
--- a rule depends on its own bytes
-rule-own : (x y : List ℕ) → 28 ≤ length x → ruleOf (x ++ y) ≡ ruleOf x
-rule-own x y h i = record {
-  label = le-own 2 x y (omega arith) i;
-  author = field-own 2 2 x y (omega arith) i;
-  left = record {
-    subject = field-own 2 4 x y (omega arith) i;
-    mode = List·getD-append x y 0 14 (omega arith) i;
-    object = field-own 2 6 x y (omega arith) i;
-    negative = bit 0 (List·getD-append x y 0 17 (omega arith) i);
-  };
-  operator = operatorOf (List·getD-append x y 0 16 (omega arith) i);
-  right = record {
-    subject = field-own 2 8 x y (omega arith) i;
-    mode = List·getD-append x y 0 15 (omega arith) i;
-    object = field-own 2 10 x y (omega arith) i;
-    negative = bit 1 (List·getD-append x y 0 17 (omega arith) i);
-  };
-  grantor = field-own 2 12 x y (omega arith) i;
-  option = optionOf (List·getD-append x y 0 17 (omega arith) i);
-  interval = interval (field-own 4 20 x y (omega arith) i) (field-own 4 24 x y (omega arith) i);
-}
+use Rattle.encoding.proofs.OwnBytes.{rule-own}
+use Rattle.encoding.specs.Format.{rulesIn}
 
 -- the buffer z, with n rules of a body at its front, and one more rule behind them
 pub added-rules : (n : ℕ) (body z t u : List ℕ) (r : Rule) → RuleFits r → n * 28 ≤ length body →
@@ -49,7 +24,8 @@ added-rules n body z t u r f h k e g =
     records-split 28 ruleOf n 1 u
     ∙ ap₂ (λ (l m : List Rule). l ++ m)
     (ap (rulesIn n) all ∙ records-copy 28 ruleOf rule-own n body (ruleBytes r ++ rest) h)
-    (ap (λ (l : List ℕ). ruleOf l ∷ []) (ap (drop (n * 28)) all ∙ drop-at front (ruleBytes r ++ rest) (n * 28) long)
+    (ap (λ (l : List ℕ). ruleOf l ∷ []) (ap (drop (n * 28)) all
+    ∙ drop-at front (ruleBytes r ++ rest) (n * 28) long)
     ∙ ap (λ (x : Rule). x ∷ []) (rule-back r rest f))
   where
     front : List ℕ

@@ -14,8 +14,9 @@ use Rattle.model.specs.Requests.{NEW, GRANT, DENY, REVOKE, REVOKEP, REVOKEN, AD
 use Rattle.model.specs.Requests.{REVOKEADM, GRANTREF, REVOKEREF, is, newRule, rulesAfter}
 use Rattle.model.specs.Stratification.{stratified}
 use Rattle.model.specs.StratificationFacts.{label-free}
-use Rattle.model.specs.Step.{namesObject, noObject, noLabel, notPermitted, alreadyThere, notHeld, notStratified}
-use Rattle.refusals.specs.Numbers.{hasLabel, ofOther, labelled, ofOtherAuthor}
+use Rattle.model.specs.Step.{namesObject, noObject, noLabel, notPermitted, alreadyThere, notHeld}
+use Rattle.model.specs.Step.{notStratified}
+use Rattle.lookup.specs.Numbers.{hasLabel, ofOther, labelled, ofOtherAuthor}
 
 abbrev oneOf : ℕ → List ℕ → Bool
 oneOf k kinds = anyb (λ j. eqb k j) kinds
@@ -93,11 +94,13 @@ module _ (b : Base) (q : Request) where
       (revoke && otherGrantor) || (drop && otherAuthor) || (privilege && notOwner) || (rule && noPower)
 
   abbrev permitRowAt : ℕ → Bool
-  permitRowAt k = permitRow (oneOf k (REVOKE ∷ [])) (oneOf k (DROPRULE ∷ [])) (oneOf k privilegeKinds) (oneOf k (ADDRULE ∷ []))
+  permitRowAt k = permitRow (oneOf k (REVOKE ∷ [])) (oneOf k (DROPRULE ∷ [])) (oneOf k privilegeKinds)
+      (oneOf k (ADDRULE ∷ []))
 
   pub permit-revoke : q .kind ≡ 4 → otherGrantor ≡ notPermitted b q
   permit-revoke e =
-      sym (ap permitRowAt e ∙ or-false (otherGrantor || false || false) ∙ or-false (otherGrantor || false) ∙ or-false otherGrantor)
+      sym (ap permitRowAt e ∙ or-false (otherGrantor || false || false) ∙ or-false (otherGrantor || false)
+      ∙ or-false otherGrantor)
 
   pub permit-drop : q .kind ≡ 8 → otherAuthor ≡ notPermitted b q
   permit-drop e = sym (ap permitRowAt e ∙ or-false (otherAuthor || false) ∙ or-false otherAuthor)
@@ -123,13 +126,15 @@ module _ (b : Base) (q : Request) where
 
   abbrev thereRow : Bool → Bool → Bool → Bool
   thereRow new administrator referrer =
-      (new && exists b (q .object)) || (administrator && controls b (q .object) (q .subject)) || (referrer && referrerThere)
+      (new && exists b (q .object)) || (administrator && controls b (q .object) (q .subject))
+      || (referrer && referrerThere)
 
   abbrev thereRowAt : ℕ → Bool
   thereRowAt k = thereRow (oneOf k (NEW ∷ [])) (oneOf k (GRANTADM ∷ [])) (oneOf k (GRANTREF ∷ []))
 
   pub there-new : q .kind ≡ 1 → exists b (q .object) ≡ alreadyThere b q
-  there-new e = sym (ap thereRowAt e ∙ or-false (exists b (q .object) || false) ∙ or-false (exists b (q .object)))
+  there-new e = sym (ap thereRowAt e ∙ or-false (exists b (q .object) || false)
+      ∙ or-false (exists b (q .object)))
 
   pub there-administrator : q .kind ≡ 9 → controls b (q .object) (q .subject) ≡ alreadyThere b q
   there-administrator e = sym (ap thereRowAt e ∙ or-false (controls b (q .object) (q .subject)))
@@ -138,7 +143,8 @@ module _ (b : Base) (q : Request) where
   there-referrer e = sym (ap thereRowAt e)
 
   pub there-none : (q .kind ≡ 1 → ⊥) → (q .kind ≡ 9 → ⊥) → (q .kind ≡ 11 → ⊥) → false ≡ alreadyThere b q
-  there-none f g h = sym (λ t. thereRow (no-kind (q .kind) 1 f t) (no-kind (q .kind) 9 g t) (no-kind (q .kind) 11 h t))
+  there-none f g h = sym (λ t. thereRow (no-kind (q .kind) 1 f t) (no-kind (q .kind) 9 g t)
+      (no-kind (q .kind) 11 h t))
 
   -- ---- row 11
 

@@ -5,22 +5,25 @@ ghost use Rattle.model.specs.Encoding.{decode};
 ghost use Rattle.model.specs.Soundness.{soundBytes};
 ghost use Rattle.model.specs.Step.{outOfRange, notStratified};
 use encoding::rule_of;
+use model::ADDRULE;
+use model::RULE_BYTES;
 use model::Request;
 
-// Row 12: the base's rules with the new one behind them have a forbidden circle. They are tested in a copy, where the
-// new rule has the label 1: the next one may be too large for its bytes, and labels do not matter for circles.
+// Row 12: the base's rules with the new one behind them have a forbidden circle. They are tested in a copy,
+// where the new rule has the label 1: the next one may be too large for its bytes, and labels do not matter
+// for circles.
 pub fn not_stratified(s: &[u8], q: Request) -> bool
     requires { ⌜ (soundBytes (now s) ≡ true) × (outOfRange q ≡ false) ⌝ }
     ensures { λ r. ⌜ r ≡ notStratified (decode (now (s .entry))) q ⌝ }
 {
-    if q.kind != 7 {
+    if q.kind != ADDRULE {
         return false;
     }
     let c = encoding::counts_of(s);
     let at = encoding::rules_at(c);
     let n = c.rules as usize;
     let mut all = [0u8; 1820];
-    fields::copy(&mut all, 0, &s[at..], n * 28);
-    encoding::put_rule(&mut all, n * 28, rule_of(q, 1));
+    fields::copy(&mut all, 0, &s[at..], n * RULE_BYTES);
+    encoding::put_rule(&mut all, n * RULE_BYTES, rule_of(q, 1));
     !rules::is_stratified(&all, n + 1)
 }

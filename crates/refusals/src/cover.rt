@@ -5,14 +5,14 @@ ghost use Rattle.model.specs.Encoding.{decode};
 ghost use Rattle.model.specs.Soundness.{soundBytes};
 ghost use Rattle.model.specs.Step.{outOfRange};
 ghost use Rattle.refusals.specs.Asked.{UncoveredIs};
-use crate::kinds::is_grant;
-use crate::lookups::controls;
+use lookup::controls;
+use lookup::is_grant;
 use model::Request;
 use support::Gap;
 use support::Want;
 
-// Row 9: the earliest instant of a new grant or denial that no authorization covers which may support it, unless the
-// requester owns or administers the object.
+// Row 9: the earliest instant of a new grant or denial that no authorization covers which may support it,
+// unless the requester owns or administers the object.
 pub fn uncovered(s: &[u8], q: Request) -> Gap
     requires { ⌜ (soundBytes (now s) ≡ true) × (outOfRange q ≡ false) ⌝ }
     ensures { λ r. ⌜ UncoveredIs (decode (now (s .entry))) q r ⌝ }

@@ -1,23 +1,15 @@
-// The table of refusals: rows 3 to 12, asked of the bytes of a sound base and a request. Row 13 is asked of what the
-// request would leave.
-mod bodies;
+// The table of refusals: rows 3 to 12, asked of the bytes of a sound base and a request. Row 13 is asked of
+// what the request would leave.
 mod circles;
 mod cover;
-mod kinds;
-mod lookups;
 mod ranges;
 mod rows;
 mod table;
 
 pub use circles::not_stratified;
 pub use cover::uncovered;
-pub use kinds::is_labelling;
-pub use lookups::exists;
 pub use ranges::bad_interval;
-pub use ranges::mode_in;
-pub use ranges::object_in;
 pub use ranges::out_of_range;
-pub use ranges::subject_in;
 pub use rows::already_there;
 pub use rows::behind_clock;
 pub use rows::no_label;

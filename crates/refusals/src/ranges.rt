@@ -1,56 +1,26 @@
 // Row 3 of the table of refusals: fields outside their ranges. Row 5: intervals.
 ghost use mathlib.Core.Path.{_≡_};
-ghost use Rattle.model.specs.Ranges.{isSubject, isObject, isMode, isLabel, isInstant};
+ghost use Rattle.model.specs.Ranges.{isSubject, isMode};
 ghost use Rattle.model.specs.Step.{termIn, starsAgree, sideTermsIn, ruleTermsIn, outOfRange, badInterval};
-use crate::kinds::is_kind;
-use crate::kinds::is_labelling;
-use crate::kinds::names_interval;
-use crate::kinds::names_label;
-use crate::kinds::names_mode;
-use crate::kinds::names_object;
-use crate::kinds::names_subject;
-use crate::kinds::unknown_kind;
+use lookup::instant_in;
+use lookup::is_kind;
+use lookup::is_labelling;
+use lookup::label_in;
+use lookup::mode_in;
+use lookup::names_interval;
+use lookup::names_label;
+use lookup::names_mode;
+use lookup::names_object;
+use lookup::names_subject;
+use lookup::object_in;
+use lookup::option_fits;
+use lookup::subject_in;
+use lookup::unknown_kind;
+use model::ADDRULE;
 use model::Request;
 use model::RuleTerms;
 use model::SideTerms;
 use model::Term;
-use soundness::option_fits;
-
-// Whether a number is a subject's, 1 to 1,023.
-pub fn subject_in(n: u32) -> bool
-    ensures { λ r. ⌜ r ≡ isSubject n ⌝ }
-{
-    (1 <= n) & (n <= 1023)
-}
-
-// Whether a number is an object's, 1 to 128.
-pub fn object_in(n: u32) -> bool
-    ensures { λ r. ⌜ r ≡ isObject n ⌝ }
-{
-    (1 <= n) & (n <= 128)
-}
-
-// Whether a number is a mode, 1 to 8.
-pub fn mode_in(n: u32) -> bool
-    ensures { λ r. ⌜ r ≡ isMode n ⌝ }
-{
-    (1 <= n) & (n <= 8)
-}
-
-// Whether a number is a label, 1 to 65,535.
-fn label_in(n: u32) -> bool
-    ensures { λ r. ⌜ r ≡ isLabel n ⌝ }
-{
-    (1 <= n) & (n <= 65535)
-}
-
-// Whether a number is an instant. Each number of 32 bits is one: the test is there for the definition's sake and costs
-// nothing.
-fn instant_in(n: u32) -> bool
-    ensures { λ r. ⌜ r ≡ isInstant n ⌝ }
-{
-    n <= 4294967295
-}
 
 // A subject, or the star.
 fn subject_term_in(t: Term) -> bool
@@ -118,8 +88,8 @@ fn rule_terms_in(u: RuleTerms) -> bool
         & option_fits(right.negative, option)
 }
 
-// Row 3: the kind is unknown, or a field that it names is outside its range, or a star or option of a rule is out of
-// place.
+// Row 3: the kind is unknown, or a field that it names is outside its range, or a star or option of a rule is
+// out of place.
 pub fn out_of_range(q: Request) -> bool
     ensures { λ r. ⌜ r ≡ outOfRange q ⌝ }
 {
@@ -132,7 +102,7 @@ pub fn out_of_range(q: Request) -> bool
         | (names_mode(q) & !mode_in(q.mode))
         | (names_interval(q) & !(instant_in(i.start) & instant_in(i.end)))
         | (names_label(q) & !label_in(q.label))
-        | (is_kind(q, 7) & !rule_terms_in(q.rule))
+        | (is_kind(q, ADDRULE) & !rule_terms_in(q.rule))
 }
 
 // Row 5: the interval ends before it starts, or what would be new starts before now.

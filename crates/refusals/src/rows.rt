@@ -1,23 +1,31 @@
-// Rows 4, 6, 7, 8, 10 and 11 of the table of refusals: what the base says of a request. Only what the request's kind
-// names is looked for.
+// Rows 4, 6, 7, 8, 10 and 11 of the table of refusals: what the base says of a request. Only what the
+// request's kind names is looked for.
 ghost use mathlib.Core.Path.{_≡_};
 ghost use mathlib.Core.Bool.{true};
 ghost use Rattle.model.specs.Encoding.{decode};
 ghost use Rattle.model.specs.Soundness.{soundBytes};
 ghost use Rattle.model.specs.Step.{behindClock, noObject, noLabel, notPermitted, alreadyThere, notHeld};
-use crate::kinds::is_kind;
-use crate::kinds::is_privilege;
-use crate::kinds::names_object;
-use crate::lookups::administers;
-use crate::lookups::controls;
-use crate::lookups::exists;
-use crate::lookups::has_authorization;
-use crate::lookups::has_rule;
-use crate::lookups::is_granted_by_other;
-use crate::lookups::is_set_up_by_other;
-use crate::lookups::may_rule;
-use crate::lookups::owns;
-use crate::lookups::refers;
+use lookup::administers;
+use lookup::controls;
+use lookup::exists;
+use lookup::has_authorization;
+use lookup::has_rule;
+use lookup::is_granted_by_other;
+use lookup::is_kind;
+use lookup::is_privilege;
+use lookup::is_set_up_by_other;
+use lookup::may_rule;
+use lookup::names_object;
+use lookup::owns;
+use lookup::refers;
+use model::ADDRULE;
+use model::DROPRULE;
+use model::GRANTADM;
+use model::GRANTREF;
+use model::NEW;
+use model::REVOKE;
+use model::REVOKEADM;
+use model::REVOKEREF;
 use model::Request;
 
 // Row 4: now is below the clock.
@@ -33,13 +41,13 @@ pub fn no_object(s: &[u8], q: Request) -> bool
     requires { ⌜ soundBytes (now s) ≡ true ⌝ }
     ensures { λ r. ⌜ r ≡ noObject (decode (now (s .entry))) q ⌝ }
 {
-    if q.kind == 7 {
+    if q.kind == ADDRULE {
         let u = q.rule;
         let left = u.left;
         let right = u.right;
         return !(exists(s, left.object) & exists(s, right.object));
     }
-    if names_object(q) & !is_kind(q, 1) {
+    if names_object(q) & !is_kind(q, NEW) {
         return !exists(s, q.object);
     }
     false
@@ -51,28 +59,29 @@ pub fn no_label(s: &[u8], q: Request) -> bool
     ensures { λ r. ⌜ r ≡ noLabel (decode (now (s .entry))) q ⌝ }
 {
     let k = q.kind;
-    if k == 4 {
+    if k == REVOKE {
         return !has_authorization(s, q.label);
     }
-    if k == 8 {
+    if k == DROPRULE {
         return !has_rule(s, q.label);
     }
     false
 }
 
-// Row 8: the requester is not the grantor or author of what it withdraws, not the owner, or may not set up the rule.
+// Row 8: the requester is not the grantor or author of what it withdraws, not the owner, or may not set up
+// the rule.
 pub fn not_permitted(s: &[u8], q: Request) -> bool
     requires { ⌜ soundBytes (now s) ≡ true ⌝ }
     ensures { λ r. ⌜ r ≡ notPermitted (decode (now (s .entry))) q ⌝ }
 {
     let k = q.kind;
-    if k == 4 {
+    if k == REVOKE {
         return is_granted_by_other(s, q.label, q.requester);
     }
-    if k == 8 {
+    if k == DROPRULE {
         return is_set_up_by_other(s, q.label, q.requester);
     }
-    if k == 7 {
+    if k == ADDRULE {
         let u = q.rule;
         let left = u.left;
         let right = u.right;
@@ -90,13 +99,13 @@ pub fn already_there(s: &[u8], q: Request) -> bool
     ensures { λ r. ⌜ r ≡ alreadyThere (decode (now (s .entry))) q ⌝ }
 {
     let k = q.kind;
-    if k == 1 {
+    if k == NEW {
         return exists(s, q.object);
     }
-    if k == 9 {
+    if k == GRANTADM {
         return controls(s, q.object, q.subject);
     }
-    if k == 11 {
+    if k == GRANTREF {
         return owns(s, q.object, q.subject) | refers(s, q.object, q.subject);
     }
     false
@@ -108,10 +117,10 @@ pub fn not_held(s: &[u8], q: Request) -> bool
     ensures { λ r. ⌜ r ≡ notHeld (decode (now (s .entry))) q ⌝ }
 {
     let k = q.kind;
-    if k == 10 {
+    if k == REVOKEADM {
         return !administers(s, q.object, q.subject);
     }
-    if k == 12 {
+    if k == REVOKEREF {
         return !refers(s, q.object, q.subject);
     }
     false

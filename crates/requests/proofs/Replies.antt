@@ -1,4 +1,5 @@
--- The reply to a request that withdraws no instants, by row 13, and as it is read off the bytes that the effect left.
+-- The reply to a request that withdraws no instants, by row 13, and as it is read off the bytes that the
+-- effect left.
 use mathlib.Core.Path.{_≡_, sym, ap, _∙_}
 use Prim.Native.Nat.{ℕ}
 use mathlib.Core.Bool.{true, false}
@@ -16,9 +17,9 @@ use Rattle.model.specs.Means.{plainly}
 use Rattle.model.specs.Step.{full, effect, accepting}
 use Rattle.encoding.specs.declared.Counts.{Counts}
 use Rattle.encoding.specs.Format.{countsOf}
-use Rattle.encoding.specs.FormatFacts.{decoded-lengths}
+use Rattle.encoding.proofs.FormatFacts.{decoded-lengths}
 use Rattle.effects.specs.Effects.{Allowed}
-use Rattle.effects.proofs.Laws.{Holds, holds, after-fits, last-read}
+use Rattle.effects.proofs.AllowedEffects.{Holds, holds, after-fits, last-read}
 use Rattle.requests.specs.Carried.{Passed, Carried, passed-accepted}
 use Rattle.requests.specs.Room.{keepingKinds}
 use Rattle.requests.proofs.Keeping.{keeping}
@@ -33,7 +34,8 @@ module _ (s : List ℕ) (q : Request) (c : Counts) (e : c ≡ countsOf s) where
   counted : c .authorizations ≡ length (decode s .authorizations)
   counted = ap (λ (x : Counts). x .authorizations) e ∙ sym (decoded-lengths s .3)
 
-  pub read-label : labels q ≡ true → (n : ℕ) → n ≡ le 2 (drop 8 s) → Done n (c .authorizations) ≡ read q (decode s)
+  pub read-label : labels q ≡ true → (n : ℕ) → n ≡ le 2 (drop 8 s) →
+      Done n (c .authorizations) ≡ read q (decode s)
   read-label k n h = rw k (λ i. Done (last-read s n h i) (counted i))
 
   pub read-none : labels q ≡ false → Done 0 (c .authorizations) ≡ read q (decode s)
@@ -45,7 +47,8 @@ read-effect b q = cases (labels q) (λ k. rw k) (λ k. rw k)
 
 -- ---- row 13
 
-pub carried-refused : (s : List ℕ) (q : Request) → full plainly (decode s) q ≡ true → Carried s q (Refused 13) s
+pub carried-refused : (s : List ℕ) (q : Request) → full plainly (decode s) q ≡ true →
+    Carried s q (Refused 13) s
 carried-refused s q f = record { reply = rw f; bytes = rw f }
 
 module _ (s : List ℕ) (q : Request) (p : Passed s q) (w : withdraws q ≡ false)

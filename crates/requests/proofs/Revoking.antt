@@ -1,5 +1,5 @@
--- What a withdrawing request leaves, step by step: the authorizations that are built of the lent bodies, and the
--- edits that make the bytes of its effect. Assumes nothing.
+-- What a withdrawing request leaves, step by step: the authorizations that are built of the lent bodies, and
+-- the edits that make the bytes of its effect. Assumes nothing.
 use mathlib.Core.Path.{_≡_, refl, sym, ap, _∙_, subst}
 use mathlib.Core.Logic.{inl, inr}
 use Prim.Native.Nat.{ℕ, suc, _+_, _*_, _≤_, _<_}
@@ -23,22 +23,25 @@ use Rattle.model.specs.FitsFacts.{BaseFits, PrivilegeFits, AuthorizationFits}
 use Rattle.model.specs.Soundness.{chained}
 use Rattle.model.specs.Support.{rootIn}
 use Rattle.model.specs.Withdrawal.{keep, restrict}
-use Rattle.model.specs.Requests.{NEW, REVOKE, REVOKEP, REVOKEN, ADDRULE, DROPRULE, GRANTADM, REVOKEADM, GRANTREF}
+use Rattle.model.specs.Requests.{NEW, REVOKE, REVOKEP, REVOKEN, ADDRULE, DROPRULE, GRANTADM, REVOKEADM}
+use Rattle.model.specs.Requests.{GRANTREF}
 use Rattle.model.specs.Requests.{REVOKEREF, is, withdraws, before, without, objectsAfter, administratorsAfter}
 use Rattle.model.specs.Means.{plainly}
 use Rattle.model.specs.Step.{effect, full, accepting}
 use Rattle.model.specs.SoundnessFacts.{Sound, sound-tests, sound-bytes}
-use Rattle.laws.specs.Kinds.{kind-is, is-apart, is-kinds, objectKinds, subjectKinds, labelKinds, withdrawalKinds}
+use Rattle.laws.specs.Kinds.{kind-is, is-apart, is-kinds, objectKinds, subjectKinds, labelKinds}
+use Rattle.laws.specs.Kinds.{withdrawalKinds}
 use Rattle.laws.specs.KeepFacts.{Sorted}
 use Rattle.laws.specs.SoundFacts.{sorted}
 use Rattle.encoding.specs.declared.Counts.{Counts}
-use Rattle.encoding.specs.Format.{countsOf, administratorsAt, authorizationsAt}
-use Rattle.encoding.specs.FormatFacts.{decoded-lengths}
+use Rattle.encoding.specs.Format.{countsOf, administratorsAt, authorizationsAt, authorizationsIn}
+use Rattle.encoding.proofs.FormatFacts.{decoded-lengths}
 use Rattle.edits.specs.declared.PrivilegeBody.the-variants.{Administrators}
-use Rattle.edits.specs.Edits.{Written, written-sound, withClock, withAdministrators, withAuthorizations, withRules}
-use Rattle.edits.specs.Kept.{fits-privileges, fits-authorizations, fits-rules}
-use Rattle.edits.proofs.Laws.{written-length}
-use Rattle.support.specs.Cover.{authorizationsIn, rootsIn}
+use Rattle.edits.specs.Edits.{Written, written-sound, withStamp}
+use Rattle.model.specs.Effects.{withAdministrators, withAuthorizations, withRules}
+use Rattle.edits.proofs.Kept.{fits-privileges, fits-authorizations, fits-rules}
+use Rattle.edits.proofs.EditedBytes.{written-length}
+use Rattle.support.specs.Cover.{rootsIn}
 use Rattle.withdrawal.specs.declared.Cut.{Cut}
 use Rattle.withdrawal.specs.declared.Put.{Put}
 use Rattle.withdrawal.specs.declared.Put.the-variants.{Full, Lines}
@@ -46,10 +49,10 @@ use Rattle.withdrawal.specs.Cuts.{spared}
 use Rattle.withdrawal.specs.Bodies.{Result, Built}
 use Rattle.withdrawal.specs.Link.{CutOf, withdrawn-is}
 use Rattle.effects.specs.Effects.{Allowed, dropsBy}
-use Rattle.effects.proofs.Laws.{Holds, holds, after-fits}
+use Rattle.effects.proofs.AllowedEffects.{Holds, holds, after-fits}
 use Rattle.effects.proofs.Dropping.{kept-length}
 use Rattle.effects.proofs.Changes.{administrator-there}
-use Rattle.refusals.proofs.Places.{Fitting, lent, objects-lent, administrators-lent, authorizations-lent}
+use Rattle.lookup.proofs.SoundBodies.{Fitting, lent, objects-lent, administrators-lent, authorizations-lent}
 use Rattle.requests.specs.Carried.{Passed, Carried, passed-row, passed-accepted}
 use Rattle.requests.specs.Revoked.{object-most, subject-most, withdrawal-full}
 
@@ -68,10 +71,12 @@ module _ (s : List ℕ) (q : Request) (b : Sound (decode s)) (n : Counts) (en : 
     (x : ℕ) (ex : x ≡ authorizationsAt n) where
   pub lent-sorted : Sorted (authorizationsIn (n .authorizations) (lent s x))
   lent-sorted =
-      subst (λ (l : List Authorization). Sorted l) (sym (authorizations-lent s n en x ex)) (sorted (decode s) b)
+      subst (λ (l : List Authorization). Sorted l) (sym (authorizations-lent s n en x ex))
+      (sorted (decode s) b)
 
   -- what is built of them is what the request leaves
-  pub remains : withdraws q ≡ true → (c : Cut) → CutOf q c → (roots : List ℕ) (k : Counts) → k ≡ countsOf roots →
+  pub remains : withdraws q ≡ true → (c : Cut) → CutOf q c → (roots : List ℕ) (k : Counts) →
+      k ≡ countsOf roots →
       (a : ℕ) → a ≡ administratorsAt k → decode roots .objects ≡ objectsAfter q (decode s .objects) →
       decode roots .administrators ≡ administratorsAfter q (decode s .administrators) →
       restrict (rootsIn (k .objects) (lent roots 32) (k .administrators) (lent roots a)) (λ h. true)
@@ -132,7 +137,8 @@ carried-done s q w m out l s′ e =
 
 -- ---- the authorizations put into the bytes t, and the clock set
 
-module _ (t : List ℕ) (W : Written t) (s : List ℕ) (q : Request) (m : ℕ) (out : List ℕ) (l : Left s q m out) where
+module _ (t : List ℕ) (W : Written t) (s : List ℕ) (q : Request) (m : ℕ) (out : List ℕ)
+    (l : Left s q m out) where
   abbrev ys : List Authorization
   ys = effect plainly (decode s) q .authorizations
 
@@ -146,15 +152,17 @@ module _ (t : List ℕ) (W : Written t) (s : List ℕ) (q : Request) (m : ℕ) (
   )
 
   module _ (t₁ : List ℕ) (e₁ : t₁ ≡ encode (withAuthorizations (authorizationsIn m out) (decode t))) where
-    pub replaced-holds : Holds (withAuthorizations (effect plainly (decode s) q .authorizations) (decode t)) t₁
+    pub replaced-holds : Holds (withAuthorizations (effect plainly (decode s) q .authorizations) (decode t))
+        t₁
     replaced-holds = holds (withAuthorizations ys (decode t)) t₁
-        (fits-authorizations ys (decode t) (W .fits) (omega (arith, l .result .count, l .result .fits)) (l .fits))
+        (fits-authorizations ys (decode t) (W .fits) (omega (arith, l .result .count, l .result .fits))
+        (l .fits))
         (e₁ ∙ ap (λ (x : List Authorization). encode (withAuthorizations x (decode t))) (l .result .records))
 
-    pub clocked : (clock : ℕ) (t₂ : List ℕ) → t₂ ≡ encode (withClock clock (decode t₁ .last) (decode t₁)) →
-        t₂ ≡ encode (withClock clock (decode t .last)
+    pub clocked : (clock : ℕ) (t₂ : List ℕ) → t₂ ≡ encode (withStamp clock (decode t₁ .last) (decode t₁)) →
+        t₂ ≡ encode (withStamp clock (decode t .last)
         (withAuthorizations (effect plainly (decode s) q .authorizations) (decode t)))
-    clocked clock t₂ e₂ = e₂ ∙ ap (λ (b : Base). encode (withClock clock (b .last) b)) (replaced-holds .base)
+    clocked clock t₂ e₂ = e₂ ∙ ap (λ (b : Base). encode (withStamp clock (b .last) b)) (replaced-holds .base)
 
 -- ---- REVOKE, REVOKEP and REVOKEN
 
@@ -165,7 +173,8 @@ pub named-withdraws : (q : Request) → is q (REVOKE ∷ REVOKEP ∷ REVOKEN ∷
 named-withdraws q k = is-kinds q namedKinds withdrawalKinds refl k
 
 pub effect-named : (b : Base) (q : Request) → is q (REVOKE ∷ REVOKEP ∷ REVOKEN ∷ []) ≡ true →
-    effect plainly b q ≡ withClock (q .now) (b .last) (withAuthorizations (effect plainly b q .authorizations) b)
+    effect plainly b q ≡ withStamp (q .now) (b .last)
+    (withAuthorizations (effect plainly b q .authorizations) b)
 effect-named b q k = rw (
   is-apart q namedKinds labelKinds refl k,
   is-apart q namedKinds (DROPRULE ∷ REVOKEADM ∷ REVOKEREF ∷ []) refl k,
@@ -182,7 +191,8 @@ pub named-objects : (q : Request) (ps : List Privilege) → is q (REVOKE ∷ REV
     ps ≡ objectsAfter q ps
 named-objects q ps k = rw (is-apart q namedKinds (NEW ∷ []) refl k)
 
-pub named-administrators : (q : Request) (ps : List Privilege) → is q (REVOKE ∷ REVOKEP ∷ REVOKEN ∷ []) ≡ true →
+pub named-administrators : (q : Request) (ps : List Privilege) →
+    is q (REVOKE ∷ REVOKEP ∷ REVOKEN ∷ []) ≡ true →
     ps ≡ administratorsAfter q ps
 named-administrators q ps k =
     rw (is-apart q namedKinds (GRANTADM ∷ []) refl k, is-apart q namedKinds (REVOKEADM ∷ []) refl k)
@@ -193,15 +203,10 @@ pub administrator-withdraws : (q : Request) → is q (REVOKEADM ∷ []) ≡ true
 administrator-withdraws q k = is-kinds q (REVOKEADM ∷ []) withdrawalKinds refl k
 
 pub effect-administrator : (b : Base) (q : Request) → is q (REVOKEADM ∷ []) ≡ true →
-    effect plainly b q ≡ withClock (q .now) (b .last) (withAuthorizations (effect plainly b q .authorizations)
+    effect plainly b q ≡ withStamp (q .now) (b .last) (withAuthorizations (effect plainly b q .authorizations)
     (withRules (keepIf (λ r. not (dropsBy (refers b (q .object) (q .subject)) false q r)) (b .rules))
     (withAdministrators (without (q .object) (q .subject) (b .administrators)) b)))
 effect-administrator b q k = rw (kind-is q REVOKEADM k)
-
--- whether the subject refers to the object, asked by their privilege
-pub named-refers : (b : Base) (q : Request) (y : Privilege) (x : Bool) → y ≡ privilege (q .object) (q .subject) →
-    x ≡ listed (b .referrers) (y .object) (y .subject) → x ≡ refers b (q .object) (q .subject)
-named-refers b q y x n e = e ∙ ap (λ (z : Privilege). listed (b .referrers) (z .object) (z .subject)) n
 
 -- a copy of all of s
 pub copied : (s t : List ℕ) (n : ℕ) → length s ≡ n → length t ≡ n → splice 0 (take n s) t ≡ s
@@ -232,49 +237,53 @@ module _ (s : List ℕ) (q : Request) (p : Passed s q) (k : is q (REVOKEADM ∷ 
       rw e (written-sound s (p .sound), named-privilege, t .0, t .1)
 
   module _ (s₁ : List ℕ) (e₁ : s₁
-      ≡ encode (withAdministrators (without (q .object) (q .subject) (decode s .administrators)) (decode s))) where
-    pub removed-holds :
-        Holds (withAdministrators (without (q .object) (q .subject) (decode s .administrators)) (decode s)) s₁
-    removed-holds =
-        let W = written-sound s (p .sound) in
-        let t : Privilege → Bool = λ x. not (isPrivilege (q .object) (q .subject) x) in
-        holds (withAdministrators (without (q .object) (q .subject) (old .administrators)) old) s₁
-        (fits-privileges Administrators (without (q .object) (q .subject) (old .administrators)) old (W .fits)
-        (omega (arith, kept-length t (old .administrators), W .fits .counts .administrators))
-        (λ x m. W .fits .administrators x (kept t (old .administrators) x m .0))) e₁
+      ≡ encode (withAdministrators (without (q .object) (q .subject) (decode s .administrators)) (decode s)))
+    where
+      pub removed-holds :
+          Holds (withAdministrators (without (q .object) (q .subject) (decode s .administrators)) (decode s)) s₁
+      removed-holds =
+          let W = written-sound s (p .sound) in
+          let t : Privilege → Bool = λ x. not (isPrivilege (q .object) (q .subject) x) in
+          holds (withAdministrators (without (q .object) (q .subject) (old .administrators)) old) s₁
+          (fits-privileges Administrators (without (q .object) (q .subject) (old .administrators)) old (W .fits)
+          (omega (arith, kept-length t (old .administrators), W .fits .counts .administrators))
+          (λ x m. W .fits .administrators x (kept t (old .administrators) x m .0))) e₁
 
-    -- who owns and who administers after it
-    pub roots-objects : decode s₁ .objects ≡ objectsAfter q (decode s .objects)
-    roots-objects = ap (λ (b : Base). b .objects) (removed-holds .base) ∙ sym (rw (kind-is q REVOKEADM k))
+      -- who owns and who administers after it
+      pub roots-objects : decode s₁ .objects ≡ objectsAfter q (decode s .objects)
+      roots-objects = ap (λ (b : Base). b .objects) (removed-holds .base) ∙ sym (rw (kind-is q REVOKEADM k))
 
-    pub roots-administrators : decode s₁ .administrators ≡ administratorsAfter q (decode s .administrators)
-    roots-administrators =
-        ap (λ (b : Base). b .administrators) (removed-holds .base) ∙ sym (rw (kind-is q REVOKEADM k))
+      pub roots-administrators : decode s₁ .administrators ≡ administratorsAfter q (decode s .administrators)
+      roots-administrators =
+          ap (λ (b : Base). b .administrators) (removed-holds .base) ∙ sym (rw (kind-is q REVOKEADM k))
 
-    module _ (x : Bool) (h : x ≡ refers (decode s) (q .object) (q .subject)) (s₂ : List ℕ)
-        (e₂ : s₂ ≡ encode (withRules (keepIf (λ r. not (dropsBy x false q r)) (decode s₁ .rules)) (decode s₁))) where
-      abbrev stay : Rule → Bool
-      stay r = not (dropsBy (refers (decode s) (q .object) (q .subject)) false q r)
+      module _ (x : Bool) (h : x ≡ refers (decode s) (q .object) (q .subject)) (s₂ : List ℕ)
+          (e₂ : s₂ ≡ encode (withRules (keepIf (λ r. not (dropsBy x false q r)) (decode s₁ .rules))
+          (decode s₁))) where
+        abbrev stay : Rule → Bool
+        stay r = not (dropsBy (refers (decode s) (q .object) (q .subject)) false q r)
 
-      pub dropped : Holds (withRules
-          (keepIf (λ r. not (dropsBy (refers (decode s) (q .object) (q .subject)) false q r)) (decode s .rules))
-          (withAdministrators (without (q .object) (q .subject) (decode s .administrators)) (decode s))) s₂
-      dropped =
-          let W = removed-holds .written in
-          let B = withAdministrators (without (q .object) (q .subject) (old .administrators)) old in
-          let F : BaseFits B = subst (λ (b : Base). BaseFits b) (removed-holds .base) (W .fits) in
-          holds (withRules (keepIf stay (old .rules)) B) s₂
-          (fits-rules (keepIf stay (old .rules)) B F
-          (omega (arith, kept-length stay (old .rules), F .counts .rules))
-          (λ r m. F .rules r (kept stay (old .rules) r m .0)))
-          (e₂ ∙ (λ i. encode (withRules (keepIf (λ r. not (dropsBy (h i) false q r)) (removed-holds .base i .rules))
-          (removed-holds .base i))))
+        pub dropped : Holds (withRules
+            (keepIf (λ r. not (dropsBy (refers (decode s) (q .object) (q .subject)) false q r))
+            (decode s .rules))
+            (withAdministrators (without (q .object) (q .subject) (decode s .administrators)) (decode s))) s₂
+        dropped =
+            let W = removed-holds .written in
+            let B = withAdministrators (without (q .object) (q .subject) (old .administrators)) old in
+            let F : BaseFits B = subst (λ (b : Base). BaseFits b) (removed-holds .base) (W .fits) in
+            holds (withRules (keepIf stay (old .rules)) B) s₂
+            (fits-rules (keepIf stay (old .rules)) B F
+            (omega (arith, kept-length stay (old .rules), F .counts .rules))
+            (λ r m. F .rules r (kept stay (old .rules) r m .0)))
+            (e₂ ∙ (λ i. encode (withRules (keepIf (λ r. not (dropsBy (h i) false q r))
+            (removed-holds .base i .rules))
+            (removed-holds .base i))))
 
-      pub administrator-done : (s₄ : List ℕ) → s₄ ≡ encode (withClock (q .now) (decode s₂ .last)
-          (withAuthorizations (effect plainly (decode s) q .authorizations) (decode s₂))) →
-          s₄ ≡ encode (effect plainly (decode s) q)
-      administrator-done s₄ e₄ =
-          e₄
-          ∙ ap (λ (b : Base). encode (withClock (q .now) (b .last)
-          (withAuthorizations (effect plainly (decode s) q .authorizations) b))) (dropped .base)
-          ∙ ap encode (sym (effect-administrator old q k))
+        pub administrator-done : (s₄ : List ℕ) → s₄ ≡ encode (withStamp (q .now) (decode s₂ .last)
+            (withAuthorizations (effect plainly (decode s) q .authorizations) (decode s₂))) →
+            s₄ ≡ encode (effect plainly (decode s) q)
+        administrator-done s₄ e₄ =
+            e₄
+            ∙ ap (λ (b : Base). encode (withStamp (q .now) (b .last)
+            (withAuthorizations (effect plainly (decode s) q .authorizations) b))) (dropped .base)
+            ∙ ap encode (sym (effect-administrator old q k))

@@ -8,17 +8,20 @@ use mathlib.Core.Bool.{Bool, true, false, not, _&&_, _||_}
 use mathlib.Core.List.{List, [], _∷_}
 use lib.Dec.{leb, ltb, eqb}
 use lib.ListN.{length}
-use Rattle.foundation.specs.Tests.{pick, cases, le-true, le-false, true-le, false-le, must-fail, not-false, or-false}
+use Rattle.foundation.specs.Tests.{pick, cases, le-true, le-false, true-le, false-le, must-fail, not-false}
+use Rattle.foundation.specs.Tests.{or-false}
 use Rattle.foundation.specs.Lists.{keepIf}
 use Rattle.foundation.specs.declared.Interval.{Interval}
 use Rattle.model.specs.declared.Request.{Request}
 use Rattle.model.specs.Ranges.{isSubject, isObject, isMode, isLabel, lastLabel}
 use Rattle.model.specs.Ranges.{mostObjects, mostAdministrators, mostReferrers, mostAuthorizations, mostRules}
 use Rattle.model.specs.Base.{Base, isPrivilege}
-use Rattle.model.specs.Requests.{NEW, REVOKE, REVOKEP, REVOKEN, ADDRULE, DROPRULE, GRANTADM, REVOKEADM, GRANTREF}
+use Rattle.model.specs.Requests.{NEW, REVOKE, REVOKEP, REVOKEN, ADDRULE, DROPRULE, GRANTADM, REVOKEADM}
+use Rattle.model.specs.Requests.{GRANTREF}
 use Rattle.model.specs.Requests.{REVOKEREF, is, labels, withdraws, drops}
 use Rattle.model.specs.Means.{plainly}
-use Rattle.model.specs.Step.{namesObject, namesSubject, namesMode, namesInterval, namesLabel, outOfRange, badInterval}
+use Rattle.model.specs.Step.{namesObject, namesSubject, namesMode, namesInterval, namesLabel, outOfRange}
+use Rattle.model.specs.Step.{badInterval}
 use Rattle.model.specs.Step.{full, effect}
 use Rattle.model.specs.StepFacts.{in-range}
 use Rattle.model.specs.SoundnessFacts.{Sound}
@@ -27,6 +30,8 @@ use Rattle.laws.specs.Kinds.{is-kinds, is-apart, intervalKinds, labelKinds, wit
 use Rattle.effects.proofs.Dropping.{kept-length}
 use Rattle.refusals.specs.Asked.{upper, asked-passes}
 use Rattle.withdrawal.specs.declared.Cut.{Cut}
+use Rattle.withdrawal.specs.declared.CutKind.{CutKind}
+use Rattle.withdrawal.specs.declared.CutKind.the-variants.{Label, Grantor, Name}
 use Rattle.withdrawal.specs.Cuts.{CutOrdered}
 use Rattle.withdrawal.specs.Link.{CutOf, by-label, by-name, by-grantor}
 
@@ -47,11 +52,13 @@ module _ (q : Request) (r : outOfRange q ≡ false) where
 
   pub subject-most : namesSubject q ≡ true → q .subject ≤ 1023
   subject-most k = upper 1 1023 (q .subject)
-      (asked-passes (namesSubject q) (isSubject (q .subject)) k (in-range q r _ (inr (inr (inr (inr (inl refl)))))))
+      (asked-passes (namesSubject q) (isSubject (q .subject)) k
+      (in-range q r _ (inr (inr (inr (inr (inl refl)))))))
 
   pub mode-most : namesMode q ≡ true → q .mode ≤ 8
   mode-most k = upper 1 8 (q .mode)
-      (asked-passes (namesMode q) (isMode (q .mode)) k (in-range q r _ (inr (inr (inr (inr (inr (inl refl))))))))
+      (asked-passes (namesMode q) (isMode (q .mode)) k
+      (in-range q r _ (inr (inr (inr (inr (inr (inl refl))))))))
 
   pub label-most : namesLabel q ≡ true → q .label ≤ lastLabel
   label-most k = upper 1 lastLabel (q .label) (asked-passes (namesLabel q) (isLabel (q .label)) k
@@ -72,7 +79,7 @@ by-name-else q w e f = sym (rw (e, f)) ∙ w
 
 -- ---- the cut of each kind
 
-abbrev cut : ℕ → ℕ → ℕ → ℕ → ℕ → ℕ → Bool → Interval → Cut
+abbrev cut : CutKind → ℕ → ℕ → ℕ → ℕ → ℕ → Bool → Interval → Cut
 cut kind label grantor subject object mode negative interval = record {
   kind = kind;
   label = label;
@@ -84,28 +91,42 @@ cut kind label grantor subject object mode negative interval = record {
   interval = interval;
 }
 
+-- a cut of another kind asks nothing of the interval
+label-apart : {X : Type 0} → Label ≡ Name → X
+label-apart e = let z : _≡_ {A = ℕ} 0 1 = cc in absurd (omega arith)
+
+grantor-apart : {X : Type 0} → Grantor ≡ Name → X
+grantor-apart e = let z : _≡_ {A = ℕ} 0 1 = cc in absurd (omega arith)
+
 -- REVOKE
 pub label-cut : (q : Request) → is q (REVOKE ∷ []) ≡ true →
-    CutOf q (cut 1 (q .label) 0 0 0 0 false (q .interval)) × CutOrdered (cut 1 (q .label) 0 0 0 0 false (q .interval))
-label-cut q e = (by-label q (cut 1 (q .label) 0 0 0 0 false (q .interval)) e refl refl, λ a b. absurd (a refl))
+    CutOf q (cut Label (q .label) 0 0 0 0 false (q .interval))
+    × CutOrdered (cut Label (q .label) 0 0 0 0 false (q .interval))
+label-cut q e = (
+  by-label q (cut Label (q .label) 0 0 0 0 false (q .interval)) e refl refl,
+  λ k. label-apart k,
+)
 
 -- REVOKEADM
 pub grantor-cut : (q : Request) → is q (REVOKEADM ∷ []) ≡ true →
-    CutOf q (cut 2 0 (q .subject) 0 (q .object) 0 false (q .interval))
-    × CutOrdered (cut 2 0 (q .subject) 0 (q .object) 0 false (q .interval))
+    CutOf q (cut Grantor 0 (q .subject) 0 (q .object) 0 false (q .interval))
+    × CutOrdered (cut Grantor 0 (q .subject) 0 (q .object) 0 false (q .interval))
 grantor-cut q e = (
-  by-grantor q (cut 2 0 (q .subject) 0 (q .object) 0 false (q .interval)) e refl refl refl,
-  λ a b. absurd (b refl),
+  by-grantor q (cut Grantor 0 (q .subject) 0 (q .object) 0 false (q .interval)) e refl refl refl,
+  λ k. grantor-apart k,
 )
 
 -- REVOKEP and REVOKEN
 pub name-cut : (q : Request) → badInterval q ≡ false → is q (REVOKEP ∷ REVOKEN ∷ []) ≡ true →
-    CutOf q (cut 3 0 (q .requester) (q .subject) (q .object) (q .mode) (eqb (q .kind) REVOKEN) (q .interval))
-    × CutOrdered (cut 3 0 (q .requester) (q .subject) (q .object) (q .mode) (eqb (q .kind) REVOKEN) (q .interval))
+    CutOf q (cut Name 0 (q .requester) (q .subject) (q .object) (q .mode) (eqb (q .kind) REVOKEN)
+    (q .interval))
+    × CutOrdered (cut Name 0 (q .requester) (q .subject) (q .object) (q .mode) (eqb (q .kind) REVOKEN)
+    (q .interval))
 name-cut q b e = (
-  by-name q (cut 3 0 (q .requester) (q .subject) (q .object) (q .mode) (eqb (q .kind) REVOKEN) (q .interval)) e
+  by-name q (cut Name 0 (q .requester) (q .subject) (q .object) (q .mode) (eqb (q .kind) REVOKEN)
+      (q .interval)) e
       refl refl refl refl refl (sym (or-false (eqb (q .kind) REVOKEN))) refl,
-  λ x y. interval-ordered q b (is-kinds q (REVOKEP ∷ REVOKEN ∷ []) intervalKinds refl e),
+  λ k. interval-ordered q b (is-kinds q (REVOKEP ∷ REVOKEN ∷ []) intervalKinds refl e),
 )
 
 -- ---- row 13
@@ -133,15 +154,22 @@ pub withdrawal-full : (b : Base) (q : Request) → Sound b → withdraws q ≡ t
 withdrawal-full b q s w =
     let f = counts-fit b (s .counts) in
     let after = effect plainly b q in
-    rows-left (leb (length (after .objects)) mostObjects) (leb (length (after .administrators)) mostAdministrators)
+    rows-left (leb (length (after .objects)) mostObjects)
+    (leb (length (after .administrators)) mostAdministrators)
     (leb (length (after .referrers)) mostReferrers) (leb (length (after .authorizations)) mostAuthorizations)
     (leb (length (after .rules)) mostRules) (labels q) (leb lastLabel (b .last))
-    (rw (is-apart q withdrawalKinds (NEW ∷ []) refl w) (le-true (length (b .objects)) mostObjects (f .objects)))
+    (rw (is-apart q withdrawalKinds (NEW ∷ []) refl w)
+    (le-true (length (b .objects)) mostObjects (f .objects)))
     (rw (is-apart q withdrawalKinds (GRANTADM ∷ []) refl w) (fewer (is q (REVOKEADM ∷ []))
-    (λ p. not (isPrivilege (q .object) (q .subject) p)) (b .administrators) mostAdministrators (f .administrators)))
-    (rw (is-apart q withdrawalKinds (GRANTREF ∷ []) refl w, is-apart q withdrawalKinds (REVOKEREF ∷ []) refl w)
+    (λ p. not (isPrivilege (q .object) (q .subject) p)) (b .administrators) mostAdministrators
+    (f .administrators)))
+    (rw (
+      is-apart q withdrawalKinds (GRANTREF ∷ []) refl w,
+      is-apart q withdrawalKinds (REVOKEREF ∷ []) refl w,
+    )
     (le-true (length (b .referrers)) mostReferrers (f .referrers)))
-    (rw (is-apart q withdrawalKinds (ADDRULE ∷ []) refl w) (fewer (is q (DROPRULE ∷ REVOKEADM ∷ REVOKEREF ∷ []))
+    (rw (is-apart q withdrawalKinds (ADDRULE ∷ []) refl w)
+    (fewer (is q (DROPRULE ∷ REVOKEADM ∷ REVOKEREF ∷ []))
     (λ r. not (drops b q r)) (b .rules) mostRules (f .rules)))
     (is-apart q withdrawalKinds labelKinds refl w)
     ∙ not-most (length (after .authorizations)) mostAuthorizations

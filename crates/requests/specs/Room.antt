@@ -1,5 +1,5 @@
--- Row 13 for a request that withdraws no instants, as code asks it: a body that gets one more is full, or no label is
--- left (`room-is`). Each body gets at most one more, and only by the kinds that add to it.
+-- Row 13 for a request that withdraws no instants, as code asks it: a body that gets one more is full, or no
+-- label is left (`room-is`). Each body gets at most one more, and only by the kinds that add to it.
 use mathlib.Core.Path.{_≡_, refl, ap, _∙_}
 use Prim.Native.Nat.{ℕ, suc, _≤_}
 use native.Mathlib.Omega.{arith}
@@ -14,15 +14,16 @@ use Rattle.model.specs.Ranges.{mostObjects, mostAdministrators, mostReferrers, 
 use Rattle.model.specs.Ranges.{lastLabel}
 use Rattle.model.specs.Base.{Base, privilege, isPrivilege}
 use Rattle.model.specs.FitsFacts.{counts-fit}
-use Rattle.model.specs.Requests.{NEW, GRANT, DENY, ADDRULE, DROPRULE, GRANTADM, REVOKEADM, GRANTREF, REVOKEREF}
+use Rattle.model.specs.Requests.{NEW, GRANT, DENY, ADDRULE, DROPRULE, GRANTADM, REVOKEADM, GRANTREF}
+use Rattle.model.specs.Requests.{REVOKEREF}
 use Rattle.model.specs.Requests.{is, grants, labels, withdraws, before, newRule, drops}
 use Rattle.model.specs.Means.{plainly}
 use Rattle.model.specs.Step.{effect, countsHold, full}
 use Rattle.laws.specs.AuthorizationsAfter.{newAuthorization, granted-authorizations, same-authorizations}
 use Rattle.laws.specs.Privileges.{changed}
-use Rattle.edits.specs.Kept.{length-insertAt}
+use Rattle.edits.proofs.Kept.{length-insertAt}
 use Rattle.effects.specs.Effects.{firstIndex}
-use Rattle.effects.proofs.Places.{insert-place}
+use Rattle.effects.proofs.PrivilegePlaces.{insert-place}
 use Rattle.effects.proofs.Dropping.{kept-length}
 
 -- the kinds that withdraw no instants
@@ -103,12 +104,16 @@ module _ (b : Base) (q : Request) where
       ∙ (λ i.
       passes (is q (NEW ∷ [])) (length (b .objects)) (length (a .objects)) mostObjects (f .objects)
       (changed-grows (is q (NEW ∷ [])) false (q .object) (q .requester) (b .objects)) i
-      || passes (is q (GRANTADM ∷ [])) (length (b .administrators)) (length (a .administrators)) mostAdministrators
+      || passes (is q (GRANTADM ∷ [])) (length (b .administrators))
+      (length (a .administrators)) mostAdministrators
       (f .administrators)
-      (changed-grows (is q (GRANTADM ∷ [])) (is q (REVOKEADM ∷ [])) (q .object) (q .subject) (b .administrators)) i
-      || passes (is q (GRANTREF ∷ [])) (length (b .referrers)) (length (a .referrers)) mostReferrers (f .referrers)
+      (changed-grows (is q (GRANTADM ∷ [])) (is q (REVOKEADM ∷ [])) (q .object) (q .subject)
+      (b .administrators)) i
+      || passes (is q (GRANTREF ∷ [])) (length (b .referrers)) (length (a .referrers)) mostReferrers
+      (f .referrers)
       (changed-grows (is q (GRANTREF ∷ [])) (is q (REVOKEREF ∷ [])) (q .object) (q .subject) (b .referrers)) i
       || passes (grants q) (length (b .authorizations)) (length (a .authorizations)) mostAuthorizations
       (f .authorizations) (authorizations-grow w) i
-      || passes (is q (ADDRULE ∷ [])) (length (b .rules)) (length (a .rules)) mostRules (f .rules) rules-grow i
+      || passes (is q (ADDRULE ∷ [])) (length (b .rules)) (length (a .rules)) mostRules
+      (f .rules) rules-grow i
       || (labels q && leb lastLabel (b .last)))

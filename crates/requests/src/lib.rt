@@ -39,8 +39,8 @@ fn apply(s: &mut [u8], q: Request)
     }
 }
 
-// The reply to an accepted request, by the bytes that it left: the label if it took one, and how many authorizations
-// are in the base.
+// The reply to an accepted request, by the bytes that it left: the label if it took one, and how many
+// authorizations are in the base.
 fn done(s: &[u8], q: Request) -> Reply
     requires { ⌜ 32 ≤ length (now s) ⌝ }
     ensures { λ r. ⌜ r ≡ Done (pick (labels q) (decode (now (s .entry)) .last) 0)
@@ -48,7 +48,7 @@ fn done(s: &[u8], q: Request) -> Reply
 {
     let c = encoding::counts_of(s);
     let count = c.authorizations as u32;
-    if refusals::is_labelling(q) {
+    if lookup::is_labelling(q) {
         return Reply::Done {
             label: fields::le16(s, 8) as u32,
             count: count,

@@ -12,27 +12,32 @@ ghost use Rattle.withdrawal.specs.Cuts.{CutOrdered};
 ghost use Rattle.withdrawal.specs.Bodies.{Room, Built};
 ghost use Rattle.withdrawal.specs.Link.{CutOf};
 ghost use Rattle.requests.specs.Carried.{Passed, Carried};
-use edits::PrivilegeBody;
+use model::BASE_BYTES;
+use model::BODY_BYTES;
+use model::REVOKE;
+use model::REVOKEADM;
+use model::REVOKEN;
 use model::Reply;
 use model::Request;
 use withdrawal::Cut;
+use withdrawal::CutKind;
 use withdrawal::Put;
 
-// What REVOKEP and REVOKEN take out: the interval, of the requester's authorizations or denials for the subject,
-// object and mode.
+// What REVOKEP and REVOKEN take out: the interval, of the requester's authorizations or denials for the
+// subject, object and mode.
 fn cut_by_name(q: Request) -> Cut
     requires { ⌜ (outOfRange q ≡ false) × (badInterval q ≡ false) × (is q (REVOKEP ∷ REVOKEN ∷ []) ≡ true) ⌝ }
     ensures { λ c. ⌜ CutOf q c × CutOrdered c ⌝ }
 {
     let interval = q.interval;
     Cut {
-        kind: 3,
+        kind: CutKind::Name,
         label: 0,
         grantor: q.requester as u16,
         subject: q.subject as u16,
         object: q.object as u16,
         mode: q.mode as u8,
-        negative: q.kind == 6,
+        negative: q.kind == REVOKEN,
         interval: interval,
     }
 }
@@ -44,7 +49,7 @@ fn cut_by_label(q: Request) -> Cut
 {
     let interval = q.interval;
     Cut {
-        kind: 1,
+        kind: CutKind::Label,
         label: q.label as u16,
         grantor: 0,
         subject: 0,
@@ -62,7 +67,7 @@ fn cut_by_grantor(q: Request) -> Cut
 {
     let interval = q.interval;
     Cut {
-        kind: 2,
+        kind: CutKind::Grantor,
         label: 0,
         grantor: q.subject as u16,
         subject: 0,
@@ -78,19 +83,20 @@ fn cut_of(q: Request) -> Cut
     requires { ⌜ (outOfRange q ≡ false) × (badInterval q ≡ false) × (withdraws q ≡ true) ⌝ }
     ensures { λ c. ⌜ CutOf q c × CutOrdered c ⌝ }
 {
-    if q.kind == 4 {
+    if q.kind == REVOKE {
         return cut_by_label(q);
     }
-    if q.kind == 10 {
+    if q.kind == REVOKEADM {
         return cut_by_grantor(q);
     }
     cut_by_name(q)
 }
 
-// The authorizations that the request leaves, built in `out`. `roots` is a base with the owners and administrators
-// that there are after it.
+// The authorizations that the request leaves, built in `out`. `roots` is a base with the owners and
+// administrators that there are after it.
 fn remaining(roots: &[u8], s: &[u8], q: Request, out: &mut [u8], sorted: &mut [u8]) -> Put
-    requires { ⌜ Passed (now s) q × (withdraws q ≡ true) × Written (now roots) × Room (now out) (now sorted) ⌝ }
+    requires { ⌜ Passed (now s) q × (withdraws q ≡ true) × Written (now roots)
+        × Room (now out) (now sorted) ⌝ }
     requires { ⌜ (decode (now roots) .objects ≡ objectsAfter q (decode (now s) .objects))
         × (decode (now roots) .administrators ≡ administratorsAfter q (decode (now s) .administrators)) ⌝ }
     ensures { λ r. ⌜ Built (effect plainly (decode (now (s .entry))) q .authorizations) r (now (out .exit)) ⌝ }
@@ -118,8 +124,8 @@ pub fn revoke(s: &mut [u8], q: Request) -> Reply
     requires { ⌜ Passed (now s) q × (is q (REVOKE ∷ REVOKEP ∷ REVOKEN ∷ []) ≡ true) ⌝ }
     ensures { λ r. ⌜ Carried (now (s .entry)) q r (now (s .exit)) ⌝ }
 {
-    let mut out = [0u8; 24576];
-    let mut sorted = [0u8; 24576];
+    let mut out = [0u8; BODY_BYTES];
+    let mut sorted = [0u8; BODY_BYTES];
     let Put::Lines(m) = remaining(s, s, q, &mut out, &mut sorted) else {
         return Reply::Refused(13);
     };
@@ -131,21 +137,21 @@ pub fn revoke(s: &mut [u8], q: Request) -> Reply
     }
 }
 
-// REVOKEADM: the privilege, the rules and the authorizations. What remains of these is asked of a copy of the base
-// without the privilege, so that 13 leaves the base alone.
+// REVOKEADM: the privilege, the rules and the authorizations. What remains of these is asked of a copy of the
+// base without the privilege, so that 13 leaves the base alone.
 pub fn revoke_administrator(s: &mut [u8], q: Request) -> Reply
     requires { ⌜ Passed (now s) q × (is q (REVOKEADM ∷ []) ≡ true) ⌝ }
     ensures { λ r. ⌜ Carried (now (s .entry)) q r (now (s .exit)) ⌝ }
 {
-    let mut after = [0u8; 27936];
-    fields::copy(&mut after, 0, s, 27936);
+    let mut after = [0u8; BASE_BYTES];
+    fields::copy(&mut after, 0, s, BASE_BYTES);
     effects::remove_administrator(&mut after, q);
-    let mut out = [0u8; 24576];
-    let mut sorted = [0u8; 24576];
+    let mut out = [0u8; BODY_BYTES];
+    let mut sorted = [0u8; BODY_BYTES];
     let Put::Lines(n) = remaining(&after, s, q, &mut out, &mut sorted) else {
         return Reply::Refused(13);
     };
-    let refers = effects::is_held(s, PrivilegeBody::Referrers, effects::privilege_of(q));
+    let refers = lookup::refers(s, q.object, q.subject);
     effects::remove_administrator(s, q);
     effects::drop_rules(s, q, refers, false);
     edits::replace_authorizations(s, &out, n);

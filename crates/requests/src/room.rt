@@ -6,6 +6,12 @@ ghost use Rattle.model.specs.Soundness.{soundBytes};
 ghost use Rattle.model.specs.Requests.{withdraws};
 ghost use Rattle.model.specs.Means.{plainly};
 ghost use Rattle.model.specs.Step.{full};
+use model::ADDRULE;
+use model::DENY;
+use model::GRANT;
+use model::GRANTADM;
+use model::GRANTREF;
+use model::NEW;
 use model::Request;
 
 // The body that the request adds to is full, or no label is left.
@@ -16,10 +22,10 @@ pub fn no_room(s: &[u8], q: Request) -> bool
     let c = encoding::counts_of(s);
     let last = fields::le16(s, 8);
     let k = q.kind;
-    ((k == 1) & (128 <= c.objects))
-        | ((k == 9) & (128 <= c.administrators))
-        | ((k == 11) & (128 <= c.referrers))
-        | (((k == 2) | (k == 3)) & (1024 <= c.authorizations))
-        | ((k == 7) & (64 <= c.rules))
-        | (refusals::is_labelling(q) & (65535 <= last))
+    ((k == NEW) & (128 <= c.objects))
+        | ((k == GRANTADM) & (128 <= c.administrators))
+        | ((k == GRANTREF) & (128 <= c.referrers))
+        | (((k == GRANT) | (k == DENY)) & (1024 <= c.authorizations))
+        | ((k == ADDRULE) & (64 <= c.rules))
+        | (lookup::is_labelling(q) & (65535 <= last))
 }

@@ -1,9 +1,9 @@
--- Rows of edges: how a row is filled (`row-start`, `row-turn`), that it stays while later rows are filled (`row-kept`),
--- and what a round makes of it (`row-raised`).
+-- Rows of edges: how a row is filled (`row-start`, `row-turn`), that it stays while later rows are filled
+-- (`row-kept`), and what a round makes of it (`row-raised`).
 use mathlib.Core.Path.{_≡_, sym, ap, _∙_, subst}
 use mathlib.Core.Bool.{true}
 use mathlib.Core.List.{List}
-use Prim.Native.Nat.{ℕ, zero, suc, _+_, _*_, _-_, _/_, _%_, _≤_, _<_, max}
+use Prim.Native.Nat.{ℕ, zero, suc, _+_, _*_, _-_, _/_, _%_, _≤_, _<_}
 use native.Mathlib.Nat.{le-antisymm}
 use native.Mathlib.Omega.{arith}
 use lib.Dec.{eqb}
@@ -11,15 +11,15 @@ use lib.ListN.{length, getD, set, length-set}
 use lib.Seq.{getD-set-same, getD-set-other}
 use Rattle.foundation.specs.Tests.{pick, cases, true-eq, false-eq}
 use Rattle.foundation.specs.Lists.{keepIf, keepIf-mem, kept}
-use Rattle.foundation.specs.Graph.{most}
 use Rattle.foundation.specs.GraphFacts.{most-le, le-most}
 use Rattle.foundation.specs.Totals.{count}
 use Rattle.model.specs.declared.Rule.{Rule}
 use Rattle.model.specs.Encoding.{ruleOf}
 use Rattle.model.specs.Stratification.{precedes, negates, weight, light}
-use Rattle.rules.specs.Strata.{rulesIn, ruleAt, Holds, raised}
+use Rattle.rules.specs.Strata.{Holds, raised}
+use Rattle.encoding.specs.Format.{rulesIn, ruleAt}
 use Rattle.rules.specs.Edges.{stepOf, edgeAt, Row, bestOf}
-use Rattle.rules.proofs.Records.{record-mem, mem-record}
+use Rattle.foundation.specs.Records.{record-mem, mem-record}
 
 -- ---- steps
 
@@ -52,15 +52,18 @@ abbrev pub putCount : ℕ → ℕ → ℕ
 putCount c t = pick (eqb t 0) c (suc c)
 
 pub put-length : (edges : List ℕ) (at c i t : ℕ) → length (putEdge edges at c i t) ≡ length edges
-put-length edges at c i t = cases (eqb t 0) (λ e. rw e) (λ e. rw e (length-set edges (at + c) (3 * i + (t - 1))))
+put-length edges at c i t = cases (eqb t 0) (λ e. rw e)
+    (λ e. rw e (length-set edges (at + c) (3 * i + (t - 1))))
 
 -- the rows before are left
-pub put-other : (edges : List ℕ) (at c i t k : ℕ) → k < at → getD (putEdge edges at c i t) k 0 ≡ getD edges k 0
+pub put-other : (edges : List ℕ) (at c i t k : ℕ) → k < at →
+    getD (putEdge edges at c i t) k 0 ≡ getD edges k 0
 put-other edges at c i t k h = cases (eqb t 0)
     (λ e. rw e)
     (λ e. rw e (getD-set-other edges (at + c) k (3 * i + (t - 1)) 0 (λ z. omega arith)))
 
-module _ (s : List ℕ) (j i : ℕ) (edges : List ℕ) (c : ℕ) (row : Row i s j edges c) (long : length edges ≡ 4225)
+module _ (s : List ℕ) (j i : ℕ) (edges : List ℕ) (c : ℕ) (row : Row i s j edges c) (long : length edges
+    ≡ 4225)
     (low : i < 65) (there : j < 65) where
   abbrev t : ℕ
   t = stepOf (ruleAt s i) (ruleAt s j)
@@ -141,7 +144,8 @@ row-kept n s j edges more c few h row = record {
     same e l = h (j * 65 + e) (omega (arith, row .few))
 
 -- one row more
-pub edges-turn : (n : ℕ) (s : List ℕ) (j : ℕ) (edges more counts : List ℕ) (c : ℕ) → n ≤ 65 → j < length counts →
+pub edges-turn : (n : ℕ) (s : List ℕ) (j : ℕ) (edges more counts : List ℕ) (c : ℕ) → n ≤ 65 →
+    j < length counts →
     ((i : ℕ) → i < j → Row n s i edges (getD counts i 0)) → Row n s j more c →
     ((k : ℕ) → k < j * 65 → getD more k 0 ≡ getD edges k 0) →
     (i : ℕ) → i < j + 1 → Row n s i more (getD (set counts j c) i 0)

@@ -1,5 +1,5 @@
--- Tables filled place by place, and rounds of ranks: ranks that a round does not change are the strata, and ranks
--- that change in one round more than there are rules betray a circle.
+-- Tables filled place by place, and rounds of ranks: ranks that a round does not change are the strata, and
+-- ranks that change in one round more than there are rules betray a circle.
 use mathlib.Core.Path.{_≡_, sym, ap, _∙_}
 use mathlib.Core.Bool.{true, false, not}
 use mathlib.Core.List.{List}
@@ -17,8 +17,9 @@ use Rattle.foundation.specs.GraphFacts.{Still, rank-rounds, rank-soon, still-so
 use Rattle.model.specs.declared.Rule.{Rule}
 use Rattle.model.specs.Encoding.{ruleOf}
 use Rattle.model.specs.Stratification.{precedes, negates, weight, stratified, stratum, light}
-use Rattle.rules.specs.Strata.{rulesIn, ruleAt, Filled, Holds, raised, Same}
-use Rattle.rules.proofs.Records.{length-records, record-mem, mem-record}
+use Rattle.rules.specs.Strata.{Filled, Holds, raised, Same}
+use Rattle.encoding.specs.Format.{rulesIn, ruleAt}
+use Rattle.foundation.specs.Records.{length-records, record-mem, mem-record}
 
 -- one place more
 pub fill-turn : (f : ℕ → ℕ) (l : List ℕ) (j v : ℕ) → j < length l → v ≡ f j → Filled j f l →
@@ -50,7 +51,8 @@ module _ (n : ℕ) (s : List ℕ) where
   unfolding rankIn
   next-ranks k b g i l = rw add-one (g i l)
 
-  pub ranks-small : (k : ℕ) (a : List ℕ) → Holds n s (ranks rules k) a → (i : ℕ) → i < n → getD a i 0 ≤ 2 * k + 1
+  pub ranks-small : (k : ℕ) (a : List ℕ) → Holds n s (ranks rules k) a → (i : ℕ) → i < n →
+      getD a i 0 ≤ 2 * k + 1
   ranks-small k a h i l = omega (arith, h i l, rank-rounds precedes weight negates rules light k (ruleAt s i))
 
   -- a round of ranks: a before it, b after it

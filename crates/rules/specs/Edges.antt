@@ -1,5 +1,5 @@
--- Which rule looks at which, as a table of edges with weights: a row of 65 bytes for each rule, in it a byte for each
--- rule that it looks at, which is three times that rule's number and the weight of the step.
+-- Which rule looks at which, as a table of edges with weights: a row of 65 bytes for each rule, in it a byte
+-- for each rule that it looks at, which is three times that rule's number and the weight of the step.
 use mathlib.Core.Path.{_≡_}
 use Prim.Native.Nat.{ℕ, zero, suc, _+_, _*_, _/_, _%_, _≤_, _<_, max}
 use mathlib.Core.List.{List}
@@ -7,7 +7,7 @@ use lib.ListN.{getD}
 use Rattle.foundation.specs.Tests.{pick}
 use Rattle.model.specs.declared.Rule.{Rule}
 use Rattle.model.specs.Stratification.{precedes, weight}
-use Rattle.rules.specs.Strata.{ruleAt}
+use Rattle.encoding.specs.Format.{ruleAt}
 
 -- what the step from q to r counts in a rank, and one more; 0 if r does not look at q
 abbrev pub stepOf : Rule → Rule → ℕ
@@ -21,7 +21,8 @@ edgeAt edges j e = getD edges (j * 65 + e) 0
 pub record Row (i : ℕ) (s : List ℕ) (j : ℕ) (edges : List ℕ) (c : ℕ) : Type 0 where
   pub few : c ≤ i
   pub inside : (e : ℕ) → e < c → edgeAt edges j e / 3 < i
-  pub steps : (e : ℕ) → e < c → stepOf (ruleAt s (edgeAt edges j e / 3)) (ruleAt s j) ≡ suc (edgeAt edges j e % 3)
+  pub steps : (e : ℕ) → e < c → stepOf (ruleAt s (edgeAt edges j e / 3)) (ruleAt s j)
+      ≡ suc (edgeAt edges j e % 3)
   pub all : (q : ℕ) → q < i → 0 < stepOf (ruleAt s q) (ruleAt s j) →
       (e : ℕ) × (e < c) × (edgeAt edges j e / 3 ≡ q)
 

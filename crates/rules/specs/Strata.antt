@@ -1,24 +1,16 @@
--- The rules of a base's bytes by their places, and tables with a number for each.
+-- Tables with a number for each rule of a base's bytes, at the rule's place.
 use mathlib.Core.Path.{_≡_}
-use Prim.Native.Nat.{ℕ, _+_, _*_, _<_, max}
+use Prim.Native.Nat.{ℕ, _+_, _<_, max}
 use mathlib.Core.Bool.{Bool, true}
 use mathlib.Core.List.{List}
-use lib.ListN.{drop, getD}
+use lib.ListN.{getD}
 use Rattle.foundation.specs.Lists.{keepIf}
-use Rattle.foundation.specs.Bytes.{records}
 use Rattle.foundation.specs.Graph.{most}
 use Rattle.foundation.specs.Totals.{count}
 use Rattle.model.specs.declared.Rule.{Rule}
-use Rattle.model.specs.Encoding.{ruleOf}
+use Rattle.encoding.specs.Format.{rulesIn, ruleAt}
 use Rattle.model.specs.Stratification.{feeds, precedes, negates, weight, stratified, stratum}
-use Rattle.rules.specs.Masks.{maskOf}
-
--- the n rules that stand in s, and the i-th of them
-abbrev pub rulesIn : ℕ → List ℕ → List Rule
-rulesIn n s = records 28 ruleOf n s
-
-abbrev pub ruleAt : List ℕ → ℕ → Rule
-ruleAt s i = ruleOf (drop (i * 28) s)
+use Rattle.foundation.specs.Masks.{maskOf}
 
 -- the first n numbers of l are those of f
 abbrev pub Filled : ℕ → (ℕ → ℕ) → List ℕ → Type 0

@@ -5,13 +5,15 @@ ghost use Prim.Native.Nat.{ℕ, _*_, _≤_, _<_};
 ghost use lib.ListN.{length};
 ghost use Rattle.model.specs.Stratification as model;
 ghost use Rattle.model.specs.Encoding.{bit};
-ghost use Rattle.rules.specs.Masks.{maskOf};
-ghost use Rattle.rules.specs.Strata.{rulesIn, feedersOf, Holds};
+ghost use Rattle.foundation.specs.Masks.{maskOf};
+ghost use Rattle.rules.specs.Strata.{feedersOf, Holds};
+ghost use Rattle.encoding.specs.Format.{rulesIn};
 
 mod ranks;
 
 use model::Operator;
 use model::OptionTerm;
+use model::RULE_BYTES;
 use model::Rule;
 pub use ranks::is_stratified;
 pub use ranks::stratify;
@@ -86,7 +88,7 @@ pub fn feeders(s: &[u8], n: usize, r: Rule) -> u64
     let mut q = n;
     while 0 < q {
         q -= 1;
-        m = 2 * m + feeds(encoding::rule_at(s, q * 28), r) as u64;
+        m = 2 * m + feeds(encoding::rule_at(s, q * RULE_BYTES), r) as u64;
     }
     m
 }
@@ -100,7 +102,7 @@ pub fn negating(s: &[u8], n: usize) -> u64
     let mut i = n;
     while 0 < i {
         i -= 1;
-        m = 2 * m + negates(encoding::rule_at(s, i * 28)) as u64;
+        m = 2 * m + negates(encoding::rule_at(s, i * RULE_BYTES)) as u64;
     }
     m
 }
@@ -113,7 +115,7 @@ pub fn feeding(s: &[u8], n: usize, fed: &mut [u64; 64])
     *fed = [0; 64];
     let mut i = 0;
     while i < n {
-        fed[i] = feeders(s, n, encoding::rule_at(s, i * 28));
+        fed[i] = feeders(s, n, encoding::rule_at(s, i * RULE_BYTES));
         i += 1;
     }
 }

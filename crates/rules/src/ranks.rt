@@ -1,5 +1,5 @@
-// The test for circles and the strata, of up to 65 rules: those of a full base and one more. Which rule looks at
-// which is asked once, and noted as edges with weights.
+// The test for circles and the strata, of up to 65 rules: those of a full base and one more. Which rule looks
+// at which is asked once, and noted as edges with weights.
 ghost use mathlib.Core.Path.{_≡_};
 ghost use mathlib.Core.Bool.{true};
 ghost use mathlib.Core.List.{List};
@@ -10,11 +10,13 @@ ghost use Rattle.foundation.specs.Tests.{pick};
 ghost use Rattle.foundation.specs.Totals.{count};
 ghost use Rattle.model.specs.Stratification as model;
 ghost use Rattle.model.specs.declared.Rule.{Rule};
-ghost use Rattle.rules.specs.Strata.{rulesIn, Holds, raised, Stratified, Same};
+ghost use Rattle.rules.specs.Strata.{Holds, raised, Stratified, Same};
+ghost use Rattle.encoding.specs.Format.{rulesIn};
 ghost use Rattle.rules.specs.Edges.{stepOf, Row, Edges, Inside, bestOf};
 use crate::feeds;
 use crate::negates;
 use encoding::rule_at;
+use model::RULE_BYTES;
 use model::Rule;
 
 // What the step from q to r counts in a rank, and one more; 0 if r does not look at q.
@@ -49,11 +51,11 @@ fn put_row(s: &[u8], n: usize, j: usize, edges: &mut [u8; 4225]) -> usize
     ensures { λ c. ⌜ Row n (now (s .entry)) j (now (edges .exit)) c × (length (now (edges .exit)) ≡ 4225)
         × ((k : ℕ) → k < j * 65 → getD (now (edges .exit)) k 0 ≡ getD (now (edges .entry)) k 0) ⌝ }
 {
-    let r = rule_at(s, j * 28);
+    let r = rule_at(s, j * RULE_BYTES);
     let mut c = 0;
     let mut i = 0;
     while i < n {
-        c = put_edge(edges, j * 65, c, i, step(rule_at(s, i * 28), r));
+        c = put_edge(edges, j * 65, c, i, step(rule_at(s, i * RULE_BYTES), r));
         i += 1;
     }
     c
@@ -61,7 +63,8 @@ fn put_row(s: &[u8], n: usize, j: usize, edges: &mut [u8; 4225]) -> usize
 
 // Puts the edges into each of n rules in its row, and how many they are.
 fn put_edges(s: &[u8], n: usize, edges: &mut [u8; 4225], counts: &mut [u8; 65])
-    requires { ⌜ (n * 28 ≤ length (now s)) × (n ≤ 65) × (length (now edges) ≡ 4225) × (length (now counts) ≡ 65) ⌝ }
+    requires { ⌜ (n * 28 ≤ length (now s)) × (n ≤ 65) × (length (now edges) ≡ 4225)
+        × (length (now counts) ≡ 65) ⌝ }
     ensures { λ _. ⌜ Edges n (now (s .entry)) (now (edges .exit)) (now (counts .exit)) ⌝ }
 {
     let mut j = 0;
@@ -89,7 +92,7 @@ fn put_own(s: &[u8], n: usize, own: &mut [u16; 65])
 {
     let mut i = 0;
     while i < n {
-        own[i] = one_if(negates(rule_at(s, i * 28)));
+        own[i] = one_if(negates(rule_at(s, i * RULE_BYTES)));
         i += 1;
     }
 }
@@ -159,8 +162,9 @@ fn same_ranks(a: &[u16], b: &[u16], n: usize) -> bool
     true
 }
 
-// The test for circles: whether no step that counts leads back to where it began. If so, `strata` gets the stratum of
-// each of the n rules. As many rounds as there are rules settle the ranks, unless there is a circle.
+// The test for circles: whether no step that counts leads back to where it began. If so, `strata` gets the
+// stratum of each of the n rules. As many rounds as there are rules settle the ranks, unless there is a
+// circle.
 pub fn stratify(s: &[u8], n: usize, strata: &mut [u16; 65]) -> bool
     requires { ⌜ (n * 28 ≤ length (now s)) × (n ≤ 65) ⌝ }
     ensures { λ r. ⌜ Stratified n (now (s .entry)) (now (strata .exit)) r ⌝ }

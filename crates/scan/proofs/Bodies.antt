@@ -16,10 +16,9 @@ use Rattle.model.specs.Rules.{may, when}
 use Rattle.model.specs.Soundness.{soundBytes}
 use Rattle.model.specs.SoundTests.{order-test}
 use Rattle.encoding.specs.declared.Counts.{Counts}
-use Rattle.encoding.specs.Format.{countsOf, authorizationsAt, rulesAt}
-use Rattle.support.specs.Cover.{authorizationsIn}
-use Rattle.rules.specs.Strata.{rulesIn}
-use Rattle.refusals.proofs.Places.{lent, base-sound, authorizations-in, rules-in, fitting, there, authorizations-lent, rules-lent}
+use Rattle.encoding.specs.Format.{countsOf, authorizationsAt, rulesAt, authorizationsIn, rulesIn}
+use Rattle.lookup.proofs.SoundBodies.{lent, base-sound, authorizations-in, rules-in, fitting, there}
+use Rattle.lookup.proofs.SoundBodies.{authorizations-lent, rules-lent}
 use Rattle.plan.specs.Scene.{bareBase, Grounds}
 use Rattle.plan.specs.Grounds.{grounds}
 use Rattle.scan.specs.Walk.{bare-may, bare-when, mayIn, whenIn}

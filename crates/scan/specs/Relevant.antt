@@ -20,8 +20,7 @@ use Rattle.model.specs.Stratification.{fitsOption}
 use Rattle.model.specs.Rules.{Pattern, fitsGrantor, fits, rightOf, holds, asked, mayWith, may, when}
 use Rattle.model.specs.SideFacts.{fits-is}
 use Rattle.model.specs.Answers.{accessIn}
-use Rattle.support.specs.Cover.{authorizationsIn}
-use Rattle.rules.specs.Strata.{rulesIn, ruleAt}
+use Rattle.encoding.specs.Format.{authorizationsIn, rulesIn, ruleAt}
 use Rattle.questions.specs.Table.{Node, Inward}
 use Rattle.questions.specs.Drawn.{indexOf, among, counted}
 use Rattle.questions.specs.DrawnFacts.{drawn-inward}

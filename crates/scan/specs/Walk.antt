@@ -28,10 +28,9 @@ use Rattle.model.specs.Answers.{accessIn, words}
 use Rattle.model.specs.Means.{marks}
 use Rattle.model.specs.HoldsMarks.{may-steady, when-count}
 use Rattle.marks.specs.Least.{Found, next-is}
-use Rattle.support.specs.Cover.{authorizationsIn}
-use Rattle.rules.specs.Masks.{maskOf}
-use Rattle.rules.specs.Strata.{rulesIn}
-use Rattle.rules.proofs.Records.{length-records}
+use Rattle.encoding.specs.Format.{authorizationsIn, rulesIn}
+use Rattle.foundation.specs.Masks.{maskOf}
+use Rattle.foundation.specs.Records.{length-records}
 use Rattle.questions.specs.Drawn.{indexOf, among, counted, placeOf}
 use Rattle.plan.specs.Scene.{derivesOn, bareBase, baseIn, Prepared, At}
 use Rattle.plan.specs.Reading.{read-off}

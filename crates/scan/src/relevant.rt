@@ -7,8 +7,7 @@ ghost use lib.ListN.{length, take};
 ghost use Rattle.foundation.specs.Tests.{pick};
 ghost use Rattle.foundation.specs.Lists.{anyb};
 ghost use Rattle.model.specs.Answers.{accessIn};
-ghost use Rattle.support.specs.Cover.{authorizationsIn};
-ghost use Rattle.rules.specs.Strata.{rulesIn};
+ghost use Rattle.encoding.specs.Format.{authorizationsIn, rulesIn};
 ghost use Rattle.plan.specs.Scene.{fitsRight, Grounds};
 ghost use Rattle.scan.specs.Relevant.{isFor, matters, Kept, Narrowed};
 use model::Access;
@@ -63,7 +62,7 @@ fn put_if(kept: &mut [u8], k: usize, a: Authorization, keep: bool) -> usize
         ≡ authorizationsIn k (now (kept .entry)) ++ pick keep (a ∷ []) []) ⌝ }
 {
     if keep {
-        support::insert_authorization(kept, k, k, a);
+        encoding::insert_authorization(kept, k, k, a);
         return k + 1;
     }
     k

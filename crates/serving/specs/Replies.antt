@@ -1,32 +1,16 @@
--- A reply on a line of its own in a buffer, and which replies have runs.
-use mathlib.Core.Path.{_≡_, refl, ap, _∙_}
-use Prim.Native.Nat.{ℕ, suc, _+_, _*_, _/_, _≤_}
+-- A reply on a line of its own in a buffer, and a line that was answered.
+use mathlib.Core.Path.{_≡_, ap, _∙_}
+use Prim.Native.Nat.{ℕ, suc, _+_, _≤_}
 use native.Mathlib.Omega.{arith}
-use mathlib.Core.Bool.{Bool, true, false, false≢true, not}
+use mathlib.Core.Bool.{true}
 use mathlib.Core.List.{List, [], _∷_, _++_}
-use lib.ListN.{length, take, drop, set, length-append, length-set}
+use lib.ListN.{length, take, set, length-set}
 use lib.Seq.{take-suc-set}
-use Rattle.foundation.specs.declared.Interval.{Interval}
-use Rattle.model.specs.declared.Request.{Request}
-use Rattle.model.specs.declared.Access.{Access}
-use Rattle.model.specs.declared.Question.{Question}
-use Rattle.model.specs.declared.Reply.{Reply}
-use Rattle.model.specs.declared.Reply.the-variants.{Done, Refused, Unsupported, Yes, No, Runs}
-use Rattle.model.specs.Rules.{may, when}
-use Rattle.model.specs.Means.{plainly}
-use Rattle.model.specs.Step.{row, accepting, effect}
-use Rattle.model.specs.StepFacts.{by-rows}
-use Rattle.model.specs.Encoding.{encode, decode}
 use Rattle.model.specs.Soundness.{soundBytes}
-use Rattle.model.specs.SoundnessFacts.{sound-bytes}
-use Rattle.model.specs.Answers.{Answer, answering, refusing, shown, requestTable, mayTable, whenTable, mayReply}
-use Rattle.model.specs.Answers.{words, request, mayAnswer, whenAnswer}
-use Rattle.model.specs.Text.{Line, order, asksMay, asksWhen, unreadable, newline, readLine, decimal, printReply}
-use Rattle.model.specs.Session.{byteTurn, runsOf}
+use Rattle.model.specs.Text.{Line, order, asksMay, asksWhen, unreadable, newline, readLine, printReply}
+use Rattle.model.specs.Session.{byteTurn}
 use Rattle.laws.specs.RequestFacts.{request-sound}
-use Rattle.laws.specs.SessionFacts.{when-most}
-use Rattle.scan.specs.Runs.{words-length}
-use Rattle.printing.specs.Print.{RunsFit, longestReply}
+use Rattle.printing.specs.Print.{longestReply}
 use Rattle.serving.specs.Turns.{Turned}
 
 -- the text and a newline stand at the front, n bytes in all
@@ -82,80 +66,3 @@ turned s l e said p left = (
   },
   p .room,
 )
-
--- ---- the replies to a request and to MAY have no runs
-
-abbrev pub runless : Reply → Bool
-runless (Done label count) = true
-runless (Refused n) = true
-runless (Unsupported t) = true
-runless Yes = true
-runless No = true
-runless (Runs n) = false
-
-pub request-runless : (s : List ℕ) (q : Request) → runless (request s q .reply) ≡ true
-unfolding request
-request-runless s q =
-    let after = effect plainly (decode s) q in
-    by-rows (requestTable s q) (refusing s) (answering (accepting (decode s) q after) (encode after))
-    (λ (a : Answer). runless (a .reply) ≡ true) refl (λ z. refl)
-
-pub may-runless : (s : List ℕ) (q : Question) → runless (mayAnswer s q) ≡ true
-unfolding mayAnswer
-may-runless s q =
-    let yes? = may (decode s) (q .access) (q .instant) in
-    by-rows (row 2 (not (soundBytes s)) ∷ mayTable (decode s) q) Refused (mayReply yes?)
-    (λ (r : Reply). runless r ≡ true) refl (λ z. said yes?)
-  where
-    said : (yes? : Bool) → runless (mayReply yes?) ≡ true
-    said true = refl
-    said false = refl
-
-pub runless-fits : (r : Reply) (list : List ℕ) → runless r ≡ true → RunsFit r list
-runless-fits (Done label count) list e = tt
-runless-fits (Refused n) list e = tt
-runless-fits (Unsupported t) list e = tt
-runless-fits Yes list e = tt
-runless-fits No list e = tt
-runless-fits (Runs n) list e = absurd (false≢true e)
-
-pub shown-runless : (r : Reply) → runless (shown r) ≡ runless r
-shown-runless (Done label count) = refl
-shown-runless (Refused n) = refl
-shown-runless (Unsupported t) = refl
-shown-runless Yes = refl
-shown-runless No = refl
-shown-runless (Runs n) = refl
-
--- a reply is printed as it is shown: 9 without its instant
-pub shown-text : (r : Reply) (runs : List Interval) → printReply r runs ≡ printReply (shown r) runs
-unfolding decimal
-shown-text (Done label count) runs = refl
-shown-text (Refused n) runs = refl
-shown-text (Unsupported t) runs = refl
-shown-text Yes runs = refl
-shown-text No runs = refl
-shown-text (Runs n) runs = refl
-
-pub no-runs : (r : Reply) (list : List ℕ) → runless r ≡ true → runsOf r list ≡ []
-no-runs (Done label count) list e = refl
-no-runs (Refused n) list e = refl
-no-runs (Unsupported t) list e = refl
-no-runs Yes list e = refl
-no-runs No list e = refl
-no-runs (Runs n) list e = absurd (false≢true e)
-
--- ---- the runs of WHEN are in the list, and few enough
-
-pub when-fits : (s : List ℕ) (x : Access) (list : List ℕ) → soundBytes s ≡ true →
-    (let a = whenAnswer s x list in RunsFit (a .reply) (a .lent))
-unfolding whenAnswer
-when-fits s x list e =
-    let runs = when (decode s) x in
-    let n = length runs in
-    by-rows (row 2 (not (soundBytes s)) ∷ whenTable (decode s) x (length list / 2) n) (refusing list)
-    (answering (Runs n) (words runs ++ drop (2 * n) list)) (λ (a : Answer). RunsFit (a .reply) (a .lent)) tt
-    (λ z. (
-      omega (arith, length-append (words runs) (drop (2 * n) list), words-length runs),
-      when-most (decode s) (sound-bytes s e .1) x,
-    ))

@@ -9,6 +9,7 @@ ghost use Rattle.serving.specs.Turns.{Kept};
 ghost use Rattle.serving.specs.Steps.{Steps};
 use crate::steps::Stepped;
 use crate::steps::serve_piece_step;
+use model::REPLY_BYTES;
 
 // Goes on with a piece from where `g` has come to, and prints behind what it has printed.
 fn serve_behind(
@@ -18,7 +19,8 @@ fn serve_behind(
     piece: &[u8],
     out: &mut [u8],
 ) -> Stepped
-    requires { ⌜ (soundBytes (now s) ≡ true) × (g .n + 24001 ≤ length (now out)) × (g .at ≤ length (now piece))
+    requires { ⌜ (soundBytes (now s) ≡ true) × (g .n + 24001 ≤ length (now out))
+        × (g .at ≤ length (now piece))
         × (g .len ≤ 97) × (length (now line) ≡ 97) ⌝ }
     ensures { λ r. ⌜ ((pending : List ℕ) → Kept pending (g .len) (now (line .entry)) →
         Steps (now (s .entry)) pending (now (piece .entry)) (g .at) r (now (s .exit)) (now (line .exit))
@@ -54,7 +56,7 @@ pub fn serve_lines(
         at: from,
     };
     while g.at < piece.len() {
-        if out.len() - g.n < 24001 {
+        if out.len() - g.n < REPLY_BYTES {
             return g;
         }
         let r = serve_behind(s, line, g, piece, out);

@@ -8,8 +8,9 @@ ghost use Rattle.model.specs.Soundness.{soundBytes};
 ghost use Rattle.model.specs.Text.{order, asksMay, asksWhen, printReply};
 ghost use Rattle.model.specs.Session.{runsOf, byteTurn};
 ghost use Rattle.printing.specs.Print.{RunsFit};
+ghost use Rattle.text.specs.Short.{Short};
 ghost use Rattle.serving.specs.Turns.{Turned};
-ghost use Rattle.serving.specs.Replies.{PrintedLine, turnText, runless};
+ghost use Rattle.serving.specs.Replies.{PrintedLine, turnText};
 use model::Access;
 use model::Question;
 use model::Reply;
@@ -28,9 +29,9 @@ fn put_reply(out: &mut [u8], r: Reply, list: &[u32]) -> usize
     n + 1
 }
 
-// The same for a reply without runs.
-fn put_runless(out: &mut [u8], r: Reply) -> usize
-    requires { ⌜ (24001 ≤ length (now out)) × (runless r ≡ true) ⌝ }
+// The same for a short reply, which has no runs.
+fn put_short(out: &mut [u8], r: Reply) -> usize
+    requires { ⌜ (24001 ≤ length (now out)) × Short r ⌝ }
     ensures { λ n. ⌜ PrintedLine (printReply r []) (now (out .entry)) (now (out .exit)) n ⌝ }
 {
     let none = [0u32; 0];
@@ -43,28 +44,31 @@ fn serve_order(s: &mut [u8], q: Request, out: &mut [u8]) -> usize
     ensures { λ n. ⌜ PrintedLine (turnText (now (s .entry)) (order q)) (now (out .entry)) (now (out .exit)) n
         × (now (s .exit) ≡ byteTurn (now (s .entry)) (order q) .lent) ⌝ }
 {
-    put_runless(out, requests::step(s, q))
+    put_short(out, requests::step(s, q))
 }
 
 // Answers MAY.
 fn serve_may(s: &[u8], q: Question, out: &mut [u8]) -> usize
     requires { ⌜ (soundBytes (now s) ≡ true) × (24001 ≤ length (now out)) ⌝ }
-    ensures { λ n. ⌜ PrintedLine (turnText (now (s .entry)) (asksMay q)) (now (out .entry)) (now (out .exit)) n ⌝ }
+    ensures { λ n. ⌜ PrintedLine (turnText (now (s .entry)) (asksMay q)) (now (out .entry))
+        (now (out .exit)) n ⌝ }
 {
-    put_runless(out, answers::may_sound(s, q))
+    put_short(out, answers::may_sound(s, q))
 }
 
 // Answers WHEN, with a list of 1,100 pairs.
 fn serve_when(s: &[u8], x: Access, out: &mut [u8]) -> usize
     requires { ⌜ (soundBytes (now s) ≡ true) × (24001 ≤ length (now out)) ⌝ }
-    ensures { λ n. ⌜ PrintedLine (turnText (now (s .entry)) (asksWhen x)) (now (out .entry)) (now (out .exit)) n ⌝ }
+    ensures { λ n. ⌜ PrintedLine (turnText (now (s .entry)) (asksWhen x)) (now (out .entry))
+        (now (out .exit)) n ⌝ }
 {
     let mut list = [0u32; 2200];
     let r = answers::when_sound(s, x, &mut list);
     put_reply(out, r, &list)
 }
 
-// Answers one line of a session on a sound base, and prints the reply and a newline at the front of `out`; how many
+// Answers one line of a session on a sound base, and prints the reply and a newline at the front of `out`;
+// how many
 // bytes that is. A line that cannot be read is answered with 1.
 pub fn serve_line(s: &mut [u8], line: &[u8], out: &mut [u8]) -> usize
     requires { ⌜ (soundBytes (now s) ≡ true) × (24001 ≤ length (now out)) ⌝ }
@@ -72,7 +76,7 @@ pub fn serve_line(s: &mut [u8], line: &[u8], out: &mut [u8]) -> usize
         × (length (now (out .exit)) ≡ length (now (out .entry))) ⌝ }
 {
     let Parsed::Line(a) = reading::read_line(line) else {
-        return put_runless(out, Reply::Refused(1));
+        return put_short(out, Reply::Refused(1));
     };
     match a {
         Asked::Order(q) => serve_order(s, q, out),

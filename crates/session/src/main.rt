@@ -1,7 +1,7 @@
-// The program `session`: requests and questions as text on standard input, one a line, and a reply a line on standard
-// output. It reads what comes and answers each line as soon as it is ended, so that it serves in a pipe and at a
-// terminal. At the end of the input it answers the line that is not ended. A read or a write that fails ends it, and
-// then that line is not answered.
+// The program `session`: requests and questions as text on standard input, one a line, and a reply a line on
+// standard output. It reads what comes and answers each line as soon as it is ended, so that it serves in a
+// pipe and at a terminal. At the end of the input it answers the line that is not ended. A read or a write
+// that fails ends it, and then that line is not answered.
 ghost use mathlib.Core.Path.{_≡_};
 ghost use mathlib.Core.Bool.{true};
 ghost use mathlib.Core.List.{List};
@@ -16,6 +16,7 @@ ghost use Rattle.session.specs.Input.{Ready, mixed, digest, arrived, Fet
 use libc::STDERR_FILENO;
 use libc::STDIN_FILENO;
 use libc::STDOUT_FILENO;
+use model::BASE_BYTES;
 
 // How many bytes are kept of the line that is not ended yet, the digest of the bytes that were handed to be written,
 // that of the bytes that were read, how many reads there were, what the last one answered, and whether every write
@@ -121,7 +122,8 @@ fn serve_piece(s: &mut [u8], line: &mut [u8; 97], g: Going, piece: &[u8], out: &
     }
 }
 
-// Reads a piece into `buf` and answers its lines. At the end of the input, and where the read fails, there is none.
+// Reads a piece into `buf` and answers its lines. At the end of the input, and where the read fails, there is
+// none.
 fn serve_some(s: &mut [u8], line: &mut [u8; 97], g: Going, buf: &mut [u8], out: &mut [u8]) -> Going
     requires { ⌜ Ready (now s) (now line) (g .len) (now out) × (g .reads < 18446744073709551615) ⌝ }
     ensures { λ r. ⌜ ((pending : List ℕ) → Kept pending (g .len) (now (line .entry)) →
@@ -228,7 +230,7 @@ fn tell(g: Going) {
 
 // Starts with an empty base.
 fn main() {
-    let mut s = [0u8; 27936];
+    let mut s = [0u8; BASE_BYTES];
     base::create(&mut s);
     tell(run(&mut s));
 }

@@ -15,13 +15,16 @@ use Rattle.model.specs.Stratification.{stratified}
 use Rattle.model.specs.Step.{countsHold}
 use Rattle.model.specs.Soundness.{sound, allSupported}
 use Rattle.encoding.specs.declared.Counts.{Counts}
-use Rattle.encoding.specs.Format.{countsOf, countsFit, headingFits, administratorsAt, referrersAt, authorizationsAt}
-use Rattle.encoding.specs.Format.{rulesAt, endAt, authorizationClean, ruleClean, eachRecord, zeros, formatFits}
-use Rattle.encoding.specs.FormatFacts.{decoded-objects, decoded-administrators, decoded-referrers}
-use Rattle.encoding.specs.FormatFacts.{decoded-authorizations, decoded-rules, decoded-counts}
-use Rattle.soundness.specs.Parts.{objectsPart, privilegesPart, authorizationsPart, rulesPart, sound-parts}
+use Rattle.encoding.specs.Format.{countsOf, countsFit, headingFits, administratorsAt, referrersAt}
+use Rattle.encoding.specs.Format.{authorizationsAt}
+use Rattle.encoding.specs.Format.{rulesAt, endAt, authorizationClean, ruleClean, eachRecord, zeros}
+use Rattle.encoding.specs.Format.{formatFits}
+use Rattle.encoding.proofs.FormatFacts.{decoded-objects, decoded-administrators, decoded-referrers}
+use Rattle.encoding.proofs.FormatFacts.{decoded-authorizations, decoded-rules, decoded-counts}
+use Rattle.soundness.specs.Parts.{objectsPart, privilegesPart, authorizationsPart, rulesPart}
+use Rattle.soundness.specs.Parts.{sound-parts}
 use Rattle.soundness.specs.Bodies.{baseOf, partsHold}
-use Rattle.soundness.proofs.Places.{rest-of}
+use Rattle.lookup.proofs.SoundBodies.{rest-of}
 
 -- what the format says of the length and the counts
 module _ (s : List ℕ) (e : formatFits s ≡ true) where
@@ -47,7 +50,8 @@ module _ (s : List ℕ) (e : formatFits s ≡ true) where
 
 -- the decoded base by its bodies
 decoded : (s : List ℕ) → decode s ≡ baseOf (le 4 (drop 4 s)) (le 2 (drop 8 s)) (countsOf s) (drop 32 s)
-    (drop (administratorsAt (countsOf s)) s) (drop (referrersAt (countsOf s)) s) (drop (authorizationsAt (countsOf s)) s)
+    (drop (administratorsAt (countsOf s)) s) (drop (referrersAt (countsOf s)) s)
+    (drop (authorizationsAt (countsOf s)) s)
     (drop (rulesAt (countsOf s)) s)
 unfolding decode
 decoded s = λ k. record {
@@ -61,7 +65,8 @@ decoded s = λ k. record {
 }
 
 -- where the counts and the clock and last label fit, the parts are all
-parts-left : (b : Base) → countsHold b ≡ true → b .clock ≤ 4294967295 → b .last ≤ 65535 → sound b ≡ partsHold b
+parts-left : (b : Base) → countsHold b ≡ true → b .clock ≤ 4294967295 → b .last ≤ 65535 →
+    sound b ≡ partsHold b
 parts-left b f h l =
     sound-parts b
     ∙ (λ k. f k && le-true (b .clock) 4294967295 h k && le-true (b .last) 65535 l k
@@ -79,7 +84,8 @@ module _ (s : List ℕ) (c : Counts) (clock last a₂ a₃ a₄ a₅ : ℕ) (r :
       clock ≡ le 4 (drop 4 s) → clock ≤ 4294967295 → last ≡ le 2 (drop 8 s) → last ≤ 65535 →
       a₂ ≡ administratorsAt c → a₃ ≡ referrersAt c → a₄ ≡ authorizationsAt c → a₅ ≡ rulesAt c →
       r ≡ partsHold (baseOf clock last c (take (length s - 32) (drop 32 s)) (take (length s - a₂) (drop a₂ s))
-      (take (length s - a₃) (drop a₃ s)) (take (length s - a₄) (drop a₄ s)) (take (length s - a₅) (drop a₅ s))) →
+      (take (length s - a₃) (drop a₃ s)) (take (length s - a₄) (drop a₄ s))
+      (take (length s - a₅) (drop a₅ s))) →
       r ≡ sound (decode s)
   sound-asked f e ec hc el hl e₂ e₃ e₄ e₅ q =
       let d = decoded s in

@@ -1,3 +1,2 @@
-pub mod Loops
-pub mod Places
+pub mod FormatTests
 pub mod Decoded

@@ -7,8 +7,7 @@ use Rattle.model.specs.Base.{Base}
 use Rattle.model.specs.Stratification.{stratified}
 use Rattle.model.specs.Soundness.{allSupported}
 use Rattle.encoding.specs.declared.Counts.{Counts}
-use Rattle.support.specs.Cover.{privilegesIn, authorizationsIn}
-use Rattle.rules.specs.Strata.{rulesIn}
+use Rattle.encoding.specs.Format.{privilegesIn, authorizationsIn, rulesIn}
 use Rattle.soundness.specs.Parts.{objectsPart, privilegesPart, authorizationsPart, rulesPart}
 
 -- the base with these bodies
@@ -24,14 +23,15 @@ baseOf clock last c objects administrators referrers authorizations rules = reco
 }
 
 -- the bodies that are lent are long enough, and the two that are sorted or ranked not too long
-pub record Lent (c : Counts) (objects administrators referrers authorizations rules : List ℕ) : Type 0 where
-  pub objects-there : c .objects * 4 ≤ length objects
-  pub administrators-there : c .administrators * 4 ≤ length administrators
-  pub referrers-there : c .referrers * 4 ≤ length referrers
-  pub authorizations-there : c .authorizations * 24 ≤ length authorizations
-  pub rules-there : c .rules * 28 ≤ length rules
-  pub sorted : c .authorizations ≤ 1024
-  pub ranked : c .rules ≤ 64
+pub record BodiesFit (c : Counts) (objects administrators referrers authorizations rules : List ℕ) : Type 0
+  where
+    pub objects-there : c .objects * 4 ≤ length objects
+    pub administrators-there : c .administrators * 4 ≤ length administrators
+    pub referrers-there : c .referrers * 4 ≤ length referrers
+    pub authorizations-there : c .authorizations * 24 ≤ length authorizations
+    pub rules-there : c .rules * 28 ≤ length rules
+    pub sorted : c .authorizations ≤ 1024
+    pub ranked : c .rules ≤ 64
 
 -- each body beside the others
 abbrev pub bodiesHold : Base → Bool

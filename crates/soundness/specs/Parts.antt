@@ -1,8 +1,9 @@
--- Soundness body by body, as code asks it: `sound-parts` says that a base is sound exactly if every part passes.
-use mathlib.Core.Path.{_≡_, refl, sym, ap, _∙_}
-use mathlib.Core.Logic.{_⊎_, inl, inr}
+-- Soundness body by body, as code asks it: `sound-parts` says that a base is sound exactly if every part
+-- passes.
+use mathlib.Core.Path.{_≡_, refl}
+use mathlib.Core.Logic.{inl, inr}
 use Prim.Native.Nat.{ℕ, suc}
-use mathlib.Core.Bool.{Bool, true, false, not, _&&_, _||_, Bool·beq}
+use mathlib.Core.Bool.{Bool, true, not, _&&_, _||_, Bool·beq}
 use mathlib.Core.List.{List, [], _∷_}
 use lib.Dec.{leb, ltb, eqb}
 use Rattle.foundation.specs.Tests.{agree, and-true, and-intro}
@@ -15,14 +16,14 @@ use Rattle.model.specs.Base.{Base, listed, exists, owns, mayRule}
 use Rattle.model.specs.Requests.{before}
 use Rattle.model.specs.Stratification.{isStar, stratified}
 use Rattle.model.specs.Step.{countsHold, optionFits}
-use Rattle.model.specs.Soundness.{chained, rises, privilegeIn, authorizationIn, ruleIn, startsFirst, sameHead, allSupported, sound}
+use Rattle.model.specs.Soundness.{chained, rises, privilegeIn, authorizationIn, ruleIn, startsFirst, sameHead}
+use Rattle.model.specs.Soundness.{allSupported, sound}
 use Rattle.model.specs.SoundnessFacts.{Sound, sound-tests, tests-sound}
-use Rattle.model.specs.SoundTests.{order-test, ranges-test, intervals-test, exist-test, owners-test, labels-test}
+use Rattle.lookup.specs.Numbers.{existsIn}
+use Rattle.model.specs.SoundTests.{order-test, ranges-test, intervals-test, exist-test, owners-test}
+use Rattle.model.specs.SoundTests.{labels-test}
 
 -- ---- the parts
-
-abbrev pub existsIn : List Privilege → ℕ → Bool
-existsIn os o = anyb (λ p. eqb (p .object) o) os
 
 -- objects rise by number, in range
 abbrev pub objectsPart : List Privilege → Bool
@@ -35,7 +36,8 @@ privilegeTest os p = privilegeIn p && existsIn os (p .object) && not (listed os 
 abbrev pub privilegesPart : List Privilege → List Privilege → Bool
 privilegesPart os ps = chained before ps && allb (privilegeTest os) ps
 
--- two authorizations next to each other: they rise, and those of one label agree, with an instant missing between
+-- two authorizations next to each other: they rise, and those of one label agree, with an instant missing
+-- between
 abbrev pub neighbours : Authorization → Authorization → Bool
 neighbours a c =
     rises a c
@@ -59,7 +61,8 @@ authorizationsPart os rs clock last xs = chained neighbours xs && allb (authoriz
 -- who owns or administers, and who may refer
 abbrev pub mayRuleIn : List Privilege → List Privilege → List Privilege → ℕ → ℕ → ℕ → Bool
 mayRuleIn os ads rfs s left right =
-    (listed os left s || listed ads left s) && ((listed os right s || listed ads right s) || listed rfs right s)
+    (listed os left s || listed ads left s)
+    && ((listed os right s || listed ads right s) || listed rfs right s)
 
 -- a star of subject or mode is on both sides or on neither
 abbrev pub starsMeet : Rule → Bool
@@ -101,32 +104,40 @@ parts b =
 -- two tests of each, one after the other or both at once
 pub all-both : {A : Type 0} (p q : A → Bool) (xs : List A) → allb p xs ≡ true → allb q xs ≡ true →
     allb (λ x. p x && q x) xs ≡ true
-all-both p q xs e f = mem-all (λ x. p x && q x) xs (λ x m. and-intro (p x) (q x) (all-mem p xs e x m) (all-mem q xs f x m))
+all-both p q xs e f = mem-all (λ x. p x && q x) xs
+    (λ x m. and-intro (p x) (q x) (all-mem p xs e x m) (all-mem q xs f x m))
 
-pub all-left : {A : Type 0} (p q : A → Bool) (xs : List A) → allb (λ x. p x && q x) xs ≡ true → allb p xs ≡ true
+pub all-left : {A : Type 0} (p q : A → Bool) (xs : List A) → allb (λ x. p x && q x) xs ≡ true →
+    allb p xs ≡ true
 all-left p q xs e = mem-all p xs (λ x m. and-true (p x) (q x) (all-mem (λ x. p x && q x) xs e x m) .0)
 
-pub all-right : {A : Type 0} (p q : A → Bool) (xs : List A) → allb (λ x. p x && q x) xs ≡ true → allb q xs ≡ true
+pub all-right : {A : Type 0} (p q : A → Bool) (xs : List A) → allb (λ x. p x && q x) xs ≡ true →
+    allb q xs ≡ true
 all-right p q xs e = mem-all q xs (λ x m. and-true (p x) (q x) (all-mem (λ x. p x && q x) xs e x m) .1)
 
-pub chained-two : {A : Type 0} (p q : A → A → Bool) (xs : List A) → chained p xs ≡ true → chained q xs ≡ true →
+pub chained-two : {A : Type 0} (p q : A → A → Bool) (xs : List A) → chained p xs ≡ true →
+    chained q xs ≡ true →
     chained (λ x y. p x y && q x y) xs ≡ true
 chained-two p q [] e f = refl
 chained-two p q (x ∷ []) e f = refl
 chained-two p q (x ∷ y ∷ xs) e f =
     let u = and-true (p x y) (chained p (y ∷ xs)) e in
     let v = and-true (q x y) (chained q (y ∷ xs)) f in
-    and-intro (p x y && q x y) (chained (λ x y. p x y && q x y) (y ∷ xs)) (and-intro (p x y) (q x y) (u .0) (v .0)) (chained-two p q (y ∷ xs) (u .1) (v .1))
+    and-intro (p x y && q x y) (chained (λ x y. p x y && q x y) (y ∷ xs))
+    (and-intro (p x y) (q x y) (u .0) (v .0)) (chained-two p q (y ∷ xs) (u .1) (v .1))
 
-pub chained-one : {A : Type 0} (p q : A → A → Bool) (xs : List A) → chained (λ x y. p x y && q x y) xs ≡ true →
+pub chained-one : {A : Type 0} (p q : A → A → Bool) (xs : List A) →
+    chained (λ x y. p x y && q x y) xs ≡ true →
     (chained p xs ≡ true) × (chained q xs ≡ true)
 chained-one p q [] e = (refl, refl)
 chained-one p q (x ∷ []) e = (refl, refl)
 chained-one p q (x ∷ y ∷ xs) e =
     let u = and-true (p x y && q x y) (chained (λ x y. p x y && q x y) (y ∷ xs)) e in
     let v = and-true (p x y) (q x y) (u .0) in
-    let w = chained-one p q (y ∷ xs) (u .1) in
-    (and-intro (p x y) (chained p (y ∷ xs)) (v .0) (w .0), and-intro (q x y) (chained q (y ∷ xs)) (v .1) (w .1))
+    let w = chained-one p q (y ∷ xs) (u .1) in (
+      and-intro (p x y) (chained p (y ∷ xs)) (v .0) (w .0),
+      and-intro (q x y) (chained q (y ∷ xs)) (v .1) (w .1),
+    )
 
 -- ---- the theorem
 
@@ -174,31 +185,42 @@ module _ (b : Base) where
 
   module _ (s : Sound b) where
     privileges-pass : (ps : List Privilege) → chained before ps ≡ true → allb privilegeIn ps ≡ true →
-        allb (λ p. exists b (p .object)) ps ≡ true → allb (λ p. not (owns b (p .object) (p .subject))) ps ≡ true →
+        allb (λ p. exists b (p .object)) ps ≡ true →
+        allb (λ p. not (owns b (p .object) (p .subject))) ps ≡ true →
         privilegesPart os ps ≡ true
     privileges-pass ps c r e o = and-intro (chained before ps) (allb (privilegeTest os) ps) c
-        (all-both (λ p. privilegeIn p && existsIn os (p .object)) (λ p. not (listed os (p .object) (p .subject))) ps
+        (all-both (λ p. privilegeIn p && existsIn os (p .object))
+        (λ p. not (listed os (p .object) (p .subject))) ps
         (all-both privilegeIn (λ p. existsIn os (p .object)) ps r e) o)
 
-    authorizations-pass : allb (authorizationTest os (b .rules) (b .clock) (b .last)) (b .authorizations) ≡ true
-    authorizations-pass = mem-all (authorizationTest os (b .rules) (b .clock) (b .last)) (b .authorizations) (λ a m. rw (
-      all-mem authorizationIn (b .authorizations) (ranges-test b s _ (inr (inr (inr (inr (inr (inl refl))))))) a m,
-      all-mem (λ a. startsFirst (a .interval)) (b .authorizations) (intervals-test b s _ (inl refl)) a m,
-      all-mem (λ a. leb (a .head .granted) (a .interval .start) && leb (a .head .granted) (b .clock)) (b .authorizations) (s .granted) a m,
-      all-mem (λ a. not (a .head .negative && a .head .option)) (b .authorizations) (s .denials) a m,
-      all-mem (λ a. exists b (a .head .object)) (b .authorizations) (exist-test b s _ (inr (inr (inl refl)))) a m,
-      all-mem (λ a. not (anyb (λ r. eqb (r .label) (a .head .label)) (b .rules))) (b .authorizations) (labels-test b s _ (inl refl)) a m,
-      all-mem (λ a. leb (a .head .label) (b .last)) (b .authorizations) (labels-test b s _ (inr (inl refl))) a m,
-    ))
+    authorizations-pass : allb (authorizationTest os (b .rules) (b .clock) (b .last)) (b .authorizations)
+        ≡ true
+    authorizations-pass = mem-all (authorizationTest os (b .rules) (b .clock) (b .last)) (b .authorizations)
+        (λ a m. rw (
+          all-mem authorizationIn (b .authorizations)
+              (ranges-test b s _ (inr (inr (inr (inr (inr (inl refl))))))) a m,
+          all-mem (λ a. startsFirst (a .interval)) (b .authorizations) (intervals-test b s _ (inl refl)) a m,
+          all-mem (λ a. leb (a .head .granted) (a .interval .start) && leb (a .head .granted) (b .clock))
+              (b .authorizations) (s .granted) a m,
+          all-mem (λ a. not (a .head .negative && a .head .option)) (b .authorizations) (s .denials) a m,
+          all-mem (λ a. exists b (a .head .object)) (b .authorizations)
+              (exist-test b s _ (inr (inr (inl refl)))) a m,
+          all-mem (λ a. not (anyb (λ r. eqb (r .label) (a .head .label)) (b .rules))) (b .authorizations)
+              (labels-test b s _ (inl refl)) a m,
+          all-mem (λ a. leb (a .head .label) (b .last)) (b .authorizations)
+              (labels-test b s _ (inr (inl refl))) a m,
+        ))
 
     rules-pass : allb (ruleTest os (b .administrators) (b .referrers) (b .last)) (b .rules) ≡ true
     rules-pass = mem-all (ruleTest os (b .administrators) (b .referrers) (b .last)) (b .rules) (λ r m. rw (
       all-mem ruleIn (b .rules) (ranges-test b s _ (inr (inr (inr (inr (inr (inr (inl refl)))))))) r m,
       all-mem (λ r. startsFirst (r .interval)) (b .rules) (intervals-test b s _ (inr (inl refl))) r m,
-      all-mem (λ r. exists b (r .left .object) && exists b (r .right .object)) (b .rules) (exist-test b s _ (inr (inr (inr (inl refl))))) r m,
+      all-mem (λ r. exists b (r .left .object) && exists b (r .right .object)) (b .rules)
+          (exist-test b s _ (inr (inr (inr (inl refl))))) r m,
       all-mem (λ r. leb (r .label) (b .last)) (b .rules) (labels-test b s _ (inr (inr (inl refl)))) r m,
       all-mem (λ r. mayRule b (r .author) (r .left .object) (r .right .object)) (b .rules) (s .authors) r m,
-      all-mem (λ r. Bool·beq (isStar (r .left .subject)) (isStar (r .right .subject)) && Bool·beq (isStar (r .left .mode)) (isStar (r .right .mode))) (b .rules) (s .stars) r m,
+      all-mem (λ r. Bool·beq (isStar (r .left .subject)) (isStar (r .right .subject))
+          && Bool·beq (isStar (r .left .mode)) (isStar (r .right .mode))) (b .rules) (s .stars) r m,
       all-mem (λ r. optionFits (r .right .negative) (r .option)) (b .rules) (s .right) r m,
     ))
 
@@ -207,12 +229,20 @@ module _ (b : Base) where
       s .counts,
       ranges-test b s _ (inl refl),
       ranges-test b s _ (inr (inl refl)),
-      and-intro (chained (λ p r. ltb (p .object) (r .object)) os) (allb privilegeIn os) (order-test b s _ (inl refl)) (ranges-test b s _ (inr (inr (inl refl)))),
-      privileges-pass (b .administrators) (order-test b s _ (inr (inl refl))) (ranges-test b s _ (inr (inr (inr (inl refl))))) (exist-test b s _ (inl refl)) (owners-test b s _ (inl refl)),
-      privileges-pass (b .referrers) (order-test b s _ (inr (inr (inl refl)))) (ranges-test b s _ (inr (inr (inr (inr (inl refl)))))) (exist-test b s _ (inr (inl refl))) (owners-test b s _ (inr (inl refl))),
-      and-intro (chained neighbours (b .authorizations)) (allb (authorizationTest os (b .rules) (b .clock) (b .last)) (b .authorizations))
-          (chained-two rises _ (b .authorizations) (order-test b s _ (inr (inr (inr (inl refl))))) (s .agree)) authorizations-pass,
-      and-intro (chained (λ r u. ltb (r .label) (u .label)) (b .rules)) (allb (ruleTest os (b .administrators) (b .referrers) (b .last)) (b .rules))
+      and-intro (chained (λ p r. ltb (p .object) (r .object)) os) (allb privilegeIn os)
+          (order-test b s _ (inl refl)) (ranges-test b s _ (inr (inr (inl refl)))),
+      privileges-pass (b .administrators) (order-test b s _ (inr (inl refl)))
+          (ranges-test b s _ (inr (inr (inr (inl refl))))) (exist-test b s _ (inl refl))
+          (owners-test b s _ (inl refl)),
+      privileges-pass (b .referrers) (order-test b s _ (inr (inr (inl refl))))
+          (ranges-test b s _ (inr (inr (inr (inr (inl refl)))))) (exist-test b s _ (inr (inl refl)))
+          (owners-test b s _ (inr (inl refl))),
+      and-intro (chained neighbours (b .authorizations))
+          (allb (authorizationTest os (b .rules) (b .clock) (b .last)) (b .authorizations))
+          (chained-two rises _ (b .authorizations) (order-test b s _ (inr (inr (inr (inl refl))))) (s .agree))
+          authorizations-pass,
+      and-intro (chained (λ r u. ltb (r .label) (u .label)) (b .rules))
+          (allb (ruleTest os (b .administrators) (b .referrers) (b .last)) (b .rules))
           (order-test b s _ (inr (inr (inr (inr (inl refl)))))) rules-pass,
       s .support,
       s .strata,
@@ -222,61 +252,87 @@ module _ (b : Base) where
     part : (x : Bool) → Mem x partTests → x ≡ true
     part = conjunct partTests e
 
-    authorization-part : (a : Authorization) → Mem a (b .authorizations) → (x : Bool) → Mem x (authorizationTests a) → x ≡ true
-    authorization-part a m = conjunct (authorizationTests a) (all-mem (authorizationTest os (b .rules) (b .clock) (b .last)) (b .authorizations)
-        (and-true (chained neighbours (b .authorizations)) (allb (authorizationTest os (b .rules) (b .clock) (b .last)) (b .authorizations))
+    authorization-part : (a : Authorization) → Mem a (b .authorizations) → (x : Bool) →
+        Mem x (authorizationTests a) → x ≡ true
+    authorization-part a m = conjunct (authorizationTests a)
+        (all-mem (authorizationTest os (b .rules) (b .clock) (b .last)) (b .authorizations)
+        (and-true (chained neighbours (b .authorizations))
+        (allb (authorizationTest os (b .rules) (b .clock) (b .last)) (b .authorizations))
         (part _ (inr (inr (inr (inr (inr (inr (inl refl)))))))) .1) a m)
 
     rule-part : (r : Rule) → Mem r (b .rules) → (x : Bool) → Mem x (ruleTests r) → x ≡ true
-    rule-part r m = conjunct (ruleTests r) (all-mem (ruleTest os (b .administrators) (b .referrers) (b .last)) (b .rules)
-        (and-true (chained (λ r u. ltb (r .label) (u .label)) (b .rules)) (allb (ruleTest os (b .administrators) (b .referrers) (b .last)) (b .rules))
+    rule-part r m = conjunct (ruleTests r)
+        (all-mem (ruleTest os (b .administrators) (b .referrers) (b .last)) (b .rules)
+        (and-true (chained (λ r u. ltb (r .label) (u .label)) (b .rules))
+        (allb (ruleTest os (b .administrators) (b .referrers) (b .last)) (b .rules))
         (part _ (inr (inr (inr (inr (inr (inr (inr (inl refl))))))))) .1) r m)
 
     privileges-all : (ps : List Privilege) → privilegesPart os ps ≡ true →
-        (chained before ps ≡ true) × (allb privilegeIn ps ≡ true) × (allb (λ p. exists b (p .object)) ps ≡ true)
+        (chained before ps ≡ true) × (allb privilegeIn ps ≡ true)
+        × (allb (λ p. exists b (p .object)) ps ≡ true)
         × (allb (λ p. not (owns b (p .object) (p .subject))) ps ≡ true)
     privileges-all ps f =
         let w = and-true (chained before ps) (allb (privilegeTest os) ps) f in
-        let u = all-left (λ p. privilegeIn p && existsIn os (p .object)) (λ p. not (listed os (p .object) (p .subject))) ps (w .1) in (
+        let u = all-left (λ p. privilegeIn p && existsIn os (p .object))
+        (λ p. not (listed os (p .object) (p .subject))) ps (w .1) in (
           w .0,
           all-left privilegeIn (λ p. existsIn os (p .object)) ps u,
           all-right privilegeIn (λ p. existsIn os (p .object)) ps u,
-          all-right (λ p. privilegeIn p && existsIn os (p .object)) (λ p. not (listed os (p .object) (p .subject))) ps (w .1),
+          all-right (λ p. privilegeIn p && existsIn os (p .object))
+              (λ p. not (listed os (p .object) (p .subject))) ps (w .1),
         )
 
     passes : Sound b
     passes =
-        let ob = and-true (chained (λ p r. ltb (p .object) (r .object)) os) (allb privilegeIn os) (part _ (inr (inr (inr (inl refl))))) in
+        let ob = and-true (chained (λ p r. ltb (p .object) (r .object)) os) (allb privilegeIn os)
+        (part _ (inr (inr (inr (inl refl))))) in
         let ad = privileges-all (b .administrators) (part _ (inr (inr (inr (inr (inl refl)))))) in
         let rf = privileges-all (b .referrers) (part _ (inr (inr (inr (inr (inr (inl refl))))))) in
-        let au = chained-one rises _ (b .authorizations) (and-true (chained neighbours (b .authorizations)) (allb (authorizationTest os (b .rules) (b .clock) (b .last)) (b .authorizations))
+        let au = chained-one rises _ (b .authorizations)
+        (and-true (chained neighbours (b .authorizations))
+        (allb (authorizationTest os (b .rules) (b .clock) (b .last)) (b .authorizations))
         (part _ (inr (inr (inr (inr (inr (inr (inl refl)))))))) .0) in
-        let ru = and-true (chained (λ r u. ltb (r .label) (u .label)) (b .rules)) (allb (ruleTest os (b .administrators) (b .referrers) (b .last)) (b .rules))
+        let ru = and-true (chained (λ r u. ltb (r .label) (u .label)) (b .rules))
+        (allb (ruleTest os (b .administrators) (b .referrers) (b .last)) (b .rules))
         (part _ (inr (inr (inr (inr (inr (inr (inr (inl refl))))))))) .0 in
         let a1 = mem-all authorizationIn (b .authorizations) (λ a m. authorization-part a m _ (inl refl)) in
-        let a2 = mem-all (λ a. startsFirst (a .interval)) (b .authorizations) (λ a m. authorization-part a m _ (inr (inl refl))) in
-        let a5 = mem-all (λ a. exists b (a .head .object)) (b .authorizations) (λ a m. authorization-part a m _ (inr (inr (inr (inr (inl refl)))))) in
-        let a6 = mem-all (λ a. not (anyb (λ r. eqb (r .label) (a .head .label)) (b .rules))) (b .authorizations) (λ a m. authorization-part a m _ (inr (inr (inr (inr (inr (inl refl))))))) in
-        let a7 = mem-all (λ a. leb (a .head .label) (b .last)) (b .authorizations) (λ a m. authorization-part a m _ (inr (inr (inr (inr (inr (inr (inl refl)))))))) in
+        let a2 = mem-all (λ a. startsFirst (a .interval)) (b .authorizations)
+        (λ a m. authorization-part a m _ (inr (inl refl))) in
+        let a5 = mem-all (λ a. exists b (a .head .object)) (b .authorizations)
+        (λ a m. authorization-part a m _ (inr (inr (inr (inr (inl refl)))))) in
+        let a6 = mem-all (λ a. not (anyb (λ r. eqb (r .label) (a .head .label)) (b .rules)))
+        (b .authorizations) (λ a m. authorization-part a m _ (inr (inr (inr (inr (inr (inl refl))))))) in
+        let a7 = mem-all (λ a. leb (a .head .label) (b .last)) (b .authorizations)
+        (λ a m. authorization-part a m _ (inr (inr (inr (inr (inr (inr (inl refl)))))))) in
         let r1 = mem-all ruleIn (b .rules) (λ r m. rule-part r m _ (inl refl)) in
-        let r2 = mem-all (λ r. startsFirst (r .interval)) (b .rules) (λ r m. rule-part r m _ (inr (inl refl))) in
-        let r3 = mem-all (λ r. exists b (r .left .object) && exists b (r .right .object)) (b .rules) (λ r m. rule-part r m _ (inr (inr (inl refl)))) in
-        let r4 = mem-all (λ r. leb (r .label) (b .last)) (b .rules) (λ r m. rule-part r m _ (inr (inr (inr (inl refl))))) in
+        let r2 = mem-all (λ r. startsFirst (r .interval)) (b .rules)
+        (λ r m. rule-part r m _ (inr (inl refl))) in
+        let r3 = mem-all (λ r. exists b (r .left .object) && exists b (r .right .object)) (b .rules)
+        (λ r m. rule-part r m _ (inr (inr (inl refl)))) in
+        let r4 = mem-all (λ r. leb (r .label) (b .last)) (b .rules)
+        (λ r m. rule-part r m _ (inr (inr (inr (inl refl))))) in
         record {
           counts = part _ (inl refl);
           order = rw (ob .0, ad .0, rf .0, au .0, ru);
           ranges = rw (part _ (inr (inl refl)), part _ (inr (inr (inl refl))), ob .1, ad .1, rf .1, a1, r1);
           intervals = rw (a2, r2);
-          granted = mem-all (λ a. leb (a .head .granted) (a .interval .start) && leb (a .head .granted) (b .clock)) (b .authorizations) (λ a m. authorization-part a m _ (inr (inr (inl refl))));
-          denials = mem-all (λ a. not (a .head .negative && a .head .option)) (b .authorizations) (λ a m. authorization-part a m _ (inr (inr (inr (inl refl)))));
+          granted = mem-all (λ a. leb (a .head .granted) (a .interval .start)
+              && leb (a .head .granted) (b .clock)) (b .authorizations)
+              (λ a m. authorization-part a m _ (inr (inr (inl refl))));
+          denials = mem-all (λ a. not (a .head .negative && a .head .option)) (b .authorizations)
+              (λ a m. authorization-part a m _ (inr (inr (inr (inl refl)))));
           objects = rw (ad .2, rf .2, a5, r3);
           owners = rw (ad .3, rf .3);
           labels = rw (a6, a7, r4);
           agree = au .1;
           support = part _ (inr (inr (inr (inr (inr (inr (inr (inr (inl refl)))))))));
-          authors = mem-all (λ r. mayRule b (r .author) (r .left .object) (r .right .object)) (b .rules) (λ r m. rule-part r m _ (inr (inr (inr (inr (inl refl))))));
-          stars = mem-all (λ r. Bool·beq (isStar (r .left .subject)) (isStar (r .right .subject)) && Bool·beq (isStar (r .left .mode)) (isStar (r .right .mode))) (b .rules) (λ r m. rule-part r m _ (inr (inr (inr (inr (inr (inl refl)))))));
-          right = mem-all (λ r. optionFits (r .right .negative) (r .option)) (b .rules) (λ r m. rule-part r m _ (inr (inr (inr (inr (inr (inr (inl refl))))))));
+          authors = mem-all (λ r. mayRule b (r .author) (r .left .object) (r .right .object)) (b .rules)
+              (λ r m. rule-part r m _ (inr (inr (inr (inr (inl refl))))));
+          stars = mem-all (λ r. Bool·beq (isStar (r .left .subject)) (isStar (r .right .subject))
+              && Bool·beq (isStar (r .left .mode)) (isStar (r .right .mode))) (b .rules)
+              (λ r m. rule-part r m _ (inr (inr (inr (inr (inr (inl refl)))))));
+          right = mem-all (λ r. optionFits (r .right .negative) (r .option)) (b .rules)
+              (λ r m. rule-part r m _ (inr (inr (inr (inr (inr (inr (inl refl))))))));
           strata = part _ (inr (inr (inr (inr (inr (inr (inr (inr (inr (inl refl))))))))));
         }
 

@@ -1,58 +1,29 @@
 // Loops over the records of a body.
 ghost use mathlib.Core.Path.{_≡_};
 ghost use Prim.Native.Nat.{_*_, _≤_};
-ghost use lib.Dec.{eqb};
 ghost use lib.ListN.{length};
-ghost use Rattle.foundation.specs.Lists.{anyb, allb};
+ghost use Rattle.foundation.specs.Lists.{allb};
 ghost use Rattle.model.specs.Soundness.{privilegeIn};
-ghost use Rattle.support.specs.Cover.{privilegesIn, authorizationsIn};
-ghost use Rattle.rules.specs.Strata.{rulesIn};
-ghost use Rattle.soundness.specs.Parts.{existsIn, privilegeTest, authorizationTest, ruleTest};
+ghost use Rattle.encoding.specs.Format.{privilegesIn, authorizationsIn, rulesIn};
+ghost use Rattle.soundness.specs.Parts.{privilegeTest, authorizationTest, ruleTest};
 use crate::tests::authorization_in;
-use crate::tests::has_object;
-use crate::tests::is_labelled;
-use crate::tests::option_fits;
 use crate::tests::privilege_in;
 use crate::tests::rule_in;
 use crate::tests::stars_meet;
 use encoding::authorization_at;
 use encoding::privilege_at;
 use encoding::rule_at;
+use lookup::has_label;
+use lookup::has_object;
+use lookup::is_listed;
+use lookup::is_root;
+use lookup::option_fits;
+use model::AUTHORIZATION_BYTES;
 use model::Authorization;
+use model::PRIVILEGE_BYTES;
 use model::Privilege;
+use model::RULE_BYTES;
 use model::Rule;
-use support::is_listed;
-use support::is_root;
-
-// An object is among the n objects of a body.
-pub fn exists(s: &[u8], n: usize, object: u16) -> bool
-    requires { ⌜ n * 4 ≤ length (now s) ⌝ }
-    ensures { λ r. ⌜ r ≡ existsIn (privilegesIn n (now (s .entry))) object ⌝ }
-{
-    let mut i = 0;
-    while i < n {
-        if has_object(privilege_at(s, i * 4), object) {
-            return true;
-        }
-        i += 1;
-    }
-    false
-}
-
-// One of the n rules of a body has a label.
-pub fn has_label(s: &[u8], n: usize, label: u16) -> bool
-    requires { ⌜ n * 28 ≤ length (now s) ⌝ }
-    ensures { λ r. ⌜ r ≡ anyb (λ q. eqb (q .label) label) (rulesIn n (now (s .entry))) ⌝ }
-{
-    let mut i = 0;
-    while i < n {
-        if is_labelled(rule_at(s, i * 28), label) {
-            return true;
-        }
-        i += 1;
-    }
-    false
-}
 
 // The numbers of each of n privileges are in their ranges.
 pub fn privileges_in(s: &[u8], n: usize) -> bool
@@ -61,7 +32,7 @@ pub fn privileges_in(s: &[u8], n: usize) -> bool
 {
     let mut i = 0;
     while i < n {
-        if !privilege_in(privilege_at(s, i * 4)) {
+        if !privilege_in(privilege_at(s, i * PRIVILEGE_BYTES)) {
             return false;
         }
         i += 1;
@@ -74,11 +45,14 @@ pub fn privilege_test(objects: &[u8], no: usize, p: Privilege) -> bool
     requires { ⌜ no * 4 ≤ length (now objects) ⌝ }
     ensures { λ r. ⌜ r ≡ privilegeTest (privilegesIn no (now (objects .entry))) p ⌝ }
 {
-    privilege_in(p) & exists(objects, no, p.object) & !is_listed(objects, no, p.object, p.subject)
+    privilege_in(p)
+        & has_object(objects, no, p.object)
+        & !is_listed(objects, no, p.object, p.subject)
 }
 
-// An authorization is in range, starts at its grant or later and ends not before, was not granted behind the clock, is no
-// denial with the option, is of an object that exists, and has a label that no rule has and that was given.
+// An authorization is in range, starts at its grant or later and ends not before, was not granted behind the
+// clock, is no denial with the option, is of an object that exists, and has a label that no rule has and that
+// was given.
 pub fn authorization_test(
     objects: &[u8],
     no: usize,
@@ -89,7 +63,8 @@ pub fn authorization_test(
     a: Authorization,
 ) -> bool
     requires { ⌜ (no * 4 ≤ length (now objects)) × (nr * 28 ≤ length (now rules)) ⌝ }
-    ensures { λ r. ⌜ r ≡ authorizationTest (privilegesIn no (now (objects .entry))) (rulesIn nr (now (rules .entry))) clock last a ⌝ }
+    ensures { λ r. ⌜ r ≡ authorizationTest (privilegesIn no (now (objects .entry)))
+        (rulesIn nr (now (rules .entry))) clock last a ⌝ }
 {
     let h = a.head;
     let i = a.interval;
@@ -97,13 +72,13 @@ pub fn authorization_test(
         & (i.start <= i.end)
         & ((h.granted <= i.start) & (h.granted <= clock))
         & !(h.negative & h.option)
-        & exists(objects, no, h.object)
+        & has_object(objects, no, h.object)
         & !has_label(rules, nr, h.label)
         & (h.label <= last)
 }
 
-// A rule is in range, its objects exist, its label was given, its author may set it up, a star is on both sides or on
-// neither, and a denial on the right is not marked transferable.
+// A rule is in range, its objects exist, its label was given, its author may set it up, a star is on both
+// sides or on neither, and a denial on the right is not marked transferable.
 pub fn rule_test(
     objects: &[u8],
     no: usize,
@@ -114,8 +89,10 @@ pub fn rule_test(
     last: u16,
     r: Rule,
 ) -> bool
-    requires { ⌜ (no * 4 ≤ length (now objects)) × (na * 4 ≤ length (now administrators)) × (nf * 4 ≤ length (now referrers)) ⌝ }
-    ensures { λ x. ⌜ x ≡ ruleTest (privilegesIn no (now (objects .entry))) (privilegesIn na (now (administrators .entry))) (privilegesIn nf (now (referrers .entry))) last r ⌝ }
+    requires { ⌜ (no * 4 ≤ length (now objects)) × (na * 4 ≤ length (now administrators))
+        × (nf * 4 ≤ length (now referrers)) ⌝ }
+    ensures { λ x. ⌜ x ≡ ruleTest (privilegesIn no (now (objects .entry)))
+        (privilegesIn na (now (administrators .entry))) (privilegesIn nf (now (referrers .entry))) last r ⌝ }
 {
     let left = r.left;
     let right = r.right;
@@ -125,7 +102,7 @@ pub fn rule_test(
     let may_right = is_root(objects, no, administrators, na, right.object, r.author);
     rule_in(r)
         & (i.start <= i.end)
-        & (exists(objects, no, left.object) & exists(objects, no, right.object))
+        & (has_object(objects, no, left.object) & has_object(objects, no, right.object))
         & (r.label <= last)
         & (may_left & (may_right | is_listed(referrers, nf, right.object, r.author)))
         & stars_meet(r)
@@ -135,11 +112,12 @@ pub fn rule_test(
 // Each of n privileges passes its test.
 pub fn privileges_test_all(objects: &[u8], no: usize, s: &[u8], n: usize) -> bool
     requires { ⌜ (no * 4 ≤ length (now objects)) × (n * 4 ≤ length (now s)) ⌝ }
-    ensures { λ r. ⌜ r ≡ allb (privilegeTest (privilegesIn no (now (objects .entry)))) (privilegesIn n (now (s .entry))) ⌝ }
+    ensures { λ r. ⌜ r ≡ allb (privilegeTest (privilegesIn no (now (objects .entry))))
+        (privilegesIn n (now (s .entry))) ⌝ }
 {
     let mut i = 0;
     while i < n {
-        if !privilege_test(objects, no, privilege_at(s, i * 4)) {
+        if !privilege_test(objects, no, privilege_at(s, i * PRIVILEGE_BYTES)) {
             return false;
         }
         i += 1;
@@ -158,8 +136,10 @@ pub fn authorizations_test_all(
     s: &[u8],
     n: usize,
 ) -> bool
-    requires { ⌜ (no * 4 ≤ length (now objects)) × (nr * 28 ≤ length (now rules)) × (n * 24 ≤ length (now s)) ⌝ }
-    ensures { λ r. ⌜ r ≡ allb (authorizationTest (privilegesIn no (now (objects .entry))) (rulesIn nr (now (rules .entry))) clock last) (authorizationsIn n (now (s .entry))) ⌝ }
+    requires { ⌜ (no * 4 ≤ length (now objects)) × (nr * 28 ≤ length (now rules))
+        × (n * 24 ≤ length (now s)) ⌝ }
+    ensures { λ r. ⌜ r ≡ allb (authorizationTest (privilegesIn no (now (objects .entry)))
+        (rulesIn nr (now (rules .entry))) clock last) (authorizationsIn n (now (s .entry))) ⌝ }
 {
     let mut i = 0;
     while i < n {
@@ -170,7 +150,7 @@ pub fn authorizations_test_all(
             nr,
             clock,
             last,
-            authorization_at(s, i * 24),
+            authorization_at(s, i * AUTHORIZATION_BYTES),
         ) {
             return false;
         }
@@ -191,8 +171,11 @@ pub fn rules_test_all(
     s: &[u8],
     n: usize,
 ) -> bool
-    requires { ⌜ (no * 4 ≤ length (now objects)) × (na * 4 ≤ length (now administrators)) × (nf * 4 ≤ length (now referrers)) × (n * 28 ≤ length (now s)) ⌝ }
-    ensures { λ r. ⌜ r ≡ allb (ruleTest (privilegesIn no (now (objects .entry))) (privilegesIn na (now (administrators .entry))) (privilegesIn nf (now (referrers .entry))) last) (rulesIn n (now (s .entry))) ⌝ }
+    requires { ⌜ (no * 4 ≤ length (now objects)) × (na * 4 ≤ length (now administrators))
+        × (nf * 4 ≤ length (now referrers)) × (n * 28 ≤ length (now s)) ⌝ }
+    ensures { λ r. ⌜ r ≡ allb (ruleTest (privilegesIn no (now (objects .entry)))
+        (privilegesIn na (now (administrators .entry))) (privilegesIn nf (now (referrers .entry))) last)
+        (rulesIn n (now (s .entry))) ⌝ }
 {
     let mut i = 0;
     while i < n {
@@ -204,7 +187,7 @@ pub fn rules_test_all(
             referrers,
             nf,
             last,
-            rule_at(s, i * 28),
+            rule_at(s, i * RULE_BYTES),
         ) {
             return false;
         }

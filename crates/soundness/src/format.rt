@@ -11,6 +11,9 @@ use encoding::end_at;
 use encoding::heading_fits;
 use encoding::rule_clean;
 use encoding::rules_at;
+use model::AUTHORIZATION_BYTES;
+use model::BASE_BYTES;
+use model::RULE_BYTES;
 
 // In each of n authorizations, the bits and bytes without a meaning are clear.
 pub fn authorizations_clean(s: &[u8], n: usize) -> bool
@@ -19,7 +22,7 @@ pub fn authorizations_clean(s: &[u8], n: usize) -> bool
 {
     let mut i = 0;
     while i < n {
-        if !authorization_clean(s, i * 24) {
+        if !authorization_clean(s, i * AUTHORIZATION_BYTES) {
             return false;
         }
         i += 1;
@@ -34,7 +37,7 @@ pub fn rules_clean(s: &[u8], n: usize) -> bool
 {
     let mut i = 0;
     while i < n {
-        if !rule_clean(s, i * 28) {
+        if !rule_clean(s, i * RULE_BYTES) {
             return false;
         }
         i += 1;
@@ -46,7 +49,7 @@ pub fn rules_clean(s: &[u8], n: usize) -> bool
 pub fn format_fits(s: &[u8]) -> bool
     ensures { λ r. ⌜ r ≡ formatFits (now (s .entry)) ⌝ }
 {
-    if s.len() != 27936 {
+    if s.len() != BASE_BYTES {
         return false;
     }
     let c = counts_of(s);

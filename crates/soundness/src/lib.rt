@@ -8,11 +8,8 @@ mod orders;
 mod parts;
 mod tests;
 
-pub use bodies::exists;
-pub use bodies::has_label;
 use format::format_fits;
 use parts::parts_hold;
-pub use tests::option_fits;
 
 // Whether bytes, of any length, are how a sound base is written.
 pub fn is_sound(s: &[u8]) -> bool

@@ -5,16 +5,18 @@ ghost use lib.Dec.{ltb};
 ghost use lib.ListN.{length};
 ghost use Rattle.model.specs.Requests.{before};
 ghost use Rattle.model.specs.Soundness.{chained};
-ghost use Rattle.support.specs.Cover.{privilegesIn, authorizationsIn};
-ghost use Rattle.rules.specs.Strata.{rulesIn};
+ghost use Rattle.encoding.specs.Format.{privilegesIn, authorizationsIn, rulesIn};
 ghost use Rattle.soundness.specs.Parts.{neighbours};
-use crate::tests::is_before;
 use crate::tests::neighbour_test;
-use crate::tests::object_rises;
-use crate::tests::rule_rises;
 use encoding::authorization_at;
 use encoding::privilege_at;
 use encoding::rule_at;
+use lookup::is_before;
+use lookup::object_rises;
+use lookup::rule_rises;
+use model::AUTHORIZATION_BYTES;
+use model::PRIVILEGE_BYTES;
+use model::RULE_BYTES;
 
 // Objects rise by number.
 pub fn objects_rise(s: &[u8], n: usize) -> bool
@@ -23,7 +25,10 @@ pub fn objects_rise(s: &[u8], n: usize) -> bool
 {
     let mut i = 0;
     while i + 1 < n {
-        if !object_rises(privilege_at(s, i * 4), privilege_at(s, (i + 1) * 4)) {
+        if !object_rises(
+            privilege_at(s, i * PRIVILEGE_BYTES),
+            privilege_at(s, (i + 1) * PRIVILEGE_BYTES),
+        ) {
             return false;
         }
         i += 1;
@@ -38,7 +43,10 @@ pub fn privileges_rise(s: &[u8], n: usize) -> bool
 {
     let mut i = 0;
     while i + 1 < n {
-        if !is_before(privilege_at(s, i * 4), privilege_at(s, (i + 1) * 4)) {
+        if !is_before(
+            privilege_at(s, i * PRIVILEGE_BYTES),
+            privilege_at(s, (i + 1) * PRIVILEGE_BYTES),
+        ) {
             return false;
         }
         i += 1;
@@ -54,8 +62,8 @@ pub fn authorizations_agree(s: &[u8], n: usize) -> bool
     let mut i = 0;
     while i + 1 < n {
         if !neighbour_test(
-            authorization_at(s, i * 24),
-            authorization_at(s, (i + 1) * 24),
+            authorization_at(s, i * AUTHORIZATION_BYTES),
+            authorization_at(s, (i + 1) * AUTHORIZATION_BYTES),
         ) {
             return false;
         }
@@ -71,7 +79,7 @@ pub fn rules_rise(s: &[u8], n: usize) -> bool
 {
     let mut i = 0;
     while i + 1 < n {
-        if !rule_rises(rule_at(s, i * 28), rule_at(s, (i + 1) * 28)) {
+        if !rule_rises(rule_at(s, i * RULE_BYTES), rule_at(s, (i + 1) * RULE_BYTES)) {
             return false;
         }
         i += 1;

@@ -5,11 +5,9 @@ ghost use Prim.Native.Nat.{_*_, _≤_};
 ghost use lib.ListN.{length};
 ghost use Rattle.model.specs.Encoding.{decode};
 ghost use Rattle.model.specs.Soundness.{sound};
-ghost use Rattle.encoding.specs.Format.{formatFits};
-ghost use Rattle.support.specs.Cover.{privilegesIn, authorizationsIn};
-ghost use Rattle.rules.specs.Strata.{rulesIn};
+ghost use Rattle.encoding.specs.Format.{formatFits, privilegesIn, authorizationsIn, rulesIn};
 ghost use Rattle.soundness.specs.Parts.{objectsPart, privilegesPart, authorizationsPart, rulesPart};
-ghost use Rattle.soundness.specs.Bodies.{baseOf, Lent, bodiesHold, partsHold};
+ghost use Rattle.soundness.specs.Bodies.{baseOf, BodiesFit, bodiesHold, partsHold};
 use crate::bodies::authorizations_test_all;
 use crate::bodies::privileges_in;
 use crate::bodies::privileges_test_all;
@@ -29,7 +27,8 @@ fn objects_hold(s: &[u8], n: usize) -> bool
 
 fn privileges_hold(objects: &[u8], no: usize, s: &[u8], n: usize) -> bool
     requires { ⌜ (no * 4 ≤ length (now objects)) × (n * 4 ≤ length (now s)) ⌝ }
-    ensures { λ r. ⌜ r ≡ privilegesPart (privilegesIn no (now (objects .entry))) (privilegesIn n (now (s .entry))) ⌝ }
+    ensures { λ r. ⌜ r ≡ privilegesPart (privilegesIn no (now (objects .entry)))
+        (privilegesIn n (now (s .entry))) ⌝ }
 {
     privileges_rise(s, n) & privileges_test_all(objects, no, s, n)
 }
@@ -44,8 +43,10 @@ fn authorizations_hold(
     s: &[u8],
     n: usize,
 ) -> bool
-    requires { ⌜ (no * 4 ≤ length (now objects)) × (nr * 28 ≤ length (now rules)) × (n * 24 ≤ length (now s)) ⌝ }
-    ensures { λ r. ⌜ r ≡ authorizationsPart (privilegesIn no (now (objects .entry))) (rulesIn nr (now (rules .entry))) clock last (authorizationsIn n (now (s .entry))) ⌝ }
+    requires { ⌜ (no * 4 ≤ length (now objects)) × (nr * 28 ≤ length (now rules))
+        × (n * 24 ≤ length (now s)) ⌝ }
+    ensures { λ r. ⌜ r ≡ authorizationsPart (privilegesIn no (now (objects .entry)))
+        (rulesIn nr (now (rules .entry))) clock last (authorizationsIn n (now (s .entry))) ⌝ }
 {
     authorizations_agree(s, n) & authorizations_test_all(objects, no, rules, nr, clock, last, s, n)
 }
@@ -61,8 +62,11 @@ fn rules_hold(
     s: &[u8],
     n: usize,
 ) -> bool
-    requires { ⌜ (no * 4 ≤ length (now objects)) × (na * 4 ≤ length (now administrators)) × (nf * 4 ≤ length (now referrers)) × (n * 28 ≤ length (now s)) ⌝ }
-    ensures { λ r. ⌜ r ≡ rulesPart (privilegesIn no (now (objects .entry))) (privilegesIn na (now (administrators .entry))) (privilegesIn nf (now (referrers .entry))) last (rulesIn n (now (s .entry))) ⌝ }
+    requires { ⌜ (no * 4 ≤ length (now objects)) × (na * 4 ≤ length (now administrators))
+        × (nf * 4 ≤ length (now referrers)) × (n * 28 ≤ length (now s)) ⌝ }
+    ensures { λ r. ⌜ r ≡ rulesPart (privilegesIn no (now (objects .entry)))
+        (privilegesIn na (now (administrators .entry))) (privilegesIn nf (now (referrers .entry))) last
+        (rulesIn n (now (s .entry))) ⌝ }
 {
     rules_rise(s, n) & rules_test_all(objects, no, administrators, na, referrers, nf, last, s, n)
 }
@@ -78,8 +82,10 @@ fn bodies_hold(
     authorizations: &[u8],
     rules: &[u8],
 ) -> bool
-    requires { ⌜ Lent c (now objects) (now administrators) (now referrers) (now authorizations) (now rules) ⌝ }
-    ensures { λ r. ⌜ r ≡ bodiesHold (baseOf clock last c (now (objects .entry)) (now (administrators .entry)) (now (referrers .entry)) (now (authorizations .entry)) (now (rules .entry))) ⌝ }
+    requires { ⌜ BodiesFit c (now objects) (now administrators) (now referrers) (now authorizations)
+        (now rules) ⌝ }
+    ensures { λ r. ⌜ r ≡ bodiesHold (baseOf clock last c (now (objects .entry)) (now (administrators .entry))
+        (now (referrers .entry)) (now (authorizations .entry)) (now (rules .entry))) ⌝ }
 {
     let no = c.objects as usize;
     let na = c.administrators as usize;
@@ -111,8 +117,9 @@ fn bodies_hold(
         )
 }
 
-// The bodies hold, each authorization is supported, and the rules have strata. Support and strata are the dearer tests.
-fn lent_hold(
+// The bodies hold, each authorization is supported, and the rules have strata. Support and strata are the
+// dearer tests.
+fn bodies_sound(
     clock: u32,
     last: u16,
     c: Counts,
@@ -122,8 +129,10 @@ fn lent_hold(
     authorizations: &[u8],
     rules: &[u8],
 ) -> bool
-    requires { ⌜ Lent c (now objects) (now administrators) (now referrers) (now authorizations) (now rules) ⌝ }
-    ensures { λ r. ⌜ r ≡ partsHold (baseOf clock last c (now (objects .entry)) (now (administrators .entry)) (now (referrers .entry)) (now (authorizations .entry)) (now (rules .entry))) ⌝ }
+    requires { ⌜ BodiesFit c (now objects) (now administrators) (now referrers) (now authorizations)
+        (now rules) ⌝ }
+    ensures { λ r. ⌜ r ≡ partsHold (baseOf clock last c (now (objects .entry)) (now (administrators .entry))
+        (now (referrers .entry)) (now (authorizations .entry)) (now (rules .entry))) ⌝ }
 {
     if !bodies_hold(
         clock,
@@ -156,7 +165,7 @@ pub fn parts_hold(s: &[u8]) -> bool
     let at_referrers = encoding::referrers_at(c);
     let at_authorizations = encoding::authorizations_at(c);
     let at_rules = encoding::rules_at(c);
-    lent_hold(
+    bodies_sound(
         fields::le32(s, 4),
         fields::le16(s, 8),
         c,

@@ -1,51 +1,14 @@
-// The tests of single records and of neighbours, by value. Where a test holds of any 16-bit or 32-bit number, it is there
-// for the definition's sake and costs nothing.
+// The tests of single records and of neighbours, by value. Where a test holds of any 16-bit or 32-bit number,
+// it is there for the definition's sake and costs nothing.
 ghost use mathlib.Core.Path.{_≡_};
-ghost use lib.Dec.{ltb, eqb};
-ghost use Rattle.model.specs.Requests.{before};
-ghost use Rattle.model.specs.Step.{optionFits};
 ghost use Rattle.model.specs.Soundness.{privilegeIn, intervalIn, authorizationIn, sideIn, ruleIn, sameHead};
 ghost use Rattle.soundness.specs.Parts.{neighbours, starsMeet};
 use foundation::Interval;
 use model::Authorization;
 use model::Head;
-use model::OptionTerm;
 use model::Privilege;
 use model::Rule;
 use model::Side;
-
-// By object.
-pub fn object_rises(p: Privilege, q: Privilege) -> bool
-    ensures { λ r. ⌜ r ≡ ltb (p .object) (q .object) ⌝ }
-{
-    p.object < q.object
-}
-
-// By object, then subject.
-pub fn is_before(p: Privilege, q: Privilege) -> bool
-    ensures { λ r. ⌜ r ≡ before p q ⌝ }
-{
-    (p.object < q.object) | ((p.object == q.object) & (p.subject < q.subject))
-}
-
-// By label.
-pub fn rule_rises(r: Rule, u: Rule) -> bool
-    ensures { λ x. ⌜ x ≡ ltb (r .label) (u .label) ⌝ }
-{
-    r.label < u.label
-}
-
-pub fn has_object(p: Privilege, object: u16) -> bool
-    ensures { λ r. ⌜ r ≡ eqb (p .object) object ⌝ }
-{
-    p.object == object
-}
-
-pub fn is_labelled(r: Rule, label: u16) -> bool
-    ensures { λ x. ⌜ x ≡ eqb (r .label) label ⌝ }
-{
-    r.label == label
-}
 
 // Object 1 to 128, subject 1 to 1,023.
 pub fn privilege_in(p: Privilege) -> bool
@@ -109,8 +72,8 @@ fn same_head(h: Head, k: Head) -> bool
         & (h.granted == k.granted)
 }
 
-// Two authorizations next to each other: they rise by label, then start; those of one label share the rest, and an instant
-// is missing between them.
+// Two authorizations next to each other: they rise by label, then start; those of one label share the rest,
+// and an instant is missing between them.
 pub fn neighbour_test(a: Authorization, b: Authorization) -> bool
     ensures { λ r. ⌜ r ≡ neighbours a b ⌝ }
 {
@@ -126,15 +89,4 @@ pub fn stars_meet(r: Rule) -> bool
     ensures { λ x. ⌜ x ≡ starsMeet r ⌝ }
 {
     ((r.left.subject == 0) == (r.right.subject == 0)) & ((r.left.mode == 0) == (r.right.mode == 0))
-}
-
-// A denial on the right is not marked transferable.
-pub fn option_fits(negative: bool, option: OptionTerm) -> bool
-    ensures { λ r. ⌜ r ≡ optionFits negative option ⌝ }
-{
-    match option {
-        OptionTerm::With => !negative,
-        OptionTerm::Without => true,
-        OptionTerm::Either => true,
-    }
 }

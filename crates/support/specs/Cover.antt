@@ -1,26 +1,18 @@
--- Which authorizations may stand directly before one in a chain, and what they cover, as the code asks it: by the few
--- fields that are wanted. `supports-wanted` is the only law here that looks into the model's `supports`.
+-- Which authorizations may stand directly before one in a chain, and what they cover, as the code asks it: by
+-- the few fields that are wanted. `supports-wanted` is the only law here that looks into the model's
+-- `supports`.
 use mathlib.Core.Path.{_≡_, refl}
 use Prim.Native.Nat.{ℕ}
 use mathlib.Core.Bool.{Bool, false, not, _&&_}
 use mathlib.Core.List.{List}
 use Rattle.foundation.specs.Lists.{anyb}
-use Rattle.foundation.specs.Bytes.{records}
 use Rattle.foundation.specs.Intervals.{inInterval}
-use Rattle.model.specs.declared.Privilege.{Privilege}
 use Rattle.model.specs.declared.Head.{Head}
 use Rattle.model.specs.declared.Authorization.{Authorization}
-use Rattle.model.specs.Encoding.{authorizationOf, privilegeOf}
 use Rattle.model.specs.Support.{rootIn, supports}
+use Rattle.encoding.specs.Format.{privilegesIn}
 use Rattle.support.specs.declared.Want.{Want}
 use Rattle.support.specs.First.{first}
-
--- the n authorizations, or privileges, that s begins with
-abbrev pub authorizationsIn : ℕ → List ℕ → List Authorization
-authorizationsIn n s = records 24 authorizationOf n s
-
-abbrev pub privilegesIn : ℕ → List ℕ → List Privilege
-privilegesIn n s = records 4 privilegeOf n s
 
 -- who owns or administers, by n privileges and m
 abbrev pub rootsIn : ℕ → List ℕ → ℕ → List ℕ → Head → Bool

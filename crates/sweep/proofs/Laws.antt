@@ -15,7 +15,7 @@ use lib.ListN.{drop, getD}
 use lib.Seq.{getD-drop}
 use Rattle.foundation.specs.Tests.{cases, eq-true, true-eq, false-eq}
 use Rattle.model.specs.Encoding.{bit}
-use Rattle.rules.proofs.Masks.{mask-at}
+use Rattle.foundation.specs.Masks.{mask-at}
 use Rattle.sweep.specs.Sweep.{looksBy, codes, looksFrom, lookersOf}
 
 pub shifted : (r : ℕ) → r < 64 → 1 * 2 ^ r % 18446744073709551616 ≡ 2 ^ r

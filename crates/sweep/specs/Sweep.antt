@@ -9,7 +9,7 @@ use lib.Bits.{bitAnd}
 use Rattle.foundation.specs.Tests.{pick}
 use Rattle.foundation.specs.Bytes.{records}
 use Rattle.model.specs.Encoding.{bit}
-use Rattle.rules.specs.Masks.{maskOf}
+use Rattle.foundation.specs.Masks.{maskOf}
 use Rattle.sweep.specs.declared.Stage.{Stage}
 use Rattle.sweep.specs.declared.Link.{Link}
 

@@ -5,7 +5,7 @@ use Prim.Native.Nat.{ℕ, _+_, _<_}
 use native.Mathlib.Omega.{arith}
 use lib.ListN.{length, drop, set}
 use Rattle.fields.specs.Field.{splice}
-use Rattle.fields.proofs.Laws.{stores, splice-join}
+use Rattle.fields.proofs.ByteLaws.{stores, splice-join}
 use Rattle.model.specs.Text.{newline}
 use Rattle.printing.specs.Print.{Printed}
 use Rattle.printing.proofs.Placed.{printed-room}

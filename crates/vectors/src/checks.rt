@@ -9,10 +9,11 @@ use crate::lines::line_at;
 use crate::stages::advance;
 use crate::stages::stands;
 use crate::stages::titled;
+use model::BASE_BYTES;
 
-// Whether a transcript agrees, and how many of its lines stand before the first that does not. For the message: how
-// many bytes of `out` are the reply that is owed there, where that line begins, and where the last title line before
-// it begins (the end of the text, if none).
+// Whether a transcript agrees, and how many of its lines stand before the first that does not. For the
+// message: how many bytes of `out` are the reply that is owed there, where that line begins, and where the
+// last title line before it begins (the end of the text, if none).
 pub struct Checked {
     pub good: bool,
     pub lines: usize,
@@ -64,7 +65,7 @@ pub fn check(text: &[u8], out: &mut [u8]) -> Checked
     ensures { λ r. ⌜ Checks (now (text .entry)) r (now (out .exit))
         × (length (now (out .exit)) ≡ length (now (out .entry))) ⌝ }
 {
-    let mut s = [0u8; 27936];
+    let mut s = [0u8; BASE_BYTES];
     encoding::create(&mut s);
     walk(&mut s, text, out)
 }

@@ -7,10 +7,10 @@ use native.Mathlib.Omega.{arith}
 use lib.ListN.{drop}
 use Rattle.foundation.specs.Lists.{Mem}
 use Rattle.foundation.specs.Bytes.{le}
-use Rattle.fields.proofs.Laws.{Bytes, bytes-drop}
+use Rattle.foundation.specs.BytesFacts.{Bytes, bytes-drop}
 use Rattle.model.specs.declared.Authorization.{Authorization}
 use Rattle.model.specs.Encoding.{authorizationOf}
-use Rattle.support.specs.Cover.{authorizationsIn}
+use Rattle.encoding.specs.Format.{authorizationsIn}
 use Rattle.withdrawal.specs.Cuts.{behindAll}
 
 -- w bytes hold less than 256 ^ w

@@ -1,5 +1,5 @@
--- A body of authorizations under construction, with a copy in another order to look up in, and what a change makes of
--- them. A body never has more than 1,024 authorizations: `Makes` says so where one would.
+-- A body of authorizations under construction, with a copy in another order to look up in, and what a change
+-- makes of them. A body never has more than 1,024 authorizations: `Makes` says so where one would.
 use mathlib.Core.Path.{_≡_, refl, sym, ap, _∙_, subst}
 use Prim.Native.Nat.{ℕ, _+_, _*_, _≤_, _<_}
 use native.Mathlib.Omega.{arith}
@@ -7,18 +7,20 @@ use mathlib.Core.Bool.{Bool, _||_}
 use mathlib.Core.List.{List, [], _++_, append-assoc}
 use lib.ListN.{length, take, drop, length-append, take-append-drop}
 use lib.Seq.{take-at, drop-at, length-take-le}
-use Rattle.foundation.specs.Lists.{each}
+use Rattle.foundation.specs.Lists.{each, placed, any-append}
 use Rattle.model.specs.declared.Authorization.{Authorization}
 use Rattle.model.specs.Encoding.{authorizationOf, authorizationBytes}
 use Rattle.support.specs.declared.Want.{Want}
-use Rattle.support.specs.Cover.{authorizationsIn, covers, coveredBy}
-use Rattle.support.specs.Places.{placed, any-append, or-swap}
-use Rattle.support.specs.Insertions.{Clean}
-use Rattle.support.proofs.Parts.{length-records}
+use Rattle.support.specs.Cover.{covers, coveredBy}
+use Rattle.encoding.specs.Format.{authorizationsIn}
+use Rattle.foundation.specs.Tests.{or-swap}
+use Rattle.encoding.specs.Insertions.{Clean}
+use Rattle.foundation.specs.Records.{length-records}
 use Rattle.withdrawal.specs.declared.Put.{Put}
 use Rattle.withdrawal.specs.declared.Put.the-variants.{Full, Lines}
 
--- The k authorizations of the body `out` are ys, and its bytes are theirs alone. `sorted` has k that cover the same:
+-- The k authorizations of the body `out` are ys, and its bytes are theirs alone. `sorted` has k that cover
+-- the same:
 -- its order makes a look quick, and nothing is said of it.
 pub record Body (k : ℕ) (ys : List Authorization) (out sorted : List ℕ) : Type 0 where
   pub fits : k ≤ 1024
@@ -51,11 +53,13 @@ abbrev pub Built : List Authorization → Put → List ℕ → Type 0
 Built ys Full out = 1024 < length ys
 Built ys (Lines m) out = Result m ys out
 
-pub body-count : {k : ℕ} {ys : List Authorization} {out sorted : List ℕ} → Body k ys out sorted → k ≡ length ys
+pub body-count : {k : ℕ} {ys : List Authorization} {out sorted : List ℕ} → Body k ys out sorted →
+    k ≡ length ys
 body-count {k} {ys} {out} b =
     sym (length-records 24 authorizationOf k out) ∙ ap (λ (x : List Authorization). length x) (b .records)
 
-pub body-result : {m : ℕ} {ys : List Authorization} {out sorted : List ℕ} → Body m ys out sorted → Result m ys out
+pub body-result : {m : ℕ} {ys : List Authorization} {out sorted : List ℕ} → Body m ys out sorted →
+    Result m ys out
 body-result b = record { count = body-count b; fits = b .fits; records = b .records; clean = b .clean }
 
 -- by what was answered
@@ -63,14 +67,16 @@ pub makes-lines : (ys : List Authorization) (r : Put) (out sorted : List ℕ) (k
     Makes ys r out sorted → Body k ys out sorted
 makes-lines ys r out sorted k e m = subst (λ (x : Put). Makes ys x out sorted) e m
 
-pub makes-full : (ys : List Authorization) (r : Put) (out sorted : List ℕ) → r ≡ Full → Makes ys r out sorted →
+pub makes-full : (ys : List Authorization) (r : Put) (out sorted : List ℕ) → r ≡ Full →
+    Makes ys r out sorted →
     1024 < length ys
 makes-full ys r out sorted e m = subst (λ (x : Put). Makes ys x out sorted) e m
 
 -- a body that is what it is, under the name of its own authorizations
 pub body-own : {k : ℕ} {ys : List Authorization} {out sorted : List ℕ} → Body k ys out sorted →
     Holds k out sorted
-body-own {k} {ys} {out} {sorted} b = subst (λ (x : List Authorization). Body k x out sorted) (sym (b .records)) b
+body-own {k} {ys} {out} {sorted} b = subst (λ (x : List Authorization). Body k x out sorted)
+    (sym (b .records)) b
 
 -- nothing
 pub body-none : (out sorted : List ℕ) → Body 0 [] out sorted

@@ -1,13 +1,15 @@
 -- What a withdrawal takes out (01, "Requests"), and that as one stretch of instants, as the code asks it.
-use mathlib.Core.Path.{_≡_}
+use mathlib.Core.Path.{_≡_, refl}
 use Prim.Native.Nat.{ℕ, suc, _+_, _≤_, _<_}
 use native.Mathlib.Omega.{arith}
 use mathlib.Core.Bool.{Bool, true, false, not, _&&_}
 use lib.Dec.{leb, eqb}
-use Rattle.foundation.specs.Tests.{pick, cases, le-true, le-false, true-le, false-le, false-eq}
+use Rattle.foundation.specs.Tests.{pick, cases, le-true, le-false, true-le, false-le}
 use Rattle.foundation.specs.Intervals.{inInterval}
 use Rattle.model.specs.declared.Head.{Head}
 use Rattle.withdrawal.specs.declared.Cut.{Cut}
+use Rattle.withdrawal.specs.declared.CutKind.{CutKind}
+use Rattle.withdrawal.specs.declared.CutKind.the-variants.{Label, Grantor, Name}
 use Rattle.withdrawal.specs.declared.Stretch.{Stretch}
 use Rattle.withdrawal.specs.Stretches.{inStretch, in-stretch}
 
@@ -20,13 +22,20 @@ cutNames c h =
     && eqb (h .mode) (c .mode)
     && pick (c .negative) (h .negative) (not (h .negative))
 
--- The instants that a cut takes out of an authorization: every one by label (REVOKE) and by object and grantor
+-- by what is named
+abbrev pub byKind : {X : Type 0} → CutKind → X → X → X → X
+byKind Label label grantor name = label
+byKind Grantor label grantor name = grantor
+byKind Name label grantor name = name
+
+-- The instants that a cut takes out of an authorization: every one by label (REVOKE) and by object and
+-- grantor
 -- (REVOKEADM), else those of the interval (REVOKEP, REVOKEN)
 abbrev pub cutTakes : Cut → Head → ℕ → Bool
 cutTakes c h t =
-    pick (eqb (c .kind) 1) (eqb (h .label) (c .label))
-    (pick (eqb (c .kind) 2) (eqb (h .object) (c .object) && eqb (h .grantor) (c .grantor))
-    (cutNames c h && inInterval (c .interval) t))
+    byKind (c .kind) (eqb (h .label) (c .label)) (eqb (h .object) (c .object)
+    && eqb (h .grantor) (c .grantor))
+    (cutNames c h && inInterval (c .interval) t)
 
 -- the rest
 abbrev pub spared : Cut → Head → ℕ → Bool
@@ -34,7 +43,7 @@ spared c h t = not (cutTakes c h t)
 
 -- where the interval matters, it is not empty
 abbrev pub CutOrdered : Cut → Type 0
-CutOrdered c = (c .kind ≡ 1 → ⊥) → (c .kind ≡ 2 → ⊥) → c .interval .start ≤ c .interval .end
+CutOrdered c = c .kind ≡ Name → c .interval .start ≤ c .interval .end
 
 -- ---- as a stretch
 
@@ -49,11 +58,13 @@ stretch a b = record { from = a; to = b }
 abbrev pub allIf : Bool → Stretch
 allIf b = stretch (pick b 0 behindAll) behindAll
 
+abbrev pub namedOf : Cut → Head → Stretch
+namedOf c h = pick (cutNames c h) (stretch (c .interval .start) (c .interval .end + 1)) (allIf false)
+
 abbrev pub takenOf : Cut → Head → Stretch
 takenOf c h =
-    pick (eqb (c .kind) 1) (allIf (eqb (h .label) (c .label)))
-    (pick (eqb (c .kind) 2) (allIf (eqb (h .object) (c .object) && eqb (h .grantor) (c .grantor)))
-    (pick (cutNames c h) (stretch (c .interval .start) (c .interval .end + 1)) (allIf false)))
+    byKind (c .kind) (allIf (eqb (h .label) (c .label)))
+    (allIf (eqb (h .object) (c .object) && eqb (h .grantor) (c .grantor))) (namedOf c h)
 
 all-if : (b : Bool) (t : ℕ) → t < behindAll → inStretch (allIf b .from) (allIf b .to) t ≡ b
 all-if true t h = in-stretch 0 behindAll t (omega arith) h
@@ -66,27 +77,28 @@ all-gap false e h k = absurd (omega arith)
 -- an instant is taken exactly if it lies in the stretch
 pub taken-is : (c : Cut) (h : Head) (t : ℕ) → t < behindAll →
     inStretch (takenOf c h .from) (takenOf c h .to) t ≡ cutTakes c h t
-taken-is c h t l = cases (eqb (c .kind) 1)
-    (λ e. rw e (all-if (eqb (h .label) (c .label)) t l))
-    (λ e. cases (eqb (c .kind) 2)
-    (λ f. rw (e, f) (all-if (eqb (h .object) (c .object) && eqb (h .grantor) (c .grantor)) t l))
-    (λ f. cases (cutNames c h)
-    (λ g. rw (e, f, g) (window t))
-    (λ g. rw (e, f, g) (all-if false t l))))
+taken-is c h t l = by (c .kind) refl
   where
     window : (t : ℕ) → inStretch (c .interval .start) (c .interval .end + 1) t ≡ inInterval (c .interval) t
     window t = cases (leb t (c .interval .end))
-        (λ q. let k = true-le t (c .interval .end) q in rw (q, le-true (suc t) (c .interval .end + 1) (omega arith)))
+        (λ q. let k = true-le t (c .interval .end) q in
+        rw (q, le-true (suc t) (c .interval .end + 1) (omega arith)))
         (λ q. let k = false-le t (c .interval .end) q in
         rw (q, le-false (suc t) (c .interval .end + 1) (omega arith)))
+
+    by : (k : CutKind) → c .kind ≡ k → inStretch (takenOf c h .from) (takenOf c h .to) t ≡ cutTakes c h t
+    by Label e = rw e (all-if (eqb (h .label) (c .label)) t l)
+    by Grantor e = rw e (all-if (eqb (h .object) (c .object) && eqb (h .grantor) (c .grantor)) t l)
+    by Name e = cases (cutNames c h) (λ g. rw (e, g) (window t)) (λ g. rw (e, g) (all-if false t l))
 
 -- where an authorization goes on behind the stretch, the stretch is not empty
 pub taken-gap : (c : Cut) (h : Head) (e : ℕ) → CutOrdered c → e ≤ behindAll → takenOf c h .to < e →
     takenOf c h .from < takenOf c h .to
-taken-gap c h e o l = cases (eqb (c .kind) 1)
-    (λ p. rw p (all-gap (eqb (h .label) (c .label)) e l))
-    (λ p. cases (eqb (c .kind) 2)
-    (λ q. rw (p, q) (all-gap (eqb (h .object) (c .object) && eqb (h .grantor) (c .grantor)) e l))
-    (λ q. let i = o (false-eq (c .kind) 1 p) (false-eq (c .kind) 2 q) in cases (cutNames c h)
-    (λ r. rw (p, q, r) (λ k. omega arith))
-    (λ r. rw (p, q, r) (all-gap false e l))))
+taken-gap c h e o l = by (c .kind) refl
+  where
+    by : (k : CutKind) → c .kind ≡ k → takenOf c h .to < e → takenOf c h .from < takenOf c h .to
+    by Label p = rw p (all-gap (eqb (h .label) (c .label)) e l)
+    by Grantor p = rw p (all-gap (eqb (h .object) (c .object) && eqb (h .grantor) (c .grantor)) e l)
+    by Name p =
+        let i = o p in
+        cases (cutNames c h) (λ r. rw (p, r) (λ k. omega arith)) (λ r. rw (p, r) (all-gap false e l))

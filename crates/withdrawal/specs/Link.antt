@@ -1,4 +1,5 @@
--- The cut that a request words takes what the request takes (`by-label`, `by-name`, `by-grantor`), and so what is
+-- The cut that a request words takes what the request takes (`by-label`, `by-name`, `by-grantor`), and so
+-- what is
 -- built of a sound base is what 01's withdrawal leaves of it (`withdrawn-is`).
 use mathlib.Core.Path.{_≡_, refl, sym, ap, _∙_, fun-ext}
 use Prim.Native.Nat.{ℕ}
@@ -15,6 +16,7 @@ use Rattle.model.specs.SoundnessFacts.{Sound}
 use Rattle.laws.specs.Kinds.{is-apart}
 use Rattle.laws.specs.Restriction.{withdrawn-all}
 use Rattle.withdrawal.specs.declared.Cut.{Cut}
+use Rattle.withdrawal.specs.declared.CutKind.the-variants.{Label, Grantor, Name}
 use Rattle.withdrawal.specs.Cuts.{cutTakes, spared}
 
 -- the cut takes what the request takes
@@ -23,12 +25,13 @@ CutOf q c = (h : Head) (t : ℕ) → cutTakes c h t ≡ takes q h t
 
 module _ (q : Request) (c : Cut) where
   -- REVOKE
-  pub by-label : is q (REVOKE ∷ []) ≡ true → c .kind ≡ 1 → c .label ≡ q .label → CutOf q c
+  pub by-label : is q (REVOKE ∷ []) ≡ true → c .kind ≡ Label → c .label ≡ q .label → CutOf q c
   unfolding takes
   by-label e k l h t = rw (e, k, l)
 
   -- REVOKEADM
-  pub by-grantor : is q (REVOKEADM ∷ []) ≡ true → c .kind ≡ 2 → c .object ≡ q .object → c .grantor ≡ q .subject →
+  pub by-grantor : is q (REVOKEADM ∷ []) ≡ true → c .kind ≡ Grantor → c .object ≡ q .object →
+      c .grantor ≡ q .subject →
       CutOf q c
   unfolding takes
   by-grantor e k o g h t = rw (
@@ -41,8 +44,9 @@ module _ (q : Request) (c : Cut) where
   )
 
   -- REVOKEP and REVOKEN
-  pub by-name : is q (REVOKEP ∷ REVOKEN ∷ []) ≡ true → c .kind ≡ 3 → c .grantor ≡ q .requester →
-      c .subject ≡ q .subject → c .object ≡ q .object → c .mode ≡ q .mode → c .negative ≡ is q (REVOKEN ∷ []) →
+  pub by-name : is q (REVOKEP ∷ REVOKEN ∷ []) ≡ true → c .kind ≡ Name → c .grantor ≡ q .requester →
+      c .subject ≡ q .subject → c .object ≡ q .object → c .mode ≡ q .mode →
+      c .negative ≡ is q (REVOKEN ∷ []) →
       c .interval ≡ q .interval → CutOf q c
   unfolding takes
   by-name e k g s o m n i h t =
@@ -50,7 +54,8 @@ module _ (q : Request) (c : Cut) where
 
 -- the authorizations after a withdrawal, as the code builds them
 pub withdrawn-is : (b : Base) (q : Request) (c : Cut) → Sound b → withdraws q ≡ true → CutOf q c →
-    effect plainly b q .authorizations ≡ restrict (rootAfter b q) (λ h. true) (keep (spared c) (b .authorizations))
+    effect plainly b q .authorizations ≡ restrict (rootAfter b q) (λ h. true)
+    (keep (spared c) (b .authorizations))
 unfolding leave
 withdrawn-is b q c s w e =
     withdrawn-all b q s w

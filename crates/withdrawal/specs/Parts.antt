@@ -1,5 +1,5 @@
--- What a cut leaves of one authorization: the maximal intervals of the instants that it spares and at which the
--- grantor may grant, as two parts around what is taken.
+-- What a cut leaves of one authorization: the maximal intervals of the instants that it spares and at which
+-- the grantor may grant, as two parts around what is taken.
 use mathlib.Core.Path.{_≡_, refl, sym, ap, _∙_, fun-ext, subst}
 use Prim.Native.Nat.{ℕ, _+_, _-_, _≤_, _<_, min, max}
 use native.Mathlib.Omega.{arith}
@@ -14,7 +14,7 @@ use Rattle.model.specs.Withdrawal.{authorization, pieces}
 use Rattle.support.specs.declared.Want.{Want}
 use Rattle.support.specs.First.{first, First, first-of}
 use Rattle.support.specs.Cover.{wantOf, wanted, coveredBy}
-use Rattle.support.specs.Places.{placed}
+use Rattle.foundation.specs.Lists.{placed}
 use Rattle.withdrawal.specs.declared.Cut.{Cut}
 use Rattle.withdrawal.specs.declared.Stretch.{Stretch}
 use Rattle.withdrawal.specs.Stretches.{inStretch, maximalTo, to-same, to-next, to-none, to-past, on-off}
@@ -51,7 +51,8 @@ parts-left c root ys x o l =
     let e = x .interval .end + 1 in
     let f = mayGrant root (wantOf (x .head)) ys in
     let t = takenOf c (x .head) in
-    sym (map-append (authorization (x .head)) (maximalTo s (min e (t .from)) f) (maximalTo (max s (t .to)) e f))
+    sym (map-append (authorization (x .head)) (maximalTo s (min e (t .from)) f)
+    (maximalTo (max s (t .to)) e f))
     ∙ ap (pieces (x .head))
     (to-parts s e (t .from) (t .to) f (taken-gap c (x .head) e o (omega arith))
     ∙ to-same s e (λ u. not (inStretch (t .from) (t .to) u) && f u) (λ u. not (cutTakes c (x .head) u) && f u)
@@ -81,7 +82,8 @@ unfolding piecesTo
 pieces-same root ys zs h a b s =
     ap (λ (f : ℕ → Bool). pieces h (maximalTo a b (λ t. root || f t))) (fun-ext s)
 
-pub pieces-past : (root : Bool) (ys : List Authorization) (h : Head) (a b : ℕ) → b ≤ a → piecesTo root ys h a b ≡ []
+pub pieces-past : (root : Bool) (ys : List Authorization) (h : Head) (a b : ℕ) → b ≤ a →
+    piecesTo root ys h a b ≡ []
 unfolding piecesTo
 pieces-past root ys h a b l = ap (pieces h) (to-past a b (mayGrant root (wantOf h) ys) l)
 
@@ -109,7 +111,8 @@ module _ (root : Bool) (ys zs : List Authorization) (h : Head) (t b on : ℕ)
         (subst (λ (n : ℕ). First (λ u. not (mayGrant root (wantOf h) zs u)) on b n) (sym g)
         (first-of (λ u. not (mayGrant root (wantOf h) zs u)) on b (omega arith)))
 
-    pub pieces-next : piecesTo root ys h t b ≡ authorization h (interval on (off - 1)) ∷ piecesTo root ys h off b
+    pub pieces-next : piecesTo root ys h t b ≡ authorization h (interval on (off - 1))
+        ∷ piecesTo root ys h off b
     unfolding piecesTo
     pieces-next = ap (pieces h) (to-next t b (mayGrant root (wantOf h) ys) on off on-first k off-first)
 

@@ -1,5 +1,5 @@
--- The pieces of a part put into the body one after the other: the state between two of them, and how it goes on. Then
--- one part after the other.
+-- The pieces of a part put into the body one after the other: the state between two of them, and how it goes
+-- on. Then one part after the other.
 use mathlib.Core.Path.{_≡_, refl, sym, ap, _∙_, subst}
 use Prim.Native.Nat.{ℕ, _+_, _-_, _≤_, _<_, min, max}
 use native.Mathlib.Omega.{arith}
@@ -11,19 +11,22 @@ use Rattle.model.specs.declared.Head.{Head}
 use Rattle.model.specs.declared.Authorization.{Authorization}
 use Rattle.model.specs.Withdrawal.{authorization}
 use Rattle.support.specs.First.{first}
-use Rattle.support.specs.Cover.{authorizationsIn, wantOf, coveredBy}
-use Rattle.support.specs.Places.{placed}
+use Rattle.support.specs.Cover.{wantOf, coveredBy}
+use Rattle.encoding.specs.Format.{authorizationsIn}
+use Rattle.foundation.specs.Lists.{placed}
 use Rattle.withdrawal.specs.declared.Stretch.{Stretch}
 use Rattle.withdrawal.specs.declared.Put.{Put}
 use Rattle.withdrawal.specs.Stretches.{maximalTo}
 use Rattle.withdrawal.specs.Bodies.{Body, Holds, Makes, body-count, body-own, placed-none, placed-then}
 use Rattle.withdrawal.specs.Bodies.{length-placed}
-use Rattle.withdrawal.specs.Parts.{mayGrant, piecesTo, partsOf, covered-pieces, pieces-same, pieces-past}
+use Rattle.withdrawal.specs.Parts.{mayGrant, piecesTo, partsOf, covered-pieces, pieces-same}
+use Rattle.withdrawal.specs.Parts.{pieces-past}
 use Rattle.withdrawal.specs.Parts.{pieces-end, pieces-next, pieces-off}
 
--- The pieces of h before t are in. With those from t on, before b, at the place p, the body will be `all`; and for
--- h's grantor it covers what ys does, that is what the body was before.
-pub record Putting (root : Bool) (ys all : List Authorization) (h : Head) (b k p t : ℕ) (out sorted : List ℕ) :
+-- The pieces of h before t are in. With those from t on, before b, at the place p, the body will be `all`;
+-- and for h's grantor it covers what ys does, that is what the body was before.
+pub record Putting (root : Bool) (ys all : List Authorization) (h : Head) (b k p t : ℕ)
+    (out sorted : List ℕ) :
     Type 0 where
   pub place : p ≤ k
   pub body : Holds k out sorted
@@ -50,46 +53,47 @@ module _ (root : Bool) (ys all : List Authorization) (h : Head) (b k p t : ℕ) 
   abbrev mayNot : ℕ → Bool
   mayNot u = not (mayGrant root (wantOf h) (authorizationsIn k sorted) u)
 
-  module _ (on : ℕ) (l : t ≤ b) (e : on ≡ first (mayGrant root (wantOf h) (authorizationsIn k sorted)) t b) where
-    pub putting-end : b ≤ on → Body k all out sorted
-    putting-end j = done (pieces-end root ys (authorizationsIn k sorted) h t b on sorted-same l e j)
+  module _ (on : ℕ) (l : t ≤ b) (e : on ≡ first (mayGrant root (wantOf h) (authorizationsIn k sorted)) t b)
+    where
+      pub putting-end : b ≤ on → Body k all out sorted
+      putting-end j = done (pieces-end root ys (authorizationsIn k sorted) h t b on sorted-same l e j)
 
-    module _ (j : on < b) where
-      next : (off : ℕ) → off ≡ first mayNot on b →
-          piecesTo root ys h t b ≡ authorization h (interval on (off - 1)) ∷ piecesTo root ys h off b
-      next off f = pieces-next root ys (authorizationsIn k sorted) h t b on sorted-same l e off j f
+      module _ (j : on < b) where
+        next : (off : ℕ) → off ≡ first mayNot on b →
+            piecesTo root ys h t b ≡ authorization h (interval on (off - 1)) ∷ piecesTo root ys h off b
+        next off f = pieces-next root ys (authorizationsIn k sorted) h t b on sorted-same l e off j f
 
-      -- one more is too many
-      pub putting-full : 1024 ≤ k → 1024 < length all
-      putting-full q =
-          let n = ap (λ (x : List Authorization). length x) (next (first mayNot on b) refl) in
-          let m = ap (λ (x : List Authorization). length x) (g .final) in
-          omega (arith, n, m, length-placed p (piecesTo root ys h t b) zs, body-count (g .body))
+        -- one more is too many
+        pub putting-full : 1024 ≤ k → 1024 < length all
+        putting-full q =
+            let n = ap (λ (x : List Authorization). length x) (next (first mayNot on b) refl) in
+            let m = ap (λ (x : List Authorization). length x) (g .final) in
+            omega (arith, n, m, length-placed p (piecesTo root ys h t b) zs, body-count (g .body))
 
-      module _ (off : ℕ) (f : off ≡ first mayNot on b) where
-        pub putting-off : (t ≤ on) × (on < off) × (off ≤ b)
-        putting-off = pieces-off root ys (authorizationsIn k sorted) h t b on sorted-same l e off j f
+        module _ (off : ℕ) (f : off ≡ first mayNot on b) where
+          pub putting-off : (t ≤ on) × (on < off) × (off ≤ b)
+          putting-off = pieces-off root ys (authorizationsIn k sorted) h t b on sorted-same l e off j f
 
-        -- it goes in
-        pub putting-next : (out' sorted' : List ℕ) →
-            Body (k + 1) (placed p (authorization h (interval on (off - 1)) ∷ []) zs) out' sorted' →
-            Putting root ys all h b (k + 1) (p + 1) off out' sorted'
-        putting-next out' sorted' i =
-            let x = authorization h (interval on (off - 1)) in
-            let q = g .place in
-            let n = body-count (g .body) in
-            record {
-              place = omega arith;
-              body = body-own i;
-              final = ap (placed (p + 1) (piecesTo root ys h off b)) (i .records)
-                  ∙ placed-then p (x ∷ []) (piecesTo root ys h off b) zs (omega arith)
-                  ∙ ap (λ (y : List Authorization). placed p y zs) (sym (next off f))
-                  ∙ g .final;
-              same = λ u.
-                  ap (λ (y : List Authorization). coveredBy (wantOf h) y u) (i .records)
-                  ∙ covered-pieces (wantOf h) p h (interval on (off - 1) ∷ []) zs u (omega arith)
-                  ∙ g .same u;
-            }
+          -- it goes in
+          pub putting-next : (out' sorted' : List ℕ) →
+              Body (k + 1) (placed p (authorization h (interval on (off - 1)) ∷ []) zs) out' sorted' →
+              Putting root ys all h b (k + 1) (p + 1) off out' sorted'
+          putting-next out' sorted' i =
+              let x = authorization h (interval on (off - 1)) in
+              let q = g .place in
+              let n = body-count (g .body) in
+              record {
+                place = omega arith;
+                body = body-own i;
+                final = ap (placed (p + 1) (piecesTo root ys h off b)) (i .records)
+                    ∙ placed-then p (x ∷ []) (piecesTo root ys h off b) zs (omega arith)
+                    ∙ ap (λ (y : List Authorization). placed p y zs) (sym (next off f))
+                    ∙ g .final;
+                same = λ u.
+                    ap (λ (y : List Authorization). coveredBy (wantOf h) y u) (i .records)
+                    ∙ covered-pieces (wantOf h) p h (interval on (off - 1) ∷ []) zs u (omega arith)
+                    ∙ g .same u;
+              }
 
 -- ---- both parts of an authorization
 
@@ -98,7 +102,8 @@ module _ (taken : Stretch) (root : Bool) (ys : List Authorization) (x : Authoriz
   abbrev part : ℕ → ℕ → List Authorization
   part a e = piecesTo root ys (x .head) a e
 
-  first-part : part (x .interval .start) (min (x .interval .end + 1) (taken .from)) ≡ part (x .interval .start) b
+  first-part : part (x .interval .start) (min (x .interval .end + 1) (taken .from))
+      ≡ part (x .interval .start) b
   first-part = ap (part (x .interval .start)) (sym g)
 
   -- where the first is too long, both are
@@ -121,7 +126,8 @@ module _ (taken : Stretch) (root : Bool) (ys : List Authorization) (x : Authoriz
   pub parts-then : (m k a : ℕ) (out sorted out' sorted' : List ℕ) (r : Put) → length ys ≡ m → pos ≤ m →
       a ≡ max (x .interval .start) (taken .to) →
       Body k (placed pos (piecesTo root ys (x .head) (x .interval .start) b) ys) out sorted →
-      Makes (placed (pos + (k - m)) (piecesTo root (authorizationsIn k out) (x .head) a (x .interval .end + 1))
+      Makes (placed (pos + (k - m)) (piecesTo root (authorizationsIn k out) (x .head) a
+      (x .interval .end + 1))
       (authorizationsIn k out)) r out' sorted' →
       Makes (placed pos (partsOf taken root ys x) ys) r out' sorted'
   unfolding partsOf piecesTo
@@ -134,7 +140,8 @@ module _ (taken : Stretch) (root : Bool) (ys : List Authorization) (x : Authoriz
       let t : piecesTo root zs (x .head) a e ≡ part (max s (taken .to)) e =
       pieces-same root ys zs (x .head) a e
       (λ u. ap (λ (z : List Authorization). coveredBy (wantOf (x .head)) z u) (p .records)
-      ∙ covered-pieces (wantOf (x .head)) pos (x .head) (maximalTo s b (mayGrant root (wantOf (x .head)) ys)) ys u
+      ∙ covered-pieces (wantOf (x .head)) pos (x .head)
+      (maximalTo s b (mayGrant root (wantOf (x .head)) ys)) ys u
       (omega arith))
       ∙ ap (λ (i : ℕ). part i e) f in
       subst (λ (z : List Authorization). Makes z r out' sorted')

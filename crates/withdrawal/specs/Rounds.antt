@@ -1,5 +1,6 @@
--- A round over the base: what was granted at its times goes in between the pieces of what was granted before. The
--- base is walked in its order with a place in the body that runs along, so that the body stands in that order too.
+-- A round over the base: what was granted at its times goes in between the pieces of what was granted before.
+-- The base is walked in its order with a place in the body that runs along, so that the body stands in that
+-- order too.
 use mathlib.Core.Path.{_≡_, refl, sym, ap, _∙_, fun-ext}
 use mathlib.Core.Logic.{inl, inr}
 use Prim.Native.Nat.{ℕ, suc, _+_, _≤_, _<_}
@@ -11,7 +12,7 @@ use lib.ListN.{length, drop, length-append}
 use lib.Seq.{take-at, drop-at}
 use Rattle.foundation.specs.Tests.{cases, le-true, le-false, true-le, false-le}
 use Rattle.foundation.specs.Tests.{and-false}
-use Rattle.foundation.specs.Lists.{Mem, any-cong-mem}
+use Rattle.foundation.specs.Lists.{Mem, any-cong-mem, placed, any-append}
 use Rattle.foundation.specs.Intervals.{maximal}
 use Rattle.model.specs.declared.Head.{Head}
 use Rattle.model.specs.declared.Authorization.{Authorization}
@@ -20,10 +21,10 @@ use Rattle.model.specs.SupportFacts.{live-mem}
 use Rattle.model.specs.Withdrawal.{pieces, keep}
 use Rattle.laws.specs.KeepFacts.{Sorted}
 use Rattle.support.specs.Cover.{wantOf, wanted, covers, coveredBy}
-use Rattle.support.specs.Places.{placed, any-append}
 use Rattle.withdrawal.specs.declared.Cut.{Cut}
 use Rattle.withdrawal.specs.Stretches.{in-stretch, stretch-true}
-use Rattle.withdrawal.specs.Stays.{left, keep-nil, keep-cons, covered-keep, wanted-before, stays, stays-step}
+use Rattle.withdrawal.specs.Stays.{left, keep-nil, keep-cons, covered-keep, wanted-before, stays}
+use Rattle.withdrawal.specs.Stays.{stays-step}
 use Rattle.withdrawal.specs.Stays.{upTo, left-before, left-after, covered-upTo, upTo-fewer}
 use Rattle.withdrawal.specs.Cuts.{spared, CutOrdered, behindAll, takenOf}
 use Rattle.withdrawal.specs.Bodies.{placed-none}
@@ -33,8 +34,8 @@ use Rattle.withdrawal.specs.Times.{among, InTime}
 
 -- ---- the state of a round
 
--- The authorizations ys of the base are still to come. What stands before `pos` of the body stays, and behind it
--- stands what `before` leaves of ys. With what `after` leaves of them instead, it is what the round makes.
+-- The authorizations ys of the base are still to come. What stands before `pos` of the body stays, and behind
+-- it stands what `before` leaves of ys. With what `after` leaves of them instead, it is what the round makes.
 pub record Round (after before : Head → ℕ → Bool) (xs ys os : List Authorization) (pos : ℕ) : Type 0 where
   pub front : List Authorization
   pub is : os ≡ front ++ keep before ys
@@ -47,7 +48,8 @@ module _ (after before : Head → ℕ → Bool) (xs : List Authorization) where
 
   pub round-end : (os : List Authorization) (pos : ℕ) → Round after before xs [] os pos → os ≡ keep after xs
   round-end os pos r =
-      r .is ∙ ap (λ (x : List Authorization). r .front ++ x) (keep-nil before ∙ sym (keep-nil after)) ∙ r .final
+      r .is ∙ ap (λ (x : List Authorization). r .front ++ x) (keep-nil before ∙ sym (keep-nil after))
+      ∙ r .final
 
   module _ (ys os : List Authorization) (pos : ℕ) where
     pub round-drop : Round after before xs ys os pos → drop pos os ≡ keep before ys
@@ -91,7 +93,8 @@ module _ (after before : Head → ℕ → Bool) (xs : List Authorization) where
         is = r .is
             ∙ ap (λ (x : List Authorization). r .front ++ x) (keep-cons before a ys)
             ∙ sym (append-assoc (r .front) (left before a) (keep before ys));
-        long = length-append (r .front) (left before a) ∙ ap (λ (n : ℕ). n + length (left before a)) (r .long);
+        long = length-append (r .front) (left before a)
+            ∙ ap (λ (n : ℕ). n + length (left before a)) (r .long);
         final = append-assoc (r .front) (left before a) (keep after ys)
             ∙ ap (λ (x : List Authorization). r .front ++ (x ++ keep after ys)) (sym e)
             ∙ ap (λ (x : List Authorization). r .front ++ x) (sym (keep-cons after a ys))
@@ -129,7 +132,8 @@ module _ (root : Head → Bool) (c : Cut) (xs : List Authorization) (T U : ℕ) 
         i = stretch-true T U (a .head .granted) e
 
         -- it would be of the round, granted before a, and stand behind it
-        never : (x : Authorization) → Mem x (a ∷ ys) → T ≤ x .head .granted → x .head .granted < a .head .granted → ⊥
+        never : (x : Authorization) → Mem x (a ∷ ys) → T ≤ x .head .granted →
+            x .head .granted < a .head .granted → ⊥
         never x (inl q) p z = omega (arith, ap (λ (y : Authorization). y .head .granted) q)
         never x (inr m) p z =
             omega (arith, v .0 e x m (in-stretch T U (x .head .granted) p (omega (arith, i))))
@@ -138,7 +142,8 @@ module _ (root : Head → Bool) (c : Cut) (xs : List Authorization) (T U : ℕ) 
             upTo T stay k t && wanted (wantOf (a .head)) k ≡ upTo U stay k t && wanted (wantOf (a .head)) k
         one k m = cases (wanted (wantOf (a .head)) k)
             (λ z. let y = wanted-before (wantOf (a .head)) k z in cases (ltb (k .granted) T)
-            (λ x. let x' = true-le (suc (k .granted)) T x in rw (x, le-true (suc (k .granted)) U (omega arith)))
+            (λ x. let x' = true-le (suc (k .granted)) T x in
+            rw (x, le-true (suc (k .granted)) U (omega arith)))
             (λ x. let x' = false-le (suc (k .granted)) T x in
             let w = live-mem t (a ∷ ys) k m in
             let g = ap (λ (y : Head). y .granted) (w .2) in
@@ -176,7 +181,8 @@ module _ (root : Head → Bool) (c : Cut) (xs : List Authorization) (T U : ℕ) 
       let ps = partsOf (takenOf c (a .head)) (root (a .head)) os a in
       let n : pos + length ps + 0 ≡ pos + length ps = omega arith in
       rw (e, le-false (suc (a .head .granted)) T (omega arith), n)
-      (round-in (upTo U stay) (upTo T stay) xs ys os pos a r ps (left-after stay T a (omega arith)) (parts-stay e)))
+      (round-in (upTo U stay) (upTo T stay) xs ys os pos a r ps (left-after stay T a (omega arith))
+      (parts-stay e)))
       (λ e. cases (ltb (a .head .granted) T)
       (λ f. let y = true-le (suc (a .head .granted)) T f in
       let d = round-drop (upTo U stay) (upTo T stay) xs (a ∷ ys) os pos r ∙ keep-cons (upTo T stay) a ys in

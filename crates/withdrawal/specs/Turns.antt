@@ -1,5 +1,5 @@
--- A turn of a round: which pieces go in for an authorization of the base, how many are passed over (`leading-left`),
--- and what is answered.
+-- A turn of a round: which pieces go in for an authorization of the base, how many are passed over
+-- (`leading-left`), and what is answered.
 use mathlib.Core.Path.{_≡_, refl, ap, _∙_, subst}
 use mathlib.Core.Logic.{inl, inr}
 use Prim.Native.Nat.{ℕ, suc, _+_, _-_, _≤_, _<_}
@@ -10,12 +10,11 @@ use lib.Dec.{leb, ltb, eqb}
 use lib.ListN.{length, drop}
 use Rattle.foundation.specs.Tests.{pick, le-true, le-false, eq-true, ne-false, and-intro}
 use Rattle.foundation.specs.Tests.{and-false}
-use Rattle.foundation.specs.Lists.{Mem}
+use Rattle.foundation.specs.Lists.{Mem, placed}
 use Rattle.model.specs.declared.Head.{Head}
 use Rattle.model.specs.declared.Authorization.{Authorization}
 use Rattle.model.specs.Withdrawal.{pieces, keep}
 use Rattle.laws.specs.KeepFacts.{intervalsOf, piece-of, pieces-of, Precedes}
-use Rattle.support.specs.Places.{placed}
 use Rattle.withdrawal.specs.declared.Cut.{Cut}
 use Rattle.withdrawal.specs.declared.Stretch.{Stretch}
 use Rattle.withdrawal.specs.declared.Turn.{Turn}
@@ -43,13 +42,15 @@ leading-all : (p : Authorization → Bool) (xs ys : List Authorization) →
 leading-all p [] ys h = omega arith
 leading-all p (x ∷ xs) ys h = rw (h x (inl refl), leading-all p xs ys (λ y m. h y (inr m))) (omega arith)
 
-leading-none : (p : Authorization → Bool) (xs : List Authorization) → ((x : Authorization) → Mem x xs → p x ≡ false) →
+leading-none : (p : Authorization → Bool) (xs : List Authorization) →
+    ((x : Authorization) → Mem x xs → p x ≡ false) →
     leading p xs ≡ 0
 leading-none p [] h = refl
 leading-none p (x ∷ xs) h = rw (h x (inl refl))
 
 -- a piece of one that stands behind a is no piece of a
-not-piece : (a k x : Authorization) → Precedes a k → x .head ≡ k .head → k .interval .start ≤ x .interval .start →
+not-piece : (a k x : Authorization) → Precedes a k → x .head ≡ k .head →
+    k .interval .start ≤ x .interval .start →
     pieceOf a x ≡ false
 not-piece a k x (inl p) e s =
     rw (ne-false (x .head .label) (a .head .label) (λ z. omega (arith, ap (λ (h : Head). h .label) e)))
@@ -59,7 +60,8 @@ not-piece a k x (inr p) e s =
 
 -- what r leaves of a stands in front
 pub leading-left : (r : Head → ℕ → Bool) (a : Authorization) (ys : List Authorization) →
-    ((k : Authorization) → Mem k ys → Precedes a k) → leading (pieceOf a) (left r a ++ keep r ys) ≡ length (left r a)
+    ((k : Authorization) → Mem k ys → Precedes a k) →
+    leading (pieceOf a) (left r a ++ keep r ys) ≡ length (left r a)
 unfolding left
 leading-left r a ys s =
     leading-all (pieceOf a) (pieces (a .head) (intervalsOf r a)) (keep r ys)
@@ -87,7 +89,8 @@ Turns pos ps by os Full out sorted = 1024 < length (placed pos ps os)
 Turns pos ps by os (At k p) out sorted = Body k (placed pos ps os) out sorted × (p ≡ pos + length ps + by)
 
 -- by what it answers
-pub turns-at : (pos : ℕ) (ps : List Authorization) (by : ℕ) (os : List Authorization) (r : Turn) (out sorted : List ℕ)
+pub turns-at : (pos : ℕ) (ps : List Authorization) (by : ℕ) (os : List Authorization) (r : Turn)
+    (out sorted : List ℕ)
     (k p : ℕ) → r ≡ At k p → Turns pos ps by os r out sorted →
     Body k (placed pos ps os) out sorted × (p ≡ pos + length ps + by)
 turns-at pos ps by os r out sorted k p e t = subst (λ (x : Turn). Turns pos ps by os x out sorted) e t
@@ -113,7 +116,8 @@ module _ (c : Cut) (T U : ℕ) (root : Bool) (os : List Authorization) (a : Auth
     turn-full h = subst (λ (x : List Authorization). 1024 < length (placed pos x os)) goes-in h
 
     pub turn-in : (m k : ℕ) (out sorted : List ℕ) → length os ≡ m →
-        Body k (placed pos (partsOf taken root' os a) os) out sorted → Turned (At k (pos + (k - m))) out sorted
+        Body k (placed pos (partsOf taken root' os a) os) out sorted →
+        Turned (At k (pos + (k - m))) out sorted
     turn-in m k out sorted n b =
         let p = inOf c T U root os a in
         let d = subst (λ (x : List Authorization). Body k (placed pos x os) out sorted) goes-in b in

@@ -1,17 +1,17 @@
--- A round's walk over the base: the state between two turns, and how it goes on. Then what the rounds together make.
+-- A round's walk over the base: the state between two turns, and how it goes on. Then what the rounds
+-- together make.
 use mathlib.Core.Path.{_≡_, refl, sym, ap, _∙_, subst}
 use Prim.Native.Nat.{ℕ, _+_, _≤_, _<_}
 use native.Mathlib.Omega.{arith}
 use mathlib.Core.Bool.{Bool, true}
 use mathlib.Core.List.{List, [], _∷_}
 use lib.ListN.{length, drop}
-use Rattle.foundation.specs.Lists.{Mem}
+use Rattle.foundation.specs.Lists.{Mem, placed}
 use Rattle.model.specs.declared.Head.{Head}
 use Rattle.model.specs.declared.Authorization.{Authorization}
 use Rattle.model.specs.Withdrawal.{keep, restrict}
 use Rattle.laws.specs.KeepFacts.{Sorted}
-use Rattle.support.specs.Cover.{authorizationsIn}
-use Rattle.support.specs.Places.{placed}
+use Rattle.encoding.specs.Format.{authorizationsIn}
 use Rattle.withdrawal.specs.declared.Cut.{Cut}
 use Rattle.withdrawal.specs.Stays.{stays, restricted, upTo-none, upTo-all, upTo-fewer}
 use Rattle.withdrawal.specs.Cuts.{spared, CutOrdered, behindAll}

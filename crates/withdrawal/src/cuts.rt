@@ -2,8 +2,9 @@
 ghost use mathlib.Core.Path.{_≡_};
 ghost use mathlib.Core.Bool.{not};
 ghost use Rattle.foundation.specs.Tests.{pick};
-ghost use Rattle.withdrawal.specs.Cuts.{cutNames, allIf, takenOf};
+ghost use Rattle.withdrawal.specs.Cuts.{cutNames, allIf, namedOf, takenOf};
 use crate::Cut;
+use crate::CutKind;
 use crate::Stretch;
 use model::Head;
 
@@ -44,16 +45,10 @@ fn all_if(b: bool) -> Stretch
     }
 }
 
-// The instants that a cut takes out of an authorization.
-pub fn taken(c: Cut, h: Head) -> Stretch
-    ensures { λ r. ⌜ r ≡ takenOf c h ⌝ }
+// The instants that a cut by name takes out of an authorization.
+fn named(c: Cut, h: Head) -> Stretch
+    ensures { λ r. ⌜ r ≡ namedOf c h ⌝ }
 {
-    if c.kind == 1 {
-        return all_if(h.label == c.label);
-    }
-    if c.kind == 2 {
-        return all_if((h.object == c.object) & (h.grantor == c.grantor));
-    }
     if is_named(c, h) {
         let i = c.interval;
         return Stretch {
@@ -62,4 +57,16 @@ pub fn taken(c: Cut, h: Head) -> Stretch
         };
     }
     all_if(false)
+}
+
+// The instants that a cut takes out of an authorization.
+pub fn taken(c: Cut, h: Head) -> Stretch
+    ensures { λ r. ⌜ r ≡ takenOf c h ⌝ }
+{
+    let kind = c.kind;
+    match kind {
+        CutKind::Label => all_if(h.label == c.label),
+        CutKind::Grantor => all_if((h.object == c.object) & (h.grantor == c.grantor)),
+        CutKind::Name => named(c, h),
+    }
 }

@@ -1,17 +1,25 @@
 // The authorizations that a withdrawal leaves, built in a lent body without an intermediate base.
 mod cuts;
-mod lookup;
+mod granting;
 mod pieces;
 mod rounds;
 
 use foundation::Interval;
 pub use rounds::withdraw;
 
+// By what a withdrawal names what it takes out.
+pub enum CutKind {
+    // the authorizations of `label`
+    Label,
+    // those on `object` that `grantor` gave
+    Grantor,
+    // `interval` out of those with that grantor, subject, object, mode and sign
+    Name,
+}
+
 // What a withdrawal takes out.
 pub struct Cut {
-    // 1: the authorizations of `label`; 2: those on `object` that `grantor` gave; else `interval` out of those with
-    // that grantor, subject, object, mode and sign
-    pub kind: u8,
+    pub kind: CutKind,
     pub label: u16,
     pub grantor: u16,
     pub subject: u16,

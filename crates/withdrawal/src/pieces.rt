@@ -1,33 +1,34 @@
 // The pieces of an authorization, put into the body under construction.
 ghost use mathlib.Core.List.{_∷_, []};
 ghost use Prim.Native.Nat.{_+_, _≤_, _<_};
-ghost use Rattle.support.specs.Cover.{authorizationsIn};
-ghost use Rattle.support.specs.Places.{placed};
+ghost use Rattle.encoding.specs.Format.{authorizationsIn};
+ghost use Rattle.foundation.specs.Lists.{placed};
 ghost use Rattle.withdrawal.specs.Bodies.{Body, Holds, Room, Makes};
 ghost use Rattle.withdrawal.specs.Parts.{piecesTo, partsOf};
 use crate::Put;
 use crate::Stretch;
-use crate::lookup::earlier;
-use crate::lookup::gap_from;
-use crate::lookup::granting_from;
-use crate::lookup::later;
+use crate::granting::earlier;
+use crate::granting::gap_from;
+use crate::granting::granting_from;
+use crate::granting::later;
 use foundation::Interval;
 use model::Authorization;
 use model::Head;
 use support::Want;
 
-// Puts a piece before the one at place `pos` of m, and the same into the body in rising start. "Pieces keep label and
-// granted-at" (01): the part of the body behind the place is lent, from its middle, and moved up one record.
+// Puts a piece before the one at place `pos` of m, and the same into the body in rising start. "Pieces keep
+// label and granted-at" (01): the part of the body behind the place is lent, from its middle, and moved up
+// one record.
 fn put_piece(out: &mut [u8], sorted: &mut [u8], m: usize, pos: usize, a: Authorization)
     requires { ⌜ (pos ≤ m) × (m < 1024) × Room (now out) (now sorted) ⌝ }
     requires { ⌜ Holds m (now out) (now sorted) ⌝ }
     ensures { λ _. ⌜ Body (m + 1) (placed pos (a ∷ []) (authorizationsIn m (now (out .entry))))
         (now (out .exit)) (now (sorted .exit)) ⌝ }
 {
-    support::insert_authorization(out, m, pos, a);
+    encoding::insert_authorization(out, m, pos, a);
     let i = a.interval;
-    let p = support::place_of(sorted, m, i.start);
-    support::insert_authorization(sorted, m, p, a);
+    let p = encoding::place_of(sorted, m, i.start);
+    encoding::insert_authorization(sorted, m, p, a);
 }
 
 // Puts in the pieces of an authorization from a on, before b, at which its grantor may grant.
@@ -81,8 +82,8 @@ fn put_part(
     Put::Lines(k)
 }
 
-// Puts in what is left of an authorization around the instants that are taken: its part before them and its part
-// behind.
+// Puts in what is left of an authorization around the instants that are taken: its part before them and its
+// part behind.
 pub fn put_pieces(
     out: &mut [u8],
     sorted: &mut [u8],

@@ -1,14 +1,15 @@
-// Rounds over the base in rising granted-at. A round covers the times from T on, before U: it walks the base in its
-// order with a place in the body that runs along, puts in what was granted then, and passes over the pieces of what
-// was granted before. All that can support an authorization is in the body when its turn comes, and what is built
-// never changes again.
+// Rounds over the base in rising granted-at. A round covers the times from T on, before U: it walks the base
+// in its order with a place in the body that runs along, puts in what was granted then, and passes over the
+// pieces of what was granted before. All that can support an authorization is in the body when its turn
+// comes, and what is built never changes again.
 ghost use mathlib.Core.Path.{_≡_};
 ghost use mathlib.Core.Bool.{true};
 ghost use Prim.Native.Nat.{_+_, _*_, _≤_, _<_};
 ghost use lib.ListN.{length, drop};
 ghost use Rattle.model.specs.Withdrawal.{keep, restrict};
 ghost use Rattle.laws.specs.KeepFacts.{Sorted};
-ghost use Rattle.support.specs.Cover.{authorizationsIn, rootsIn};
+ghost use Rattle.support.specs.Cover.{rootsIn};
+ghost use Rattle.encoding.specs.Format.{authorizationsIn};
 ghost use Rattle.withdrawal.specs.Cuts.{spared, CutOrdered};
 ghost use Rattle.withdrawal.specs.Bodies.{Body, Holds, Room, Makes, Built};
 ghost use Rattle.withdrawal.specs.Times.{InTime, pullOf, raiseOf, endOf};
@@ -18,8 +19,9 @@ use crate::Cut;
 use crate::Put;
 use crate::Turn;
 use crate::cuts::taken;
-use crate::lookup::earlier;
+use crate::granting::earlier;
 use crate::pieces::put_pieces;
+use model::AUTHORIZATION_BYTES;
 use model::Authorization;
 
 // Whether x is a piece of a, as its label and its start tell.
@@ -40,7 +42,7 @@ fn skip(out: &[u8], m: usize, pos: usize, a: Authorization) -> usize
 {
     let mut p = pos;
     while p < m {
-        if !is_piece(a, encoding::authorization_at(out, p * 24)) {
+        if !is_piece(a, encoding::authorization_at(out, p * AUTHORIZATION_BYTES)) {
             return p;
         }
         p += 1;
@@ -75,7 +77,7 @@ fn take_turn(
     let h = a.head;
     let g = h.granted as u64;
     if (from <= g) & (g < to) {
-        let root = support::is_root(owners, no, administrators, na, h.object, h.grantor);
+        let root = lookup::is_root(owners, no, administrators, na, h.object, h.grantor);
         let cut = taken(c, h);
         let Put::Lines(k) = put_pieces(out, sorted, m, pos, a, root, cut) else {
             return Turn::Full;
@@ -89,7 +91,8 @@ fn take_turn(
     Turn::At(m, pos)
 }
 
-// What the withdrawal leaves of what was granted before `to`, from what it leaves of what was granted before `from`.
+// What the withdrawal leaves of what was granted before `to`, from what it leaves of what was granted before
+// `from`.
 fn do_round(
     owners: &[u8],
     no: usize,
@@ -106,7 +109,8 @@ fn do_round(
 ) -> Put
     requires { ⌜ (no * 4 ≤ length (now owners)) × (na * 4 ≤ length (now administrators))
         × (n * 24 ≤ length (now s)) × (from ≤ to) × Room (now out) (now sorted) ⌝ }
-    requires { ⌜ CutOrdered c × Sorted (authorizationsIn n (now s)) × InTime from to (authorizationsIn n (now s)) ⌝ }
+    requires { ⌜ CutOrdered c × Sorted (authorizationsIn n (now s))
+        × InTime from to (authorizationsIn n (now s)) ⌝ }
     requires { ⌜ Body m
         (stayers (rootsIn no (now owners) na (now administrators)) c (authorizationsIn n (now s)) from)
         (now out) (now sorted) ⌝ }
@@ -119,7 +123,7 @@ fn do_round(
     let mut pos = 0;
     let mut i = 0;
     while i < n {
-        let a = encoding::authorization_at(s, i * 24);
+        let a = encoding::authorization_at(s, i * AUTHORIZATION_BYTES);
         let Turn::At(j, p) = take_turn(
             owners,
             no,
@@ -164,8 +168,8 @@ fn raise(t: u64, g: u64, top: u64) -> u64
     top
 }
 
-// Up to where what was granted from t on stands in the order of its times. Where the times rise with the labels, that
-// is behind the last instant, and one round does it all.
+// Up to where what was granted from t on stands in the order of its times. Where the times rise with the
+// labels, that is behind the last instant, and one round does it all.
 fn round_end(s: &[u8], n: usize, t: u64) -> u64
     requires { ⌜ n * 24 ≤ length (now s) ⌝ }
     ensures { λ r. ⌜ r ≡ endOf t (authorizationsIn n (now (s .entry))) 0 4294967296 ⌝ }
@@ -174,7 +178,7 @@ fn round_end(s: &[u8], n: usize, t: u64) -> u64
     let mut d: u64 = 4294967296;
     let mut i = 0;
     while i < n {
-        let g = fields::le32(s, i * 24 + 12) as u64;
+        let g = fields::le32(s, i * AUTHORIZATION_BYTES + 12) as u64;
         d = pull(t, g, top, d);
         top = raise(t, g, top);
         i += 1;
@@ -182,7 +186,8 @@ fn round_end(s: &[u8], n: usize, t: u64) -> u64
     d
 }
 
-// The authorizations that a withdrawal leaves of the n of s, built in `out`; `sorted` is a second body to look up in.
+// The authorizations that a withdrawal leaves of the n of s, built in `out`; `sorted` is a second body to
+// look up in.
 // What is built is of the result, so that a 1,025th means that the result is too long.
 pub fn withdraw(
     owners: &[u8],

@@ -3,13 +3,17 @@ use borrow.Author.Needs.{needs}
 use native.Mathlib.Omega.{arith}
 use denote.Ref.{now}
 use Rattle.model.specs.Encoding.{decode}
-use Rattle.edits.proofs.Laws.{written-length, edited}
-use Rattle.edits.proofs.Bodies.{privileges, privileges-limited, count-is, start-within, insertion}
+use Rattle.edits.proofs.EditedBytes.{written-length, edited}
+use Rattle.edits.proofs.BodyEdits.{privileges, privileges-limited, count-is, start-within, insertion}
 use Rattle.edits.proofs.insert_privilege.Statement.{statement}
 use Rattle.edits.proofs.insert_privilege.Tie as tie
 
 counts-of-requires : tie.Need-counts-of-requires
-counts-of-requires c κs = omega (arith, written-length (now (c .before .before .args .s)) (c .before .before .pre .0))
+counts-of-requires c κs = omega (
+  arith,
+  written-length (now (c .before .before .args .s))
+      (c .before .before .pre .0),
+)
 
 add-at : tie.Need-add-at
 add-at c =
@@ -20,7 +24,8 @@ add-at c =
       d .pre,
       c .privileges-at .ensures,
       privileges-limited (d .args .k) (decode (now (d .args .s))) (d .pre .0 .fits .counts),
-      start-within (privileges (d .args .k)) (now (d .args .s)) (d .pre .0) (n .counts-of .result) (n .counts-of .ensures),
+      start-within (privileges (d .args .k)) (now (d .args .s)) (d .pre .0) (n .counts-of .result)
+          (n .counts-of .ensures),
     )
 
 add-with-privilege-count : tie.Need-add-with-privilege-count
@@ -31,7 +36,8 @@ add-with-privilege-count c =
       arith,
       d .pre,
       c .privilege-count .ensures,
-      count-is (privileges (d .args .k)) (now (d .args .s)) (d .pre .0) (n .counts-of .result) (n .counts-of .ensures),
+      count-is (privileges (d .args .k)) (now (d .args .s)) (d .pre .0) (n .counts-of .result)
+          (n .counts-of .ensures),
     )
 
 reshape-requires : tie.Need-reshape-requires
@@ -79,5 +85,6 @@ pub insert-privilege-spec : {M : Type 1} → statement M
 insert-privilege-spec =
     tie.close
     (tie.spec counts-of-requires (λ c κs. search needs) (λ c. search needs) add-at (λ c κs. search needs)
-    add-with-privilege-count (λ c κs. search needs) reshape-requires put-privilege-requires (λ c. search needs)
+    add-with-privilege-count (λ c κs. search needs) reshape-requires put-privilege-requires
+    (λ c. search needs)
     returns)

@@ -3,19 +3,28 @@ use borrow.Author.Needs.{needs}
 use native.Mathlib.Omega.{arith}
 use mathlib.Core.Path.{refl}
 use denote.Ref.{now}
-use Rattle.edits.proofs.Laws.{written-length, edited}
-use Rattle.edits.proofs.Bodies.{rules, count-is, insertion}
+use Rattle.edits.proofs.EditedBytes.{written-length, edited}
+use Rattle.edits.proofs.BodyEdits.{rules, count-is, insertion}
 use Rattle.edits.proofs.insert_rule.Statement.{statement}
 use Rattle.edits.proofs.insert_rule.Tie as tie
 
 counts-of-requires : tie.Need-counts-of-requires
-counts-of-requires c κs = omega (arith, written-length (now (c .before .before .args .s)) (c .before .before .pre .0))
+counts-of-requires c κs = omega (
+  arith,
+  written-length (now (c .before .before .args .s))
+      (c .before .before .pre .0),
+)
 
 add-with-rule-count : tie.Need-add-with-rule-count
 add-with-rule-count c =
     let n = c .before .before .before in
     let d = n .before .before .before in
-    omega (arith, d .pre, count-is rules (now (d .args .s)) (d .pre .0) (n .counts-of .result) (n .counts-of .ensures))
+    omega (
+      arith,
+      d .pre,
+      count-is rules (now (d .args .s)) (d .pre .0) (n .counts-of .result)
+          (n .counts-of .ensures),
+    )
 
 reshape-requires : tie.Need-reshape-requires
 reshape-requires c κs =

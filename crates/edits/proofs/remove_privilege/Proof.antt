@@ -3,18 +3,27 @@ use borrow.Author.Needs.{needs}
 use native.Mathlib.Omega.{arith}
 use denote.Ref.{now}
 use Rattle.model.specs.Encoding.{decode}
-use Rattle.edits.proofs.Laws.{written-length, edited-out}
-use Rattle.edits.proofs.Bodies.{privileges, privileges-limited, count-is, start-within, removal}
+use Rattle.edits.proofs.EditedBytes.{written-length, edited-out}
+use Rattle.edits.proofs.BodyEdits.{privileges, privileges-limited, count-is, start-within, removal}
 use Rattle.edits.proofs.remove_privilege.Statement.{statement}
 use Rattle.edits.proofs.remove_privilege.Tie as tie
 
 counts-of-requires : tie.Need-counts-of-requires
-counts-of-requires c κs = omega (arith, written-length (now (c .before .before .args .s)) (c .before .before .pre .0))
+counts-of-requires c κs = omega (
+  arith,
+  written-length (now (c .before .before .args .s))
+      (c .before .before .pre .0),
+)
 
 mul-at : tie.Need-mul-at
 mul-at c =
     let d = c .before .before .before .before in
-    omega (arith, d .pre, privileges-limited (d .args .k) (decode (now (d .args .s))) (d .pre .0 .fits .counts))
+    omega (
+      arith,
+      d .pre,
+      privileges-limited (d .args .k) (decode (now (d .args .s)))
+          (d .pre .0 .fits .counts),
+    )
 
 add-at : tie.Need-add-at
 add-at c =
@@ -25,7 +34,8 @@ add-at c =
       d .pre,
       c .privileges-at .ensures,
       privileges-limited (d .args .k) (decode (now (d .args .s))) (d .pre .0 .fits .counts),
-      start-within (privileges (d .args .k)) (now (d .args .s)) (d .pre .0) (n .counts-of .result) (n .counts-of .ensures),
+      start-within (privileges (d .args .k)) (now (d .args .s)) (d .pre .0) (n .counts-of .result)
+          (n .counts-of .ensures),
     )
 
 sub-with-privilege-count : tie.Need-sub-with-privilege-count
@@ -36,7 +46,8 @@ sub-with-privilege-count c =
       arith,
       d .pre,
       c .privilege-count .ensures,
-      count-is (privileges (d .args .k)) (now (d .args .s)) (d .pre .0) (n .counts-of .result) (n .counts-of .ensures),
+      count-is (privileges (d .args .k)) (now (d .args .s)) (d .pre .0) (n .counts-of .result)
+          (n .counts-of .ensures),
     )
 
 reshape-requires : tie.Need-reshape-requires

@@ -8,9 +8,9 @@ use denote.Ref.{now}
 use Rattle.foundation.specs.Bytes.{records}
 use Rattle.model.specs.Encoding.{authorizationOf}
 use Rattle.fields.specs.Field.{splice}
-use Rattle.encoding.specs.FormatFacts.{length-records}
-use Rattle.edits.proofs.Laws.{written-length, edited}
-use Rattle.edits.proofs.Bodies.{authorizations, replacement}
+use Rattle.foundation.specs.Records.{length-records}
+use Rattle.edits.proofs.EditedBytes.{written-length, edited}
+use Rattle.edits.proofs.BodyEdits.{authorizations, replacement}
 use Rattle.edits.proofs.replace_authorizations.Statement.{statement}
 use Rattle.edits.proofs.replace_authorizations.Tie as tie
 
@@ -25,9 +25,12 @@ reshape-requires c κs =
     let n = p .before in
     let d = n .before .before .before .before in
     let ys = records 24 authorizationOf (d .args .m) (now (d .args .body)) in
-    let e = replacement authorizations (now (d .args .s)) (d .pre .0) (n .counts-of .result) (n .counts-of .ensures)
-    (p .authorizations-at .result) (d .args .m) ys (c .with-authorization-count .result) (p .authorizations-at .ensures)
-    (c .with-authorization-count .ensures) (sym (length-records 24 authorizationOf (d .args .m) (now (d .args .body))))
+    let e = replacement authorizations (now (d .args .s)) (d .pre .0) (n .counts-of .result)
+    (n .counts-of .ensures)
+    (p .authorizations-at .result) (d .args .m) ys (c .with-authorization-count .result)
+    (p .authorizations-at .ensures)
+    (c .with-authorization-count .ensures)
+    (sym (length-records 24 authorizationOf (d .args .m) (now (d .args .body))))
     (d .pre .1) in
     (e .old-room, e .new-room, omega (arith, e .long), e .counts)
 
@@ -39,9 +42,12 @@ copy-requires c κs =
     let n = p .before in
     let d = n .before .before .before .before in
     let ys = records 24 authorizationOf (d .args .m) (now (d .args .body)) in
-    let e = replacement authorizations (now (d .args .s)) (d .pre .0) (n .counts-of .result) (n .counts-of .ensures)
-    (p .authorizations-at .result) (d .args .m) ys (w .with-authorization-count .result) (p .authorizations-at .ensures)
-    (w .with-authorization-count .ensures) (sym (length-records 24 authorizationOf (d .args .m) (now (d .args .body))))
+    let e = replacement authorizations (now (d .args .s)) (d .pre .0) (n .counts-of .result)
+    (n .counts-of .ensures)
+    (p .authorizations-at .result) (d .args .m) ys (w .with-authorization-count .result)
+    (p .authorizations-at .ensures)
+    (w .with-authorization-count .ensures)
+    (sym (length-records 24 authorizationOf (d .args .m) (now (d .args .body))))
     (d .pre .1) in
     (omega (arith, e .new-room, r .reshape .kept .0), omega (arith, d .pre .2))
 
@@ -54,16 +60,22 @@ returns c =
     let n = p .before in
     let d = n .before .before .before .before in
     let ys = records 24 authorizationOf (d .args .m) (now (d .args .body)) in
-    let e = replacement authorizations (now (d .args .s)) (d .pre .0) (n .counts-of .result) (n .counts-of .ensures)
-    (p .authorizations-at .result) (d .args .m) ys (w .with-authorization-count .result) (p .authorizations-at .ensures)
-    (w .with-authorization-count .ensures) (sym (length-records 24 authorizationOf (d .args .m) (now (d .args .body))))
+    let e = replacement authorizations (now (d .args .s)) (d .pre .0) (n .counts-of .result)
+    (n .counts-of .ensures)
+    (p .authorizations-at .result) (d .args .m) ys (w .with-authorization-count .result)
+    (p .authorizations-at .ensures)
+    (w .with-authorization-count .ensures)
+    (sym (length-records 24 authorizationOf (d .args .m) (now (d .args .body))))
     (d .pre .1) in
     edited e (r .reshape .ensures)
-    (u .copy .ensures ∙ ap (λ (x : List ℕ). splice (p .authorizations-at .result) x (r .reshape .last .0)) (d .pre .3))
+    (u .copy .ensures ∙ ap (λ (x : List ℕ). splice (p .authorizations-at .result) x (r .reshape .last .0))
+    (d .pre .3))
 
 pub replace-authorizations-spec : {M : Type 1} → statement M
 replace-authorizations-spec =
     tie.close
-    (tie.spec counts-of-requires (λ c κs. search needs) (λ c. search needs) (λ c. search needs) (λ c. search needs)
-    (λ c. search needs) (λ c κs. search needs) reshape-requires (λ c. search needs) copy-requires (λ c. search needs)
+    (tie.spec counts-of-requires (λ c κs. search needs) (λ c. search needs) (λ c. search needs)
+    (λ c. search needs)
+    (λ c. search needs) (λ c κs. search needs) reshape-requires (λ c. search needs) copy-requires
+    (λ c. search needs)
     returns)

@@ -2,13 +2,17 @@
 use mathlib.Core.Path.{_∙_}
 use native.Mathlib.Omega.{arith}
 use denote.Ref.{now}
-use Rattle.edits.proofs.Laws.{written-length, clock-written}
+use Rattle.edits.proofs.EditedBytes.{written-length, clock-written}
 use borrow.Author.Needs.{needs}
 use Rattle.edits.proofs.set_clock.Statement.{statement}
 use Rattle.edits.proofs.set_clock.Tie as tie
 
 put32-requires : tie.Need-put32-requires
-put32-requires c κs = omega (arith, written-length (now (c .before .before .args .s)) (c .before .before .pre))
+put32-requires c κs = omega (
+  arith,
+  written-length (now (c .before .before .args .s))
+      (c .before .before .pre),
+)
 
 returns : tie.Need-returns
 returns c =

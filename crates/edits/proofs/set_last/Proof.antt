@@ -2,13 +2,17 @@
 use native.Mathlib.Omega.{arith}
 use mathlib.Core.Path.{_∙_}
 use denote.Ref.{now}
-use Rattle.edits.proofs.Laws.{written-length, last-written}
+use Rattle.edits.proofs.EditedBytes.{written-length, last-written}
 use borrow.Author.Needs.{needs}
 use Rattle.edits.proofs.set_last.Statement.{statement}
 use Rattle.edits.proofs.set_last.Tie as tie
 
 put16-requires : tie.Need-put16-requires
-put16-requires c κs = omega (arith, written-length (now (c .before .before .args .s)) (c .before .before .pre))
+put16-requires c κs = omega (
+  arith,
+  written-length (now (c .before .before .args .s))
+      (c .before .before .pre),
+)
 
 returns : tie.Need-returns
 returns c =

@@ -6,9 +6,10 @@ use lib.ListN.{length}
 use denote.Ref.{now}
 use Rattle.model.specs.Encoding.{decode}
 use Rattle.encoding.specs.declared.Counts.{Counts}
-use Rattle.encoding.specs.FormatFacts.{decoded-lengths}
-use Rattle.edits.proofs.Laws.{written-length}
-use Rattle.effects.proofs.Laws.{rule-addition, label-room, new-fits, room, put-last, operator-in}
+use Rattle.encoding.proofs.FormatFacts.{decoded-lengths}
+use Rattle.edits.proofs.EditedBytes.{written-length}
+use Rattle.effects.proofs.AllowedEffects.{rule-addition, label-room, new-fits, room, put-last}
+use Rattle.effects.proofs.AllowedEffects.{operator-in}
 use Rattle.effects.proofs.add_rule.Statement.{statement}
 use Rattle.effects.proofs.add_rule.Tie as tie
 
@@ -34,15 +35,18 @@ stamp-requires c κs = rule-addition _ _ (c .before .before .before .before .bef
 rule-of-requires : tie.Need-rule-of-requires
 rule-of-requires c κs =
     let l = c .before .before .before .before .before .before in
-    let d = l .before .before .before .before .before in
-    (new-fits (rule-addition _ _ (d .pre)) (l .next-label .result) (l .next-label .ensures), operator-in _ _ (d .pre))
+    let d = l .before .before .before .before .before in (
+      new-fits (rule-addition _ _ (d .pre)) (l .next-label .result) (l .next-label .ensures),
+      operator-in _ _ (d .pre),
+    )
 
 insert-rule-requires : tie.Need-insert-rule-requires
 insert-rule-requires c κs =
     let p = c .before .before .before .before .before in
     let l = p .before .before in
     let n = l .before .before in
-    room (rule-addition _ _ (n .before .before .before .pre)) (l .next-label .result) (l .next-label .ensures) _ (p .stamp .ensures)
+    room (rule-addition _ _ (n .before .before .before .pre)) (l .next-label .result)
+    (l .next-label .ensures) _ (p .stamp .ensures)
     (n .counts-of .result .rules) (place n)
 
 returns : tie.Need-returns
@@ -51,7 +55,8 @@ returns c =
     let p = r .before .before .before .before .before .before in
     let l = p .before .before in
     let n = l .before .before in
-    put-last (rule-addition _ _ (n .before .before .before .pre)) (l .next-label .result) (l .next-label .ensures) _ (p .stamp .ensures)
+    put-last (rule-addition _ _ (n .before .before .before .pre)) (l .next-label .result)
+    (l .next-label .ensures) _ (p .stamp .ensures)
     (n .counts-of .result .rules) (place n) _ (r .before .rule-of .ensures) _ (r .insert-rule .ensures)
 
 pub add-rule-spec : {M : Type 1} → statement M

@@ -6,7 +6,7 @@ use mathlib.Core.Bool.{false, not}
 use Rattle.model.specs.Requests.{DROPRULE}
 use Rattle.model.specs.Encoding.{decode}
 use Rattle.effects.specs.Effects.{dropsBy}
-use Rattle.effects.proofs.Laws.{allowed-written, effect-drop}
+use Rattle.effects.proofs.AllowedEffects.{allowed-written, effect-drop}
 use Rattle.effects.proofs.Changes.{clock-holds, rules-done}
 use Rattle.effects.proofs.drop_rule.Statement.{statement}
 use Rattle.effects.proofs.drop_rule.Tie as tie
@@ -26,7 +26,8 @@ returns c =
     let p = r .before .before .before .before in
     let d = p .before .before .before in
     rules-done (DROPRULE ∷ []) (now (d .args .s)) (d .args .q) (d .pre) _ (p .set-clock .ensures)
-    (λ r. not (dropsBy false false (d .args .q) r)) (effect-drop (decode (now (d .args .s))) (d .args .q) false false (d .pre .kind)) _
+    (λ r. not (dropsBy false false (d .args .q) r))
+    (effect-drop (decode (now (d .args .s))) (d .args .q) false false (d .pre .kind)) _
     (r .drop-rules .ensures)
 
 pub drop-rule-spec : {M : Type 1} → statement M

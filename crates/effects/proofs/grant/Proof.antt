@@ -6,9 +6,9 @@ use lib.ListN.{length}
 use denote.Ref.{now}
 use Rattle.model.specs.Encoding.{decode}
 use Rattle.encoding.specs.declared.Counts.{Counts}
-use Rattle.encoding.specs.FormatFacts.{decoded-lengths}
-use Rattle.edits.proofs.Laws.{written-length}
-use Rattle.effects.proofs.Laws.{grant-addition, label-room, new-fits, room, put-last}
+use Rattle.encoding.proofs.FormatFacts.{decoded-lengths}
+use Rattle.edits.proofs.EditedBytes.{written-length}
+use Rattle.effects.proofs.AllowedEffects.{grant-addition, label-room, new-fits, room, put-last}
 use Rattle.effects.proofs.grant.Statement.{statement}
 use Rattle.effects.proofs.grant.Tie as tie
 
@@ -19,7 +19,8 @@ counts-of-requires c κs =
 
 -- the place is behind the last
 place : (c : tie.After-counts-of) →
-    c .counts-of .result .authorizations ≡ length (decode (now (c .before .before .before .args .s)) .authorizations)
+    c .counts-of .result .authorizations
+    ≡ length (decode (now (c .before .before .before .args .s)) .authorizations)
 place c = ap (λ (x : Counts). x .authorizations) (c .counts-of .ensures)
     ∙ sym (decoded-lengths (now (c .before .before .before .args .s)) .3)
 
@@ -42,7 +43,8 @@ insert-authorization-requires c κs =
     let p = c .before .before .before .before .before in
     let l = p .before .before in
     let n = l .before .before in
-    room (grant-addition _ _ (n .before .before .before .pre)) (l .next-label .result) (l .next-label .ensures) _ (p .stamp .ensures)
+    room (grant-addition _ _ (n .before .before .before .pre)) (l .next-label .result)
+    (l .next-label .ensures) _ (p .stamp .ensures)
     (n .counts-of .result .authorizations) (place n)
 
 returns : tie.Need-returns
@@ -51,11 +53,14 @@ returns c =
     let p = r .before .before .before .before .before .before in
     let l = p .before .before in
     let n = l .before .before in
-    put-last (grant-addition _ _ (n .before .before .before .pre)) (l .next-label .result) (l .next-label .ensures) _ (p .stamp .ensures)
-    (n .counts-of .result .authorizations) (place n) _ (r .before .authorization-of .ensures) _ (r .insert-authorization .ensures)
+    put-last (grant-addition _ _ (n .before .before .before .pre)) (l .next-label .result)
+    (l .next-label .ensures) _ (p .stamp .ensures)
+    (n .counts-of .result .authorizations) (place n) _ (r .before .authorization-of .ensures) _
+    (r .insert-authorization .ensures)
 
 pub grant-spec : {M : Type 1} → statement M
 grant-spec =
     tie.close
-    (tie.spec counts-of-requires next-label-requires stamp-requires (λ c. search needs) authorization-of-requires
+    (tie.spec counts-of-requires next-label-requires stamp-requires
+    (λ c. search needs) authorization-of-requires
     insert-authorization-requires (λ c. search needs) returns)

@@ -7,8 +7,8 @@ use Rattle.model.specs.Requests.{GRANTADM, GRANTREF, insert}
 use Rattle.model.specs.Encoding.{decode}
 use Rattle.model.specs.Means.{plainly}
 use Rattle.model.specs.Step.{effect}
-use Rattle.edits.specs.Edits.{withClock, withPrivileges, privilegesOf}
-use Rattle.effects.proofs.Laws.{allowed-written, effect-privilege}
+use Rattle.edits.specs.Edits.{withStamp, withPrivileges, privilegesOf}
+use Rattle.effects.proofs.AllowedEffects.{allowed-written, effect-privilege}
 use Rattle.effects.proofs.Changes.{named-fits, put-room, put-done}
 use Rattle.effects.proofs.grant_privilege.Statement.{statement}
 use Rattle.effects.proofs.grant_privilege.Tie as tie
@@ -17,25 +17,33 @@ set-clock-requires : tie.Need-set-clock-requires
 set-clock-requires c κs = allowed-written (GRANTADM ∷ GRANTREF ∷ []) _ _ (c .before .before .pre)
 
 privilege-of-requires : tie.Need-privilege-of-requires
-privilege-of-requires c κs = named-fits (GRANTADM ∷ GRANTREF ∷ []) _ _ (c .before .before .before .before .before .before .before .pre) refl refl
+privilege-of-requires c κs = named-fits (GRANTADM ∷ GRANTREF ∷ []) _ _
+    (c .before .before .before .before .before .before .before .pre) refl refl
 
 -- the effect, with the privilege as it was made
 effects : (c : tie.After-privilege-of) →
-    effect plainly (decode (now (c .before .before .before .before .before .before .before .before .args .s))) (c .before .before .before .before .before .before .before .before .args .q)
-    ≡ withPrivileges (c .before .body-of .result) (insert (c .privilege-of .result) (privilegesOf (c .before .body-of .result) (decode (now (c .before .before .before .before .before .before .before .before .args .s)))))
-    (withClock (c .before .before .before .before .before .before .before .before .args .q .now) (decode (now (c .before .before .before .before .before .before .before .before .args .s)) .last) (decode (now (c .before .before .before .before .before .before .before .before .args .s))))
+    effect plainly (decode (now (c .before .before .before .before .before .before .before .before .args .s)))
+    (c .before .before .before .before .before .before .before .before .args .q)
+    ≡ withPrivileges (c .before .body-of .result)
+    (insert (c .privilege-of .result) (privilegesOf (c .before .body-of .result)
+    (decode (now (c .before .before .before .before .before .before .before .before .args .s)))))
+    (withStamp (c .before .before .before .before .before .before .before .before .args .q .now)
+    (decode (now (c .before .before .before .before .before .before .before .before .args .s)) .last)
+    (decode (now (c .before .before .before .before .before .before .before .before .args .s))))
 effects c =
     let d = c .before .before .before .before .before .before .before .before in
     let b = decode (now (d .args .s)) in
     effect-privilege b (d .args .q) (d .pre .kind)
-    ∙ (λ j. withPrivileges (sym (c .before .body-of .ensures) j) (insert (sym (c .privilege-of .ensures) j) (privilegesOf (sym (c .before .body-of .ensures) j) b))
-    (withClock (d .args .q .now) (b .last) b))
+    ∙ (λ j. withPrivileges (sym (c .before .body-of .ensures) j)
+    (insert (sym (c .privilege-of .ensures) j) (privilegesOf (sym (c .before .body-of .ensures) j) b))
+    (withStamp (d .args .q .now) (b .last) b))
 
 put-privilege-requires : tie.Need-put-privilege-requires
 put-privilege-requires c κs =
     let p = c .before .before .before .before .before in
     let d = p .before .before .before in
-    put-room (GRANTADM ∷ GRANTREF ∷ []) (now (d .args .s)) (d .args .q) (d .pre) _ (p .set-clock .ensures) (c .before .body-of .result) _ (effects c)
+    put-room (GRANTADM ∷ GRANTREF ∷ []) (now (d .args .s)) (d .args .q) (d .pre) _ (p .set-clock .ensures)
+    (c .before .body-of .result) _ (effects c)
 
 returns : tie.Need-returns
 returns c =
@@ -43,10 +51,12 @@ returns c =
     let o = r .before in
     let p = o .before .before .before .before .before in
     let d = p .before .before .before in
-    put-done (GRANTADM ∷ GRANTREF ∷ []) (now (d .args .s)) (d .args .q) (d .pre) _ (p .set-clock .ensures) (o .before .body-of .result) _ (effects o) _
+    put-done (GRANTADM ∷ GRANTREF ∷ []) (now (d .args .s)) (d .args .q) (d .pre) _ (p .set-clock .ensures)
+    (o .before .body-of .result) _ (effects o) _
     (r .put-privilege .ensures)
 
 pub grant-privilege-spec : {M : Type 1} → statement M
 grant-privilege-spec =
     tie.close
-    (tie.spec set-clock-requires (λ c κs. search needs) privilege-of-requires put-privilege-requires (λ c. search needs) returns)
+    (tie.spec set-clock-requires (λ c κs. search needs) privilege-of-requires put-privilege-requires
+    (λ c. search needs) returns)

@@ -8,8 +8,8 @@ use Rattle.model.specs.Encoding.{decode}
 use Rattle.model.specs.Means.{plainly}
 use Rattle.model.specs.Step.{effect}
 use Rattle.edits.specs.declared.PrivilegeBody.the-variants.{Objects}
-use Rattle.edits.specs.Edits.{withClock, withPrivileges, privilegesOf}
-use Rattle.effects.proofs.Laws.{allowed-written, effect-new}
+use Rattle.edits.specs.Edits.{withStamp, withPrivileges, privilegesOf}
+use Rattle.effects.proofs.AllowedEffects.{allowed-written, effect-new}
 use Rattle.effects.proofs.Changes.{owner-fits, put-room, put-done}
 use Rattle.effects.proofs.new_object.Statement.{statement}
 use Rattle.effects.proofs.new_object.Tie as tie
@@ -18,25 +18,32 @@ set-clock-requires : tie.Need-set-clock-requires
 set-clock-requires c κs = allowed-written (NEW ∷ []) _ _ (c .before .before .pre)
 
 owner-of-requires : tie.Need-owner-of-requires
-owner-of-requires c κs = owner-fits (NEW ∷ []) _ _ (c .before .before .before .before .before .before .pre) refl
+owner-of-requires c κs = owner-fits (NEW ∷ []) _ _
+    (c .before .before .before .before .before .before .pre) refl
 
 -- the effect, with the privilege as it was made
 effects : (c : tie.After-owner-of) →
-    effect plainly (decode (now (c .before .before .before .before .before .before .before .args .s))) (c .before .before .before .before .before .before .before .args .q)
-    ≡ withPrivileges Objects (insert (c .owner-of .result) (privilegesOf Objects (decode (now (c .before .before .before .before .before .before .before .args .s)))))
-    (withClock (c .before .before .before .before .before .before .before .args .q .now) (decode (now (c .before .before .before .before .before .before .before .args .s)) .last) (decode (now (c .before .before .before .before .before .before .before .args .s))))
+    effect plainly (decode (now (c .before .before .before .before .before .before .before .args .s)))
+    (c .before .before .before .before .before .before .before .args .q)
+    ≡ withPrivileges Objects (insert (c .owner-of .result)
+    (privilegesOf Objects (decode (now (c .before .before .before .before .before .before .before .args
+    .s)))))
+    (withStamp (c .before .before .before .before .before .before .before .args .q .now)
+    (decode (now (c .before .before .before .before .before .before .before .args .s)) .last)
+    (decode (now (c .before .before .before .before .before .before .before .args .s))))
 effects c =
     let d = c .before .before .before .before .before .before .before in
     let b = decode (now (d .args .s)) in
     effect-new b (d .args .q) (d .pre .kind)
     ∙ (λ j. withPrivileges Objects (insert (sym (c .owner-of .ensures) j) (privilegesOf Objects b))
-    (withClock (d .args .q .now) (b .last) b))
+    (withStamp (d .args .q .now) (b .last) b))
 
 put-privilege-requires : tie.Need-put-privilege-requires
 put-privilege-requires c κs =
     let p = c .before .before .before .before in
     let d = p .before .before .before in
-    put-room (NEW ∷ []) (now (d .args .s)) (d .args .q) (d .pre) _ (p .set-clock .ensures) Objects _ (effects c)
+    put-room (NEW ∷ []) (now (d .args .s)) (d .args .q) (d .pre) _ (p .set-clock .ensures) Objects _
+    (effects c)
 
 returns : tie.Need-returns
 returns c =
@@ -44,7 +51,8 @@ returns c =
     let o = r .before in
     let p = o .before .before .before .before in
     let d = p .before .before .before in
-    put-done (NEW ∷ []) (now (d .args .s)) (d .args .q) (d .pre) _ (p .set-clock .ensures) Objects _ (effects o) _
+    put-done (NEW ∷ []) (now (d .args .s)) (d .args .q) (d .pre) _ (p .set-clock .ensures) Objects _
+    (effects o) _
     (r .put-privilege .ensures)
 
 pub new-object-spec : {M : Type 1} → statement M

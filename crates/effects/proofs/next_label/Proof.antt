@@ -3,8 +3,8 @@ use mathlib.Core.Path.{ap}
 use Prim.Native.Nat.{ℕ, _+_}
 use native.Mathlib.Omega.{arith}
 use denote.Ref.{now}
-use Rattle.edits.proofs.Laws.{written-length}
-use Rattle.effects.proofs.Laws.{last-read}
+use Rattle.edits.proofs.EditedBytes.{written-length}
+use Rattle.effects.proofs.AllowedEffects.{last-read}
 use Rattle.effects.proofs.next_label.Statement.{statement}
 use Rattle.effects.proofs.next_label.Tie as tie
 

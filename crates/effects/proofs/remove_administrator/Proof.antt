@@ -6,7 +6,7 @@ use Rattle.model.specs.declared.Privilege.{Privilege}
 use Rattle.model.specs.Base.{listed}
 use Rattle.model.specs.Requests.{without}
 use Rattle.model.specs.Encoding.{encode, decode}
-use Rattle.edits.specs.Edits.{withAdministrators}
+use Rattle.model.specs.Effects.{withAdministrators}
 use Rattle.effects.proofs.remove_administrator.Statement.{statement}
 use Rattle.effects.proofs.remove_administrator.Tie as tie
 
@@ -27,8 +27,10 @@ returns c =
     let r = c .before .before in
     let b = decode (now (r .before .before .before .before .args .s)) in
     r .take-privilege .ensures
-    ∙ ap (λ (p : Privilege). encode (withAdministrators (without (p .object) (p .subject) (b .administrators)) b))
+    ∙ ap (λ (p : Privilege). encode (withAdministrators
+    (without (p .object) (p .subject) (b .administrators)) b))
     (r .before .privilege-of .ensures)
 
 pub remove-administrator-spec : {M : Type 1} → statement M
-remove-administrator-spec = tie.close (tie.spec privilege-of-requires take-privilege-requires (λ c. search needs) returns)
+remove-administrator-spec = tie.close (tie.spec privilege-of-requires take-privilege-requires
+    (λ c. search needs) returns)

@@ -4,7 +4,7 @@ use mathlib.Core.Path.{refl}
 use mathlib.Core.List.{[], _∷_}
 use denote.Ref.{now}
 use Rattle.model.specs.Requests.{REVOKEREF}
-use Rattle.effects.proofs.Laws.{allowed-written}
+use Rattle.effects.proofs.AllowedEffects.{allowed-written}
 use Rattle.effects.proofs.Changes.{named-fits, revoke-ready, revoke-holds, revoke-done}
 use Rattle.effects.proofs.revoke_referrer.Statement.{statement}
 use Rattle.effects.proofs.revoke_referrer.Tie as tie
@@ -12,18 +12,20 @@ use Rattle.effects.proofs.revoke_referrer.Tie as tie
 privilege-of-requires : tie.Need-privilege-of-requires
 privilege-of-requires c κs = named-fits (REVOKEREF ∷ []) _ _ (c .before .pre) refl refl
 
-is-held-requires : tie.Need-is-held-requires
-is-held-requires c κs = allowed-written (REVOKEREF ∷ []) _ _ (c .before .before .before .pre)
+administers-requires : tie.Need-administers-requires
+administers-requires c κs = c .before .before .before .pre .sound
 
 set-clock-requires : tie.Need-set-clock-requires
-set-clock-requires c κs = allowed-written (REVOKEREF ∷ []) _ _ (c .before .before .before .before .before .pre)
+set-clock-requires c κs = allowed-written (REVOKEREF ∷ []) _ _
+    (c .before .before .before .before .before .pre)
 
 take-privilege-requires : tie.Need-take-privilege-requires
 take-privilege-requires c κs =
     let p = c .before .before .before in
     let n = p .before .before .before .before in
     let d = n .before .before in
-    revoke-ready (now (d .args .s)) (d .args .q) (d .pre) _ (n .privilege-of .ensures) _ (p .set-clock .ensures)
+    revoke-ready (now (d .args .s)) (d .args .q) (d .pre) _ (n .privilege-of .ensures) _
+    (p .set-clock .ensures)
 
 drop-rules-requires : tie.Need-drop-rules-requires
 drop-rules-requires c κs =
@@ -31,7 +33,8 @@ drop-rules-requires c κs =
     let p = t .before .before .before .before in
     let n = p .before .before .before .before in
     let d = n .before .before in
-    revoke-holds (now (d .args .s)) (d .args .q) (d .pre) _ (n .privilege-of .ensures) _ (p .set-clock .ensures) _
+    revoke-holds (now (d .args .s)) (d .args .q) (d .pre) _ (n .privilege-of .ensures) _
+    (p .set-clock .ensures) _
     (t .take-privilege .ensures) .written
 
 returns : tie.Need-returns
@@ -41,12 +44,15 @@ returns c =
     let p = t .before .before .before .before in
     let n = p .before .before .before .before in
     let d = n .before .before in
-    revoke-done (now (d .args .s)) (d .args .q) (d .pre) _ (n .privilege-of .ensures) _ (p .set-clock .ensures) _
-    (t .take-privilege .ensures) (p .before .before .is-held .result) (p .before .before .is-held .ensures) _
+    revoke-done (now (d .args .s)) (d .args .q) (d .pre) _ (n .privilege-of .ensures) _
+    (p .set-clock .ensures) _
+    (t .take-privilege .ensures) (p .before .before .administers .result)
+    (p .before .before .administers .ensures) _
     (r .drop-rules .ensures)
 
 pub revoke-referrer-spec : {M : Type 1} → statement M
 revoke-referrer-spec =
     tie.close
-    (tie.spec privilege-of-requires is-held-requires set-clock-requires take-privilege-requires drop-rules-requires
+    (tie.spec privilege-of-requires administers-requires set-clock-requires take-privilege-requires
+    drop-rules-requires
     (λ c. search needs) returns)

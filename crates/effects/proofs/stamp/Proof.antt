@@ -5,8 +5,8 @@ use native.Mathlib.Omega.{arith}
 use denote.Ref.{now}
 use Rattle.model.specs.Base.{Base}
 use Rattle.model.specs.Encoding.{encode, decode}
-use Rattle.edits.specs.Edits.{withClock}
-use Rattle.effects.proofs.Laws.{stamped}
+use Rattle.edits.specs.Edits.{withStamp}
+use Rattle.effects.proofs.AllowedEffects.{stamped}
 use Rattle.effects.proofs.stamp.Statement.{statement}
 use Rattle.effects.proofs.stamp.Tie as tie
 
@@ -23,8 +23,9 @@ returns c =
     let e = p .before .before .before .before .set-clock in
     let d = p .before .before .before .before .before .before .before in
     let s = now (d .args .s) in
-    let h = stamped s (d .args .clock) (decode s .last) (d .pre) (omega arith) (d .pre .fits .last) _ (e .ensures) in
-    p .set-last .ensures ∙ ap (λ (b : Base). encode (withClock (b .clock) (d .args .last) b)) (h .base)
+    let h = stamped s (d .args .clock) (decode s .last) (d .pre) (omega arith) (d .pre .fits .last) _
+    (e .ensures) in
+    p .set-last .ensures ∙ ap (λ (b : Base). encode (withStamp (b .clock) (d .args .last) b)) (h .base)
 
 pub stamp-spec : {M : Type 1} → statement M
 stamp-spec = tie.close (tie.spec (λ c κs. search needs) set-last-requires (λ c. search needs) returns)

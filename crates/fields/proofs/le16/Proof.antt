@@ -2,7 +2,7 @@ use borrow.Author.Needs.{needs}
 use native.Mathlib.Omega.{arith}
 use Prim.Native.Nat.{_+_}
 use denote.Ref.{now}
-use Rattle.fields.proofs.Laws.{le-suc}
+use Rattle.fields.proofs.ByteLaws.{le-suc}
 use Rattle.fields.proofs.le16.Statement.{statement}
 use Rattle.fields.proofs.le16.Tie as tie
 
@@ -14,5 +14,6 @@ returns c =
 pub le16-spec : {M : Type 1} → statement M
 le16-spec =
     tie.close
-    (tie.spec (λ c. search needs) (λ c κs. search needs) (λ c. search needs) (λ c. search needs) (λ c κs. search needs)
+    (tie.spec (λ c. search needs) (λ c κs. search needs) (λ c. search needs) (λ c. search needs)
+    (λ c κs. search needs)
     (λ c. search needs) (λ c. search needs) returns)

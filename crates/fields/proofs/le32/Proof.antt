@@ -1,7 +1,7 @@
 use borrow.Author.Needs.{needs}
 use native.Mathlib.Omega.{arith}
 use denote.Ref.{now}
-use Rattle.fields.proofs.Laws.{le-add-at}
+use Rattle.fields.proofs.ByteLaws.{le-add-at}
 use Rattle.fields.proofs.le32.Statement.{statement}
 use Rattle.fields.proofs.le32.Tie as tie
 
@@ -13,5 +13,6 @@ returns c =
 pub le32-spec : {M : Type 1} → statement M
 le32-spec =
     tie.close
-    (tie.spec (λ c κs. search needs) (λ c. search needs) (λ c. search needs) (λ c κs. search needs) (λ c. search needs)
+    (tie.spec (λ c κs. search needs) (λ c. search needs) (λ c. search needs) (λ c κs. search needs)
+    (λ c. search needs)
     (λ c. search needs) (λ c. search needs) returns)

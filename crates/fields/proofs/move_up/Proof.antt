@@ -1,12 +1,12 @@
 use borrow.Author.Needs.{needs}
 use native.Mathlib.Omega.{arith}
-use mathlib.Core.Path.{_≡_, refl, sym, ap, _∙_}
+use mathlib.Core.Path.{_≡_, ap, _∙_}
 use mathlib.Core.List.{List, _++_, append-nil}
 use Prim.Native.Nat.{ℕ, _+_, _-_, _≤_, _<_, suc}
-use lib.ListN.{length, take, drop, getD, set, length-set, take-append-drop, length-take, drop-of-length-le}
+use lib.ListN.{length, take, drop, getD, set, length-set, length-take, drop-of-length-le}
 use lib.Seq.{take-length}
 use denote.Ref.{now}
-use Rattle.fields.proofs.Laws.{up-step, down-step}
+use Rattle.fields.proofs.ByteLaws.{up-step}
 use Rattle.fields.proofs.move_up.Statement.{statement}
 use Rattle.fields.proofs.move_up.Tie as tie
 
@@ -14,7 +14,8 @@ use Rattle.fields.proofs.move_up.Tie as tie
 abbrev raised : List ℕ → ℕ → ℕ → List ℕ
 raised s w i = take i s ++ drop (i - w) (take (length s - w) s)
 
-turn : (s₀ s : List ℕ) (w i : ℕ) → w < i → i ≤ length s₀ → s ≡ raised s₀ w i → set s (i - 1) (getD s (i - 1 - w) 0) ≡ raised s₀ w (i - 1)
+turn : (s₀ s : List ℕ) (w i : ℕ) → w < i → i ≤ length s₀ → s ≡ raised s₀ w i →
+    set s (i - 1) (getD s (i - 1 - w) 0) ≡ raised s₀ w (i - 1)
 turn s₀ s w i h k e =
     let q : i ≡ suc (i - 1) = omega arith in
     let e' : s ≡ raised s₀ w (suc (i - 1)) = e ∙ ap (raised s₀ w) q in
@@ -45,14 +46,18 @@ loop-again c = (
   search needs,
   search needs,
   simp length-set (search needs),
-  turn (c .before .before .before .args .s .now) (c .before .before .loop .s) (c .before .before .before .args .w) (c .before .before .loop .i) (search needs) (search needs) (c .before .before .loop .inv .3),
+  turn (c .before .before .before .args .s .now) (c .before .before .loop .s)
+      (c .before .before .before .args .w) (c .before .before .loop .i) (search needs) (search needs)
+      (c .before .before .loop .inv .3),
 )
 
 returns : tie.Need-returns Inv-loop μ-loop
-returns c = c .before .loop .inv .3 ∙ all (c .before .before .args .s .now) (c .before .before .args .w) (c .before .loop .i) (search needs) (search needs)
+returns c = c .before .loop .inv .3 ∙ all (c .before .before .args .s .now) (c .before .before .args .w)
+    (c .before .loop .i) (search needs) (search needs)
 
 pub move-up-spec : {M : Type 1} → statement M
 move-up-spec =
     tie.close
-    (tie.spec Inv-loop μ-loop loop-holds (λ c. search needs) (λ c. search needs) (λ c. search needs) (λ c. search needs)
+    (tie.spec Inv-loop μ-loop loop-holds (λ c. search needs) (λ c. search needs) (λ c. search needs)
+    (λ c. search needs)
     (λ c. search needs) loop-again (λ c. search needs) returns)

@@ -4,7 +4,7 @@ use mathlib.Core.List.{_∷_, []}
 use Prim.Native.Nat.{_+_, suc}
 use lib.ListN.{length-set}
 use denote.Ref.{now}
-use Rattle.fields.proofs.Laws.{stores}
+use Rattle.fields.proofs.ByteLaws.{stores}
 use borrow.Author.Needs.{needs}
 use Rattle.fields.proofs.put4.Statement.{statement}
 use Rattle.fields.proofs.put4.Tie as tie
@@ -29,5 +29,6 @@ returns c =
 pub put4-spec : {M : Type 1} → statement M
 put4-spec =
     tie.close
-    (tie.spec (λ c. search needs) (λ c. search needs) slice-write-s-2 (λ c. search needs) slice-write-s-3 (λ c. search needs)
+    (tie.spec (λ c. search needs) (λ c. search needs) slice-write-s-2 (λ c. search needs) slice-write-s-3
+    (λ c. search needs)
     slice-write-s-4 (λ c. search needs) returns)

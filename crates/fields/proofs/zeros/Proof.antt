@@ -10,7 +10,7 @@ use lib.Seq.{drop-length}
 use denote.Ref.{now}
 use Rattle.foundation.specs.Lists.{allb}
 use Rattle.foundation.specs.Tests.{and-assoc}
-use Rattle.fields.proofs.Laws.{all-bytes-step}
+use Rattle.fields.proofs.ByteLaws.{all-bytes-step}
 use Rattle.fields.proofs.zeros.Statement.{statement}
 use Rattle.fields.proofs.zeros.Tie as tie
 
@@ -50,5 +50,6 @@ returns c =
 pub zeros-spec : {M : Type 1} → statement M
 zeros-spec =
     tie.close
-    (tie.spec Inv-loop μ-loop (λ c. (search needs, refl)) (λ c. search needs) (λ c. search needs) (λ c. search needs)
+    (tie.spec Inv-loop μ-loop (λ c. (search needs, refl)) (λ c. search needs) (λ c. search needs)
+    (λ c. search needs)
     loop-again returns)

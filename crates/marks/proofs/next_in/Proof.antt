@@ -8,7 +8,7 @@ use denote.Ref.{now}
 use Rattle.foundation.specs.declared.Interval.{Interval}
 use Rattle.foundation.specs.Marks.{next}
 use Rattle.marks.specs.Marks.{intervalAt, intervalMarks, sooner}
-use Rattle.encoding.proofs.Records.{rest, rest-all, rest-end}
+use Rattle.foundation.specs.Records.{rest, rest-all, rest-end}
 use Rattle.marks.proofs.Laws.{turn, room, next-nil}
 use Rattle.marks.proofs.next_in.Statement.{statement}
 use Rattle.marks.proofs.next_in.Tie as tie
@@ -24,7 +24,8 @@ loop-holds c =
     let a = c .before .args in (
       search needs,
       sym (ap (λ (is : List Interval). next (a .t) (intervalMarks is) (a .d))
-          (rest-end (a .w) (intervalAt (a .o)) (a .n) (now (a .s)) (a .n) (omega arith)) ∙ next-nil (a .t) (a .d)),
+          (rest-end (a .w) (intervalAt (a .o)) (a .n) (now (a .s)) (a .n) (omega arith))
+          ∙ next-nil (a .t) (a .d)),
     )
 
 mul-at : tie.Need-mul-at Inv-loop μ-loop
@@ -72,13 +73,15 @@ returns c =
     let l = c .before .loop in
     let z : l .i ≡ 0 = omega arith in
     l .inv .1
-    ∙ ap (λ (i : ℕ). next (a .t) (intervalMarks (rest (a .w) (intervalAt (a .o)) (a .n) (now (a .s)) i)) (a .d)) z
+    ∙ ap (λ (i : ℕ). next (a .t) (intervalMarks (rest (a .w) (intervalAt (a .o)) (a .n) (now (a .s)) i))
+    (a .d)) z
     ∙ ap (λ (is : List Interval). next (a .t) (intervalMarks is) (a .d))
     (rest-all (a .w) (intervalAt (a .o)) (a .n) (now (a .s)))
 
 pub next-in-spec : {M : Type 1} → statement M
 next-in-spec =
     tie.close
-    (tie.spec Inv-loop μ-loop loop-holds (λ c. search needs) mul-at add-at add-le32 le32-requires (λ c. search needs)
+    (tie.spec Inv-loop μ-loop loop-holds (λ c. search needs) mul-at add-at add-le32 le32-requires
+    (λ c. search needs)
     (λ c. search needs) (λ c κs. search needs) le32-requires-2 (λ c. search needs) (λ c κs. search needs)
     (λ c. search needs) loop-again returns)

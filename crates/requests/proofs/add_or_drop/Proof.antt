@@ -7,7 +7,7 @@ use denote.Ref.{now}
 use Rattle.model.specs.Encoding.{decode}
 use Rattle.model.specs.Means.{plainly}
 use Rattle.model.specs.Step.{full}
-use Rattle.edits.proofs.Laws.{written-length}
+use Rattle.edits.proofs.EditedBytes.{written-length}
 use Rattle.requests.proofs.Replies.{carried-refused, passed-allowed, effect-holds, carried-done}
 use Rattle.requests.proofs.add_or_drop.Statement.{statement}
 use Rattle.requests.proofs.add_or_drop.Tie as tie
@@ -23,7 +23,8 @@ returns c =
 
 -- row 13 does not apply
 room : (c : tie.Else1) →
-    (let d = c .before .before .before .before in full plainly (decode (now (d .args .s))) (d .args .q) ≡ false)
+    (let d = c .before .before .before .before in
+    full plainly (decode (now (d .args .s))) (d .args .q) ≡ false)
 room c = sym (c .before .no-room .ensures) ∙ c .if1 .left
 
 apply-requires : tie.Need-apply-requires

@@ -1,6 +1,6 @@
 -- `alike` meets its contract.
 use borrow.Author.Needs.{needs}
-use Rattle.rules.proofs.Masks.{beq-yes}
+use Rattle.foundation.specs.Tests.{beq-yes}
 use Rattle.rules.proofs.alike.Statement.{statement}
 use Rattle.rules.proofs.alike.Tie as tie
 

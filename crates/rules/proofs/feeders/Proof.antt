@@ -8,7 +8,7 @@ use borrow.Author.Needs.{needs}
 use Rattle.model.specs.declared.Rule.{Rule}
 use Rattle.model.specs.Encoding.{ruleOf}
 use Rattle.model.specs.Stratification.{feeds}
-use Rattle.rules.proofs.Masks.{Built, build-start, build-room, build-turn, build-end}
+use Rattle.foundation.specs.Masks.{Built, build-start, build-room, build-turn, build-end}
 use Rattle.rules.proofs.feeders.Statement.{statement}
 use Rattle.rules.proofs.feeders.Tie as tie
 

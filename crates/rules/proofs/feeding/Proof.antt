@@ -5,7 +5,8 @@ use Prim.Native.Nat.{_≤_, _-_}
 use denote.Ref.{now}
 use lib.ListN.{length, length-set}
 use borrow.Author.Needs.{needs}
-use Rattle.rules.specs.Strata.{rulesIn, ruleAt, feedersOf, Holds}
+use Rattle.rules.specs.Strata.{feedersOf, Holds}
+use Rattle.encoding.specs.Format.{rulesIn, ruleAt}
 use Rattle.rules.proofs.Rounds.{fill-turn}
 use Rattle.rules.proofs.feeding.Statement.{statement}
 use Rattle.rules.proofs.feeding.Tie as tie

@@ -8,7 +8,7 @@ use borrow.Author.Needs.{needs}
 use Rattle.model.specs.declared.Rule.{Rule}
 use Rattle.model.specs.Encoding.{ruleOf}
 use Rattle.model.specs.Stratification.{negates}
-use Rattle.rules.proofs.Masks.{Built, build-start, build-room, build-turn, build-end}
+use Rattle.foundation.specs.Masks.{Built, build-start, build-room, build-turn, build-end}
 use Rattle.rules.proofs.negating.Statement.{statement}
 use Rattle.rules.proofs.negating.Tie as tie
 

@@ -1,9 +1,10 @@
--- `next_bit` meets its contract: no bit lies in the zeros at the low end of the word without its first r bits.
+-- `next_bit` meets its contract: no bit lies in the zeros at the low end of the word without its first r
+-- bits.
 use borrow.Author.Needs.{needs}
 use native.Mathlib.Omega.{arith}
 use Prim.Native.Nat.{_/_, _^_}
 use lib.Count.{trailing-le}
-use Rattle.rules.proofs.Bits.{none-between}
+use Rattle.foundation.specs.Masks.{none-between}
 use Rattle.rules.proofs.next_bit.Statement.{statement}
 use Rattle.rules.proofs.next_bit.Tie as tie
 
@@ -29,4 +30,5 @@ returns-3 c =
 pub next-bit-spec : {M : Type 1} → statement M
 next-bit-spec =
     tie.close
-    (tie.spec returns (λ c. search needs) (λ c. search needs) (λ c. search needs) cast-k-3 add-k returns-2 returns-3)
+    (tie.spec returns (λ c. search needs) (λ c. search needs)
+    (λ c. search needs) cast-k-3 add-k returns-2 returns-3)

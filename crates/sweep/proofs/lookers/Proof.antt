@@ -5,7 +5,7 @@ use mathlib.Core.Bool.{false}
 use Prim.Native.Nat.{_-_, _≤_}
 use denote.Ref.{now}
 use borrow.Author.Needs.{needs}
-use Rattle.rules.proofs.Masks.{Built, build-start, build-room, build-turn, build-end}
+use Rattle.foundation.specs.Masks.{Built, build-start, build-room, build-turn, build-end}
 use Rattle.sweep.specs.Sweep.{codes, looksFrom}
 use Rattle.sweep.proofs.Laws.{looks-from}
 use Rattle.sweep.proofs.lookers.Statement.{statement}

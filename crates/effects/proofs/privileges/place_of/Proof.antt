@@ -8,9 +8,10 @@ use denote.Ref.{now}
 use Rattle.model.specs.Requests.{before}
 use Rattle.model.specs.Encoding.{decode}
 use Rattle.edits.specs.Edits.{privilegesOf, privilegeCount}
-use Rattle.edits.proofs.Laws.{written-length}
+use Rattle.edits.proofs.EditedBytes.{written-length}
 use Rattle.effects.proofs.Reading.{privileges-body}
-use Rattle.effects.proofs.Places.{FirstFrom, first-starts, first-found, first-later, first-ends}
+use Rattle.effects.proofs.PrivilegePlaces.{FirstFrom, first-starts, first-found, first-later}
+use Rattle.effects.proofs.PrivilegePlaces.{first-ends}
 use Rattle.effects.proofs.privileges.place_of.Statement.{statement}
 use Rattle.effects.proofs.privileges.place_of.Tie as tie
 
@@ -25,7 +26,8 @@ counts-of-requires c κs = omega (arith, written-length (now (c .before .args .s
 
 -- how many they are
 count : (c : tie.After-privilege-count Inv-loop μ-loop) →
-    c .privilege-count .result ≡ length (privilegesOf (c .before .before .before .args .k) (decode (now (c .before .before .before .args .s))))
+    c .privilege-count .result ≡ length (privilegesOf (c .before .before .before .args .k)
+    (decode (now (c .before .before .before .args .s))))
 count c =
     let d = c .before .before .before in
     c .privilege-count .ensures ∙ ap (privilegeCount (d .args .k)) (c .before .counts-of .ensures)
@@ -47,8 +49,10 @@ returns c =
     let l = r .before .before in
     let n = l .before in
     let d = n .before .before .before in
-    first-found (before (d .args .p)) (privilegesOf (d .args .k) (decode (now (d .args .s)))) (l .loop .i) (r .nth-privilege .result)
-    (omega (arith, count n)) (r .nth-privilege .ensures) (sym (c .before .is-before .ensures) ∙ c .if1 .taken) (l .loop .inv)
+    first-found (before (d .args .p)) (privilegesOf (d .args .k) (decode (now (d .args .s)))) (l .loop .i)
+    (r .nth-privilege .result)
+    (omega (arith, count n)) (r .nth-privilege .ensures) (sym (c .before .is-before .ensures) ∙ c .if1 .taken)
+    (l .loop .inv)
 
 loop-again : tie.Need-loop-again Inv-loop μ-loop
 loop-again c =
@@ -56,8 +60,10 @@ loop-again c =
     let l = r .before .before in
     let n = l .before in
     let d = n .before .before .before in
-    first-later (before (d .args .p)) (privilegesOf (d .args .k) (decode (now (d .args .s)))) (l .loop .i) (r .nth-privilege .result)
-    (omega (arith, count n)) (r .nth-privilege .ensures) (sym (c .before .is-before .ensures) ∙ c .if1 .left) (l .loop .inv)
+    first-later (before (d .args .p)) (privilegesOf (d .args .k) (decode (now (d .args .s)))) (l .loop .i)
+    (r .nth-privilege .result)
+    (omega (arith, count n)) (r .nth-privilege .ensures) (sym (c .before .is-before .ensures) ∙ c .if1 .left)
+    (l .loop .inv)
 
 returns-2 : tie.Need-returns-2 Inv-loop μ-loop
 returns-2 c =
@@ -71,4 +77,5 @@ pub place-of-spec : {M : Type 1} → statement M
 place-of-spec =
     tie.close
     (tie.spec Inv-loop μ-loop counts-of-requires (λ c κs. search needs) (λ c. search needs) loop-holds
-    nth-privilege-requires (λ c κs. search needs) returns (λ c. search needs) (λ c. search needs) loop-again returns-2)
+    nth-privilege-requires (λ c κs. search needs) returns (λ c. search needs)
+    (λ c. search needs) loop-again returns-2)

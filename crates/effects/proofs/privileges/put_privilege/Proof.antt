@@ -8,8 +8,9 @@ use denote.Ref.{now}
 use Rattle.model.specs.declared.Privilege.{Privilege}
 use Rattle.model.specs.Requests.{before}
 use Rattle.model.specs.Encoding.{encode, decode}
-use Rattle.edits.specs.Edits.{privilegesOf, withPrivileges, insertAt}
-use Rattle.effects.proofs.Places.{first-most, insert-place}
+use Rattle.edits.specs.Edits.{privilegesOf, withPrivileges}
+use Rattle.foundation.specs.Lists.{insertAt}
+use Rattle.effects.proofs.PrivilegePlaces.{first-most, insert-place}
 use Rattle.effects.proofs.privileges.put_privilege.Statement.{statement}
 use Rattle.effects.proofs.privileges.put_privilege.Tie as tie
 
@@ -27,8 +28,10 @@ returns c =
     let b = decode (now (d .args .s)) in
     let ps = privilegesOf (d .args .k) b in
     r .insert-privilege .ensures
-    ∙ ap (λ (n : ℕ). encode (withPrivileges (d .args .k) (insertAt n (d .args .p) ps) b)) (p .place-of .ensures)
-    ∙ ap (λ (l : List Privilege). encode (withPrivileges (d .args .k) l b)) (sym (insert-place (d .args .p) ps))
+    ∙ ap (λ (n : ℕ). encode (withPrivileges (d .args .k) (insertAt n (d .args .p) ps) b))
+    (p .place-of .ensures)
+    ∙ ap (λ (l : List Privilege). encode (withPrivileges (d .args .k) l b))
+    (sym (insert-place (d .args .p) ps))
 
 pub put-privilege-spec : {M : Type 1} → statement M
 put-privilege-spec =

@@ -9,7 +9,7 @@ use Rattle.model.specs.declared.Privilege.{Privilege}
 use Rattle.model.specs.Requests.{before}
 use Rattle.model.specs.Encoding.{encode, decode}
 use Rattle.edits.specs.Edits.{privilegesOf, withPrivileges, removeAt}
-use Rattle.effects.proofs.Places.{first-most, remove-place}
+use Rattle.effects.proofs.PrivilegePlaces.{first-most, remove-place}
 use Rattle.effects.proofs.privileges.take_privilege.Statement.{statement}
 use Rattle.effects.proofs.privileges.take_privilege.Tie as tie
 

@@ -8,10 +8,11 @@ use Rattle.model.specs.declared.Rule.{Rule}
 use Rattle.model.specs.declared.Request.{Request}
 use Rattle.model.specs.Encoding.{decode}
 use Rattle.encoding.specs.declared.Counts.{Counts}
-use Rattle.encoding.specs.FormatFacts.{decoded-lengths}
-use Rattle.edits.proofs.Laws.{written-length}
+use Rattle.encoding.proofs.FormatFacts.{decoded-lengths}
+use Rattle.edits.proofs.EditedBytes.{written-length}
 use Rattle.effects.specs.Effects.{dropsBy}
-use Rattle.effects.proofs.Dropping.{Dropped, dropped-holds, drop-starts, drop-ends, turn-reads, turn-keeps, turn-drops}
+use Rattle.effects.proofs.Dropping.{Dropped, dropped-holds, drop-starts, drop-ends, turn-reads}
+use Rattle.effects.proofs.Dropping.{turn-keeps, turn-drops}
 use Rattle.effects.proofs.rules.drop_rules.Statement.{statement}
 use Rattle.effects.proofs.rules.drop_rules.Tie as tie
 
@@ -26,7 +27,11 @@ abbrev μ-loop : tie.MeasureT-loop
 μ-loop s₀ q refers administers i₀ s i = i
 
 counts-of-requires : tie.Need-counts-of-requires Inv-loop μ-loop
-counts-of-requires c κs = omega (arith, written-length (now (c .before .before .args .s)) (c .before .before .pre))
+counts-of-requires c κs = omega (
+  arith,
+  written-length (now (c .before .before .args .s))
+      (c .before .before .pre),
+)
 
 loop-holds : tie.Need-loop-holds Inv-loop μ-loop
 loop-holds c =
@@ -55,16 +60,19 @@ loop-again c =
     let p = r .before .before .before in
     let l = p .before .before .before .before in
     let d = l .before .before .before .before .before in
-    turn-drops (remains (d .args .refers) (d .args .administers) (d .args .q)) (decode (now (d .args .s))) (d .pre .fits) _
+    turn-drops (remains (d .args .refers) (d .args .administers) (d .args .q)) (decode (now (d .args .s)))
+    (d .pre .fits) _
     (l .loop .i) (search needs) (l .loop .inv) (p .before .nth-rule .result) (p .before .nth-rule .ensures)
-    (ap not (sym (p .is-dropped .ensures) ∙ c .before .before .before .before .if1 .taken)) _ (r .remove-rule .ensures)
+    (ap not (sym (p .is-dropped .ensures) ∙ c .before .before .before .before .if1 .taken)) _
+    (r .remove-rule .ensures)
 
 loop-again-2 : tie.Need-loop-again-2 Inv-loop μ-loop
 loop-again-2 c =
     let p = c .before in
     let l = p .before .before .before .before in
     let d = l .before .before .before .before .before in
-    turn-keeps (remains (d .args .refers) (d .args .administers) (d .args .q)) (decode (now (d .args .s))) (d .pre .fits) _
+    turn-keeps (remains (d .args .refers) (d .args .administers) (d .args .q)) (decode (now (d .args .s)))
+    (d .pre .fits) _
     (l .loop .i) (search needs) (l .loop .inv) (p .before .nth-rule .result) (p .before .nth-rule .ensures)
     (ap not (sym (p .is-dropped .ensures) ∙ c .if1 .left))
 
@@ -73,7 +81,8 @@ same-length c =
     let l = c .before in
     let d = l .before .before .before .before .before in
     let b = decode (now (d .args .s)) in
-    written-length (l .loop .s) (dropped-holds (remains (d .args .refers) (d .args .administers) (d .args .q)) b
+    written-length (l .loop .s) (dropped-holds
+    (remains (d .args .refers) (d .args .administers) (d .args .q)) b
     (d .pre .fits) (l .loop .i) (l .loop .s) (l .loop .inv) .written)
     ∙ sym (written-length (now (d .args .s)) (d .pre))
 
@@ -87,6 +96,8 @@ returns c =
 pub drop-rules-spec : {M : Type 1} → statement M
 drop-rules-spec =
     tie.close
-    (tie.spec Inv-loop μ-loop counts-of-requires (λ c. search needs) loop-holds (λ c. search needs) nth-rule-requires
-    (λ c κs. search needs) remove-rule-requires (λ c. search needs) loop-again (λ c. search needs) loop-again-2
+    (tie.spec Inv-loop μ-loop counts-of-requires (λ c. search needs) loop-holds
+    (λ c. search needs) nth-rule-requires
+    (λ c κs. search needs) remove-rule-requires (λ c. search needs) loop-again
+    (λ c. search needs) loop-again-2
     same-length returns)

@@ -2,8 +2,8 @@
 use mathlib.Core.Path.{_∙_, ap}
 use denote.Ref.{now}
 use Rattle.model.specs.Encoding.{isNegative, hasOption}
-use Rattle.fields.proofs.Laws.{le-at}
-use Rattle.encoding.proofs.Places.{byte-at, interval-at}
+use Rattle.fields.proofs.ByteLaws.{le-at}
+use Rattle.encoding.proofs.RecordFields.{byte-at, interval-at}
 use borrow.Author.Needs.{needs}
 use Rattle.encoding.proofs.bodies.authorization_at.Statement.{statement}
 use Rattle.encoding.proofs.bodies.authorization_at.Tie as tie
@@ -30,7 +30,10 @@ returns c =
 pub authorization-at-spec : {M : Type 1} → statement M
 authorization-at-spec =
     tie.close
-    (tie.spec (λ c. search needs) (λ c. search needs) (λ c κs. search needs) (λ c. search needs) (λ c κs. search needs)
-    (λ c. search needs) (λ c κs. search needs) (λ c. search needs) (λ c κs. search needs) (λ c. search needs) (λ c. search needs)
-    (λ c κs. search needs) (λ c κs. search needs) (λ c. search needs) (λ c κs. search needs) (λ c. search needs)
+    (tie.spec (λ c. search needs) (λ c. search needs) (λ c κs. search needs) (λ c. search needs)
+    (λ c κs. search needs)
+    (λ c. search needs) (λ c κs. search needs) (λ c. search needs) (λ c κs. search needs) (λ c. search needs)
+    (λ c. search needs)
+    (λ c κs. search needs) (λ c κs. search needs) (λ c. search needs) (λ c κs. search needs)
+    (λ c. search needs)
     (λ c κs. search needs) returns)

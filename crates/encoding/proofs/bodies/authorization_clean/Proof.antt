@@ -1,7 +1,7 @@
 -- `authorization_clean` meets its contract, test by test.
 use denote.Ref.{now}
-use Rattle.fields.proofs.Laws.{le-at}
-use Rattle.encoding.proofs.Places.{byte-at}
+use Rattle.fields.proofs.ByteLaws.{le-at}
+use Rattle.encoding.proofs.RecordFields.{byte-at}
 use borrow.Author.Needs.{needs}
 use Rattle.encoding.proofs.bodies.authorization_clean.Statement.{statement}
 use Rattle.encoding.proofs.bodies.authorization_clean.Tie as tie
@@ -15,4 +15,5 @@ returns c =
 pub authorization-clean-spec : {M : Type 1} → statement M
 authorization-clean-spec =
     tie.close
-    (tie.spec (λ c. search needs) (λ c. search needs) (λ c κs. search needs) (λ c. search needs) (λ c κs. search needs) returns)
+    (tie.spec (λ c. search needs) (λ c. search needs) (λ c κs. search needs) (λ c. search needs)
+    (λ c κs. search needs) returns)

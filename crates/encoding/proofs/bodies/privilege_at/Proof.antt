@@ -1,7 +1,7 @@
 -- `privilege_at` meets its contract, field by field.
 use mathlib.Core.Path.{_∙_}
 use denote.Ref.{now}
-use Rattle.fields.proofs.Laws.{le-at}
+use Rattle.fields.proofs.ByteLaws.{le-at}
 use borrow.Author.Needs.{needs}
 use Rattle.encoding.proofs.bodies.privilege_at.Statement.{statement}
 use Rattle.encoding.proofs.bodies.privilege_at.Tie as tie
@@ -15,4 +15,5 @@ returns c =
     }
 
 pub privilege-at-spec : {M : Type 1} → statement M
-privilege-at-spec = tie.close (tie.spec (λ c κs. search needs) (λ c. search needs) (λ c κs. search needs) returns)
+privilege-at-spec = tie.close (tie.spec (λ c κs. search needs) (λ c. search needs)
+    (λ c κs. search needs) returns)

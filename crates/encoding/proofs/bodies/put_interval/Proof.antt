@@ -2,7 +2,7 @@
 use native.Mathlib.Omega.{arith}
 use mathlib.Core.Path.{refl}
 use denote.Ref.{now}
-use Rattle.fields.proofs.Laws.{splice-then}
+use Rattle.fields.proofs.ByteLaws.{splice-then}
 use borrow.Author.Needs.{needs}
 use Rattle.encoding.proofs.bodies.put_interval.Statement.{statement}
 use Rattle.encoding.proofs.bodies.put_interval.Tie as tie
@@ -16,4 +16,5 @@ returns c =
 
 pub put-interval-spec : {M : Type 1} → statement M
 put-interval-spec =
-    tie.close (tie.spec (λ c κs. search needs) (λ c. search needs) (λ c κs. search needs) (λ c. search needs) returns)
+    tie.close (tie.spec (λ c κs. search needs) (λ c. search needs) (λ c κs. search needs)
+    (λ c. search needs) returns)

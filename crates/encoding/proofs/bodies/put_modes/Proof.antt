@@ -2,7 +2,7 @@
 use native.Mathlib.Omega.{arith}
 use mathlib.Core.Path.{refl}
 use denote.Ref.{now}
-use Rattle.fields.proofs.Laws.{splice-then}
+use Rattle.fields.proofs.ByteLaws.{splice-then}
 use borrow.Author.Needs.{needs}
 use Rattle.encoding.proofs.bodies.put_modes.Statement.{statement}
 use Rattle.encoding.proofs.bodies.put_modes.Tie as tie
@@ -20,5 +20,6 @@ returns c =
 pub put-modes-spec : {M : Type 1} → statement M
 put-modes-spec =
     tie.close
-    (tie.spec (λ c κs. search needs) (λ c κs. search needs) (λ c κs. search needs) (λ c. search needs) (λ c κs. search needs)
+    (tie.spec (λ c κs. search needs) (λ c κs. search needs) (λ c κs. search needs) (λ c. search needs)
+    (λ c κs. search needs)
     (λ c. search needs) returns)

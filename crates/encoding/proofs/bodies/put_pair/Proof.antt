@@ -2,7 +2,7 @@
 use native.Mathlib.Omega.{arith}
 use mathlib.Core.Path.{refl}
 use denote.Ref.{now}
-use Rattle.fields.proofs.Laws.{splice-then}
+use Rattle.fields.proofs.ByteLaws.{splice-then}
 use borrow.Author.Needs.{needs}
 use Rattle.encoding.proofs.bodies.put_pair.Statement.{statement}
 use Rattle.encoding.proofs.bodies.put_pair.Tie as tie
@@ -15,4 +15,5 @@ returns c =
     (c .before .before .put162 .ensures)
 
 pub put-pair-spec : {M : Type 1} → statement M
-put-pair-spec = tie.close (tie.spec (λ c κs. search needs) (λ c. search needs) (λ c κs. search needs) (λ c. search needs) returns)
+put-pair-spec = tie.close (tie.spec (λ c κs. search needs) (λ c. search needs) (λ c κs. search needs)
+    (λ c. search needs) returns)

@@ -4,7 +4,7 @@ use mathlib.Core.Path.{refl}
 use Prim.Native.Nat.{_+_, _≤_}
 use lib.ListN.{length}
 use denote.Ref.{now}
-use Rattle.fields.proofs.Laws.{splice-then}
+use Rattle.fields.proofs.ByteLaws.{splice-then}
 use borrow.Author.Needs.{needs}
 use Rattle.encoding.proofs.bodies.put_rule.Statement.{statement}
 use Rattle.encoding.proofs.bodies.put_rule.Tie as tie
@@ -30,6 +30,7 @@ returns c =
 pub put-rule-spec : {M : Type 1} → statement M
 put-rule-spec =
     tie.close
-    (tie.spec (λ c κs. search needs) (λ c. search needs) (λ c κs. search needs) (λ c. search needs) (λ c κs. search needs)
+    (tie.spec (λ c κs. search needs) (λ c. search needs) (λ c κs. search needs) (λ c. search needs)
+    (λ c κs. search needs)
     (λ c. search needs) (λ c κs. search needs) (λ c. search needs) (λ c κs. search needs) (λ c. search needs)
     (λ c κs. search needs) (λ c. search needs) returns)

@@ -5,9 +5,9 @@ use lib.ListN.{getD}
 use denote.Ref.{now}
 use Rattle.model.specs.Requests.{operatorOf}
 use Rattle.model.specs.Encoding.{bit, optionOf}
-use Rattle.fields.proofs.Laws.{le-at}
-use Rattle.encoding.proofs.Masks.{mask-test}
-use Rattle.encoding.proofs.Places.{byte-at, interval-at}
+use Rattle.fields.proofs.ByteLaws.{le-at}
+use Rattle.foundation.specs.Masks.{mask-test}
+use Rattle.encoding.proofs.RecordFields.{byte-at, interval-at}
 use borrow.Author.Needs.{needs}
 use Rattle.encoding.proofs.bodies.rule_at.Statement.{statement}
 use Rattle.encoding.proofs.bodies.rule_at.Tie as tie
@@ -43,8 +43,11 @@ returns c =
 pub rule-at-spec : {M : Type 1} → statement M
 rule-at-spec =
     tie.close
-    (tie.spec (λ c. search needs) (λ c. search needs) (λ c κs. search needs) (λ c. search needs) (λ c κs. search needs)
-    (λ c. search needs) (λ c κs. search needs) (λ c. search needs) (λ c. search needs) (λ c. search needs) (λ c κs. search needs)
-    (λ c. search needs) (λ c. search needs) (λ c κs. search needs) (λ c. search needs) (λ c κs. search needs) (λ c. search needs)
+    (tie.spec (λ c. search needs) (λ c. search needs) (λ c κs. search needs) (λ c. search needs)
+    (λ c κs. search needs)
+    (λ c. search needs) (λ c κs. search needs) (λ c. search needs) (λ c. search needs) (λ c. search needs)
+    (λ c κs. search needs)
+    (λ c. search needs) (λ c. search needs) (λ c κs. search needs) (λ c. search needs) (λ c κs. search needs)
+    (λ c. search needs)
     (λ c. search needs) (λ c. search needs) (λ c κs. search needs) (λ c. search needs) (λ c κs. search needs)
     (λ c κs. search needs) (λ c. search needs) (λ c κs. search needs) returns)

@@ -1,7 +1,7 @@
 -- `rule_clean` meets its contract, test by test.
 use denote.Ref.{now}
-use Rattle.fields.proofs.Laws.{le-at}
-use Rattle.encoding.proofs.Places.{byte-at}
+use Rattle.fields.proofs.ByteLaws.{le-at}
+use Rattle.encoding.proofs.RecordFields.{byte-at}
 use borrow.Author.Needs.{needs}
 use Rattle.encoding.proofs.bodies.rule_clean.Statement.{statement}
 use Rattle.encoding.proofs.bodies.rule_clean.Tie as tie
@@ -16,5 +16,6 @@ returns c =
 pub rule-clean-spec : {M : Type 1} → statement M
 rule-clean-spec =
     tie.close
-    (tie.spec (λ c. search needs) (λ c. search needs) (λ c. search needs) (λ c. search needs) (λ c κs. search needs) (λ c. search needs)
+    (tie.spec (λ c. search needs) (λ c. search needs) (λ c. search needs) (λ c. search needs)
+    (λ c κs. search needs) (λ c. search needs)
     (λ c κs. search needs) returns)

@@ -1,6 +1,6 @@
 -- `head_flags` meets its contract: by the cases of its bits.
 use borrow.Author.Needs.{needs}
-use Rattle.encoding.proofs.Masks.{head-built}
+use Rattle.encoding.proofs.FlagBytes.{head-built}
 use Rattle.encoding.proofs.flags.head_flags.Statement.{statement}
 use Rattle.encoding.proofs.flags.head_flags.Tie as tie
 

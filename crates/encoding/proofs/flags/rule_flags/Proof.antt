@@ -1,6 +1,6 @@
 -- `rule_flags` meets its contract: by the cases of its bits.
 use borrow.Author.Needs.{needs}
-use Rattle.encoding.proofs.Masks.{rule-built}
+use Rattle.encoding.proofs.FlagBytes.{rule-built}
 use Rattle.encoding.proofs.flags.rule_flags.Statement.{statement}
 use Rattle.encoding.proofs.flags.rule_flags.Tie as tie
 

@@ -1,11 +1,12 @@
--- `put_contents` meets its contract: each entry stands right behind the one before, and its offset fits 16 bits.
+-- `put_contents` meets its contract: each entry stands right behind the one before, and its offset fits 16
+-- bits.
 use native.Mathlib.Omega.{arith}
 use mathlib.Core.Path.{refl}
 use Prim.Native.Nat.{_+_, _≤_}
 use lib.ListN.{length}
 use denote.Ref.{now}
-use Rattle.fields.proofs.Laws.{splice-then}
-use Rattle.encoding.proofs.Contents.{Fit, fit}
+use Rattle.fields.proofs.ByteLaws.{splice-then}
+use Rattle.encoding.proofs.Contents.{Within, within}
 use borrow.Author.Needs.{needs}
 use Rattle.encoding.proofs.heading.put_contents.Statement.{statement}
 use Rattle.encoding.proofs.heading.put_contents.Tie as tie
@@ -24,8 +25,8 @@ abbrev start₄ : tie.After-rules-at → tie.Start
 start₄ c = start₃ (c .before .before .before .before .before)
 
 -- the counts' bounds, by which each offset fits 16 bits
-most : (c : tie.Start) → Fit (c .args .c)
-most c = fit (c .args .c) (c .pre .1)
+most : (c : tie.Start) → Within (c .args .c)
+most c = within (c .args .c) (c .pre .1)
 
 cast-put-pair : tie.Need-cast-put-pair
 cast-put-pair c = let m = most (start₁ c) in omega arith
@@ -62,7 +63,10 @@ returns c =
 pub put-contents-spec : {M : Type 1} → statement M
 put-contents-spec =
     tie.close
-    (tie.spec (λ c κs. search needs) (λ c. search needs) (λ c κs. search needs) cast-put-pair (λ c κs. search needs) (λ c. search needs)
-    (λ c κs. search needs) cast-put-pair-2 (λ c κs. search needs) (λ c. search needs) (λ c κs. search needs) cast-put-pair-3
-    (λ c κs. search needs) (λ c. search needs) (λ c κs. search needs) cast-put-pair-4 (λ c κs. search needs) (λ c. search needs)
+    (tie.spec (λ c κs. search needs) (λ c. search needs) (λ c κs. search needs) cast-put-pair
+    (λ c κs. search needs) (λ c. search needs)
+    (λ c κs. search needs) cast-put-pair-2 (λ c κs. search needs) (λ c. search needs)
+    (λ c κs. search needs) cast-put-pair-3
+    (λ c κs. search needs) (λ c. search needs) (λ c κs. search needs) cast-put-pair-4 (λ c κs. search needs)
+    (λ c. search needs)
     returns)

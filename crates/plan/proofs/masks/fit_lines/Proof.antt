@@ -7,8 +7,9 @@ use denote.Ref.{now}
 use lib.ListN.{length, length-set}
 use borrow.Author.Needs.{needs}
 use Rattle.model.specs.declared.Authorization.{Authorization}
-use Rattle.rules.specs.Masks.{maskOf}
-use Rattle.rules.specs.Strata.{rulesIn, Filled}
+use Rattle.foundation.specs.Masks.{maskOf}
+use Rattle.rules.specs.Strata.{Filled}
+use Rattle.encoding.specs.Format.{rulesIn}
 use Rattle.rules.proofs.Rounds.{fill-turn}
 use Rattle.plan.specs.Scene.{authorizationAt, fitsRight}
 use Rattle.plan.proofs.masks.fit_lines.Statement.{statement}

@@ -5,8 +5,8 @@ use denote.Ref.{now}
 use borrow.Author.Needs.{needs}
 use Rattle.model.specs.Encoding.{authorizationOf}
 use Rattle.model.specs.Rules.{asked}
-use Rattle.support.specs.Cover.{authorizationsIn}
-use Rattle.soundness.proofs.Loops.{AnyFrom, any-starts, any-fails, any-passes, any-ends}
+use Rattle.encoding.specs.Format.{authorizationsIn}
+use Rattle.lookup.proofs.Loops.{AnyFrom, any-starts, any-fails, any-passes, any-ends}
 use Rattle.plan.specs.Words.{liveFits, any-live}
 use Rattle.plan.proofs.masks.holds_line.Statement.{statement}
 use Rattle.plan.proofs.masks.holds_line.Tie as tie

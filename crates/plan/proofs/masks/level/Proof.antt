@@ -7,7 +7,7 @@ use lib.Dec.{eqb}
 use lib.ListN.{getD}
 use denote.Ref.{now}
 use borrow.Author.Needs.{needs}
-use Rattle.rules.proofs.Masks.{Built, build-start, build-room, build-turn, build-end}
+use Rattle.foundation.specs.Masks.{Built, build-start, build-room, build-turn, build-end}
 use Rattle.plan.specs.Words.{number, number-at}
 use Rattle.plan.proofs.masks.level.Statement.{statement}
 use Rattle.plan.proofs.masks.level.Tie as tie

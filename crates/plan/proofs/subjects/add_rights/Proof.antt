@@ -11,8 +11,8 @@ use lib.ListN.{length, take, drop, drop-of-length-le}
 use Rattle.foundation.specs.Totals.{count}
 use Rattle.model.specs.declared.Rule.{Rule}
 use Rattle.model.specs.Encoding.{ruleOf}
-use Rattle.rules.specs.Strata.{rulesIn, ruleAt}
-use Rattle.rules.proofs.Records.{length-records, record-nth}
+use Rattle.encoding.specs.Format.{rulesIn, ruleAt}
+use Rattle.foundation.specs.Records.{length-records, record-nth}
 use Rattle.plan.specs.Gathering.{leftIs, followed, withRights, howMany}
 use Rattle.plan.proofs.subjects.add_rights.Statement.{statement}
 use Rattle.plan.proofs.subjects.add_rights.Tie as tie

@@ -9,7 +9,7 @@ use lib.Dec.{eqb}
 use lib.ListN.{length, take, getD, set, length-set}
 use lib.Seq.{getD-set-same, getD-set-other}
 use Rattle.foundation.specs.Tests.{cases, true-eq, false-eq}
-use Rattle.rules.specs.Strata.{ruleAt}
+use Rattle.encoding.specs.Format.{ruleAt}
 use Rattle.model.specs.declared.Rule.{Rule}
 use Rattle.questions.specs.Drawn.{subjectCode, modeCode, Coded}
 use Rattle.plan.proofs.subjects.draw_sides.Statement.{statement}

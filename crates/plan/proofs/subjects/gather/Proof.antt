@@ -8,8 +8,8 @@ use denote.Ref.{now}
 use lib.ListN.{length, take, getD}
 use lib.Seq.{length-take-le, getD-take}
 use Rattle.model.specs.Encoding.{ruleOf}
-use Rattle.rules.specs.Strata.{rulesIn}
-use Rattle.rules.proofs.Records.{length-records}
+use Rattle.encoding.specs.Format.{rulesIn}
+use Rattle.foundation.specs.Records.{length-records}
 use Rattle.plan.specs.Gathering.{leftIs, withRights, howMany, Gathering}
 use Rattle.plan.specs.Gathering.{gather-start, gather-room, gather-turn, gather-end}
 use Rattle.plan.proofs.subjects.gather.Statement.{statement}

@@ -8,7 +8,7 @@ use denote.Ref.{now}
 use lib.ListN.{take}
 use Rattle.model.specs.declared.Rule.{Rule}
 use Rattle.model.specs.Encoding.{ruleOf}
-use Rattle.rules.proofs.Masks.{Built, build-start, build-room, build-turn, build-end}
+use Rattle.foundation.specs.Masks.{Built, build-start, build-room, build-turn, build-end}
 use Rattle.questions.specs.Drawn.{leads}
 use Rattle.plan.proofs.subjects.leading.Statement.{statement}
 use Rattle.plan.proofs.subjects.leading.Tie as tie

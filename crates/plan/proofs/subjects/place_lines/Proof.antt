@@ -10,7 +10,7 @@ use Rattle.model.specs.Ranges.{isMode}
 use Rattle.model.specs.Encoding.{authorizationOf}
 use Rattle.rules.specs.Strata.{Filled}
 use Rattle.rules.proofs.Rounds.{fill-turn}
-use Rattle.rules.proofs.Records.{record-mem}
+use Rattle.foundation.specs.Records.{record-mem}
 use Rattle.plan.specs.Scene.{authorizationAt, spotOf}
 use Rattle.plan.proofs.subjects.place_lines.Statement.{statement}
 use Rattle.plan.proofs.subjects.place_lines.Tie as tie

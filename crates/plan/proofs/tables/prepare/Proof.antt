@@ -12,10 +12,10 @@ use Rattle.model.specs.declared.Rule.{Rule}
 use Rattle.model.specs.Encoding.{ruleOf, bit}
 use Rattle.model.specs.Stratification.{stratified, stratum}
 use Rattle.model.specs.StratificationFacts.{stratum-few}
-use Rattle.rules.specs.Masks.{maskOf}
-use Rattle.rules.specs.Strata.{rulesIn, ruleAt, Holds}
-use Rattle.rules.proofs.Records.{length-records, record-mem, mem-record}
-use Rattle.rules.proofs.Masks.{mask-at}
+use Rattle.foundation.specs.Masks.{maskOf, mask-at}
+use Rattle.rules.specs.Strata.{Holds}
+use Rattle.encoding.specs.Format.{rulesIn, ruleAt}
+use Rattle.foundation.specs.Records.{length-records, record-mem, mem-record}
 use Rattle.questions.specs.Drawn.{leads}
 use Rattle.plan.proofs.tables.prepare.Statement.{statement}
 use Rattle.plan.proofs.tables.prepare.Tie as tie

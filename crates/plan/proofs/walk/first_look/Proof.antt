@@ -9,8 +9,8 @@ use lib.Dec.{eqb}
 use Rattle.foundation.specs.Tests.{cases, true-eq, false-eq}
 use Rattle.model.specs.declared.Rule.{Rule}
 use Rattle.model.specs.Encoding.{ruleOf}
-use Rattle.rules.specs.Strata.{ruleAt}
-use Rattle.rules.proofs.Records.{mem-record}
+use Rattle.encoding.specs.Format.{ruleAt}
+use Rattle.foundation.specs.Records.{mem-record}
 use Rattle.questions.specs.Operators.{lasting}
 use Rattle.plan.proofs.walk.first_look.Statement.{statement}
 use Rattle.plan.proofs.walk.first_look.Tie as tie

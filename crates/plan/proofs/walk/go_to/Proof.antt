@@ -8,8 +8,7 @@ use denote.Ref.{now}
 use lib.ListN.{take, replicate}
 use Rattle.foundation.specs.Marks.{next, next-above}
 use Rattle.model.specs.Means.{marks}
-use Rattle.support.specs.Cover.{authorizationsIn}
-use Rattle.rules.specs.Strata.{rulesIn}
+use Rattle.encoding.specs.Format.{authorizationsIn, rulesIn}
 use Rattle.plan.specs.Scene.{At}
 use Rattle.plan.specs.Serving.{serves-first, serves-next}
 use Rattle.plan.proofs.walk.go_to.Statement.{statement}

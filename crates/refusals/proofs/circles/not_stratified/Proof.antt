@@ -1,5 +1,5 @@
--- `refusals::circles::not_stratified`: the rules as they are copied, with the new one behind them (`added-rules`),
--- under a label that does not matter (`strata-rule`).
+-- `refusals::circles::not_stratified`: the rules as they are copied, with the new one behind them
+-- (`added-rules`), under a label that does not matter (`strata-rule`).
 use borrow.Author.Needs.{needs}
 use mathlib.Core.Path.{_≡_, ap, _∙_}
 use mathlib.Core.Bool.{not}
@@ -14,10 +14,9 @@ use Rattle.model.specs.EncodingFacts.{sound-length}
 use Rattle.model.specs.Requests.{newRule}
 use Rattle.model.specs.Stratification.{stratified}
 use Rattle.fields.specs.Field.{splice}
-use Rattle.encoding.specs.Format.{rulesAt}
-use Rattle.rules.specs.Strata.{rulesIn}
+use Rattle.encoding.specs.Format.{rulesAt, rulesIn}
 use Rattle.refusals.specs.Asked.{rule-request-in}
-use Rattle.refusals.proofs.Places.{lent, Fitting, fitting, there, rules-lent}
+use Rattle.lookup.proofs.SoundBodies.{lent, Fitting, fitting, there, rules-lent}
 use Rattle.refusals.proofs.ByKind.{strata-rule, strata-none}
 use Rattle.refusals.proofs.Added.{added-rules}
 use Rattle.refusals.proofs.circles.not_stratified.Statement.{statement}
@@ -34,7 +33,8 @@ counts-of-requires c κs =
     omega (arith, sound-length (now (d .args .s)) (d .pre .0))
 
 -- behind the counts: the bodies fit
-fits : (c : tie.After-counts-of) → Fitting (now (c .before .before .before .before .args .s)) (c .counts-of .result)
+fits : (c : tie.After-counts-of) → Fitting (now (c .before .before .before .before .args .s))
+    (c .counts-of .result)
 fits c =
     let d = c .before .before .before .before in
     fitting (now (d .args .s)) (d .pre .0) (c .counts-of .result) (c .counts-of .ensures)
@@ -44,7 +44,8 @@ long : (c : tie.After-rules-at) → c .before .counts-of .result .rules * 28
     ≤ length (lent (now (c .before .before .before .before .before .args .s)) (c .rules-at .result))
 long c =
     let n = c .before in
-    there (now (n .before .before .before .before .args .s)) (c .rules-at .result) (rulesAt (n .counts-of .result)) _
+    there (now (n .before .before .before .before .args .s)) (c .rules-at .result)
+    (rulesAt (n .counts-of .result)) _
     (c .rules-at .ensures) (omega (arith, fits n))
 
 sub-copy : tie.Need-sub-copy
@@ -98,18 +99,22 @@ returns-2 c =
     let w = rule-request-in q (d .pre .1) (e .if1 .left) in
     let all : rulesIn (n .counts-of .result .rules + 1) (p .put-rule .last .0)
     ≡ rulesIn (n .counts-of .result .rules) (lent s (l .rules-at .result)) ++ (newRule 1 q ∷ []) =
-    added-rules (n .counts-of .result .rules) (lent s (l .rules-at .result)) (replicate 1820 0) (y .copy .last .0)
+    added-rules (n .counts-of .result .rules) (lent s (l .rules-at .result)) (replicate 1820 0)
+    (y .copy .last .0)
     (p .put-rule .last .0) (newRule 1 q) (w .rule) (long l) (omega (arith, fits n .counts)) (y .copy .ensures)
     (p .put-rule .ensures
     ∙ ap (λ (x : Rule). splice (n .counts-of .result .rules * 28) (ruleBytes x) (y .copy .last .0))
     (r .rule-of .ensures)) in
     ap not (c .is-stratified .ensures ∙ ap stratified (all ∙ ap (λ (rs : List Rule). rs ++ (newRule 1 q ∷ []))
-    (rules-lent s (n .counts-of .result) (n .counts-of .ensures) (l .rules-at .result) (l .rules-at .ensures))))
+    (rules-lent s (n .counts-of .result) (n .counts-of .ensures) (l .rules-at .result)
+    (l .rules-at .ensures))))
     ∙ strata-rule (decode s) q (e .if1 .left)
 
 pub not-stratified-spec : {M : Type 1} → statement M
 not-stratified-spec =
     tie.close
-    (tie.spec returns counts-of-requires (λ c κs. search needs) (λ c. search needs) (λ c. search needs) sub-copy
-    part-copy-start (λ c. search needs) (λ c. search needs) copy-requires (λ c. search needs) (λ c. search needs)
+    (tie.spec returns counts-of-requires (λ c κs. search needs) (λ c. search needs)
+    (λ c. search needs) sub-copy
+    part-copy-start (λ c. search needs) (λ c. search needs) copy-requires (λ c. search needs)
+    (λ c. search needs)
     rule-of-requires put-rule-requires (λ c. search needs) add-is-stratified is-stratified-requires returns-2)

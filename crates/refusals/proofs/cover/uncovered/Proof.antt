@@ -14,7 +14,7 @@ use Rattle.model.specs.Requests.{grants, newHead}
 use Rattle.encoding.specs.Format.{authorizationsAt}
 use Rattle.support.specs.Gaps.{GapIs}
 use Rattle.refusals.specs.Asked.{GrantIn, grant-in, no-grant, in-control, uncovered-is}
-use Rattle.refusals.proofs.Places.{fitting, there, authorizations-lent}
+use Rattle.lookup.proofs.SoundBodies.{fitting, there, authorizations-lent}
 use Rattle.refusals.proofs.cover.uncovered.Statement.{statement}
 use Rattle.refusals.proofs.cover.uncovered.Tie as tie
 
@@ -33,7 +33,8 @@ returns c =
 returns-2 : tie.Need-returns-2
 returns-2 c =
     let a = c .before .before .before .before .before .args in
-    in-control (decode (now (a .s))) (a .q) (granting (c .before .before)) (sym (c .before .controls .ensures) ∙ c .if2 .taken)
+    in-control (decode (now (a .s))) (a .q) (granting (c .before .before)) (sym (c .before .controls .ensures)
+    ∙ c .if2 .taken)
 
 counts-of-requires : tie.Need-counts-of-requires
 counts-of-requires c κs =
@@ -47,14 +48,22 @@ cast-mode : tie.Need-cast-mode
 cast-mode c = omega (arith, fields-in (c .before .before .before .before .before .before) .mode)
 
 cast-grantor : tie.Need-cast-grantor
-cast-grantor c = omega (arith, fields-in (c .before .before .before .before .before .before .before) .requester)
+cast-grantor c = omega (
+  arith,
+  fields-in
+      (c .before .before .before .before .before .before .before) .requester,
+)
 
 sub-first-gap : tie.Need-sub-first-gap
 sub-first-gap c =
     let l = c .before .before .before .before in
     let n = l .before in
     let d = n .before .before .before .before .before .before in
-    omega (arith, fitting (now (d .args .s)) (d .pre .0) (n .counts-of .result) (n .counts-of .ensures), l .authorizations-at .ensures)
+    omega (
+      arith,
+      fitting (now (d .args .s)) (d .pre .0) (n .counts-of .result) (n .counts-of .ensures),
+      l .authorizations-at .ensures,
+    )
 
 part-first-gap-start : tie.Need-part-first-gap-start
 part-first-gap-start c = sub-first-gap c
@@ -65,7 +74,8 @@ first-gap-requires c κs =
     let n = l .before in
     let d = n .before .before .before .before .before .before in
     let f = fitting (now (d .args .s)) (d .pre .0) (n .counts-of .result) (n .counts-of .ensures) in
-    there (now (d .args .s)) (l .authorizations-at .result) (authorizationsAt (n .counts-of .result)) _ (l .authorizations-at .ensures)
+    there (now (d .args .s)) (l .authorizations-at .result) (authorizationsAt (n .counts-of .result)) _
+    (l .authorizations-at .ensures)
     (omega (arith, f))
 
 returns-3 : tie.Need-returns-3
@@ -78,14 +88,17 @@ returns-3 c =
     let b = decode s in
     let q = d .args .q in
     let h = newHead (suc (b .last)) q in
-    uncovered-is b q (granting (e .before .before)) (sym (e .before .controls .ensures) ∙ e .if2 .left) (c .first-gap .result)
+    uncovered-is b q (granting (e .before .before)) (sym (e .before .controls .ensures) ∙ e .if2 .left)
+    (c .first-gap .result)
     (subst (λ (xs : List Authorization). GapIs xs h (q .interval) (c .first-gap .result))
-    (authorizations-lent s (n .counts-of .result) (n .counts-of .ensures) (l .authorizations-at .result) (l .authorizations-at .ensures))
+    (authorizations-lent s (n .counts-of .result) (n .counts-of .ensures) (l .authorizations-at .result)
+    (l .authorizations-at .ensures))
     (c .first-gap .ensures .model h refl))
 
 pub uncovered-spec : {M : Type 1} → statement M
 uncovered-spec =
     tie.close
     (tie.spec (λ c κs. search needs) returns (λ c κs. search needs) returns-2 counts-of-requires
-    (λ c κs. search needs) cast-object cast-mode cast-grantor sub-first-gap part-first-gap-start (λ c. search needs)
+    (λ c κs. search needs) cast-object cast-mode cast-grantor sub-first-gap part-first-gap-start
+    (λ c. search needs)
     (λ c. search needs) first-gap-requires returns-3)

@@ -8,14 +8,14 @@ use Rattle.requests.specs.Revoked.{object-most, subject-most, grantor-cu
 use Rattle.requests.proofs.revocation.cut_by_grantor.Statement.{statement}
 use Rattle.requests.proofs.revocation.cut_by_grantor.Tie as tie
 
-cast-t3 : tie.Need-cast-t3
-cast-t3 c =
+cast-t4 : tie.Need-cast-t4
+cast-t4 c =
     let d = c .before .before in
     let q = d .args .q in
     omega (arith, subject-most q (d .pre .0) (is-kinds q (REVOKEADM ∷ []) subjectKinds refl (d .pre .1)))
 
-cast-t4 : tie.Need-cast-t4
-cast-t4 c =
+cast-t5 : tie.Need-cast-t5
+cast-t5 c =
     let d = c .before .before .before in
     let q = d .args .q in
     omega (arith, object-most q (d .pre .0) (is-kinds q (REVOKEADM ∷ []) objectKinds refl (d .pre .1)))
@@ -24,4 +24,4 @@ returns : tie.Need-returns
 returns c = let d = c .before .before .before in grantor-cut (d .args .q) (d .pre .1)
 
 pub cut-by-grantor-spec : {M : Type 1} → statement M
-cut-by-grantor-spec = tie.close (tie.spec cast-t3 cast-t4 returns)
+cut-by-grantor-spec = tie.close (tie.spec cast-t4 cast-t5 returns)

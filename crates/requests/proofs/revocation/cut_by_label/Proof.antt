@@ -8,8 +8,8 @@ use Rattle.requests.specs.Revoked.{labelNamers, label-most, label-cut}
 use Rattle.requests.proofs.revocation.cut_by_label.Statement.{statement}
 use Rattle.requests.proofs.revocation.cut_by_label.Tie as tie
 
-cast-t3 : tie.Need-cast-t3
-cast-t3 c =
+cast-t4 : tie.Need-cast-t4
+cast-t4 c =
     let d = c .before .before in
     let q = d .args .q in
     omega (arith, label-most q (d .pre .0) (is-kinds q (REVOKE ∷ []) labelNamers refl (d .pre .1)))
@@ -18,4 +18,4 @@ returns : tie.Need-returns
 returns c = let d = c .before .before in label-cut (d .args .q) (d .pre .1)
 
 pub cut-by-label-spec : {M : Type 1} → statement M
-cut-by-label-spec = tie.close (tie.spec cast-t3 returns)
+cut-by-label-spec = tie.close (tie.spec cast-t4 returns)

@@ -9,7 +9,7 @@ use Rattle.model.specs.declared.Authorization.{Authorization}
 use Rattle.encoding.specs.Format.{administratorsAt, authorizationsAt}
 use Rattle.edits.specs.Edits.{written-sound}
 use Rattle.withdrawal.specs.Bodies.{Built}
-use Rattle.refusals.proofs.Places.{Fitting, there}
+use Rattle.lookup.proofs.SoundBodies.{Fitting, there}
 use Rattle.requests.specs.Carried.{passed-row}
 use Rattle.requests.proofs.Revoking.{passed-sound, written-fitting, lent-sorted, remains}
 use Rattle.requests.proofs.revocation.remaining.Statement.{statement}
@@ -23,8 +23,10 @@ roots-fit : (c : tie.After-authorizations-at) →
     Fitting (now (start c .args .roots)) (c .before .before .before .counts-of .result)
 roots-fit c = written-fitting _ (start c .pre .0 .2) _ (c .before .before .before .counts-of .ensures)
 
-base-fit : (c : tie.After-authorizations-at) → Fitting (now (start c .args .s)) (c .before .counts-of2 .result)
-base-fit c = written-fitting _ (written-sound _ (start c .pre .0 .0 .sound)) _ (c .before .counts-of2 .ensures)
+base-fit : (c : tie.After-authorizations-at) →
+    Fitting (now (start c .args .s)) (c .before .counts-of2 .result)
+base-fit c = written-fitting _ (written-sound _ (start c .pre .0 .0 .sound)) _
+    (c .before .counts-of2 .ensures)
 
 cut-of-requires : tie.Need-cut-of-requires
 cut-of-requires c κs =
@@ -73,7 +75,8 @@ withdraw-requires c κs =
       ),
       (
         p .before .before .before .before .cut-of .ensures .1,
-        lent-sorted (now (d .args .s)) (d .args .q) (passed-sound _ _ (d .pre .0 .0)) (n .result) (n .ensures) _
+        lent-sorted (now (d .args .s)) (d .args .q) (passed-sound _ _ (d .pre .0 .0)) (n .result)
+            (n .ensures) _
             (p .authorizations-at .ensures),
       ),
     )
@@ -86,16 +89,20 @@ returns c =
     let k = p .before .before .before .counts-of in
     let n = p .before .counts-of2 in
     let cut = p .before .before .before .before .cut-of in
-    subst (λ (ys : List Authorization). Built ys (w .withdraw .result) (w .withdraw .last .1 .1 .1 .1 .1 .1 .1 .0))
+    subst (λ (ys : List Authorization). Built ys (w .withdraw .result)
+    (w .withdraw .last .1 .1 .1 .1 .1 .1 .1 .0))
     (remains (now (d .args .s)) (d .args .q) (passed-sound _ _ (d .pre .0 .0)) (n .result) (n .ensures) _
-    (p .authorizations-at .ensures) (d .pre .0 .1) (cut .result) (cut .ensures .0) (now (d .args .roots)) (k .result)
+    (p .authorizations-at .ensures) (d .pre .0 .1) (cut .result) (cut .ensures .0) (now (d .args .roots))
+    (k .result)
     (k .ensures) _ (p .before .before .administrators-at .ensures) (d .pre .1 .0) (d .pre .1 .1))
     (w .withdraw .ensures)
 
 pub remaining-spec : {M : Type 1} → statement M
 remaining-spec =
     tie.close
-    (tie.spec cut-of-requires counts-of-requires (λ c κs. search needs) counts-of-requires-2 (λ c κs. search needs)
+    (tie.spec cut-of-requires counts-of-requires (λ c κs. search needs) counts-of-requires-2
+    (λ c κs. search needs)
     sub-withdraw sub-withdraw (λ c. search needs) (λ c. search needs) sub-withdraw-2 sub-withdraw-2
-    (λ c. search needs) (λ c. search needs) sub-withdraw-3 sub-withdraw-3 (λ c. search needs) (λ c. search needs)
+    (λ c. search needs) (λ c. search needs) sub-withdraw-3 sub-withdraw-3 (λ c. search needs)
+    (λ c. search needs)
     withdraw-requires (λ c. search needs) (λ c. search needs) returns)

@@ -1,5 +1,5 @@
--- The copy without the privilege says who owns and who administers after the request, and `remaining` whether row 13
--- applies; where it does not, the edits make the bytes of the effect (`administrator-done`).
+-- The copy without the privilege says who owns and who administers after the request, and `remaining` whether
+-- row 13 applies; where it does not, the edits make the bytes of the effect (`administrator-done`).
 use borrow.Author.Needs.{needs}
 use mathlib.Core.Path.{_≡_, refl, ap, _∙_}
 use mathlib.Core.List.{List}
@@ -9,12 +9,14 @@ use denote.Ref.{now}
 use Rattle.model.specs.Base.{refers}
 use Rattle.model.specs.Encoding.{encode, decode}
 use Rattle.model.specs.Requests.{without}
-use Rattle.edits.specs.Edits.{Written, written-sound, withAdministrators}
-use Rattle.edits.proofs.Laws.{written-length}
+use Rattle.edits.specs.Edits.{Written, written-sound}
+use Rattle.model.specs.Effects.{withAdministrators}
+use Rattle.edits.proofs.EditedBytes.{written-length}
 use Rattle.requests.proofs.Revoking.{Left, carried-full, lines-left, carried-done, replace-ready}
-use Rattle.requests.proofs.Revoking.{replaced-holds, clocked, administrator-withdraws, copied, named-privilege}
-use Rattle.requests.proofs.Revoking.{remove-ready, removed-holds, roots-objects, roots-administrators, dropped}
-use Rattle.requests.proofs.Revoking.{named-refers, administrator-done}
+use Rattle.requests.proofs.Revoking.{replaced-holds, clocked, administrator-withdraws, copied}
+use Rattle.requests.proofs.Revoking.{remove-ready, removed-holds, roots-objects, roots-administrators}
+use Rattle.requests.proofs.Revoking.{dropped}
+use Rattle.requests.proofs.Revoking.{administrator-done}
 use Rattle.requests.proofs.revocation.revoke_administrator.Statement.{statement}
 use Rattle.requests.proofs.revocation.revoke_administrator.Tie as tie
 
@@ -70,14 +72,16 @@ returns c =
     let r = c .before .before .before .before in
     let d = r .before .before .before .before .before .before .before .before .before .before .before .before
     .before in
-    carried-full (now (d .args .s)) (d .args .q) (d .pre .0) (administrator-withdraws (d .args .q) (d .pre .1)) _ _
+    carried-full (now (d .args .s)) (d .args .q) (d .pre .0)
+    (administrator-withdraws (d .args .q) (d .pre .1)) _ _
     (r .remaining .ensures) (c .enum-told .given .1)
 
 -- ---- where the number of what remains is known
 
 abbrev start : tie.After-n → tie.Start
 start c =
-    c .before .before .before .before .before .before .before .before .before .before .before .before .before .before
+    c .before .before .before .before .before .before .before .before .before .before .before .before .before
+    .before
     .before .before .before
 
 left : (c : tie.After-n) →
@@ -85,42 +89,36 @@ left : (c : tie.After-n) →
     Left (now (start c .args .s)) (start c .args .q) (c .n .given .0 .0) (r .remaining .last .1 .1 .1 .0)
 left c =
     let d = start c in
-    lines-left (now (d .args .s)) (d .args .q) (d .pre .0) (administrator-withdraws (d .args .q) (d .pre .1)) _ _
+    lines-left (now (d .args .s)) (d .args .q) (d .pre .0)
+    (administrator-withdraws (d .args .q) (d .pre .1)) _ _
     (c .before .before .before .before .remaining .ensures) _ (c .n .given .1)
 
-privilege-of-requires : tie.Need-privilege-of-requires
-privilege-of-requires c κs =
-    let d = start (c .before .before) in
-    named-privilege (now (d .args .s)) (d .args .q) (d .pre .0) (d .pre .1)
-
-is-held-requires : tie.Need-is-held-requires
-is-held-requires c κs = let d = start (c .before .before .before) in written-sound _ (d .pre .0 .sound)
+refers-requires : tie.Need-refers-requires
+refers-requires c κs = let d = start (c .before .before) in d .pre .0 .sound
 
 remove-administrator-requires-2 : tie.Need-remove-administrator-requires-2
 remove-administrator-requires-2 c κs =
-    let d = start (c .before .before .before .before .before) in
+    let d = start (c .before .before .before .before) in
     remove-ready (now (d .args .s)) (d .args .q) (d .pre .0) (d .pre .1) _ refl
 
 drop-rules-requires : tie.Need-drop-rules-requires
 drop-rules-requires c κs =
     let v = c .before .before .before in
-    let d = start (v .before .before .before .before .before .before) in
-    removed-holds (now (d .args .s)) (d .args .q) (d .pre .0) (d .pre .1) _ (v .remove-administrator2 .ensures)
+    let d = start (v .before .before .before .before .before) in
+    removed-holds (now (d .args .s)) (d .args .q) (d .pre .0) (d .pre .1) _
+    (v .remove-administrator2 .ensures)
     .written
 
 -- behind the rules
 abbrev known : tie.After-drop-rules → tie.After-n
-known w = w .before .before .before .before .before .before .before .before .before .before
+known w = w .before .before .before .before .before .before .before .before .before
 
 -- what is known of who refers
 refers-is : (w : tie.After-drop-rules) →
     let d = start (known w) in
-    w .before .before .before .before .before .before .is-held .result
+    w .before .before .before .before .before .before .refers .result
     ≡ refers (decode (now (d .args .s))) (d .args .q .object) (d .args .q .subject)
-refers-is w =
-    let h = w .before .before .before .before .before .before in
-    let d = start (known w) in
-    named-refers (decode (now (d .args .s))) (d .args .q) _ _ (h .before .privilege-of .ensures) (h .is-held .ensures)
+refers-is w = w .before .before .before .before .before .before .refers .ensures
 
 rules-left : (w : tie.After-drop-rules) → Written (w .drop-rules .last .0)
 rules-left w =
@@ -140,8 +138,8 @@ set-clock-requires c κs =
     let w = x .before .before .before .before .before in
     replaced-holds _ (rules-left w) _ _ _ _ (left (known w)) _ (x .replace-authorizations .ensures) .written
 
-cast-t38 : tie.Need-cast-t38
-cast-t38 c =
+cast-t36 : tie.Need-cast-t36
+cast-t36 c =
     let x = c .before .before .before .before .before .before in
     omega (arith, left (known (x .before .before .before .before .before)) .result .fits)
 
@@ -158,13 +156,15 @@ returns-2 c =
     carried-done s q (administrator-withdraws q (d .pre .1)) _ _ (left p) _
     (administrator-done s q (d .pre .0) (d .pre .1) _ (v .remove-administrator2 .ensures) _ (refers-is w) _
     (w .drop-rules .ensures) _
-    (clocked _ (rules-left w) _ _ _ _ (left p) _ (x .replace-authorizations .ensures) _ _ (z .set-clock .ensures)))
+    (clocked _ (rules-left w) _ _ _ _ (left p) _ (x .replace-authorizations .ensures) _ _
+    (z .set-clock .ensures)))
 
 pub revoke-administrator-spec : {M : Type 1} → statement M
 revoke-administrator-spec =
     tie.close
-    (tie.spec (λ c. search needs) copy-requires (λ c. search needs) remove-administrator-requires (λ c. search needs)
+    (tie.spec (λ c. search needs) copy-requires (λ c. search needs) remove-administrator-requires
+    (λ c. search needs)
     (λ c. search needs) (λ c. search needs) remaining-requires (λ c. search needs) (λ c. search needs)
-    (λ c. search needs) returns privilege-of-requires is-held-requires remove-administrator-requires-2
-    drop-rules-requires (λ c. search needs) replace-authorizations-requires set-clock-requires cast-t38
+    (λ c. search needs) returns refers-requires remove-administrator-requires-2
+    drop-rules-requires (λ c. search needs) replace-authorizations-requires set-clock-requires cast-t36
     (λ c. search needs) returns-2)

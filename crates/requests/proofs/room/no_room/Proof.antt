@@ -20,8 +20,8 @@ use Rattle.model.specs.Means.{plainly}
 use Rattle.model.specs.Step.{full}
 use Rattle.encoding.specs.declared.Counts.{Counts}
 use Rattle.encoding.specs.Format.{countsOf}
-use Rattle.encoding.specs.FormatFacts.{decoded-lengths}
-use Rattle.effects.proofs.Laws.{last-read}
+use Rattle.encoding.proofs.FormatFacts.{decoded-lengths}
+use Rattle.effects.proofs.AllowedEffects.{last-read}
 use Rattle.requests.specs.Room.{noRoom, room-is}
 use Rattle.requests.proofs.room.no_room.Statement.{statement}
 use Rattle.requests.proofs.room.no_room.Tie as tie
@@ -51,14 +51,19 @@ counts-of-requires : tie.Need-counts-of-requires
 counts-of-requires c κs = omega (arith, sound-length (now (c .before .args .s)) (c .before .pre .0))
 
 le16-requires : tie.Need-le16-requires
-le16-requires c κs = omega (arith, sound-length (now (c .before .before .args .s)) (c .before .before .pre .0))
+le16-requires c κs = omega (
+  arith,
+  sound-length (now (c .before .before .args .s))
+      (c .before .before .pre .0),
+)
 
 returns : tie.Need-returns
 returns c =
     let n = c .before .before .before .before .before .before in
     let k = n .before in
     let d = k .before .before in
-    asked-is (now (d .args .s)) (d .args .q) (d .pre .0) (d .pre .1) (k .counts-of .result) (k .counts-of .ensures)
+    asked-is (now (d .args .s)) (d .args .q) (d .pre .0) (d .pre .1) (k .counts-of .result)
+    (k .counts-of .ensures)
     (c .is-labelling .result) (c .is-labelling .ensures) (n .le16 .result) (n .le16 .ensures)
 
 pub no-room-spec : {M : Type 1} → statement M

@@ -2,13 +2,13 @@
 use borrow.Author.Needs.{needs}
 use native.Mathlib.Omega.{arith}
 use mathlib.Core.Path.{_≡_, ap, _∙_}
-use Prim.Native.Nat.{ℕ, _-_, _≤_}
+use Prim.Native.Nat.{_-_, _≤_}
 use lib.ListN.{length, length-set}
 use denote.Ref.{now}
 use Rattle.foundation.specs.Totals.{count}
-use Rattle.model.specs.declared.Rule.{Rule}
 use Rattle.model.specs.Stratification.{negates}
-use Rattle.rules.specs.Strata.{ruleAt, Holds}
+use Rattle.rules.specs.Strata.{Holds}
+use Rattle.encoding.specs.Format.{ruleAt}
 use Rattle.rules.proofs.Rounds.{fill-turn}
 use Rattle.rules.proofs.ranks.put_own.Statement.{statement}
 use Rattle.rules.proofs.ranks.put_own.Tie as tie

@@ -1,17 +1,17 @@
--- `put_row` meets its contract. The loop's invariant: the row has the edges from the rules before `i`, and the rows
--- before it are left.
+-- `put_row` meets its contract. The loop's invariant: the row has the edges from the rules before `i`, and
+-- the rows before it are left.
 use borrow.Author.Needs.{needs}
 use native.Mathlib.Omega.{arith}
 use native.Mathlib.Numerals.{add-one}
 use mathlib.Core.Path.{_≡_, refl, sym, ap, ap₂, _∙_, subst}
 use mathlib.Core.List.{List}
-use Prim.Native.Nat.{ℕ, suc, _+_, _*_, _-_, _≤_, _<_}
+use Prim.Native.Nat.{ℕ, _+_, _*_, _-_, _≤_, _<_}
 use lib.ListN.{length, getD}
 use denote.Ref.{now}
-use Rattle.model.specs.declared.Rule.{Rule}
-use Rattle.rules.specs.Strata.{ruleAt}
+use Rattle.encoding.specs.Format.{ruleAt}
 use Rattle.rules.specs.Edges.{stepOf, Row}
-use Rattle.rules.proofs.Edges.{step-small, row-start, putEdge, putCount, put-length, put-other, row-turn}
+use Rattle.rules.proofs.Edges.{step-small, row-start, putEdge, putCount, put-length, put-other}
+use Rattle.rules.proofs.Edges.{row-turn}
 use Rattle.rules.proofs.ranks.put_row.Statement.{statement}
 use Rattle.rules.proofs.ranks.put_row.Tie as tie
 
@@ -68,7 +68,8 @@ returns c =
     let l = c .before in
     let b = l .before .before .before in
     let e : l .loop .i ≡ b .args .n = omega (arith, l .loop .inv .0) in (
-      subst (λ (k : ℕ). Row k (now (b .args .s)) (b .args .j) (l .loop .edges) (l .loop .c)) e (l .loop .inv .2),
+      subst (λ (k : ℕ). Row k (now (b .args .s)) (b .args .j) (l .loop .edges) (l .loop .c)) e
+          (l .loop .inv .2),
       l .loop .inv .1,
       l .loop .inv .3,
     )

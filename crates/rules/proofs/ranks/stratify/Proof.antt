@@ -1,5 +1,5 @@
--- `stratify` meets its contract. The loop's invariant: the tables are the rules', `strata` holds the ranks after `k`
--- rounds, and if all rounds were made there is a circle.
+-- `stratify` meets its contract. The loop's invariant: the tables are the rules', `strata` holds the ranks
+-- after `k` rounds, and if all rounds were made there is a circle.
 use borrow.Author.Needs.{needs}
 use native.Mathlib.Omega.{arith}
 use mathlib.Core.Path.{_≡_, refl, sym, _∙_}
@@ -9,7 +9,8 @@ use lib.ListN.{length}
 use denote.Ref.{now}
 use Rattle.foundation.specs.Totals.{count}
 use Rattle.model.specs.Stratification.{negates, stratified}
-use Rattle.rules.specs.Strata.{rulesIn, Holds, Same}
+use Rattle.rules.specs.Strata.{Holds}
+use Rattle.encoding.specs.Format.{rulesIn}
 use Rattle.rules.specs.Edges.{Edges}
 use Rattle.rules.proofs.Rounds.{ranks, first-ranks, next-ranks, ranks-small}
 use Rattle.rules.proofs.Rounds.{same-stratified, same-strata, circle}
@@ -44,7 +45,8 @@ rank-round-requires : tie.Need-rank-round-requires Inv-loop μ-loop
 rank-round-requires c κs =
     let l = c .before .before .before .before .before .before in
     let b = l .before .before .before .before .before .before .before in
-    let small = ranks-small (b .args .n) (now (b .args .s)) (l .loop .k) (l .loop .strata) (l .loop .inv .4) in (
+    let small = ranks-small (b .args .n) (now (b .args .s)) (l .loop .k) (l .loop .strata)
+    (l .loop .inv .4) in (
       b .pre .1,
       λ j h. (l .loop .inv .2 j h .few, l .loop .inv .2 j h .inside),
       λ i h. omega (arith, small i h, l .loop .inv .0, b .pre .1),

@@ -3,7 +3,7 @@ use Prim.Native.Nat.{_-_}
 use denote.Ref.{now}
 use borrow.Author.Needs.{needs}
 use Rattle.model.specs.Encoding.{ruleOf}
-use Rattle.soundness.proofs.Loops.{AnyFrom, any-starts, any-fails, any-passes, any-ends}
+use Rattle.lookup.proofs.Loops.{AnyFrom, any-starts, any-fails, any-passes, any-ends}
 use Rattle.plan.specs.Scene.{fitsRight}
 use Rattle.scan.proofs.relevant.fits_some.Statement.{statement}
 use Rattle.scan.proofs.relevant.fits_some.Tie as tie

@@ -12,7 +12,7 @@ use Rattle.foundation.specs.Lists.{anyb}
 use Rattle.model.specs.declared.Authorization.{Authorization}
 use Rattle.model.specs.declared.Rule.{Rule}
 use Rattle.model.specs.declared.Access.{Access}
-use Rattle.rules.specs.Strata.{rulesIn}
+use Rattle.encoding.specs.Format.{rulesIn}
 use Rattle.questions.specs.Drawn.{indexOf}
 use Rattle.plan.specs.Scene.{fitsRight}
 use Rattle.scan.specs.Relevant.{isFor, matters}

@@ -13,9 +13,8 @@ use Rattle.foundation.specs.Lists.{keepIf}
 use Rattle.model.specs.declared.Authorization.{Authorization}
 use Rattle.model.specs.declared.Access.{Access}
 use Rattle.model.specs.Encoding.{authorizationOf}
-use Rattle.encoding.proofs.Records.{rest, rest-all, rest-end, rest-step}
-use Rattle.support.specs.Cover.{authorizationsIn}
-use Rattle.rules.specs.Strata.{rulesIn}
+use Rattle.foundation.specs.Records.{rest, rest-all, rest-end, rest-step}
+use Rattle.encoding.specs.Format.{authorizationsIn, rulesIn}
 use Rattle.scan.specs.Relevant.{matters}
 use Rattle.scan.proofs.relevant.keep_lines.Statement.{statement}
 use Rattle.scan.proofs.relevant.keep_lines.Tie as tie

@@ -11,9 +11,9 @@ use denote.Ref.{now}
 use Rattle.foundation.specs.Tests.{pick}
 use Rattle.model.specs.declared.Authorization.{Authorization}
 use Rattle.model.specs.Encoding.{authorizationOf}
-use Rattle.support.specs.Cover.{authorizationsIn}
-use Rattle.support.specs.Places.{placed}
-use Rattle.support.proofs.Parts.{length-records}
+use Rattle.encoding.specs.Format.{authorizationsIn}
+use Rattle.foundation.specs.Lists.{placed}
+use Rattle.foundation.specs.Records.{length-records}
 use Rattle.scan.proofs.relevant.put_if.Statement.{statement}
 use Rattle.scan.proofs.relevant.put_if.Tie as tie
 

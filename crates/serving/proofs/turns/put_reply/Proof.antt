@@ -8,7 +8,8 @@ returns : tie.Need-returns
 returns c =
     let p = c .before .before in
     let w = p .print-reply .ensures in
-    line-ended (p .print-reply .last .0) (p .print-reply .result) (p .before .before .before .before .pre .0) (w .0)
+    line-ended (p .print-reply .last .0) (p .print-reply .result) (p .before .before .before .before .pre .0)
+    (w .0)
     (w .1) (w .2)
 
 pub put-reply-spec : {M : Type 1} → statement M

@@ -11,7 +11,8 @@ use Rattle.serving.proofs.turns.serve_line.Tie as tie
 -- what a line that can be read asks
 asked : (c : tie.After-known-told) → (let r = c .before .before .before in
     askedOf (c .before .a .given .0 .0) ≡ readLine (now (r .before .before .before .before .args .line)))
-asked c = let r = c .before .before .before in sym (ap lineOf (c .before .a .given .1)) ∙ r .read-line .ensures
+asked c = let r = c .before .before .before in
+    sym (ap lineOf (c .before .a .given .1)) ∙ r .read-line .ensures
 
 returns : tie.Need-returns
 returns c =
@@ -20,7 +21,7 @@ returns c =
     let r = t .before .before in
     let d = r .before .before .before .before in
     turned (now (d .args .s)) _ (d .pre .0) (sym (ap lineOf (t .enum-told .given .1)) ∙ r .read-line .ensures)
-    (u .put-runless .ensures) refl
+    (u .put-short .ensures) refl
 
 returns-2 : tie.Need-returns-2
 returns-2 c =
@@ -53,6 +54,8 @@ pub serve-line-spec : {M : Type 1} → statement M
 serve-line-spec =
     tie.close
     (tie.spec (λ c κs. search needs) (λ c. search needs) (λ c. search needs) (λ c κs. search needs)
-    (λ c. search needs) returns (λ c. search needs) (λ c κs. search needs) (λ c. search needs) (λ c κs. search needs)
-    (λ c. search needs) (λ c κs. search needs) (λ c. search needs) (λ c. search needs) returns-2 (λ c. search needs)
+    (λ c. search needs) returns (λ c. search needs) (λ c κs. search needs) (λ c. search needs)
+    (λ c κs. search needs)
+    (λ c. search needs) (λ c κs. search needs) (λ c. search needs) (λ c. search needs) returns-2
+    (λ c. search needs)
     (λ c. search needs) returns-3 (λ c. search needs) (λ c. search needs) returns-4)

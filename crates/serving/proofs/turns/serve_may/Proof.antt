@@ -1,24 +1,25 @@
--- `turns::serve_may`: the reply to MAY has no runs.
+-- `turns::serve_may`: the reply to MAY is short.
 use borrow.Author.Needs.{needs}
-use mathlib.Core.Path.{ap, _∙_}
+use mathlib.Core.Path.{sym, ap, subst}
 use mathlib.Core.List.{[]}
 use denote.Ref.{now}
 use Rattle.model.specs.declared.Reply.{Reply}
 use Rattle.model.specs.Text.{printReply}
-use Rattle.serving.specs.Replies.{runless, may-runless, printed-as}
+use Rattle.text.specs.Short.{Short, may-short}
+use Rattle.serving.specs.Replies.{printed-as}
 use Rattle.serving.proofs.turns.serve_may.Statement.{statement}
 use Rattle.serving.proofs.turns.serve_may.Tie as tie
 
-put-runless-requires : tie.Need-put-runless-requires
-put-runless-requires c κs =
+put-short-requires : tie.Need-put-short-requires
+put-short-requires c κs =
     let d = c .before .before .before .before in
-    (d .pre .1, ap runless (c .may-sound .ensures) ∙ may-runless (now (d .args .s)) (d .args .q))
+    (d .pre .1, subst Short (sym (c .may-sound .ensures)) (may-short (now (d .args .s)) (d .args .q)))
 
 returns : tie.Need-returns
 returns c =
     let p = c .before .before in
-    printed-as (ap (λ (r : Reply). printReply r []) (p .before .may-sound .ensures)) (p .put-runless .ensures)
+    printed-as (ap (λ (r : Reply). printReply r []) (p .before .may-sound .ensures)) (p .put-short .ensures)
 
 pub serve-may-spec : {M : Type 1} → statement M
 serve-may-spec =
-    tie.close (tie.spec (λ c κs. search needs) put-runless-requires (λ c. search needs) returns)
+    tie.close (tie.spec (λ c κs. search needs) put-short-requires (λ c. search needs) returns)

@@ -1,33 +1,35 @@
--- `turns::serve_order`: the reply to a request has no runs.
+-- `turns::serve_order`: the reply to a request is short.
 use borrow.Author.Needs.{needs}
-use mathlib.Core.Path.{sym, ap, _∙_}
+use mathlib.Core.Path.{sym, ap, _∙_, subst}
 use mathlib.Core.List.{[]}
 use denote.Ref.{now}
 use Rattle.model.specs.declared.Reply.{Reply}
 use Rattle.model.specs.Text.{printReply}
-use Rattle.serving.specs.Replies.{runless, request-runless, shown-runless, shown-text, printed-as}
+use Rattle.text.specs.Short.{Short, request-short, shown-short, shown-text}
+use Rattle.serving.specs.Replies.{printed-as}
 use Rattle.serving.proofs.turns.serve_order.Statement.{statement}
 use Rattle.serving.proofs.turns.serve_order.Tie as tie
 
-put-runless-requires : tie.Need-put-runless-requires
-put-runless-requires c κs =
+put-short-requires : tie.Need-put-short-requires
+put-short-requires c κs =
     let t = c .before .before in
     let d = t .before .before .before .before .before in (
       d .pre .1,
-      sym (shown-runless (t .step .result)) ∙ ap runless (t .step .ensures .reply)
-          ∙ request-runless (now (d .args .s)) (d .args .q),
+      shown-short (t .step .result)
+          (subst Short (sym (t .step .ensures .reply)) (request-short (now (d .args .s)) (d .args .q))),
     )
 
 returns : tie.Need-returns
 returns c =
     let p = c .before .before in
     let t = p .before .before .before in (
-      printed-as (shown-text (t .step .result) [] ∙ ap (λ (r : Reply). printReply r []) (t .step .ensures .reply))
-          (p .put-runless .ensures),
+      printed-as (shown-text (t .step .result) []
+          ∙ ap (λ (r : Reply). printReply r []) (t .step .ensures .reply))
+          (p .put-short .ensures),
       t .step .ensures .bytes,
     )
 
 pub serve-order-spec : {M : Type 1} → statement M
 serve-order-spec =
     tie.close
-    (tie.spec (λ c κs. search needs) put-runless-requires (λ c. search needs) (λ c. search needs) returns)
+    (tie.spec (λ c κs. search needs) put-short-requires (λ c. search needs) (λ c. search needs) returns)

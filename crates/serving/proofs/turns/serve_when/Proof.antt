@@ -6,7 +6,8 @@ use Rattle.model.specs.Answers.{Answer}
 use Rattle.model.specs.Text.{printReply}
 use Rattle.model.specs.Session.{runsOf, whenList}
 use Rattle.printing.specs.Print.{RunsFit}
-use Rattle.serving.specs.Replies.{when-fits, printed-as}
+use Rattle.text.specs.Short.{when-fits}
+use Rattle.serving.specs.Replies.{printed-as}
 use Rattle.serving.proofs.turns.serve_when.Statement.{statement}
 use Rattle.serving.proofs.turns.serve_when.Tie as tie
 
@@ -16,7 +17,7 @@ put-reply-requires c κs =
     let d = w .before .before .before .before in (
       d .pre .1,
       subst (λ (a : Answer). RunsFit (a .reply) (a .lent)) (sym (w .when-sound .ensures))
-          (when-fits (now (d .args .s)) (d .args .x) _ (d .pre .0)),
+          (when-fits (now (d .args .s)) (d .args .x) _),
     )
 
 returns : tie.Need-returns
@@ -24,11 +25,13 @@ unfolding whenList
 returns c =
     let p = c .before .before in
     let w = p .before .before .before .before in
-    printed-as (ap (λ (a : Answer). printReply (a .reply) (runsOf (a .reply) (a .lent))) (w .when-sound .ensures))
+    printed-as (ap (λ (a : Answer). printReply (a .reply) (runsOf (a .reply) (a .lent)))
+    (w .when-sound .ensures))
     (p .put-reply .ensures)
 
 pub serve-when-spec : {M : Type 1} → statement M
 serve-when-spec =
     tie.close
-    (tie.spec (λ c. search needs) (λ c κs. search needs) (λ c. search needs) put-reply-requires (λ c. search needs)
+    (tie.spec (λ c. search needs) (λ c κs. search needs) (λ c. search needs) put-reply-requires
+    (λ c. search needs)
     returns)

@@ -4,7 +4,11 @@ use Rattle.soundness.proofs.bodies.authorization_test.Statement.{statem
 use Rattle.soundness.proofs.bodies.authorization_test.Tie as tie
 
 returns : tie.Need-returns
-returns c = rw (c .before .before .before .before .before .before .before .before .authorization-in .ensures, c .before .before .exists .ensures, c .before .has-label .ensures)
+returns c = rw (
+  c .before .before .before .before .before .before .before .before .authorization-in .ensures,
+  c .before .before .has-object .ensures,
+  c .before .has-label .ensures,
+)
 
 pub authorization-test-spec : {M : Type 1} → statement M
 authorization-test-spec =

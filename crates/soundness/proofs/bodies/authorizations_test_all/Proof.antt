@@ -3,18 +3,18 @@
 use borrow.Author.Needs.{needs}
 use borrow.Author.Tests.{not-true, not-false}
 use Prim.Native.Nat.{_-_}
-use Rattle.support.specs.Cover.{privilegesIn}
-use Rattle.rules.specs.Strata.{rulesIn}
+use Rattle.encoding.specs.Format.{privilegesIn, rulesIn}
 use Rattle.model.specs.Encoding.{authorizationOf}
 use Rattle.soundness.specs.Parts.{authorizationTest}
 use denote.Ref.{now}
-use Rattle.soundness.proofs.Loops.{AllFrom, all-starts, all-fails, all-passes, all-ends}
+use Rattle.lookup.proofs.Loops.{AllFrom, all-starts, all-fails, all-passes, all-ends}
 use Rattle.soundness.proofs.bodies.authorizations_test_all.Statement.{statement}
 use Rattle.soundness.proofs.bodies.authorizations_test_all.Tie as tie
 
 abbrev Inv-loop : tie.InvT-loop
 Inv-loop objects m rules nr clock last s n i₀ i =
-    AllFrom 24 authorizationOf (authorizationTest (privilegesIn m objects) (rulesIn nr rules) clock last) n s i
+    AllFrom 24 authorizationOf (authorizationTest (privilegesIn m objects) (rulesIn nr rules) clock last) n s
+    i
 
 abbrev μ-loop : tie.MeasureT-loop
 μ-loop objects m rules nr clock last s n i₀ i = n - i
@@ -29,7 +29,8 @@ returns c =
     let a = c .before .before .before .before .before .before .before .before .args in
     let l = c .before .before .before .before .loop in
     all-fails 24 authorizationOf _ (a .n) (now (a .s)) (l .i) _ _ (search needs)
-    (c .before .authorization-test .ensures) (c .before .before .authorization-at .ensures) (not-true _ (c .if1 .taken)) (l .inv)
+    (c .before .authorization-test .ensures) (c .before .before .authorization-at .ensures)
+    (not-true _ (c .if1 .taken)) (l .inv)
 
 loop-again : tie.Need-loop-again Inv-loop μ-loop
 loop-again c =
@@ -37,7 +38,8 @@ loop-again c =
     let l = c .before .before .before .before .loop in (
       search needs,
       all-passes 24 authorizationOf _ (a .n) (now (a .s)) (l .i) _ _ (search needs)
-          (c .before .authorization-test .ensures) (c .before .before .authorization-at .ensures) (not-false _ (c .if1 .left)) (l .inv),
+          (c .before .authorization-test .ensures) (c .before .before .authorization-at .ensures)
+          (not-false _ (c .if1 .left)) (l .inv),
     )
 
 returns-2 : tie.Need-returns-2 Inv-loop μ-loop
@@ -49,5 +51,6 @@ returns-2 c =
 pub authorizations-test-all-spec : {M : Type 1} → statement M
 authorizations-test-all-spec =
     tie.close
-    (tie.spec Inv-loop μ-loop loop-holds (λ c. search needs) (λ c κs. search needs) (λ c κs. search needs) returns
+    (tie.spec Inv-loop μ-loop loop-holds (λ c. search needs) (λ c κs. search needs)
+    (λ c κs. search needs) returns
     (λ c. search needs) (λ c. search needs) loop-again returns-2)

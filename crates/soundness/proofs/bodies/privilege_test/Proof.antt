@@ -4,7 +4,11 @@ use Rattle.soundness.proofs.bodies.privilege_test.Statement.{statement}
 use Rattle.soundness.proofs.bodies.privilege_test.Tie as tie
 
 returns : tie.Need-returns
-returns c = rw (c .before .before .privilege-in .ensures, c .before .exists .ensures, c .is-listed .ensures)
+returns c = rw (
+  c .before .before .privilege-in .ensures,
+  c .before .has-object .ensures,
+  c .is-listed .ensures,
+)
 
 pub privilege-test-spec : {M : Type 1} → statement M
 privilege-test-spec =

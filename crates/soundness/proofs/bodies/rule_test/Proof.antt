@@ -7,8 +7,8 @@ returns : tie.Need-returns
 returns c =
     rw (
       c .before .before .before .before .before .before .before .rule-in .ensures,
-      c .before .before .before .before .before .exists .ensures,
-      c .before .before .before .before .exists2 .ensures,
+      c .before .before .before .before .before .has-object .ensures,
+      c .before .before .before .before .has-object2 .ensures,
       c .before .before .before .before .before .before .before .before .before .is-root .ensures,
       c .before .before .before .before .before .before .before .before .is-root2 .ensures,
       c .before .before .is-listed .ensures,
@@ -19,5 +19,6 @@ returns c =
 pub rule-test-spec : {M : Type 1} → statement M
 rule-test-spec =
     tie.close
-    (tie.spec (λ c κs. search needs) (λ c κs. search needs) (λ c κs. search needs) (λ c κs. search needs) (λ c κs. search needs)
+    (tie.spec (λ c κs. search needs) (λ c κs. search needs) (λ c κs. search needs) (λ c κs. search needs)
+    (λ c κs. search needs)
     (λ c κs. search needs) (λ c κs. search needs) (λ c κs. search needs) returns)

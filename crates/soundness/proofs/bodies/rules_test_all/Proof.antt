@@ -3,18 +3,19 @@
 use borrow.Author.Needs.{needs}
 use borrow.Author.Tests.{not-true, not-false}
 use Prim.Native.Nat.{_-_}
-use Rattle.support.specs.Cover.{privilegesIn}
+use Rattle.encoding.specs.Format.{privilegesIn}
 use Rattle.model.specs.Encoding.{ruleOf}
 use Rattle.soundness.specs.Parts.{ruleTest}
 use denote.Ref.{now}
-use Rattle.soundness.proofs.Loops.{AllFrom, all-starts, all-fails, all-passes, all-ends}
+use Rattle.lookup.proofs.Loops.{AllFrom, all-starts, all-fails, all-passes, all-ends}
 use Rattle.soundness.proofs.bodies.rules_test_all.Statement.{statement}
 use Rattle.soundness.proofs.bodies.rules_test_all.Tie as tie
 
 abbrev Inv-loop : tie.InvT-loop
 Inv-loop objects m administrators na referrers nf last s n i₀ i =
     AllFrom 28 ruleOf
-    (ruleTest (privilegesIn m objects) (privilegesIn na administrators) (privilegesIn nf referrers) last) n s i
+    (ruleTest (privilegesIn m objects) (privilegesIn na administrators) (privilegesIn nf referrers) last) n s
+    i
 
 abbrev μ-loop : tie.MeasureT-loop
 μ-loop objects m administrators na referrers nf last s n i₀ i = n - i
@@ -29,7 +30,8 @@ returns c =
     let a = c .before .before .before .before .before .before .before .before .before .args in
     let l = c .before .before .before .before .loop in
     all-fails 28 ruleOf _ (a .n) (now (a .s)) (l .i) _ _ (search needs)
-    (c .before .rule-test .ensures) (c .before .before .rule-at .ensures) (not-true _ (c .if1 .taken)) (l .inv)
+    (c .before .rule-test .ensures) (c .before .before .rule-at .ensures) (not-true _ (c .if1 .taken))
+    (l .inv)
 
 loop-again : tie.Need-loop-again Inv-loop μ-loop
 loop-again c =
@@ -37,7 +39,8 @@ loop-again c =
     let l = c .before .before .before .before .loop in (
       search needs,
       all-passes 28 ruleOf _ (a .n) (now (a .s)) (l .i) _ _ (search needs)
-          (c .before .rule-test .ensures) (c .before .before .rule-at .ensures) (not-false _ (c .if1 .left)) (l .inv),
+          (c .before .rule-test .ensures) (c .before .before .rule-at .ensures) (not-false _ (c .if1 .left))
+          (l .inv),
     )
 
 returns-2 : tie.Need-returns-2 Inv-loop μ-loop
@@ -49,5 +52,6 @@ returns-2 c =
 pub rules-test-all-spec : {M : Type 1} → statement M
 rules-test-all-spec =
     tie.close
-    (tie.spec Inv-loop μ-loop loop-holds (λ c. search needs) (λ c κs. search needs) (λ c κs. search needs) returns
+    (tie.spec Inv-loop μ-loop loop-holds (λ c. search needs) (λ c κs. search needs)
+    (λ c κs. search needs) returns
     (λ c. search needs) (λ c. search needs) loop-again returns-2)

@@ -1,12 +1,12 @@
--- `soundness::format::authorizations_clean` meets its contract: the answer for all is that for the records from i
--- on. Assumes nothing.
+-- `soundness::format::authorizations_clean` meets its contract: the answer for all is that for the records
+-- from i on. Assumes nothing.
 use borrow.Author.Needs.{needs}
 use borrow.Author.Tests.{not-true, not-false}
 use mathlib.Core.Path.{refl}
 use Prim.Native.Nat.{_-_}
 use denote.Ref.{now}
 use Rattle.encoding.specs.Format.{authorizationClean}
-use Rattle.soundness.proofs.Loops.{itself, AllFrom, all-starts, all-fails, all-passes, all-ends}
+use Rattle.lookup.proofs.Loops.{itself, AllFrom, all-starts, all-fails, all-passes, all-ends}
 use Rattle.soundness.proofs.format.authorizations_clean.Statement.{statement}
 use Rattle.soundness.proofs.format.authorizations_clean.Tie as tie
 
@@ -17,13 +17,18 @@ abbrev μ-loop : tie.MeasureT-loop
 μ-loop s n i₀ i = n - i
 
 loop-holds : tie.Need-loop-holds Inv-loop μ-loop
-loop-holds c = (search needs, all-starts 24 authorizationClean itself (c .before .args .n) (now (c .before .args .s)))
+loop-holds c = (
+  search needs,
+  all-starts 24 authorizationClean itself (c .before .args .n)
+      (now (c .before .args .s)),
+)
 
 returns : tie.Need-returns Inv-loop μ-loop
 returns c =
     let a = c .before .before .before .before .before .args in
     let l = c .before .before .before .loop in
-    all-fails 24 authorizationClean itself (a .n) (now (a .s)) (l .i) (c .before .authorization-clean .result) (c .before .authorization-clean .result) (search needs) refl
+    all-fails 24 authorizationClean itself (a .n) (now (a .s)) (l .i) (c .before .authorization-clean .result)
+    (c .before .authorization-clean .result) (search needs) refl
     (c .before .authorization-clean .ensures) (not-true _ (c .if1 .taken)) (l .inv)
 
 loop-again : tie.Need-loop-again Inv-loop μ-loop
@@ -31,7 +36,8 @@ loop-again c =
     let a = c .before .before .before .before .before .args in
     let l = c .before .before .before .loop in (
       search needs,
-      all-passes 24 authorizationClean itself (a .n) (now (a .s)) (l .i) (c .before .authorization-clean .result) (c .before .authorization-clean .result) (search needs) refl
+      all-passes 24 authorizationClean itself (a .n) (now (a .s)) (l .i)
+          (c .before .authorization-clean .result) (c .before .authorization-clean .result) (search needs) refl
           (c .before .authorization-clean .ensures) (not-false _ (c .if1 .left)) (l .inv),
     )
 

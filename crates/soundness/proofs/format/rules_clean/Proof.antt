@@ -6,7 +6,7 @@ use mathlib.Core.Path.{refl}
 use Prim.Native.Nat.{_-_}
 use denote.Ref.{now}
 use Rattle.encoding.specs.Format.{ruleClean}
-use Rattle.soundness.proofs.Loops.{itself, AllFrom, all-starts, all-fails, all-passes, all-ends}
+use Rattle.lookup.proofs.Loops.{itself, AllFrom, all-starts, all-fails, all-passes, all-ends}
 use Rattle.soundness.proofs.format.rules_clean.Statement.{statement}
 use Rattle.soundness.proofs.format.rules_clean.Tie as tie
 
@@ -23,7 +23,8 @@ returns : tie.Need-returns Inv-loop μ-loop
 returns c =
     let a = c .before .before .before .before .before .args in
     let l = c .before .before .before .loop in
-    all-fails 28 ruleClean itself (a .n) (now (a .s)) (l .i) (c .before .rule-clean .result) (c .before .rule-clean .result) (search needs) refl
+    all-fails 28 ruleClean itself (a .n) (now (a .s)) (l .i) (c .before .rule-clean .result)
+    (c .before .rule-clean .result) (search needs) refl
     (c .before .rule-clean .ensures) (not-true _ (c .if1 .taken)) (l .inv)
 
 loop-again : tie.Need-loop-again Inv-loop μ-loop
@@ -31,7 +32,8 @@ loop-again c =
     let a = c .before .before .before .before .before .args in
     let l = c .before .before .before .loop in (
       search needs,
-      all-passes 28 ruleClean itself (a .n) (now (a .s)) (l .i) (c .before .rule-clean .result) (c .before .rule-clean .result) (search needs) refl
+      all-passes 28 ruleClean itself (a .n) (now (a .s)) (l .i) (c .before .rule-clean .result)
+          (c .before .rule-clean .result) (search needs) refl
           (c .before .rule-clean .ensures) (not-false _ (c .if1 .left)) (l .inv),
     )
 

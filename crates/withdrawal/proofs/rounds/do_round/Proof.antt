@@ -6,11 +6,12 @@ use mathlib.Core.List.{List, _∷_}
 use Prim.Native.Nat.{ℕ, _+_, _*_, _-_, _≤_, _<_}
 use lib.ListN.{length, drop}
 use denote.Ref.{now}
-use Rattle.fields.proofs.Laws.{bytes-drop}
+use Rattle.foundation.specs.BytesFacts.{bytes-drop}
 use Rattle.model.specs.declared.Authorization.{Authorization}
 use Rattle.model.specs.Encoding.{authorizationOf}
-use Rattle.support.specs.Cover.{authorizationsIn, rootsIn}
-use Rattle.encoding.proofs.Records.{rest, rest-all, rest-step, rest-end}
+use Rattle.support.specs.Cover.{rootsIn}
+use Rattle.encoding.specs.Format.{authorizationsIn}
+use Rattle.foundation.specs.Records.{rest, rest-all, rest-step, rest-end}
 use Rattle.withdrawal.specs.Cuts.{behindAll}
 use Rattle.withdrawal.specs.Turns.{turns-at, turns-full}
 use Rattle.withdrawal.specs.Walks.{Walk, walk-start, walk-pos, walk-end, walk-next, walk-full}
@@ -26,7 +27,8 @@ Inv-loop owners no' administrators na s n c from to out₀ sorted₀ m k₀ pos�
     (i ≤ n)
     × (length out ≡ length out₀)
     × (length sorted ≡ length sorted₀)
-    × Walk (rootsIn no' owners na administrators) c (authorizationsIn n s) from to (left n s i) k pos out sorted
+    × Walk (rootsIn no' owners na administrators) c (authorizationsIn n s) from to
+    (left n s i) k pos out sorted
 
 abbrev μ-loop : tie.MeasureT-loop
 μ-loop owners no' administrators na s n c from to out₀ sorted₀ m k₀ pos₀ i₀ out sorted k pos i = n - i
@@ -52,7 +54,8 @@ next : (c : tie.After-authorization-at Inv-loop μ-loop) →
     (let a = c .before .before .before .before .before .before .before .before .args in
     let l = c .before .before .loop in
     let x = c .authorization-at .result in
-    (left (a .n) (now (a .s)) (l .i) ≡ x ∷ left (a .n) (now (a .s)) (l .i + 1)) × (x .interval .end < behindAll))
+    (left (a .n) (now (a .s)) (l .i) ≡ x ∷ left (a .n) (now (a .s)) (l .i + 1))
+    × (x .interval .end < behindAll))
 next c =
     let start = c .before .before .before .before .before .before .before .before in
     let s = now (start .args .s) in
@@ -80,7 +83,8 @@ returns c =
     let cₐ = c₁ .before .before .before in
     let pre = cₐ .before .before .before .before .before .before .before .before .pre in
     let n = next cₐ in
-    walk-full _ _ _ _ _ _ _ _ _ _ (cₐ .before .before .loop .inv .3) (pre .0 .3) (pre .1 .0 .0) _ (n .1) _ (n .0)
+    walk-full _ _ _ _ _ _ _ _ _ _ (cₐ .before .before .loop .inv .3) (pre .0 .3) (pre .1 .0 .0) _ (n .1) _
+    (n .0)
     (turns-full _ _ _ _ _ _ _ (c .enum-told .given .1) (c₁ .take-turn .ensures))
 
 loop-again : tie.Need-loop-again Inv-loop μ-loop
@@ -101,11 +105,13 @@ returns-2 : tie.Need-returns-2 Inv-loop μ-loop
 returns-2 c =
     let a = c .before .before .before .before .before .before .before .args in
     let l = c .before .loop in
-    walk-end _ _ _ _ _ _ _ _ _ _ (l .inv .3) (rest-end 24 authorizationOf (a .n) (now (a .s)) (l .i) (search needs))
+    walk-end _ _ _ _ _ _ _ _ _ _ (l .inv .3)
+    (rest-end 24 authorizationOf (a .n) (now (a .s)) (l .i) (search needs))
 
 pub do-round-spec : {M : Type 1} → statement M
 do-round-spec =
     tie.close
     (tie.spec Inv-loop μ-loop loop-holds (λ c. search needs) (λ c κs. search needs) take-turn-requires
-    (λ c. search needs) (λ c. search needs) (λ c. search needs) (λ c. search needs) returns (λ c. search needs)
+    (λ c. search needs) (λ c. search needs) (λ c. search needs) (λ c. search needs) returns
+    (λ c. search needs)
     (λ c. search needs) loop-again (λ c. search needs) (λ c. search needs) returns-2)

@@ -1,5 +1,5 @@
--- The loop's invariant: the end over all is that over those from the i-th on, with the latest time and the end so
--- far.
+-- The loop's invariant: the end over all is that over those from the i-th on, with the latest time and the
+-- end so far.
 use borrow.Author.Needs.{needs}
 use mathlib.Core.Path.{_≡_, sym, ap, _∙_}
 use mathlib.Core.List.{List}
@@ -7,11 +7,11 @@ use Prim.Native.Nat.{ℕ, _+_, _*_, _-_, _≤_, _<_}
 use lib.ListN.{drop}
 use denote.Ref.{now}
 use Rattle.foundation.specs.Bytes.{le}
-use Rattle.fields.proofs.Laws.{le-at}
+use Rattle.fields.proofs.ByteLaws.{le-at}
 use Rattle.model.specs.declared.Authorization.{Authorization}
 use Rattle.model.specs.Encoding.{authorizationOf}
-use Rattle.support.specs.Cover.{authorizationsIn}
-use Rattle.encoding.proofs.Records.{rest, rest-all, rest-step, rest-end}
+use Rattle.encoding.specs.Format.{authorizationsIn}
+use Rattle.foundation.specs.Records.{rest, rest-all, rest-step, rest-end}
 use Rattle.withdrawal.specs.Times.{endOf, end-cons, end-nil, pullOf, raiseOf}
 use Rattle.withdrawal.proofs.rounds.round_end.Statement.{statement}
 use Rattle.withdrawal.proofs.rounds.round_end.Tie as tie
@@ -47,7 +47,8 @@ loop-again c =
     let l = c .before .before .before .before .loop in (
       search needs,
       l .inv .1
-          ∙ turn (a .t) (a .n) (now (a .s)) (l .i) (l .top) (l .d) _ (search needs) (c .before .before .le32 .ensures)
+          ∙ turn (a .t) (a .n) (now (a .s)) (l .i) (l .top) (l .d) _ (search needs)
+          (c .before .before .le32 .ensures)
           ∙ (λ k. endOf (a .t) (left (a .n) (now (a .s)) (l .i + 1))
           (sym (c .raise .ensures) k) (sym (c .before .pull .ensures) k)),
     )

@@ -11,9 +11,8 @@ use denote.Ref.{now}
 use Rattle.foundation.specs.Tests.{pick}
 use Rattle.model.specs.declared.Authorization.{Authorization}
 use Rattle.model.specs.Encoding.{authorizationOf}
-use Rattle.support.specs.Cover.{authorizationsIn}
-use Rattle.encoding.proofs.Records.{rest, rest-step, rest-end}
-use Rattle.support.proofs.Parts.{drop-records}
+use Rattle.encoding.specs.Format.{authorizationsIn}
+use Rattle.foundation.specs.Records.{rest, rest-step, rest-end, drop-records}
 use Rattle.withdrawal.specs.Turns.{pieceOf, leading}
 use Rattle.withdrawal.proofs.rounds.skip.Statement.{statement}
 use Rattle.withdrawal.proofs.rounds.skip.Tie as tie
@@ -44,7 +43,8 @@ loop-holds c =
     )
 
 -- a turn, by what the test says of the authorization that was read
-turn : (a x : Authorization) (m : ℕ) (s : List ℕ) (p : ℕ) (b : Bool) → p < m → x ≡ authorizationOf (drop (p * 24) s) →
+turn : (a x : Authorization) (m : ℕ) (s : List ℕ) (p : ℕ) (b : Bool) → p < m →
+    x ≡ authorizationOf (drop (p * 24) s) →
     pieceOf a x ≡ b → leading (pieceOf a) (left m s p) ≡ pick b (leading (pieceOf a) (left m s (p + 1)) + 1) 0
 turn a x m s p b h q e =
     ap (leading (pieceOf a)) (rest-step 24 authorizationOf m s p h)
@@ -84,5 +84,6 @@ returns-2 c =
 pub skip-spec : {M : Type 1} → statement M
 skip-spec =
     tie.close
-    (tie.spec Inv-loop μ-loop loop-holds (λ c. search needs) (λ c κs. search needs) (λ c κs. search needs) returns
+    (tie.spec Inv-loop μ-loop loop-holds (λ c. search needs) (λ c κs. search needs)
+    (λ c κs. search needs) returns
     (λ c. search needs) (λ c. search needs) loop-again returns-2)

@@ -2,9 +2,9 @@
 use borrow.Author.Needs.{needs}
 use denote.Ref.{now}
 use Rattle.model.specs.Encoding.{authorizationOf}
-use Rattle.support.specs.Cover.{authorizationsIn}
-use Rattle.support.specs.Places.{placed}
-use Rattle.support.proofs.Parts.{length-records}
+use Rattle.encoding.specs.Format.{authorizationsIn}
+use Rattle.foundation.specs.Lists.{placed}
+use Rattle.foundation.specs.Records.{length-records}
 use Rattle.withdrawal.specs.Bodies.{Body, makes-lines, makes-full, placed-more}
 use Rattle.withdrawal.specs.Parts.{partsOf}
 use Rattle.withdrawal.specs.Turns.{turn-full, turn-in, turn-by, turn-out}
@@ -63,5 +63,6 @@ take-turn-spec =
     tie.close
     (tie.spec (λ c. search needs) (λ c κs. search needs) (λ c κs. search needs) (λ c κs. search needs)
     (λ c. search needs) (λ c. search needs) (λ c. search needs) (λ c. search needs) returns
-    (λ c. placed-more _ _ _ _ (went-in (c .before))) (λ c. search needs) (λ c. search needs) (λ c. search needs)
+    (λ c. placed-more _ _ _ _ (went-in (c .before))) (λ c. search needs) (λ c. search needs)
+    (λ c. search needs)
     returns-2 (λ c κs. search needs) (λ c. search needs) returns-3 returns-4)

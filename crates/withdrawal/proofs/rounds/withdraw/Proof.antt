@@ -1,5 +1,5 @@
--- The loop's invariant: the body is what the withdrawal leaves of what was granted before t, and the bodies keep
--- their lengths.
+-- The loop's invariant: the body is what the withdrawal leaves of what was granted before t, and the bodies
+-- keep their lengths.
 use borrow.Author.Needs.{needs}
 use native.Mathlib.Omega.{arith}
 use mathlib.Core.Path.{_≡_, refl, sym, _∙_}
@@ -8,7 +8,8 @@ use Prim.Native.Nat.{_-_, _≤_, _<_}
 use lib.ListN.{length}
 use denote.Ref.{now}
 use Rattle.model.specs.declared.Head.{Head}
-use Rattle.support.specs.Cover.{authorizationsIn, rootsIn}
+use Rattle.support.specs.Cover.{rootsIn}
+use Rattle.encoding.specs.Format.{authorizationsIn}
 use Rattle.withdrawal.specs.Bodies.{Body, makes-lines, makes-full}
 use Rattle.withdrawal.specs.Times.{end-le, end-above, end-ordered}
 use Rattle.withdrawal.specs.Rounds.{stayers}
@@ -87,12 +88,17 @@ returns-2 c =
     let start = c .before .before .before .before .before .before .before in
     let known = c .before .before .before .before .shared-slice-known3 .given in
     rounds-end (roots start) (start .args .c) _ (l .t) _ _ _
-    (λ a m. omega (arith, granted-below (start .args .n) (now (start .args .s)) (λ j. omega (arith, known j)) a m))
+    (λ a m. omega (
+      arith,
+      granted-below (start .args .n) (now (start .args .s))
+          (λ j. omega (arith, known j)) a m,
+    ))
     (l .inv .3)
 
 pub withdraw-spec : {M : Type 1} → statement M
 withdraw-spec =
     tie.close
     (tie.spec Inv-loop μ-loop loop-holds (λ c κs. search needs) do-round-requires (λ c. search needs)
-    (λ c. search needs) (λ c. search needs) (λ c. search needs) returns loop-less loop-again (λ c. search needs)
+    (λ c. search needs) (λ c. search needs) (λ c. search needs) returns loop-less loop-again
+    (λ c. search needs)
     (λ c. search needs) returns-2)

@@ -1,0 +1,41 @@
+// Looking things up in a base: who owns, administers, refers or controls, which objects and labels exist; and
+// what such questions rest on: ranges of numbers, kinds of requests, the order of records.
+mod base;
+mod bodies;
+mod kinds;
+mod order;
+mod ranges;
+
+pub use base::administers;
+pub use base::controls;
+pub use base::exists;
+pub use base::has_authorization;
+pub use base::has_rule;
+pub use base::is_granted_by_other;
+pub use base::is_set_up_by_other;
+pub use base::may_rule;
+pub use base::owns;
+pub use base::refers;
+pub use bodies::has_label;
+pub use bodies::has_object;
+pub use bodies::is_listed;
+pub use bodies::is_root;
+pub use kinds::is_grant;
+pub use kinds::is_kind;
+pub use kinds::is_labelling;
+pub use kinds::is_privilege;
+pub use kinds::names_interval;
+pub use kinds::names_label;
+pub use kinds::names_mode;
+pub use kinds::names_object;
+pub use kinds::names_subject;
+pub use kinds::unknown_kind;
+pub use order::is_before;
+pub use order::object_rises;
+pub use order::rule_rises;
+pub use ranges::instant_in;
+pub use ranges::label_in;
+pub use ranges::mode_in;
+pub use ranges::object_in;
+pub use ranges::option_fits;
+pub use ranges::subject_in;

@@ -1,0 +1,22 @@
+-- `turns::put_short`: the list is not asked for.
+use borrow.Author.Needs.{needs}
+use mathlib.Core.Path.{ap}
+use Rattle.model.specs.Text.{printReply}
+use Rattle.text.specs.Short.{short-fits, short-runs}
+use Rattle.serving.specs.Replies.{printed-as}
+use Rattle.serving.proofs.turns.put_short.Statement.{statement}
+use Rattle.serving.proofs.turns.put_short.Tie as tie
+
+put-reply-requires : tie.Need-put-reply-requires
+put-reply-requires c κs =
+    let d = c .before .before .before in (d .pre .0, short-fits (d .args .r) _ (d .pre .1))
+
+returns : tie.Need-returns
+returns c =
+    let p = c .before .before in
+    let d = p .before .before .before .before in
+    printed-as (ap (printReply (d .args .r)) (short-runs (d .args .r) _ (d .pre .1))) (p .put-reply .ensures)
+
+pub put-short-spec : {M : Type 1} → statement M
+put-short-spec =
+    tie.close (tie.spec (λ c. search needs) put-reply-requires (λ c. search needs) returns)
