@@ -665,19 +665,34 @@ class Command(unittest.TestCase):
         self.assertIn("has no meter 9", self.meters("timeline", "elm", "9", status=1))
 
     def browser(self, picture):
+        """The page in Chromium: it is not blank, and no text is cut off, lies on another, or is longer than its bar."""
         if not shutil.which("chromium"):
             return
-        png = os.path.join(self.folder, picture + ".png")
-        try:
-            subprocess.run(["chromium", "--headless=new", "--no-sandbox", "--disable-gpu", f"--user-data-dir={self.folder}/profile",
-                            f"--screenshot={png}", "--window-size=1120,700", f"file://{self.folder}/{picture}.html"],
-                           capture_output=True, timeout=60)
-        except subprocess.TimeoutExpired:
-            print("  skipped: Chromium does not come up on this machine", file=sys.stderr)
-            return
-        if os.path.exists(png):
-            self.assertGreater(os.path.getsize(png), 20_000, "the page is blank")
+        page, png = os.path.join(self.folder, picture + ".html"), os.path.join(self.folder, picture + ".png")
+        with open(page, "a", encoding="utf-8") as out:
+            out.write(LOOK)
+        run = subprocess.run(["chromium", "--headless=new", "--no-sandbox", "--disable-gpu", f"--user-data-dir={self.folder}/profile",
+                              f"--screenshot={png}", "--dump-dom", "--window-size=1120,700", f"file://{page}"],
+                             capture_output=True, timeout=120, encoding="utf-8")
+        self.assertGreater(os.path.getsize(png), 20_000, "the page is blank")
+        self.assertRegex(run.stdout, r"<title>[1-9]\d+ texts\.</title>")
 
+
+# says in the page's title how many texts it has, and what is wrong with them
+LOOK = """<script>
+const texts = [...document.querySelectorAll('svg text')], box = x => x.getBoundingClientRect();
+const page = box(document.querySelector('svg')), faults = [];
+texts.forEach((text, i) => {
+    const a = box(text), bar = text.classList.contains('in') ? box(text.previousElementSibling) : page;
+    if (a.left < bar.left || a.right > bar.right || a.bottom > page.bottom) faults.push(text.textContent + ' is cut off');
+    for (const other of texts.slice(i + 1)) {
+        const b = box(other);
+        if (Math.min(a.right, b.right) - Math.max(a.left, b.left) > 1 && Math.min(a.bottom, b.bottom) - Math.max(a.top, b.top) > 3)
+            faults.push(text.textContent + ' lies on ' + other.textContent);
+    }
+});
+document.title = [texts.length + ' texts', ...faults].join('; ') + '.';
+</script>"""
 
 if __name__ == "__main__":
     unittest.main(verbosity=1, warnings="ignore")
