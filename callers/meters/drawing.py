@@ -76,14 +76,6 @@ def authorizations(records, entries, object_):
     return [out[label] for label in sorted(out)]
 
 
-def last_request(entries):
-    """The instant of the last accepted request, which only the journal tells; None without one."""
-    for entry in reversed(entries):
-        if entry.reply.startswith("done "):
-            return instant_of(entry.line.split(" ")[0])
-    return None
-
-
 # ---- names
 class Names:
     """What subjects, modes and meters are called: their numbers, unless a file says otherwise."""

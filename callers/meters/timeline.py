@@ -24,7 +24,7 @@ def draw(store, a):
     records = store.records(base, "authorizations")
     rules = store.records(base, "rules")
     found = rows(store, base, a.object, records, rules, drawing.authorizations(records, entries, a.object))
-    return render(block, a, found, [r for r in rules if r["left_object"] == a.object], drawing.last_request(entries))
+    return render(block, a, found, [r for r in rules if r["left_object"] == a.object], store.records(base, "heading")[0]["clock"])
 
 
 # ---- what there is to draw
@@ -151,7 +151,7 @@ class Picture:
 
     def line_at(self, t, words, top, bottom):
         """A line at an instant, if the scale has it, with its words at the foot."""
-        if t is None or not self.scale.low <= t <= self.scale.high:
+        if not self.scale.low <= t <= self.scale.high:
             return False
         x = self.scale.x(t)
         self.svg.path("clock", f"M{x:.1f} {top}V{bottom + 16:.1f}", behind=True)

@@ -11,6 +11,7 @@ import resource
 import shutil
 import signal
 import sqlite3
+import struct
 import subprocess
 import sys
 import tempfile
@@ -106,6 +107,24 @@ def printable(line):
     return stores.line_fault(line) is None
 
 
+def read_here(base):
+    """The rows of every body, read here once more from where docs/FORMAT.md has them."""
+    def body(n, form, row):
+        offset, count = struct.unpack_from("<HH", base, 12 + 4 * n)
+        width = struct.calcsize(form)
+        return [row(*struct.unpack_from(form, base, offset + width * i)) for i in range(count)]
+
+    def pair(*values): return list(values)
+    def line(label, grantor, subject, meter, mode, flags, granted, starts, ends):
+        return [label, grantor, subject, meter, mode, flags & 1, flags >> 1 & 1, granted, starts, ends]
+    def rule(label, author, subject, meter, other, right, grantor, mode, right_mode, operator, flags, starts, ends):
+        return [label, author, subject, mode, meter, flags & 1, operator, other, right_mode, right, flags >> 1 & 1, grantor,
+                2 if flags & 8 else flags >> 2 & 1, starts, ends]
+    rows = {"objects": body(0, "<HH", pair), "administrators": body(1, "<HH", pair), "referrers": body(2, "<HH", pair),
+            "authorizations": body(3, "<HHHHBBxxIII", line), "rules": body(4, "<HHHHHHHBBBBxxII", rule)}
+    return {"heading": [[*struct.unpack_from("<IH", base, 4), *map(len, rows.values())]], **rows}
+
+
 def oracle_says(sessions):
     """For each session, for each line the reply and the base after it, by the independent implementation."""
     text = "".join(f"{len(lines)}\n" + "".join(line + "\n" for line in lines) for lines in sessions)
@@ -190,6 +209,19 @@ class Store:
         self.assertEqual([tuple(run) for run in store.runs(base, 3, 1, 7)], [(60, 90)])
         self.assertEqual([r["label"] for r in store.records(base, "authorizations")], [1, 2])
         self.assertEqual(store.records(base, "objects"), [{"object": 7, "owner": 1}])
+
+    def test_records(self):
+        """Every number of every record, of a base with some of each kind and of one that is nearly full."""
+        lines = open(os.path.join(HERE, "picture.txt"), encoding="ascii").read().splitlines()
+        lines += ["64 1 GRANTADM 8 3", "64 1 GRANTREF 8 700", "64 1 ADDRULE 5 * 8 - UNLESS 6 * 8 + 1023 y 65 inf"]
+        many = ["0 1 NEW 7"] + [f"0 1 GRANT {1 + i % 8} 7 {20 + i} {100 + i} {5000 + i} y" for i in range(1000)]
+        for n, block in enumerate((lines, many)):
+            name = f"{self.name} {n}"
+            self.importer.new(name, 1, 0)
+            self.assertEqual({r.split(" ")[0] for r in self.importer.put_as_written(name, block)}, {"done"})
+            base = self.importer.base(name)
+            for body, expected in read_here(base).items():
+                self.assertEqual([list(map(int, row.values())) for row in self.importer.records(base, body)], expected, body)
 
     def test_now_from_the_clock(self):
         self.importer.new(self.name, 60, 1_500_000_000)
