@@ -72,7 +72,8 @@ when-small s x list =
     (λ (a : Answer). Small (a .reply)) (refused-small rows refl)
     (λ z. record { refusal = omega arith; label = omega arith })
 
-pub records-small : (s : List ℕ) (body first : ℕ) (list : List ℕ) → Small (recordsAnswer s body first list .reply)
+pub records-small : (s : List ℕ) (body first : ℕ) (list : List ℕ) →
+    Small (recordsAnswer s body first list .reply)
 unfolding recordsAnswer pageAnswer
 records-small s body first list =
     let b = bodyOf body in

@@ -2,7 +2,7 @@
 use mathlib.Core.Path.{_≡_, refl, sym, ap, _∙_}
 use mathlib.Core.Bool.{true}
 use mathlib.Core.List.{List, [], _∷_, map}
-use Prim.Native.Nat.{ℕ, _+_, _*_, _≤_, _<_}
+use Prim.Native.Nat.{ℕ, _+_, _*_, _≤_}
 use native.Mathlib.Nat.{mul-add, mul-le-mul-left}
 use native.Mathlib.Omega.{arith}
 use lib.ListN.{length, drop}
@@ -32,22 +32,6 @@ wide Administrators s = refl
 wide Referrers s = refl
 wide Authorizations s = refl
 wide Rules s = refl
-
-pub width-least : (b : Body) → 0 < widthOf b
-width-least Heading = omega arith
-width-least Objects = omega arith
-width-least Administrators = omega arith
-width-least Referrers = omega arith
-width-least Authorizations = omega arith
-width-least Rules = omega arith
-
-pub width-most : (b : Body) → widthOf b ≤ 15
-width-most Heading = omega arith
-width-most Objects = omega arith
-width-most Administrators = omega arith
-width-most Referrers = omega arith
-width-most Authorizations = omega arith
-width-most Rules = omega arith
 
 pub counts-within : (s : List ℕ) → soundBytes s ≡ true → Within (countsOf s)
 counts-within s e =
