@@ -31,6 +31,9 @@ extern "C" {
 #define ACCESS_BASE_TEXT_LEAST 16u
 /* so many bytes always suffice for a reply's text */
 #define ACCESS_BASE_TEXT_BYTES 24001u
+/* no record is more numbers, and all records of a body together are at most so many */
+#define ACCESS_BASE_RECORD_NUMBERS 15u
+#define ACCESS_BASE_BODY_NUMBERS 10240u
 
 /* Kinds of requests, and the fields that each names beside now and requester. Other fields are not looked at. */
 enum access_base_kind {
@@ -72,6 +75,25 @@ enum access_base_refusal {
     ACCESS_BASE_FULL = 13          /* a count or the labels would be passed, or the list or the buffer is too short */
 };
 
+/* The heading of a base and its five bodies, and the numbers that a record of each is. */
+enum access_base_body {
+    ACCESS_BASE_HEADING = 0,        /* one record: the clock, the last label, and how many records each body has, 1 to 5 */
+    ACCESS_BASE_OBJECTS = 1,        /* object, owner */
+    ACCESS_BASE_ADMINISTRATORS = 2, /* object, subject */
+    ACCESS_BASE_REFERRERS = 3,      /* object, subject */
+    ACCESS_BASE_AUTHORIZATIONS = 4, /* label, grantor, subject, object, mode, negative, option, granted, start, end */
+    ACCESS_BASE_RULES = 5           /* label, author, left: subject, mode, object, negative; operator; right: subject, mode,
+                                     * object, negative, grantor, option (0 without, 1 with, 2 either); start, end.
+                                     * A subject, mode or grantor of 0 is the star */
+};
+
+/* So many numbers is a record of a body: 0 for a body that there is not. */
+static inline uint32_t access_base_width(uint32_t body)
+{
+    static const uint32_t widths[] = {7, 2, 2, 2, 10, 15};
+    return body <= ACCESS_BASE_RULES ? widths[body] : 0;
+}
+
 /* One side of a rule. Where any_subject or any_mode is true the star stands there, and the number is not looked at. */
 struct access_base_side {
     bool any_subject;
@@ -108,8 +130,8 @@ struct access_base_request {
 };
 
 /* A reply. `number` is: for a request done, the authorizations (lines) now in the base; with refusal 9, an uncovered
- * instant of the span; for MAY, 1 if the answer is yes and 0 if it is no; for WHEN, the number of runs; for a line of
- * text, the bytes written. 0 with any other refusal. */
+ * instant of the span; for MAY, 1 if the answer is yes and 0 if it is no; for WHEN, the number of runs; for records,
+ * how many; for a line of text, the bytes written. 0 with any other refusal. */
 struct access_base_reply {
     uint32_t refusal; /* enum access_base_refusal; 0 if not refused */
     uint32_t label;   /* the new label of a GRANT, DENY or ADDRULE that was done, or 0 */
@@ -137,6 +159,9 @@ uint64_t access_base_may(
 uint64_t access_base_when(
     const uint8_t *base, size_t base_length, uint32_t subject, uint32_t mode, uint32_t object, uint32_t *list,
     size_t list_length);
+
+uint64_t access_base_records(
+    const uint8_t *base, size_t base_length, uint32_t body, uint32_t first, uint32_t *list, size_t list_length);
 
 uint64_t access_base_text(
     uint8_t *base, size_t base_length, const uint8_t *line, size_t line_length, uint8_t *out, size_t out_length);
@@ -182,6 +207,16 @@ static inline struct access_base_reply access_base_ask_when(
     size_t list_length)
 {
     return access_base_reply_of(access_base_when(base, base_length, subject, mode, object, list, list_length));
+}
+
+/* Records of a body, from number `first` on, counted from 0, in the base's order: as many as the list has room for, each
+ * access_base_width(body) numbers, at the front of the list; the rest of the list is untouched. Refused: 2; 3 if there is
+ * no such body or it has fewer than `first` records; 13 if the list has no room for one. The whole base is checked once a
+ * call, whatever the list's length: lend a long one. ACCESS_BASE_BODY_NUMBERS suffice for any body. */
+static inline struct access_base_reply access_base_read(
+    const uint8_t *base, size_t base_length, uint32_t body, uint32_t first, uint32_t *list, size_t list_length)
+{
+    return access_base_reply_of(access_base_records(base, base_length, body, first, list, list_length));
 }
 
 /* One line of text, a request or a question as the text session has it, without its newline; any bytes may be lent.

@@ -96,6 +96,41 @@ static void replies(void)
     expect(is(access_base_ask_when(base, ACCESS_BASE_BYTES, 4, 1, 7, list, 0), 0, 0, 0), "no run needs no list");
 }
 
+/* Every number of every body, pages of several lengths, and what is refused. `fields` left the base. */
+static void records(void)
+{
+    static const uint32_t heading[] = {8, 4, 2, 0, 0, 1, 2}, objects[] = {7, 1, 8, 1};
+    static const uint32_t line[] = {1, 1, 0x234, 7, 5, 0, 1, 6, 0x11, 0x12345678};
+    static const uint32_t rules[] = {2, 1, 0,     3, 7, 1, ACCESS_BASE_WHENEVERNOT, 0,     4, 8, 1, 0x145, 0, 9, 10,
+                                     3, 1, 0x156, 0, 8, 0, ACCESS_BASE_UNLESS,      0x257, 0, 7, 0, 0,     2, 9, 10};
+    uint32_t list[32];
+    size_t length = ACCESS_BASE_BYTES;
+    memcpy(before, base, sizeof before);
+    memset(list, 0xee, sizeof list);
+    expect(is(access_base_read(base, length, ACCESS_BASE_HEADING, 0, list, 8), 0, 0, 1), "the heading");
+    expect(memcmp(list, heading, sizeof heading) == 0 && list[7] == 0xeeeeeeee, "its numbers, and nothing behind them");
+    expect(is(access_base_read(base, length, ACCESS_BASE_OBJECTS, 0, list, 32), 0, 0, 2), "two objects");
+    expect(memcmp(list, objects, sizeof objects) == 0, "their numbers");
+    expect(is(access_base_read(base, length, ACCESS_BASE_OBJECTS, 1, list, 32), 0, 0, 1), "the second object");
+    expect(memcmp(list, objects + 2, 8) == 0, "its numbers");
+    expect(is(access_base_read(base, length, ACCESS_BASE_OBJECTS, 0, list, 3), 0, 0, 1), "as many as there is room for");
+    expect(is(access_base_read(base, length, ACCESS_BASE_OBJECTS, 2, list, 32), 0, 0, 0), "none behind the last");
+    expect(is(access_base_read(base, length, ACCESS_BASE_ADMINISTRATORS, 0, list, 2), 0, 0, 0), "no administrator");
+    expect(is(access_base_read(base, length, ACCESS_BASE_REFERRERS, 0, list, 2), 0, 0, 0), "no referrer");
+    expect(is(access_base_read(base, length, ACCESS_BASE_AUTHORIZATIONS, 0, list, 10), 0, 0, 1), "the line");
+    expect(memcmp(list, line, sizeof line) == 0, "its numbers");
+    memset(list, 0xee, sizeof list);
+    expect(is(access_base_read(base, length, ACCESS_BASE_RULES, 0, list, 31), 0, 0, 2), "two rules");
+    expect(memcmp(list, rules, sizeof rules) == 0 && list[30] == 0xeeeeeeee, "their numbers, and nothing behind them");
+    expect(is(access_base_read(base, length, 6, 0, list, 32), ACCESS_BASE_OUT_OF_RANGE, 0, 0), "no such body");
+    expect(is(access_base_read(base, length, ACCESS_BASE_RULES, 3, list, 32), ACCESS_BASE_OUT_OF_RANGE, 0, 0), "past it");
+    expect(is(access_base_read(base, length, ACCESS_BASE_RULES, 0, list, 14), ACCESS_BASE_FULL, 0, 0), "no room");
+    expect(is(access_base_read(base, length, ACCESS_BASE_RULES, 0, list, 0), ACCESS_BASE_FULL, 0, 0), "no list at all");
+    expect(memcmp(list, rules, sizeof rules) == 0 && untouched(), "and all is untouched");
+    for (uint32_t body = 0; body < 6; body++)
+        expect(access_base_width(body) <= ACCESS_BASE_RECORD_NUMBERS, "no record is longer");
+}
+
 static char out[ACCESS_BASE_TEXT_BYTES];
 
 /* A line in a buffer of so many bytes: the refusal, and the text that is at its front; what is behind is untouched. */
@@ -159,6 +194,7 @@ static void unsound(size_t length)
     expect(is(access_base_do(base, length, &q), ACCESS_BASE_INVALID_BASE, 0, 0), "a request gets 2");
     expect(is(access_base_ask_may(base, length, 1, 1, 1, 1), ACCESS_BASE_INVALID_BASE, 0, 0), "MAY gets 2");
     expect(is(access_base_ask_when(base, length, 1, 1, 1, list, 2), ACCESS_BASE_INVALID_BASE, 0, 0), "WHEN gets 2");
+    expect(is(access_base_read(base, length, 9, 9, list, 2), ACCESS_BASE_INVALID_BASE, 0, 0), "records get 2");
     expect(is(access_base_tell(base, length, "WHEN 1 1 1", 10, out, 16), 0, 0, 10)
                && memcmp(out, "refused 2\n", 10) == 0, "the text is `refused 2`");
     if (length != ACCESS_BASE_BYTES)
@@ -169,6 +205,7 @@ static void unsound(size_t length)
 int main(void)
 {
     fields();
+    records();
     replies();
     texts();
     unsound(ACCESS_BASE_BYTES - 1);

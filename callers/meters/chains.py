@@ -60,21 +60,36 @@ class Panel:
 
     def place(self):
         """Columns from left to right; in a column, by where those stand that back them. Gives the place below all."""
-        y = self.top + 34
-        below = y
         givers = [s for s in self.picture.sources if any(e.grantor == s for e in self.entries)]
-        for s in givers:
-            self.places["source", s] = (MARGIN, y, 12 + 2 * LINE)
-            y += 12 + 2 * LINE + 14
-        below = y
+        columns = [[(("source", s), 12 + 2 * LINE) for s in givers]]
+        self.stack(0, columns[0])
         for column in range(1, max(self.depth.values(), default=0) + 1):
-            y = self.top + 34
-            for e in sorted((e for e in self.entries if self.depth[e.label] == column), key=self.where):
-                height = self.height_of(e)
-                self.places["line", e.label] = (MARGIN + column * (CARD + GAP), y, height)
-                y += height + 14
-            below = max(below, y)
-        return below
+            cards = sorted((e for e in self.entries if self.depth[e.label] == column), key=self.where)
+            columns.append([(("line", e.label), self.height_of(e)) for e in cards])
+            self.stack(column, columns[-1])
+        self.centre(columns)
+        return max(y + height for _, y, height in self.places.values()) + 14
+
+    def stack(self, column, cards, wish=lambda key: 0):
+        """The cards of a column below one another, each where it wishes to be, or further down."""
+        y = self.top + 34
+        for key, height in cards:
+            y = max(y, wish(key) - height / 2)
+            self.places[key] = (MARGIN + column * (CARD + GAP), y, height)
+            y += height + 14
+
+    def centre(self, columns):
+        """From right to left, each card beside the middle of those that it backs, which keep their order."""
+        backed = {}
+        for e in self.entries:
+            for key, _ in self.from_places(e):
+                backed.setdefault(key, []).append(("line", e.label))
+
+        def wish(key):
+            middles = [y + height / 2 for _, y, height in (self.places[other] for other in backed.get(key, ()))]
+            return (min(middles) + max(middles)) / 2 if middles else 0
+        for column in range(len(columns) - 2, -1, -1):
+            self.stack(column, columns[column], wish)
 
     def from_places(self, e):
         """What a curve to it starts at."""
@@ -162,8 +177,8 @@ def render(block, a, entries, owner, administrators):
     p.svg.text("title", MARGIN, 30, title)
     p.svg.text("sub", MARGIN, 50, "Each card is an authorization; a curve leads to it from what its grantor holds. → may be handed on")
     if not panels:
-        p.svg.text("note", MARGIN, y + 10, "Nobody holds anything on this meter.")
-        y += 24
+        p.svg.text("note", MARGIN, 78, f"Nobody holds anything on this meter, which is {p.names.of('subject', owner)}'s.")
+        return p.svg.done(width, 100, title)
     legend = [("source", "owner or administrator"), ("grant", "a grant"), ("denial", "a denial"), ("gone", "withdrawn altogether")]
     y = p.svg.legend(y + 20, width, [(kind, words) for kind, words in legend if kind == "source" or kind in p.used])
     return p.svg.done(width, y, title)

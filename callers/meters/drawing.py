@@ -76,14 +76,6 @@ def authorizations(records, entries, object_):
     return [out[label] for label in sorted(out)]
 
 
-def last_request(entries):
-    """The instant of the last accepted request, which only the journal tells; None without one."""
-    for entry in reversed(entries):
-        if entry.reply.startswith("done "):
-            return instant_of(entry.line.split(" ")[0])
-    return None
-
-
 # ---- names
 class Names:
     """What subjects, modes and meters are called: their numbers, unless a file says otherwise."""
@@ -153,7 +145,11 @@ class Instants:
         return m.strftime(day + " %H:%M")
 
     def span(self, start, end):
-        return f"{self.short(start)}–{self.short(end, True)}"
+        first, last = self.short(start), self.short(end, True)
+        if first == last:
+            return first
+        day, _, time = last.rpartition(" ")
+        return f"{first}–{time if ':' in time and first.startswith(day + ' ') else last}"
 
     def long_span(self, start, end):
         return f"{self.long(start)} to {self.long(end)}"
@@ -238,7 +234,7 @@ text{fill:#2a3342}
 .title{font-size:18px;font-weight:bold}.sub{fill:#667085}.who{font-weight:bold}.mode{fill:#475467}.tick,.note{fill:#667085}
 .tick{stroke:#fff;stroke-width:4px;paint-order:stroke;stroke-linejoin:round}
 .in{font-size:10px}text.light{fill:#fff}
-.band{fill:#f4f6f9}.grid{stroke:#dfe3ea;fill:none}.clock{stroke:#b45309;stroke-width:1.5;fill:none}.clocktext{fill:#b45309}
+.band{fill:#f4f6f9}.grid,.track{stroke:#dfe3ea;fill:none}.track{stroke-dasharray:1 4}.clock{stroke:#b45309;stroke-width:1.5;fill:none}.clocktext{fill:#b45309}
 .yes{fill:#23734a}.rule{fill:#a6dcbd;stroke:#23734a;stroke-dasharray:4 2}.deny{fill:url(#deny)}.ruledeny{fill:url(#ruledeny)}
 .grant{fill:#dbe9f8;stroke:#3f7fb8}.denial{fill:#fbdcd8;stroke:#b3372b}.gone{fill:#fff;fill-opacity:.85;stroke:#98a2b3;stroke-dasharray:2 3}
 .source{fill:#fff3d6;stroke:#b7791f}.edge{fill:none;stroke:#5b87b3;stroke-width:1.6}.edgedeny{fill:none;stroke:#b3372b;stroke-width:1.6}

@@ -24,7 +24,7 @@ def draw(store, a):
     records = store.records(base, "authorizations")
     rules = store.records(base, "rules")
     found = rows(store, base, a.object, records, rules, drawing.authorizations(records, entries, a.object))
-    return render(block, a, found, [r for r in rules if r["left_object"] == a.object], drawing.last_request(entries))
+    return render(block, a, found, [r for r in rules if r["left_object"] == a.object], store.records(base, "heading")[0]["clock"])
 
 
 # ---- what there is to draw
@@ -98,6 +98,7 @@ class Picture:
                 return
 
     def strip(self, row, y):
+        self.svg.path("track", f"M{LEFT} {y + STRIP / 2}H{LEFT + WIDTH + INFINITE}", behind=True)
         for kind, words, runs in net(row):
             for span in runs:
                 self.bar(kind, words, span, y, STRIP - 1, f"{words}: {self.instants.long_span(*span)}",
@@ -138,9 +139,9 @@ class Picture:
         last = -1000.0
         for t, (day, time) in self.scale.ticks(self.instants):
             x = self.scale.x(t)
-            self.svg.path("grid", f"M{x:.1f} {top}V{bottom:.1f}", behind=True)
             half = LETTER_TICK * max(len(day), len(time)) / 2
             if x - half > last and x + half < LEFT + WIDTH + INFINITE / 2 - 6:
+                self.svg.path("grid", f"M{x:.1f} {top}V{bottom:.1f}", behind=True)
                 self.svg.text("tick", x, top - (18 if time else 6), day, "middle", behind=True)
                 if time:
                     self.svg.text("tick", x, top - 6, time, "middle", behind=True)
@@ -149,20 +150,24 @@ class Picture:
         self.svg.behind.append(f'<text class="tick" style="font-size:17px" x="{LEFT + WIDTH + INFINITE / 2}" y="{top - 6}" text-anchor="middle">∞</text>')
 
     def line_at(self, t, words, top, bottom):
-        if t is not None and self.scale.low <= t <= self.scale.high:
-            x = self.scale.x(t)
-            self.svg.path("clock", f"M{x:.1f} {top - 34}V{bottom:.1f}", behind=True)
-            anchor, at = ("end", x - 5) if x > LEFT + WIDTH - 160 else ("start", x + 5)
-            self.svg.text("clocktext", at, top - 30, f"{words}, {self.instants.long(t)}", anchor, behind=True)
-            return True
-        return False
+        """A line at an instant, if the scale has it, with its words at the foot."""
+        if not self.scale.low <= t <= self.scale.high:
+            return False
+        x = self.scale.x(t)
+        self.svg.path("clock", f"M{x:.1f} {top}V{bottom + 16:.1f}", behind=True)
+        anchor, at = ("end", x - 5) if x > LEFT + WIDTH - 160 else ("start", x + 5)
+        self.svg.text("clocktext", at, bottom + 15, f"{words}, {self.instants.long(t)}", anchor, behind=True)
+        return True
 
 
 def render(block, a, rows_, rules, last):
     names = Names(a.names)
     p = Picture(block, a, rows_, names)
-    width, top = LEFT + WIDTH + INFINITE + 20, 112
+    width, top = LEFT + WIDTH + INFINITE + 20, 92
     p.svg.text("title", 16, 30, f"{names.meter(a.object)} of block {block.name}: who may do what, and when")
+    if not rows_:
+        p.svg.text("note", 16, 54, "Nobody may do anything to this meter, and nobody ever could.")
+        return p.svg.done(width, 76, f"Meter {a.object} of block {block.name}")
     p.svg.text("sub", 16, 50, scale_words(p.scale, p.instants))
     y, shaded, before = top + 8, False, None
     for row in rows_:
@@ -171,12 +176,9 @@ def render(block, a, rows_, rules, last):
         if shaded:
             p.svg.behind.insert(0, f'<rect class="band" x="0" y="{y - 5}" width="{width}" height="{below - y}"/>')
         y, before = below, row.subject
-    if not rows_:
-        p.svg.text("note", LEFT, y + 14, "Nobody may do anything to this meter, and nobody ever could.")
-        y += 30
-    if not p.line_at(block.instant, "now", top, y):
-        p.line_at(last, "last request", top, y)
     p.axis(top, y)
+    if p.line_at(block.instant, "now", top, y) or p.line_at(last, "last request", top, y):
+        y += 20
     y = p.svg.legend(y + 22, width, [(kind, p.used[kind]) for kind in KINDS if kind in p.used])
     for rule in rules:
         for line in wrap_rule(names, rule, p.instants):

@@ -1,6 +1,10 @@
 #include "layer.h"
 
 const struct layer_body layer_bodies[LAYER_BODIES] = {
+    {"heading",
+     7,
+     {"clock", "last_label", "objects", "administrators", "referrers", "authorizations", "rules"},
+     "issssss"},
     {"objects", 2, {"object", "owner"}, "ss"},
     {"administrators", 2, {"object", "subject"}, "ss"},
     {"referrers", 2, {"object", "subject"}, "ss"},

@@ -10,19 +10,10 @@
 /* What a thread should have left of its stack before a call: the deepest function takes about 90,000 bytes. */
 #define ACCESS_BASE_STACK_BYTES 262144u
 
-/* A proved function of the library once its header has it, and a stand-in (records_standin.c) until then: the index-th
- * record of a body as numbers. The refusal is 0, 2 (no sound base), 3 (no such body), 7 (no such
- * index) or 13 (out too short); the reply's number is how many records the body has, also with 7 and 13. */
-#ifndef ACCESS_BASE_RECORD_NUMBERS
-#define ACCESS_BASE_RECORD_NUMBERS 15u
-uint64_t access_base_record(
-    const uint8_t *base, size_t base_length, uint32_t body, uint32_t index, uint32_t *out, size_t out_length);
-#endif
-
 enum { LAYER_TRUTH = 'b', LAYER_SMALL = 's', LAYER_INSTANT = 'i' };
 
-/* The records of a body as rows: the body's name, how many columns, each column's name and what it is (a truth value, a
- * number, an instant). */
+/* The records of a body as rows: the body's name, how many columns, which are the record's numbers, each column's name and
+ * what it is (a truth value, a number, an instant). */
 struct layer_body {
     const char *name;
     uint32_t columns;
@@ -30,11 +21,8 @@ struct layer_body {
     const char *kinds;
 };
 
-#define LAYER_BODIES 5u
-/* No body has more records, and none more numbers than 1,024 authorizations of 10 (WHEN: 2 x 1,100). */
-#define LAYER_RECORDS 1024u
-#define LAYER_CELLS (10u * LAYER_RECORDS)
-/* Body number n (1 to 5) is layer_bodies[n - 1]. */
+#define LAYER_BODIES 6u
+/* The heading, and the bodies by their numbers. */
 extern const struct layer_body layer_bodies[LAYER_BODIES];
 
 /* What is wrong with a line before anybody reads it, as a sentence that says what to do; NULL if nothing is. */

@@ -1,7 +1,8 @@
 #!/usr/bin/python3
 """Tests of the stores, with the real engines. Run by callers/sql/test, which builds everything and names it in the environment:
-METERS_POSTGRES the folder of a private cluster (without it PostgreSQL's tests are left out), METERS_ORACLE the program `replies`
-of the independent implementation (without it the comparison with it is left out), METERS_SECONDS how long each load runs."""
+METERS_POSTGRES the folder of a private cluster (without it PostgreSQL's tests are left out), METERS_ORACLE the folder with the
+programs `examples/replies` and `lines` of the independent implementation and of the Rust callers' random sessions (without it the
+comparison with them is left out), METERS_SECONDS how long each load runs."""
 import glob
 import multiprocessing
 import os
@@ -10,6 +11,7 @@ import resource
 import shutil
 import signal
 import sqlite3
+import struct
 import subprocess
 import sys
 import tempfile
@@ -65,6 +67,12 @@ def sqlite_store():
     return stores.Sqlite(os.path.join(place, "meters.db"), create=True)
 
 
+def limit_files(process, size):
+    """No file may grow beyond the size by that process, which is the server's user's."""
+    order = ["prlimit", f"--pid={process}", f"--fsize={'unlimited' if size == resource.RLIM_INFINITY else size}:"]
+    subprocess.run((["runuser", "-u", "postgres", "--"] if os.getuid() == 0 else []) + order, check=True)
+
+
 def needs_postgres(test):
     return unittest.skipUnless(CLUSTER, "no PostgreSQL")(test)
 
@@ -87,41 +95,40 @@ def transcripts():
                 replies.append(line[2:])
 
 
-def random_session(dice, length):
-    """Requests and questions over few subjects, meters and instants, so that they meet."""
-    def subject(): return str(dice.randint(1, 5))
-    def instant(): return "inf" if dice.random() < 0.1 else str(dice.randint(0, 40))
-    def star(word): return "*" if dice.random() < 0.4 else word
-    now, lines = 0, []
-    for _ in range(length):
-        now += dice.random() < 0.5
-        mode, meter = str(dice.randint(1, 2)), str(dice.randint(1, 2))
-        word = dice.choice(["NEW", "GRANT", "GRANT", "GRANT", "DENY", "REVOKE", "REVOKEP", "REVOKEN", "ADDRULE", "DROPRULE", "GRANTADM",
-                            "REVOKEADM", "GRANTREF", "REVOKEREF", "MAY", "WHEN", "WHEN", "junk"])
-        head = f"{now} {subject() if dice.random() < 0.6 else 1} {word}"
-        span = f"{instant()} {instant()}"
-        any_subject, any_mode = dice.random() < 0.4, dice.random() < 0.4
-        sides = [f"{'*' if any_subject else subject()} {'*' if any_mode else mode} {dice.randint(1, 2)} {dice.choice('++-')}" for _ in range(2)]
-        lines.append({
-            "NEW": f"{head} {meter}", "GRANT": f"{head} {mode} {meter} {subject()} {span} {dice.choice('yn')}",
-            "DENY": f"{head} {mode} {meter} {subject()} {span}", "REVOKE": f"{head} {dice.randint(1, 20)}",
-            "REVOKEP": f"{head} {mode} {meter} {subject()} {span}", "REVOKEN": f"{head} {mode} {meter} {subject()} {span}",
-            "DROPRULE": f"{head} {dice.randint(1, 20)}", "junk": dice.choice(["", "junk", f"{now} 1 NEW 0 ", f"{now} 1 NEW 129"]),
-            "ADDRULE": f"{head} {sides[0]} {dice.choice(['WHENEVER', 'ASLONGAS', 'WHENEVERNOT', 'UNLESS'])} {sides[1]} {star(subject())} "
-                       f"{dice.choice('yn*')} {span}",
-            "MAY": f"MAY {subject()} {mode} {meter} {instant()}", "WHEN": f"WHEN {subject()} {mode} {meter}",
-        }.get(word, f"{head} {meter} {subject()}"))
-    return lines
+def callers_sessions():
+    """The Rust callers' random sessions in text that start with an empty base."""
+    told = subprocess.run([ORACLE + "/lines", "1500", "4000000"], capture_output=True, encoding="ascii", check=True).stdout
+    lines = iter(told.split("\n")[:-1])
+    for count in lines:
+        yield [next(lines) for _ in range(int(count))]
 
 
 def printable(line):
     return stores.line_fault(line) is None
 
 
+def read_here(base):
+    """The rows of every body, read here once more from where docs/FORMAT.md has them."""
+    def body(n, form, row):
+        offset, count = struct.unpack_from("<HH", base, 12 + 4 * n)
+        width = struct.calcsize(form)
+        return [row(*struct.unpack_from(form, base, offset + width * i)) for i in range(count)]
+
+    def pair(*values): return list(values)
+    def line(label, grantor, subject, meter, mode, flags, granted, starts, ends):
+        return [label, grantor, subject, meter, mode, flags & 1, flags >> 1 & 1, granted, starts, ends]
+    def rule(label, author, subject, meter, other, right, grantor, mode, right_mode, operator, flags, starts, ends):
+        return [label, author, subject, mode, meter, flags & 1, operator, other, right_mode, right, flags >> 1 & 1, grantor,
+                2 if flags & 8 else flags >> 2 & 1, starts, ends]
+    rows = {"objects": body(0, "<HH", pair), "administrators": body(1, "<HH", pair), "referrers": body(2, "<HH", pair),
+            "authorizations": body(3, "<HHHHBBxxIII", line), "rules": body(4, "<HHHHHHHBBBBxxII", rule)}
+    return {"heading": [[*struct.unpack_from("<IH", base, 4), *map(len, rows.values())]], **rows}
+
+
 def oracle_says(sessions):
     """For each session, for each line the reply and the base after it, by the independent implementation."""
     text = "".join(f"{len(lines)}\n" + "".join(line + "\n" for line in lines) for lines in sessions)
-    out = subprocess.run([ORACLE], input=text, capture_output=True, encoding="latin-1", check=True).stdout.split("\n")
+    out = subprocess.run([ORACLE + "/examples/replies"], input=text, capture_output=True, encoding="latin-1", check=True).stdout.split("\n")
     told = iter(out)
     for lines in sessions:
         base, answers = None, []
@@ -165,10 +172,10 @@ class Sessions(unittest.TestCase):
 
     @unittest.skipUnless(ORACLE, "no independent implementation")
     def test_independent_implementation(self):
-        """Stored and random sessions against the independent implementation: replies, and every byte after every line."""
-        dice = random.Random(23)
+        """Stored sessions, session S of the C and Rust callers among them, and the Rust callers' random ones, against the
+        independent implementation: replies, and every byte after every line."""
         sessions = [[line for line in lines if printable(line)] for lines, _ in transcripts() if len(lines) < 400]
-        sessions += [random_session(dice, 60) for _ in range(25)]
+        sessions += callers_sessions()
         compared = 0
         for lines, answers in zip(sessions, oracle_says(sessions)):
             for name, put, base in engines_once:
@@ -203,6 +210,19 @@ class Store:
         self.assertEqual([r["label"] for r in store.records(base, "authorizations")], [1, 2])
         self.assertEqual(store.records(base, "objects"), [{"object": 7, "owner": 1}])
 
+    def test_records(self):
+        """Every number of every record, of a base with some of each kind and of one that is nearly full."""
+        lines = open(os.path.join(HERE, "picture.txt"), encoding="ascii").read().splitlines()
+        lines += ["64 1 GRANTADM 8 3", "64 1 GRANTREF 8 700", "64 1 ADDRULE 5 * 8 - UNLESS 6 * 8 + 1023 y 65 inf"]
+        many = ["0 1 NEW 7"] + [f"0 1 GRANT {1 + i % 8} 7 {20 + i} {100 + i} {5000 + i} y" for i in range(1000)]
+        for n, block in enumerate((lines, many)):
+            name = f"{self.name} {n}"
+            self.importer.new(name, 1, 0)
+            self.assertEqual({r.split(" ")[0] for r in self.importer.put_as_written(name, block)}, {"done"})
+            base = self.importer.base(name)
+            for body, expected in read_here(base).items():
+                self.assertEqual([list(map(int, row.values())) for row in self.importer.records(base, body)], expected, body)
+
     def test_now_from_the_clock(self):
         self.importer.new(self.name, 60, 1_500_000_000)
         self.importer.enrol(self.name, self.writer_role, 4)
@@ -232,16 +252,14 @@ class Store:
         self.assertIsNone(self.importer.check(self.name))
 
     def test_bytes_of_every_length(self):
-        sound = self.importer.is_sound
         full = self.importer.empty()
-        self.assertTrue(sound(full))
-        for length in list(range(0, 40)) + [27935, 27937, 100_000, 3_000_000]:
-            self.assertFalse(sound((full * 108)[:length]), length)
+        self.assertEqual(self.sound_lengths(full + full), [stores.BASE_BYTES])
+        self.assertFalse(self.importer.is_sound(full * 108))
         for place in (0, 4, 8, 12, 33, 27935):
             damaged = bytearray(full)
             damaged[place] ^= 0xFF
-            if sound(bytes(damaged)):
-                self.assertIn(place, (4, 8))  # another clock or last label is a sound base too
+            # another clock or last label is a sound base too
+            self.assertEqual(self.importer.is_sound(bytes(damaged)), place in (4, 8))
             with self.assertRaises(stores.Fault):
                 self.importer.new(self.name + str(place), 1, 0, b"x" + bytes(damaged)[1:])
 
@@ -287,8 +305,7 @@ class Store:
                 if line.endswith("\n"):
                     block, request, reply = line[:-1].split("\t")
                     told[block].append((request, reply))
-        if not any(told.values()):
-            self.skipTest("the machine was too slow for a single request in that time")
+        self.assertTrue(any(told.values()), "no request was acknowledged")
         for block in blocks:
             entries = self.importer.journal(block)
             self.assertEqual([e.number for e in entries], list(range(1, len(entries) + 1)))
@@ -318,7 +335,7 @@ def client(place, k, blocks, acknowledged, seconds, results):
         try:
             store = stores.open_store(place)
             end = time.time() + seconds
-            while time.time() < end:
+            while time.time() < end or count == 0:
                 count += 1
                 block, start = dice.choice(blocks), 1000 + k * 10_000_000 + count
                 line = f"0 1 GRANT 1 7 {k + 2} {start} {start} n" if count % 2 else f"0 1 REVOKEP 1 7 {k + 2} 0 {start}"
@@ -332,22 +349,24 @@ def client(place, k, blocks, acknowledged, seconds, results):
 
 
 def run_clients(place, kind, blocks, seconds, meanwhile=None):
+    """The clients' load for so many seconds; or, with something to do in the middle of it, until the clients end by that."""
     acknowledged = os.path.join(folder, kind)
     os.makedirs(acknowledged, exist_ok=True)
     results = multiprocessing.Queue()
-    clients = [multiprocessing.Process(target=client, args=(place, k, blocks, acknowledged, seconds, results)) for k in range(CLIENTS)]
+    given = (600 if meanwhile else seconds, results)
+    clients = [multiprocessing.Process(target=client, args=(place, k, blocks, acknowledged, *given)) for k in range(CLIENTS)]
     for process in clients:
         process.start()
     told = []
     if meanwhile:
         time.sleep(seconds / 2)
+        while sum(os.path.getsize(path) for path in glob.glob(acknowledged + "/*.acknowledged")) == 0:
+            time.sleep(0.1)
         meanwhile(clients)
-        for process in clients:
-            process.join()
     else:
         told = [results.get() for _ in clients]
-        for process in clients:
-            process.join()
+    for process in clients:
+        process.join()
     return [count for count, _ in told], max((worst for _, worst in told), default=0), acknowledged
 
 
@@ -361,6 +380,12 @@ class SqliteStore(Store, unittest.TestCase):
         self.writer_role = "somebody"
         self.importer.is_sound = lambda b: bool(self.importer.one("SELECT access_base_is_sound(?)", b)[0])
         self.importer.empty = lambda: self.importer.one("SELECT access_base_empty()")[0]
+
+    def sound_lengths(self, data):
+        """The lengths, up to that of the data, of which its front is a sound base."""
+        return [row[0] for row in self.importer.all(
+            "WITH RECURSIVE fronts(n) AS (SELECT 0 UNION ALL SELECT n + 1 FROM fronts WHERE n < length(?1)) "
+            "SELECT n FROM fronts WHERE access_base_is_sound(substr(?1, 1, n))", data)]
 
     def put(self, *requests):
         return self.importer.put(self.name, self.writer_role, requests)
@@ -487,6 +512,10 @@ class PostgresStore(Store, unittest.TestCase):
         self.importer.empty = lambda: bytes(self.importer.one("SELECT access_base.empty()")[0])
         self.name = "p " + self.name
 
+    def sound_lengths(self, data):
+        return [row[0] for row in self.importer.all(
+            "SELECT n FROM generate_series(0, length(%s::bytea)) n WHERE access_base.is_sound(substr(%s::bytea, 1, n))", data, data)]
+
     def put(self, *requests):
         return stores.Postgres(socket_of("anna")).put(self.name, None, requests)
 
@@ -528,7 +557,8 @@ class PostgresStore(Store, unittest.TestCase):
         self.assertEqual(one("SELECT access_base.runs(access_base.empty(), NULL, 1, 1)")[0], None)
         for sql in ("SELECT 'x'::bytea::access_base.base", "SELECT access_base.may(access_base.empty(), 1, 1, 1, -1)",
                     "SELECT access_base.put(access_base.empty(), E'4 1 NEW 7\\n')", "SELECT access_base.put('', '4 1 NEW 7')",
-                    "SELECT access_base.put(access_base.empty(), repeat('x', 1000000))", "SELECT access_base.authorizations('\\x00')"):
+                    "SELECT access_base.put(access_base.empty(), repeat('x', 1000000))", "SELECT access_base.authorizations('\\x00')",
+                    b"SELECT access_base.put(access_base.empty(), '4 1 NEW \xff')"):
             with self.assertRaises(stores.Fault, msg=sql):
                 one(sql)
         self.importer.new("arguments", 1, 0)
@@ -560,6 +590,40 @@ class PostgresStore(Store, unittest.TestCase):
         cluster("start")
         self.importer = stores.Postgres(self.place)
         self.assert_kept(blocks, acknowledged, exactly=False)
+
+    def test_full_disk(self):
+        """A write that the system refuses half way, by a limit on the size of the server's files: an error, nothing of it is kept."""
+        import psycopg
+        with psycopg.connect(socket_of("postgres"), autocommit=True) as db:
+            db.execute("ALTER TABLE meters.blocks ALTER base SET STORAGE EXTERNAL")
+            db.execute("SELECT meters.new_block('full ' || n) FROM generate_series(1, 600) n")  # the file is longer than one of the log
+            store = stores.Postgres(self.place)
+            before, kept = store.base("full 1"), 0
+            server = store.db.info.backend_pid
+            limit_files(server, 16 << 20)
+            with self.assertRaisesRegex(stores.Fault, "could not extend file"):
+                for n in range(1, 600):
+                    store.put_as_written(f"full {n}", ["4 1 NEW 7"] * 20)
+                    kept = n
+            limit_files(server, resource.RLIM_INFINITY)
+            db.execute("ALTER TABLE meters.blocks ALTER base SET STORAGE EXTENDED")
+        self.assertEqual(store.journal(f"full {kept + 1}"), [])
+        self.assertEqual(store.base(f"full {kept + 1}"), before)
+        self.assertIsNone(store.check(f"full {kept + 1}"))
+        self.assertEqual(store.put_as_written(f"full {kept + 1}", ["4 1 NEW 7"]), ["done 0 0"])
+
+    def test_read_only(self):
+        self.importer.new("p read-only", 1, 0)
+        store = stores.Postgres(self.place + "&options=-c%20default_transaction_read_only%3Don")
+        with self.assertRaisesRegex(stores.Fault, "read-only transaction"):
+            store.put_as_written("p read-only", ["4 1 NEW 7"])
+        self.assertEqual(store.journal("p read-only"), [])
+
+    def test_foreign_database(self):
+        with self.assertRaisesRegex(stores.Fault, "has no blocks yet"):
+            stores.Postgres(socket_of("postgres").replace("/meters?", "/postgres?"))
+        with self.assertRaisesRegex(stores.Fault, "no connection"):
+            stores.Postgres(socket_of("postgres").replace("/meters?", "/nowhere?"))
 
     def test_old_snapshot(self):
         """Under REPEATABLE READ a client that comes too late gets 40001 and nothing is lost."""
@@ -633,19 +697,34 @@ class Command(unittest.TestCase):
         self.assertIn("has no meter 9", self.meters("timeline", "elm", "9", status=1))
 
     def browser(self, picture):
+        """The page in Chromium: it is not blank, and no text is cut off, lies on another, or is longer than its bar."""
         if not shutil.which("chromium"):
             return
-        png = os.path.join(self.folder, picture + ".png")
-        try:
-            subprocess.run(["chromium", "--headless=new", "--no-sandbox", "--disable-gpu", f"--user-data-dir={self.folder}/profile",
-                            f"--screenshot={png}", "--window-size=1120,700", f"file://{self.folder}/{picture}.html"],
-                           capture_output=True, timeout=60)
-        except subprocess.TimeoutExpired:
-            print("  skipped: Chromium does not come up on this machine", file=sys.stderr)
-            return
-        if os.path.exists(png):
-            self.assertGreater(os.path.getsize(png), 20_000, "the page is blank")
+        page, png = os.path.join(self.folder, picture + ".html"), os.path.join(self.folder, picture + ".png")
+        with open(page, "a", encoding="utf-8") as out:
+            out.write(LOOK)
+        run = subprocess.run(["chromium", "--headless=new", "--no-sandbox", "--disable-gpu", f"--user-data-dir={self.folder}/profile",
+                              f"--screenshot={png}", "--dump-dom", "--window-size=1120,700", f"file://{page}"],
+                             capture_output=True, timeout=120, encoding="utf-8")
+        self.assertGreater(os.path.getsize(png), 20_000, "the page is blank")
+        self.assertRegex(run.stdout, r"<title>[1-9]\d+ texts\.</title>")
 
+
+# says in the page's title how many texts it has, and what is wrong with them
+LOOK = """<script>
+const texts = [...document.querySelectorAll('svg text')], box = x => x.getBoundingClientRect();
+const page = box(document.querySelector('svg')), faults = [];
+texts.forEach((text, i) => {
+    const a = box(text), bar = text.classList.contains('in') ? box(text.previousElementSibling) : page;
+    if (a.left < bar.left || a.right > bar.right || a.bottom > page.bottom) faults.push(text.textContent + ' is cut off');
+    for (const other of texts.slice(i + 1)) {
+        const b = box(other);
+        if (Math.min(a.right, b.right) - Math.max(a.left, b.left) > 1 && Math.min(a.bottom, b.bottom) - Math.max(a.top, b.top) > 3)
+            faults.push(text.textContent + ' lies on ' + other.textContent);
+    }
+});
+document.title = [texts.length + ' texts', ...faults].join('; ') + '.';
+</script>"""
 
 if __name__ == "__main__":
     unittest.main(verbosity=1, warnings="ignore")

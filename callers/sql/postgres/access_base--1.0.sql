@@ -24,6 +24,11 @@ CREATE FUNCTION runs(base bytea, subject bigint, mode bigint, object bigint) RET
   AS 'MODULE_PATHNAME', 'access_base_pg_runs' LANGUAGE C IMMUTABLE STRICT PARALLEL SAFE COST 500;
 COMMENT ON FUNCTION runs(bytea, bigint, bigint, bigint) IS 'WHEN: the instants where MAY says yes; a run to infinity has no upper bound';
 
+CREATE FUNCTION heading(
+    base bytea, OUT clock bigint, OUT last_label int, OUT objects int, OUT administrators int, OUT referrers int,
+    OUT authorizations int, OUT rules int) RETURNS SETOF record
+  AS 'MODULE_PATHNAME', 'access_base_pg_heading' LANGUAGE C IMMUTABLE STRICT PARALLEL SAFE COST 500 ROWS 1;
+COMMENT ON FUNCTION heading(bytea) IS 'the instant of the last accepted request, the last label given, and how many records there are';
 CREATE FUNCTION objects(base bytea, OUT object int, OUT owner int) RETURNS SETOF record
   AS 'MODULE_PATHNAME', 'access_base_pg_objects' LANGUAGE C IMMUTABLE STRICT PARALLEL SAFE COST 500 ROWS 50;
 CREATE FUNCTION administrators(base bytea, OUT object int, OUT subject int) RETURNS SETOF record

@@ -156,29 +156,28 @@ static Datum value_of(char kind, uint32 number)
 /* The records of a body as rows. */
 static Datum rows_of(FunctionCallInfo fcinfo, uint32 body)
 {
-    const struct layer_body *shape = &layer_bodies[body - 1];
+    const struct layer_body *shape = &layer_bodies[body];
     ReturnSetInfo *set = (ReturnSetInfo *)fcinfo->resultinfo;
     bytea *base;
-    uint32 numbers[ACCESS_BASE_RECORD_NUMBERS];
+    uint32 *list;
+    struct access_base_reply r;
     Datum values[ACCESS_BASE_RECORD_NUMBERS];
     bool nulls[ACCESS_BASE_RECORD_NUMBERS] = {false};
     InitMaterializedSRF(fcinfo, 0);
     if (set->setDesc->natts != (int)shape->columns)
         elog(ERROR, "the extension's SQL does not fit its library: ALTER EXTENSION access_base UPDATE");
     base = lent_copy(fcinfo);
-    for (uint32 i = 0; i < LAYER_RECORDS; i++) {
-        struct access_base_reply r = access_base_reply_of(
-            access_base_record(BYTES(base), ACCESS_BASE_BYTES, body, i, numbers, ACCESS_BASE_RECORD_NUMBERS));
-        if (r.refusal == ACCESS_BASE_NO_SUCH_LABEL)
-            break;
-        if (r.refusal != ACCESS_BASE_DONE)
-            refuse(r.refusal);
-        CHECK_FOR_INTERRUPTS();
+    list = palloc(ACCESS_BASE_BODY_NUMBERS * sizeof *list);
+    r = access_base_read(BYTES(base), ACCESS_BASE_BYTES, body, 0, list, ACCESS_BASE_BODY_NUMBERS);
+    pfree(base);
+    if (r.refusal != ACCESS_BASE_DONE)
+        refuse(r.refusal);
+    for (uint32 i = 0; i < r.number; i++) {
         for (uint32 c = 0; c < shape->columns; c++)
-            values[c] = value_of(shape->kinds[c], numbers[c]);
+            values[c] = value_of(shape->kinds[c], list[i * shape->columns + c]);
         tuplestore_putvalues(set->setResult, set->setDesc, values, nulls);
     }
-    pfree(base);
+    pfree(list);
     return (Datum)0;
 }
 
@@ -189,8 +188,9 @@ static Datum rows_of(FunctionCallInfo fcinfo, uint32 body)
         return rows_of(fcinfo, body);      \
     }
 
-ROWS(access_base_pg_objects, 1)
-ROWS(access_base_pg_administrators, 2)
-ROWS(access_base_pg_referrers, 3)
-ROWS(access_base_pg_authorizations, 4)
-ROWS(access_base_pg_rules, 5)
+ROWS(access_base_pg_heading, ACCESS_BASE_HEADING)
+ROWS(access_base_pg_objects, ACCESS_BASE_OBJECTS)
+ROWS(access_base_pg_administrators, ACCESS_BASE_ADMINISTRATORS)
+ROWS(access_base_pg_referrers, ACCESS_BASE_REFERRERS)
+ROWS(access_base_pg_authorizations, ACCESS_BASE_AUTHORIZATIONS)
+ROWS(access_base_pg_rules, ACCESS_BASE_RULES)

@@ -6,7 +6,7 @@
  *   access_base_after(base, line)              the base after it
  *   access_base_may(base, subject, mode, object, instant)           1 or 0
  *   access_base_runs(base, subject, mode, object)                   rows of starts, ends
- *   access_base_objects(base), _administrators, _referrers, _authorizations, _rules    rows
+ *   access_base_heading(base), _objects, _administrators, _referrers, _authorizations, _rules    rows
  *
  * A base is a BLOB. A question that the library refuses is an error; a refused request is a reply. */
 #include <sqlite3ext.h>
@@ -201,7 +201,9 @@ static void may(sqlite3_context *context, int n, sqlite3_value **a)
     sqlite3_result_int(context, r.number == 1);
 }
 
-/* ---- table-valued functions: WHEN, and the five bodies. Body 0 stands for WHEN. */
+/* ---- table-valued functions: the heading, the five bodies, and behind them WHEN */
+
+#define RUNS LAYER_BODIES
 
 struct rows_table {
     sqlite3_vtab head;
@@ -216,13 +218,13 @@ struct rows_cursor {
 
 static const char *declaration(uint32_t body, char *text, int size)
 {
-    if (body == 0) {
+    if (body == RUNS) {
         sqlite3_snprintf(size, text, "CREATE TABLE t(starts, ends, of_base HIDDEN, of_subject HIDDEN, of_mode HIDDEN, of_object HIDDEN)");
         return text;
     }
     sqlite3_snprintf(size, text, "CREATE TABLE t(");
-    for (uint32_t i = 0; i < layer_bodies[body - 1].columns; i++)
-        sqlite3_snprintf(size - (int)strlen(text), text + strlen(text), "%s, ", layer_bodies[body - 1].column[i]);
+    for (uint32_t i = 0; i < layer_bodies[body].columns; i++)
+        sqlite3_snprintf(size - (int)strlen(text), text + strlen(text), "%s, ", layer_bodies[body].column[i]);
     sqlite3_snprintf(size - (int)strlen(text), text + strlen(text), "of_base HIDDEN)");
     return text;
 }
@@ -242,8 +244,8 @@ static int rows_connect(sqlite3 *db, void *aux, int n, const char *const *a, sql
         return SQLITE_NOMEM;
     memset(table, 0, sizeof *table);
     table->body = *body;
-    table->columns = *body == 0 ? 2 : layer_bodies[*body - 1].columns;
-    table->arguments = *body == 0 ? 4 : 1;
+    table->columns = *body == RUNS ? 2 : layer_bodies[*body].columns;
+    table->arguments = *body == RUNS ? 4 : 1;
     *out = &table->head;
     return SQLITE_OK;
 }
@@ -277,8 +279,8 @@ static int rows_best(sqlite3_vtab *head, sqlite3_index_info *info)
         if (unusable)
             return SQLITE_CONSTRAINT;
         sqlite3_free(head->zErrMsg);
-        head->zErrMsg = sqlite3_mprintf(table->body == 0 ? "give access_base_runs(base, subject, mode, object)"
-                                                         : "give one argument, the base");
+        head->zErrMsg = sqlite3_mprintf(table->body == RUNS ? "give access_base_runs(base, subject, mode, object)"
+                                                            : "give one argument, the base");
         return SQLITE_ERROR;
     }
     info->estimatedCost = 100;
@@ -321,18 +323,11 @@ static uint32_t fill_runs(struct rows_cursor *cursor, const uint8_t *base, size_
     return r.refusal;
 }
 
-static uint32_t fill_records(struct rows_cursor *cursor, const uint8_t *base, size_t length, struct rows_table *table)
+static uint32_t fill_records(struct rows_cursor *cursor, const uint8_t *base, size_t length, uint32_t body)
 {
-    while (cursor->count < LAYER_RECORDS) {
-        struct access_base_reply r = access_base_reply_of(access_base_record(
-            base, length, table->body, cursor->count, cursor->cells + (size_t)cursor->count * table->columns, table->columns));
-        if (r.refusal == ACCESS_BASE_NO_SUCH_LABEL)
-            return ACCESS_BASE_DONE;
-        if (r.refusal != ACCESS_BASE_DONE)
-            return r.refusal;
-        cursor->count++;
-    }
-    return ACCESS_BASE_DONE;
+    struct access_base_reply r = access_base_read(base, length, body, 0, cursor->cells, ACCESS_BASE_BODY_NUMBERS);
+    cursor->count = r.refusal == ACCESS_BASE_DONE ? r.number : 0;
+    return r.refusal;
 }
 
 static int rows_filter(sqlite3_vtab_cursor *head, int index, const char *name, int n, sqlite3_value **a)
@@ -349,13 +344,13 @@ static int rows_filter(sqlite3_vtab_cursor *head, int index, const char *name, i
         if (!number_of(a[i], &x[i - 1]))
             return rows_fail(head, sqlite3_mprintf(NOT_A_NUMBER));
     if (cursor->cells == NULL)
-        cursor->cells = sqlite3_malloc64(sizeof(uint32_t) * LAYER_CELLS);
+        cursor->cells = sqlite3_malloc64(sizeof(uint32_t) * ACCESS_BASE_BODY_NUMBERS);
     if (cursor->cells == NULL)
         return SQLITE_NOMEM;
     base = lent_copy(a[0], &length, &fault);
     if (base == NULL)
         return fault == NULL ? SQLITE_NOMEM : rows_fail(head, sqlite3_mprintf("%s", fault));
-    refusal = table->body == 0 ? fill_runs(cursor, base, length, x) : fill_records(cursor, base, length, table);
+    refusal = table->body == RUNS ? fill_runs(cursor, base, length, x) : fill_records(cursor, base, length, table->body);
     sqlite3_free(base);
     return refusal == ACCESS_BASE_DONE ? SQLITE_OK : rows_fail(head, refusal_text(refusal));
 }
@@ -402,7 +397,7 @@ int sqlite3_accessbase_init(sqlite3 *db, char **error, const sqlite3_api_routine
         void (*call)(sqlite3_context *, int, sqlite3_value **);
     } functions[] = {{"access_base_empty", 0, empty}, {"access_base_is_sound", 1, is_sound},
                      {"access_base_reply", 2, reply}, {"access_base_after", 2, after}, {"access_base_may", 5, may}};
-    static const uint32_t body[] = {0, 1, 2, 3, 4, 5};
+    static const uint32_t body[] = {0, 1, 2, 3, 4, 5, RUNS};
     int rc = SQLITE_OK;
     char name[64];
     (void)error;
@@ -412,7 +407,7 @@ int sqlite3_accessbase_init(sqlite3 *db, char **error, const sqlite3_api_routine
             db, functions[i].name, functions[i].arguments, SQLITE_UTF8 | SQLITE_DETERMINISTIC | SQLITE_INNOCUOUS, NULL,
             functions[i].call, NULL, NULL, NULL);
     for (uint32_t i = 0; i <= LAYER_BODIES && rc == SQLITE_OK; i++) {
-        sqlite3_snprintf(sizeof name, name, "access_base_%s", i == 0 ? "runs" : layer_bodies[i - 1].name);
+        sqlite3_snprintf(sizeof name, name, "access_base_%s", i == RUNS ? "runs" : layer_bodies[i].name);
         rc = sqlite3_create_module_v2(db, name, &rows, (void *)&body[i], NULL);
     }
     return rc;

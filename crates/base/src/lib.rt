@@ -4,6 +4,7 @@
 pub use answers::may;
 pub use answers::when;
 pub use encoding::create;
+pub use records::records;
 pub use requests::request;
 pub use soundness::is_sound;
 pub use text::text;

@@ -27,6 +27,7 @@ use Rattle.model.specs.Answers.{whenTable, mayAnswer, whenAnswer, words}
 use Rattle.model.specs.Session.{Written, textAnswer}
 use Rattle.text.specs.Short.{Short, request-short, may-short}
 use Rattle.text.specs.Room.{refused-untouched}
+use Rattle.records.specs.Records.{bodyOf, widthOf, rows, pageRows, paged, pageAnswer, recordsAnswer}
 use Rattle.ffi.specs.Numbers.{labelOf, numberOf, packedText, refusal-back, label-back, number-back, AnsweredBy}
 
 -- the bounds under which a packed reply comes apart again
@@ -70,6 +71,19 @@ when-small s x list =
     by-rows rows (refusing list) (answering (Runs n) (words runs ++ drop (2 * n) list))
     (λ (a : Answer). Small (a .reply)) (refused-small rows refl)
     (λ z. record { refusal = omega arith; label = omega arith })
+
+pub records-small : (s : List ℕ) (body first : ℕ) (list : List ℕ) →
+    Small (recordsAnswer s body first list .reply)
+unfolding recordsAnswer pageAnswer
+records-small s body first list =
+    let b = bodyOf body in
+    let all = rows (decode s) b in
+    let front = row 2 (not (soundBytes s)) ∷ row 3 (ltb 5 body) ∷ [] in
+    let behind = pageRows all (widthOf b) first list in
+    by-rows front (refusing list) (pageAnswer s b first list) (λ (a : Answer). Small (a .reply))
+    (refused-small front refl)
+    (λ z. by-rows behind (refusing list) (paged all (widthOf b) first list) (λ (a : Answer). Small (a .reply))
+    (refused-small behind refl) (λ z. record { refusal = omega arith; label = omega arith }))
 
 pub request-small : (s : List ℕ) (q : Request) → Small (request s q .reply)
 request-small s q = short-small (request s q .reply) (request-short s q)

@@ -1,4 +1,4 @@
-// The library for C and Rust: the six functions of crate base on numbers, truth values and lent slices. They add
+// The library for C and Rust: the seven functions of crate base on numbers, truth values and lent slices. They add
 // nothing but the wording: every contract is that of base's function, on the request or question that the numbers
 // say. What a caller takes out of a packed reply is said in specs/Numbers.antt (`refusal-back`, `label-back`,
 // `number-back`) and specs/Bounds.antt (`text-parts` for a line of text).
@@ -7,6 +7,7 @@ ghost use Rattle.foundation.specs.Intervals.{interval};
 ghost use Rattle.model.specs.Soundness.{soundBytes};
 ghost use Rattle.model.specs.Answers.{create, mayAnswer, whenAnswer};
 ghost use Rattle.model.specs.Session.{textAnswer};
+ghost use Rattle.records.specs.Records.{recordsAnswer};
 ghost use Rattle.ffi.specs.Numbers.{termOf, optionOf, side, access, question, packed, packedText, AnsweredBy};
 use foundation::Interval;
 use model::Access;
@@ -118,6 +119,17 @@ pub extern "C" fn access_base_when(
         object: object,
     };
     pack(base::when(base, x, list))
+}
+
+// The records of a body as numbers, from one on.
+#[no_mangle]
+pub extern "C" fn access_base_records(base: &[u8], body: u32, first: u32, list: &mut [u32]) -> u64
+    ensures { λ r. ⌜
+        (r ≡ packed (recordsAnswer (now (base .entry)) body first (now (list .entry)) .reply))
+        × (now (list .exit) ≡ recordsAnswer (now (base .entry)) body first (now (list .entry)) .lent)
+        ⌝ }
+{
+    pack(base::records(base, body, first, list))
 }
 
 // A request of any kind. A field that the kind does not name is not looked at.

@@ -43,6 +43,9 @@ pub const TEXT_LEAST: usize = 16;
 /// So many bytes always suffice for [`text`].
 pub const TEXT_BYTES: usize = 24_001;
 
+/// So many numbers always suffice for [`records`].
+pub const BODY_NUMBERS: usize = 10_240;
+
 /// Instants from `start` to `end`, both included.
 #[derive(Clone, Copy, Debug, PartialEq, Eq)]
 pub struct Interval {
@@ -167,6 +170,41 @@ pub struct Request {
     pub order: Order,
 }
 
+/// The heading of a base and its five bodies. A record is [`Body::width`] numbers.
+#[derive(Clone, Copy, Debug, PartialEq, Eq)]
+pub enum Body {
+    /// One record: the clock, the last label, and how many records each body has.
+    Heading,
+    /// Object, owner.
+    Objects,
+    /// Object, subject.
+    Administrators,
+    /// Object, subject.
+    Referrers,
+    /// Label, grantor, subject, object, mode, negative, option, granted, start, end.
+    Authorizations,
+    /// Label, author; of the left side subject, mode, object, negative; operator, 1 to 4; of the right side subject, mode,
+    /// object, negative, grantor, option (0 without, 1 with, 2 either); start, end. A subject, mode or grantor of 0 is the
+    /// star.
+    Rules,
+}
+
+impl Body {
+    /// All of them, in the order of their numbers.
+    pub const ALL: [Body; 6] =
+        [Body::Heading, Body::Objects, Body::Administrators, Body::Referrers, Body::Authorizations, Body::Rules];
+
+    /// How many numbers a record is.
+    pub const fn width(self) -> usize {
+        match self {
+            Body::Heading => 7,
+            Body::Objects | Body::Administrators | Body::Referrers => 2,
+            Body::Authorizations => 10,
+            Body::Rules => 15,
+        }
+    }
+}
+
 /// The reply to a request that was carried out.
 #[derive(Clone, Copy, Debug, PartialEq, Eq)]
 pub struct Done {
@@ -203,6 +241,29 @@ pub fn may(base: &[u8], access: Access, instant: u32) -> Result<bool, Refusal> {
 pub fn when<'l>(base: &[u8], access: Access, list: &'l mut [[u32; 2]]) -> Result<&'l [[u32; 2]], Refusal> {
     let reply = refusal::checked(raw::when(base, access, list.as_flattened_mut()))?;
     Ok(&list[..reply.number as usize])
+}
+
+/// The records of a body, from number `first` on, counted from 0, in the base's order: as many as the list has room for,
+/// written to its front one behind the other. The rest of the list is untouched. A body with fewer than `first` records is
+/// refused with [`Refusal::OutOfRange`], a list without room for one record with [`Refusal::Full`].
+///
+/// The base is checked once a call, whatever the list's length: lend a long one.
+///
+/// ```
+/// use access_base::{create, records, text, Body, BODY_NUMBERS, BYTES};
+///
+/// let mut base = vec![0; BYTES];
+/// create(&mut base)?;
+/// text(&mut base, "4 1 NEW 7", &mut [0; 16]).expect("16 bytes suffice");
+/// text(&mut base, "5 1 GRANT 1 7 2 50 200 y", &mut [0; 16]).expect("16 bytes suffice");
+/// let mut list = vec![0; BODY_NUMBERS];
+/// assert_eq!(records(&base, Body::Authorizations, 0, &mut list)?, [1, 1, 2, 7, 1, 0, 1, 5, 50, 200]);
+/// assert_eq!(records(&base, Body::Heading, 0, &mut list)?, [5, 1, 1, 0, 0, 1, 0]);
+/// # Ok::<(), access_base::Refusal>(())
+/// ```
+pub fn records<'l>(base: &[u8], body: Body, first: u32, list: &'l mut [u32]) -> Result<&'l [u32], Refusal> {
+    let reply = refusal::checked(raw::records(base, body as u32, first, list))?;
+    Ok(&list[..reply.number as usize * body.width()])
 }
 
 /// Answers one line of text, a request or a question as the text session has it, without its newline. The reply's text

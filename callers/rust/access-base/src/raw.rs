@@ -86,6 +86,14 @@ mod linked {
             list: *mut u32,
             list_length: usize,
         ) -> u64;
+        pub fn access_base_records(
+            base: *const u8,
+            length: usize,
+            body: u32,
+            first: u32,
+            list: *mut u32,
+            list_length: usize,
+        ) -> u64;
         pub fn access_base_text(
             base: *mut u8,
             length: usize,
@@ -170,6 +178,13 @@ pub fn may(base: &[u8], x: Access, instant: u32) -> Reply {
 pub fn when(base: &[u8], x: Access, list: &mut [u32]) -> Reply {
     unpacked(unsafe {
         linked::access_base_when(base.as_ptr(), base.len(), x.subject, x.mode, x.object, list.as_mut_ptr(), list.len())
+    })
+}
+
+/// `access_base_records`, of a body by its number.
+pub fn records(base: &[u8], body: u32, first: u32, list: &mut [u32]) -> Reply {
+    unpacked(unsafe {
+        linked::access_base_records(base.as_ptr(), base.len(), body, first, list.as_mut_ptr(), list.len())
     })
 }
 

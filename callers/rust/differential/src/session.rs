@@ -91,11 +91,9 @@ pub fn flipped_session(seed: u64) -> Result<Tally, Box<Failure>> {
 pub fn text_session(seed: u64) -> Result<Tally, Box<Failure>> {
     let mut random = Random::new(seed);
     let world = World::random(&mut random);
-    let name = format!("text session {seed}");
-    let mut pair = Pair::new(world.boundaries());
     let mut generator = Generator { random: &mut random, world };
-    let ran = begin(&mut pair, &mut generator).and_then(|length| tell(&mut pair, &mut generator, 2 * length));
-    ran.map_err(|difference| Box::new(Failure::new(&name, &pair, difference)))?;
+    let name = format!("text session {seed}");
+    let pair = told(&name, &mut generator)?;
     let mut tally = pair.tally.clone();
     for _ in 0..generator.random.below(4) {
         let bytes = other_base(pair.base(), &mut generator);
@@ -105,6 +103,27 @@ pub fn text_session(seed: u64) -> Result<Tally, Box<Failure>> {
         tally.add(&other.tally);
     }
     Ok(tally)
+}
+
+/// The lines of that session, if it starts with an empty base.
+pub fn text_lines(seed: u64) -> Result<Option<Vec<Vec<u8>>>, Box<Failure>> {
+    let mut random = Random::new(seed);
+    let world = World::random(&mut random);
+    let pair = told(&format!("text session {seed}"), &mut Generator { random: &mut random, world })?;
+    let line = |step: &Step| match step {
+        Step::Text { line, .. } => Some(line.clone()),
+        _ => None,
+    };
+    let is_empty = pair.steps().iter().any(|step| matches!(step, Step::Create));
+    Ok(is_empty.then(|| pair.steps().iter().filter_map(line).collect()))
+}
+
+// The session itself, on both sides.
+fn told(name: &str, generator: &mut Generator) -> Result<Pair, Box<Failure>> {
+    let mut pair = Pair::new(generator.world.boundaries());
+    let ran = begin(&mut pair, generator).and_then(|length| tell(&mut pair, generator, 2 * length));
+    ran.map_err(|difference| Box::new(Failure::new(name, &pair, difference)))?;
+    Ok(pair)
 }
 
 // So many lines of text, whatever the lent bytes are.

@@ -1,0 +1,97 @@
+-- Where the bodies of a sound base stand, and what is in them. Assumes nothing.
+use mathlib.Core.Path.{_≡_, refl, sym, ap, _∙_}
+use mathlib.Core.Bool.{true}
+use mathlib.Core.List.{List, [], _∷_, map}
+use Prim.Native.Nat.{ℕ, _+_, _*_, _≤_}
+use native.Mathlib.Nat.{mul-add, mul-le-mul-left}
+use native.Mathlib.Omega.{arith}
+use lib.ListN.{length, drop}
+use Rattle.foundation.specs.Bytes.{le, records}
+use Rattle.foundation.specs.Records.{length-records}
+use Rattle.model.specs.Encoding.{decode, privilegeOf, authorizationOf, ruleOf}
+use Rattle.model.specs.Soundness.{soundBytes}
+use Rattle.model.specs.SoundnessFacts.{sound-tests, sound-bytes}
+use Rattle.encoding.specs.declared.Counts.{Counts}
+use Rattle.encoding.specs.Format.{countsOf, administratorsAt, referrersAt, authorizationsAt, rulesAt}
+use Rattle.encoding.proofs.FormatFacts.{decoded-objects, decoded-administrators, decoded-referrers}
+use Rattle.encoding.proofs.FormatFacts.{decoded-authorizations, decoded-rules, decoded-lengths, decoded-counts}
+use Rattle.encoding.proofs.Contents.{Within, within}
+use Rattle.records.specs.declared.Body.{Body}
+use Rattle.records.specs.declared.Body.the-variants.{Heading, Objects, Administrators, Referrers}
+use Rattle.records.specs.declared.Body.the-variants.{Authorizations, Rules}
+use Rattle.records.specs.Records.{privilegeNumbers, authorizationNumbers, ruleNumbers, headingNumbers}
+use Rattle.records.specs.Records.{widthOf, rows}
+use Rattle.records.specs.Pages.{bytesOf, numbersOf, countOf, startOf}
+use Rattle.records.proofs.Joined.{map-records}
+
+-- each record of a body is as many numbers as the body's are wide
+pub wide : (b : Body) (s : List ℕ) → length (numbersOf b s) ≡ widthOf b
+wide Heading s = refl
+wide Objects s = refl
+wide Administrators s = refl
+wide Referrers s = refl
+wide Authorizations s = refl
+wide Rules s = refl
+
+pub counts-within : (s : List ℕ) → soundBytes s ≡ true → Within (countsOf s)
+counts-within s e =
+    within (countsOf s) (sym (decoded-counts s) ∙ sound-tests (decode s) (sound-bytes s e .1) .counts)
+
+module _ (c : Counts) (h : Within c) where
+  pub count-most : (b : Body) → countOf c b ≤ 1024
+  count-most Heading = omega arith
+  count-most Objects = omega arith
+  count-most Administrators = omega arith
+  count-most Referrers = omega arith
+  count-most Authorizations = omega arith
+  count-most Rules = omega arith
+
+  -- a body ends within the bytes
+  pub body-fits : (b : Body) → startOf c b + bytesOf b * countOf c b ≤ 27936
+  body-fits Heading = omega arith
+  body-fits Objects = omega arith
+  body-fits Administrators = omega arith
+  body-fits Referrers = omega arith
+  body-fits Authorizations = omega arith
+  body-fits Rules = omega arith
+
+  -- and so do k records behind m others
+  pub page-fits : (b : Body) (m k : ℕ) → m + k ≤ countOf c b →
+      startOf c b + bytesOf b * m + bytesOf b * k ≤ 27936
+  page-fits b m k l =
+      let f : bytesOf b * (m + k) ≤ bytesOf b * countOf c b = mul-le-mul-left (bytesOf b) l in
+      omega (arith, mul-add (bytesOf b) m k, body-fits b)
+
+module _ (s : List ℕ) where
+  -- the records of a body as the bytes have them
+  abbrev pub stored : Body → List (List ℕ)
+  stored b = records (bytesOf b) (numbersOf b) (countOf (countsOf s) b) (drop (startOf (countsOf s) b) s)
+
+  heading-stored : headingNumbers (decode s) ≡ numbersOf Heading s
+  unfolding decode
+  heading-stored =
+      let l = decoded-lengths s in
+      λ k. le 4 (drop 4 s) ∷ le 2 (drop 8 s) ∷ l .0 k ∷ l .1 k ∷ l .2 k ∷ l .3 k ∷ l .4 k ∷ []
+
+  -- one body, as the decoding has it
+  mapped : {A : Type 0} (g : A → List ℕ) (w : ℕ) (f : List ℕ → A) (n at : ℕ) (xs : List A) →
+      xs ≡ records w f n (drop at s) → map g xs ≡ records w (λ r. g (f r)) n (drop at s)
+  mapped g w f n at xs e = ap (map g) e ∙ map-records g w f n (drop at s)
+
+  pub rows-stored : (b : Body) → rows (decode s) b ≡ stored b
+  rows-stored Heading = ap (λ (r : List ℕ). r ∷ []) heading-stored
+  rows-stored Objects = mapped privilegeNumbers 4 privilegeOf (countsOf s .objects) 32 (decode s .objects)
+      (decoded-objects s)
+  rows-stored Administrators = mapped privilegeNumbers 4 privilegeOf (countsOf s .administrators)
+      (administratorsAt (countsOf s)) (decode s .administrators) (decoded-administrators s)
+  rows-stored Referrers = mapped privilegeNumbers 4 privilegeOf (countsOf s .referrers)
+      (referrersAt (countsOf s)) (decode s .referrers) (decoded-referrers s)
+  rows-stored Authorizations = mapped authorizationNumbers 24 authorizationOf (countsOf s .authorizations)
+      (authorizationsAt (countsOf s)) (decode s .authorizations) (decoded-authorizations s)
+  rows-stored Rules = mapped ruleNumbers 28 ruleOf (countsOf s .rules) (rulesAt (countsOf s))
+      (decode s .rules) (decoded-rules s)
+
+  pub rows-length : (b : Body) → length (rows (decode s) b) ≡ countOf (countsOf s) b
+  rows-length b =
+      ap length (rows-stored b)
+      ∙ length-records (bytesOf b) (numbersOf b) (countOf (countsOf s) b) (drop (startOf (countsOf s) b) s)
