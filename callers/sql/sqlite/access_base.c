@@ -64,6 +64,13 @@ static void fail(sqlite3_context *context, const char *fault)
         sqlite3_result_error(context, fault, -1);
 }
 
+static void refuse(sqlite3_context *context, uint32_t refusal)
+{
+    char *text = refusal_text(refusal);
+    fail(context, text);
+    sqlite3_free(text);
+}
+
 /* ---- scalar functions */
 
 static void empty(sqlite3_context *context, int n, sqlite3_value **a)
@@ -128,13 +135,10 @@ static uint8_t *put_line(sqlite3_context *context, sqlite3_value **a, size_t *le
     if (*written >= 0 && strcmp(out, "refused 2") != 0)
         return base;
     sqlite3_free(base);
-    if (*written < 0) {
+    if (*written < 0)
         fail(context, "the library gave no reply: this is a fault of the extension, report it");
-    } else {
-        char *text = refusal_text(ACCESS_BASE_INVALID_BASE);
-        fail(context, text);
-        sqlite3_free(text);
-    }
+    else
+        refuse(context, ACCESS_BASE_INVALID_BASE);
     return NULL;
 }
 
@@ -192,13 +196,10 @@ static void may(sqlite3_context *context, int n, sqlite3_value **a)
     }
     r = access_base_ask_may(base, length, x[0], x[1], x[2], x[3]);
     sqlite3_free(base);
-    if (r.refusal != ACCESS_BASE_DONE) {
-        char *text = refusal_text(r.refusal);
-        fail(context, text);
-        sqlite3_free(text);
-        return;
-    }
-    sqlite3_result_int(context, r.number == 1);
+    if (r.refusal != ACCESS_BASE_DONE)
+        refuse(context, r.refusal);
+    else
+        sqlite3_result_int(context, r.number == 1);
 }
 
 /* ---- table-valued functions: the heading, the five bodies, and behind them WHEN */
