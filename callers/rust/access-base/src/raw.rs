@@ -86,6 +86,13 @@ mod linked {
             list: *mut u32,
             list_length: usize,
         ) -> u64;
+        pub fn access_base_report(
+            base: *const u8,
+            length: usize,
+            object: u32,
+            page: *mut u8,
+            page_length: usize,
+        ) -> u64;
         pub fn access_base_text(
             base: *mut u8,
             length: usize,
@@ -171,6 +178,11 @@ pub fn when(base: &[u8], x: Access, list: &mut [u32]) -> Reply {
     unpacked(unsafe {
         linked::access_base_when(base.as_ptr(), base.len(), x.subject, x.mode, x.object, list.as_mut_ptr(), list.len())
     })
+}
+
+/// `access_base_report`: the number is that of the bytes written.
+pub fn report(base: &[u8], object: u32, page: &mut [u8]) -> Reply {
+    unpacked(unsafe { linked::access_base_report(base.as_ptr(), base.len(), object, page.as_mut_ptr(), page.len()) })
 }
 
 /// `access_base_text`: the number is that of the bytes written.
