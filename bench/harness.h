@@ -15,7 +15,7 @@
 typedef struct access_base_request request;
 typedef struct access_base_reply reply;
 
-/* ---- what is compared: five functions */
+/* ---- what is compared: six functions */
 
 struct library {
     const char *name;
@@ -24,12 +24,14 @@ struct library {
     reply (*request)(uint8_t *, size_t, const request *);
     reply (*may)(const uint8_t *, size_t, uint32_t, uint32_t, uint32_t, uint32_t);
     reply (*when)(const uint8_t *, size_t, uint32_t, uint32_t, uint32_t, uint32_t *, size_t);
+    reply (*report)(const uint8_t *, size_t, uint32_t, char *, size_t);
 };
 
 static const struct library proved = {
-    "proved", access_base_make, access_base_is_sound, access_base_do, access_base_ask_may, access_base_ask_when};
+    "proved", access_base_make, access_base_is_sound, access_base_do, access_base_ask_may, access_base_ask_when,
+    access_base_write_report};
 static const struct library plain = {
-    "plain C", plain_create, plain_is_sound, plain_request, plain_may, plain_when};
+    "plain C", plain_create, plain_is_sound, plain_request, plain_may, plain_when, plain_report};
 
 static double seconds(void)
 {

@@ -1,5 +1,5 @@
-/* plain.h: the meter access base in plain C, without proofs. The five functions take the structs and constants of
- * access_base.h and answer as document 01 says. The base is ACCESS_BASE_BYTES lent bytes; nothing is kept between calls,
+/* plain.h: the meter access base in plain C, without proofs. The functions take the structs and constants of
+ * access_base.h and answer as documents 01 and 02 say. The base is ACCESS_BASE_BYTES lent bytes; nothing is kept between calls,
  * nothing is allocated, and what is no sound base is answered with 2 and left as it is. */
 #ifndef PLAIN_H
 #define PLAIN_H
@@ -14,5 +14,7 @@ struct access_base_reply plain_may(
 struct access_base_reply plain_when(
     const uint8_t *base, size_t base_length, uint32_t subject, uint32_t mode, uint32_t object, uint32_t *list,
     size_t list_length);
+struct access_base_reply plain_report(
+    const uint8_t *base, size_t base_length, uint32_t object, char *page, size_t page_length);
 
 #endif

@@ -112,6 +112,7 @@ static void named_chain(void)
 
 static uint8_t lent[ACCESS_BASE_BYTES];
 static uint32_t list[2 * ACCESS_BASE_PAIRS];
+static char page[ACCESS_BASE_SHEET_BYTES], page_before[ACCESS_BASE_SHEET_BYTES];
 
 static reply is_sound(const struct library *l)
 {
@@ -126,6 +127,17 @@ static reply when(const struct library *l)
 static reply may(const struct library *l)
 {
     return l->may(base, sizeof base, 2, 1, 1, 8999);
+}
+
+/* Both must leave the same page. */
+static reply report(const struct library *l)
+{
+    reply r = l->report(base, sizeof base, 1, page, sizeof page);
+    if (l == &plain)
+        memcpy(page_before, page, sizeof page);
+    else if (memcmp(page_before, page, sizeof page) != 0)
+        r.refusal = ACCESS_BASE_INVALID_BASE;
+    return r;
 }
 
 static reply order(const struct library *l, request q)
@@ -182,6 +194,8 @@ int main(void)
     printf("| call and base | reply | proved, ms | plain C, ms | ratio |\n|---|---|---|---|---|\n");
     row("soundness check, 512 lines across 511", across, is_sound);
     row("soundness check, a chain of 1,022, times falling with labels", falling, is_sound);
+    row("soundness check, 1,024 lines on one meter", apart, is_sound);
+    row("rights sheet, 1,024 lines on one meter", apart, report);
     row("REVOKE of the root, 512 lines across 511", across, revoke_first);
     row("REVOKEP of an instant at the root, 512 lines across 511", across, split);
     row("REVOKE of the first of a chain of 1,022, times falling with labels", falling, revoke_last);

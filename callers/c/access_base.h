@@ -34,6 +34,9 @@ extern "C" {
 /* no record is more numbers, and all records of a body together are at most so many */
 #define ACCESS_BASE_RECORD_NUMBERS 15u
 #define ACCESS_BASE_BODY_NUMBERS 10240u
+/* a row of a rights sheet, and what always suffices for a sheet: a row for each of 1,024 lines */
+#define ACCESS_BASE_ROW_BYTES 44u
+#define ACCESS_BASE_SHEET_BYTES 45056u
 
 /* Kinds of requests, and the fields that each names beside now and requester. Other fields are not looked at. */
 enum access_base_kind {
@@ -72,7 +75,7 @@ enum access_base_refusal {
     ACCESS_BASE_ALREADY_SO = 10,   /* the object exists, or the subject owns it or holds that privilege */
     ACCESS_BASE_NOT_HELD = 11,     /* the privilege to withdraw is not there */
     ACCESS_BASE_NOT_STRATIFIED = 12,/* the rule would close a forbidden circle */
-    ACCESS_BASE_FULL = 13          /* a count or the labels would be passed, or the list or the buffer is too short */
+    ACCESS_BASE_FULL = 13          /* a count or the labels would be passed, or the list, page or buffer is too short */
 };
 
 /* The heading of a base and its five bodies, and the numbers that a record of each is. */
@@ -130,8 +133,8 @@ struct access_base_request {
 };
 
 /* A reply. `number` is: for a request done, the authorizations (lines) now in the base; with refusal 9, an uncovered
- * instant of the span; for MAY, 1 if the answer is yes and 0 if it is no; for WHEN, the number of runs; for records,
- * how many; for a line of text, the bytes written. 0 with any other refusal. */
+ * instant of the span; for MAY, 1 if the answer is yes and 0 if it is no; for WHEN, the number of runs; for records, how
+ * many; for a rights sheet or a line of text, the bytes written. 0 with any other refusal. */
 struct access_base_reply {
     uint32_t refusal; /* enum access_base_refusal; 0 if not refused */
     uint32_t label;   /* the new label of a GRANT, DENY or ADDRULE that was done, or 0 */
@@ -162,6 +165,9 @@ uint64_t access_base_when(
 
 uint64_t access_base_records(
     const uint8_t *base, size_t base_length, uint32_t body, uint32_t first, uint32_t *list, size_t list_length);
+
+uint64_t access_base_report(
+    const uint8_t *base, size_t base_length, uint32_t object, uint8_t *page, size_t page_length);
 
 uint64_t access_base_text(
     uint8_t *base, size_t base_length, const uint8_t *line, size_t line_length, uint8_t *out, size_t out_length);
@@ -217,6 +223,17 @@ static inline struct access_base_reply access_base_read(
     const uint8_t *base, size_t base_length, uint32_t body, uint32_t first, uint32_t *list, size_t list_length)
 {
     return access_base_reply_of(access_base_records(base, base_length, body, first, list, list_length));
+}
+
+/* The rights sheet of an object: a row of ACCESS_BASE_ROW_BYTES for each line on it, in the base's order, at the front of
+ * the page; `number` bytes in all, and the rest of the page is untouched. A row has label, granter, subject, mode, sign,
+ * option, start and end in columns of 5, 4, 4, 1, 1, 1, 10 and 10 bytes, right-aligned, with one blank between two columns
+ * and a newline last; the last instant is `inf`. No NUL is written. An object without lines needs no page. Refusals: 2,
+ * 3, 6, and 13 for a page that is too short. */
+static inline struct access_base_reply access_base_write_report(
+    const uint8_t *base, size_t base_length, uint32_t object, char *page, size_t page_length)
+{
+    return access_base_reply_of(access_base_report(base, base_length, object, (uint8_t *)page, page_length));
 }
 
 /* One line of text, a request or a question as the text session has it, without its newline; any bytes may be lent.

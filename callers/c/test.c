@@ -184,6 +184,73 @@ static void texts(void)
     expect(tells(ACCESS_BASE_TEXT_LEAST, "WHEN 4 1 7", 0, "none\n"), "no run");
 }
 
+static char page[ACCESS_BASE_SHEET_BYTES + 4];
+
+/* The sheet of an object on a page of so many bytes: the refusal, and what is on the page; what is behind is untouched. */
+static int reports(uint32_t object, size_t length, uint32_t refusal, const char *sheet)
+{
+    struct access_base_reply r;
+    size_t n = strlen(sheet);
+    memset(page, '#', sizeof page);
+    r = access_base_write_report(base, ACCESS_BASE_BYTES, object, page, length);
+    if (!is(r, refusal, 0, (uint32_t)n) || memcmp(page, sheet, n) != 0)
+        return 0;
+    for (size_t i = n; i < sizeof page; i++)
+        if (page[i] != '#')
+            return 0;
+    return 1;
+}
+
+/* The rights sheet after session S, on pages that just suffice or just do not; numbers at their widest; 1,024 lines. */
+static void sheets(void)
+{
+    static const char *const session[] = {
+        "4 1 NEW 7", "4 1 GRANTADM 7 5", "5 1 GRANT 1 7 2 50 200 y", "50 5 GRANT 1 7 2 80 150 y",
+        "55 2 GRANT 1 7 3 55 180 y", "60 3 DENY 1 7 4 60 70", "61 1 REVOKEP 1 7 2 60 200"};
+    static const char sheet[] =
+        "    1    1    2 1 + y         50         59\n"
+        "    2    5    2 1 + y         80        150\n"
+        "    3    2    3 1 + y         55         59\n"
+        "    3    2    3 1 + y         80        150\n";
+    static const char wide[] =
+        "65534 1023 1022 8 - n 4294967294        inf\n"
+        "65535 1023 1023 8 + n        inf        inf\n";
+    access_base_make(base, ACCESS_BASE_BYTES);
+    for (size_t i = 0; i < sizeof session / sizeof *session; i++)
+        access_base_tell(base, ACCESS_BASE_BYTES, session[i], strlen(session[i]), out, sizeof out);
+    expect(is(ORDER(.kind = ACCESS_BASE_NEW, .now = 61, .requester = 1023, .object = 9), 0, 0, 4), "NEW 9");
+    memcpy(before, base, sizeof before);
+    expect(reports(7, 176, 0, sheet), "a page that just suffices");
+    expect(reports(7, 180, 0, sheet), "a page with four bytes more");
+    expect(reports(7, 175, ACCESS_BASE_FULL, ""), "a page one byte short");
+    expect(reports(7, 0, ACCESS_BASE_FULL, ""), "no page");
+    expect(reports(8, 0, ACCESS_BASE_NO_SUCH_OBJECT, ""), "6 before 13");
+    expect(reports(0, 180, ACCESS_BASE_OUT_OF_RANGE, ""), "object 0");
+    expect(reports(129, 180, ACCESS_BASE_OUT_OF_RANGE, ""), "object 129");
+    expect(reports(4294967295u, 0, ACCESS_BASE_OUT_OF_RANGE, ""), "the highest number");
+    expect(reports(9, 0, 0, ""), "an object without lines needs no page");
+    expect(untouched(), "and the base is untouched");
+    base[8] = 0xfd;
+    base[9] = 0xff; /* the last label given is 65,533 */
+    expect(is(ORDER(.kind = ACCESS_BASE_DENY, .now = 61, .requester = 1023, .mode = 8, .object = 9, .subject = 1022,
+                    .start = 4294967294u, .end = ACCESS_BASE_LAST), 0, 65534, 5), "DENY with label 65,534");
+    expect(is(ORDER(.kind = ACCESS_BASE_GRANT, .now = 61, .requester = 1023, .mode = 8, .object = 9, .subject = 1023,
+                    .start = ACCESS_BASE_LAST, .end = ACCESS_BASE_LAST), 0, 65535, 6), "GRANT with label 65,535");
+    expect(reports(9, 88, 0, wide), "numbers as wide as they get");
+    expect(reports(7, 176, 0, sheet), "and the other sheet is as before");
+    access_base_make(base, ACCESS_BASE_BYTES);
+    ORDER(.kind = ACCESS_BASE_NEW, .now = 0, .requester = 1, .object = 7);
+    for (uint32_t i = 0; i < 1024; i++)
+        ORDER(.kind = ACCESS_BASE_GRANT, .now = 0, .requester = 1, .mode = 1, .object = 7, .subject = 2, .start = i,
+              .end = i);
+    expect(is(access_base_write_report(base, ACCESS_BASE_BYTES, 7, page, ACCESS_BASE_SHEET_BYTES - 1),
+              ACCESS_BASE_FULL, 0, 0), "a page one byte short for 1,024 lines");
+    expect(is(access_base_write_report(base, ACCESS_BASE_BYTES, 7, page, ACCESS_BASE_SHEET_BYTES), 0, 0,
+              ACCESS_BASE_SHEET_BYTES), "1,024 lines");
+    expect(memcmp(page + 1023 * ACCESS_BASE_ROW_BYTES, " 1024    1    2 1 + n       1023       1023\n", 44) == 0,
+           "the last row");
+}
+
 /* Bytes of another length or that are no base are refused by all, and untouched. */
 static void unsound(size_t length)
 {
@@ -195,6 +262,9 @@ static void unsound(size_t length)
     expect(is(access_base_ask_may(base, length, 1, 1, 1, 1), ACCESS_BASE_INVALID_BASE, 0, 0), "MAY gets 2");
     expect(is(access_base_ask_when(base, length, 1, 1, 1, list, 2), ACCESS_BASE_INVALID_BASE, 0, 0), "WHEN gets 2");
     expect(is(access_base_read(base, length, 9, 9, list, 2), ACCESS_BASE_INVALID_BASE, 0, 0), "records get 2");
+    page[0] = '#';
+    expect(is(access_base_write_report(base, length, 1, page, sizeof page), ACCESS_BASE_INVALID_BASE, 0, 0)
+               && page[0] == '#', "the sheet gets 2");
     expect(is(access_base_tell(base, length, "WHEN 1 1 1", 10, out, 16), 0, 0, 10)
                && memcmp(out, "refused 2\n", 10) == 0, "the text is `refused 2`");
     if (length != ACCESS_BASE_BYTES)
@@ -208,6 +278,7 @@ int main(void)
     records();
     replies();
     texts();
+    sheets();
     unsound(ACCESS_BASE_BYTES - 1);
     unsound(ACCESS_BASE_BYTES + 1);
     unsound(0);

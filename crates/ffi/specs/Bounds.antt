@@ -1,34 +1,43 @@
 -- What base's functions reply is small enough to come apart again: every packed reply gives back its refusal, its
 -- label and its number (Numbers), a packed reply to a request says what the request's definition says
--- (`request-parts`), and so does one to a line of text (`text-parts`).
+-- (`request-parts`), and so does one to a line of text (`text-parts`) and one with a rights sheet (`report-parts`).
 use mathlib.Core.Path.{_≡_, refl, sym, ap, subst, _∙_}
-use mathlib.Core.Logic.{_≢_, ⊎-elim}
-use mathlib.Core.Bool.{true, not, false≢true}
+use mathlib.Core.Logic.{_≢_, inl, ⊎-elim}
+use mathlib.Core.Bool.{Bool, true, not, false≢true}
 use mathlib.Core.List.{List, [], _∷_, _++_}
-use Prim.Native.Nat.{ℕ, suc, _*_, _/_, _%_, _<_}
+use Prim.Native.Nat.{ℕ, suc, _*_, _/_, _%_, _≤_, _<_}
 use native.Mathlib.Omega.{arith}
 use lib.Dec.{ltb, eqb}
 use lib.ListN.{length, drop}
-use Rattle.foundation.specs.Tests.{eq-true, true-le}
-use Rattle.foundation.specs.Lists.{allb}
+use Rattle.foundation.specs.Tests.{cases, eq-true, true-le, not-false}
+use Rattle.foundation.specs.Lists.{allb, keepIf}
+use Rattle.model.specs.declared.Authorization.{Authorization}
 use Rattle.model.specs.declared.Request.{Request}
 use Rattle.model.specs.declared.Access.{Access}
 use Rattle.model.specs.declared.Question.{Question}
+use Rattle.model.specs.declared.Counted.{Counted}
+use Rattle.model.specs.declared.Counted.the-variants.{Count}
 use Rattle.model.specs.declared.Reply.{Reply}
 use Rattle.model.specs.declared.Reply.the-variants.{Done, Refused, Unsupported, Yes, No, Runs}
 use Rattle.model.specs.Base.{emptyBase}
 use Rattle.model.specs.Rules.{when}
 use Rattle.model.specs.Step.{Row, row, firstNumber, isGap}
-use Rattle.model.specs.StepFacts.{first-all, by-rows}
+use Rattle.model.specs.StepFacts.{first-all, first-none, numbered, by-rows}
 use Rattle.model.specs.Encoding.{size, encode, decode}
+use Rattle.model.specs.FitsFacts.{counts-fit}
 use Rattle.model.specs.Soundness.{soundBytes}
+use Rattle.model.specs.SoundnessFacts.{sound-tests, sound-bytes}
 use Rattle.model.specs.Answers.{Answer, Answered, answering, refusing, refusalNumber, shown, create, request}
 use Rattle.model.specs.Answers.{whenTable, mayAnswer, whenAnswer, words}
+use Rattle.model.specs.Counting.{Counting, counting, declining, countedRefusal, countedNumber}
+use Rattle.model.specs.Report.{isOn, reportOf, reportTable, reportAnswer}
+use Rattle.model.specs.ReportFacts.{report-length}
 use Rattle.model.specs.Session.{Written, textAnswer}
 use Rattle.text.specs.Short.{Short, request-short, may-short}
 use Rattle.text.specs.Room.{refused-untouched}
 use Rattle.records.specs.Records.{bodyOf, widthOf, rows, pageRows, paged, pageAnswer, recordsAnswer}
-use Rattle.ffi.specs.Numbers.{labelOf, numberOf, packedText, refusal-back, label-back, number-back, AnsweredBy}
+use Rattle.ffi.specs.Numbers.{labelOf, numberOf, packedCount, packedText, refusal-back, label-back, number-back}
+use Rattle.ffi.specs.Numbers.{AnsweredBy}
 
 -- the bounds under which a packed reply comes apart again
 pub record Small (r : Reply) : Type 0 where
@@ -171,3 +180,44 @@ text-parts s line out =
     let h : w .refusal < 65536 = ⊎-elim (λ e. omega (arith, e))
     (λ e. omega (arith, ap (λ (x : Written). x .refusal) e)) (refused-untouched s line out) in
     record { refusal = omega arith; label = omega arith; count = omega arith }
+
+-- ---- the parts of a reply with a rights sheet
+
+kept-most : (p : Authorization → Bool) (xs : List Authorization) → length (keepIf p xs) ≤ length xs
+kept-most p [] = omega arith
+kept-most p (x ∷ xs) = cases (p x)
+    (λ e. rw e (omega (arith, kept-most p xs)))
+    (λ e. rw e (omega (arith, kept-most p xs)))
+
+-- 1,024 rows of 44 bytes always suffice
+pub report-most : (s : List ℕ) (o : ℕ) → soundBytes s ≡ true → length (reportOf (decode s) o) ≤ 45056
+report-most s o e =
+    let b = decode s in
+    let w = sound-bytes s e .1 in
+    omega (
+      arith,
+      report-length b o w,
+      kept-most (isOn o) (b .authorizations),
+      counts-fit b (sound-tests b w .counts) .authorizations,
+    )
+
+-- what the number that the exported report gives says of the sheet's definition
+pub record CountParts (r : Counted) (n : ℕ) : Type 0 where
+  pub refusal : n % 65536 ≡ countedRefusal r
+  pub label : n / 65536 % 65536 ≡ 0
+  pub number : n / 4294967296 ≡ countedNumber r
+
+pub report-parts : (s : List ℕ) (o : ℕ) (page : List ℕ) →
+    CountParts (reportAnswer s o page .reply) (packedCount (reportAnswer s o page .reply))
+unfolding reportAnswer
+report-parts s o page =
+    let text = reportOf (decode s) o in
+    let n = length text in
+    let rows = row 2 (not (soundBytes s)) ∷ reportTable (decode s) o (length page) n in
+    by-rows rows (declining page) (counting (Count n) (text ++ drop n page))
+    (λ (a : Counting). CountParts (a .reply) (packedCount (a .reply)))
+    (let h = refused-small rows refl .refusal in
+    record { refusal = omega arith; label = omega arith; number = omega arith })
+    (λ z. let e = not-false (soundBytes s) (first-none rows (numbered rows refl) z _ (inl refl)) in
+    let h = report-most s o e in
+    record { refusal = omega arith; label = omega arith; number = omega arith })

@@ -9,6 +9,8 @@ use native.Mathlib.Omega.{arith}
 use Rattle.foundation.specs.Tests.{pick}
 use Rattle.model.specs.declared.Reply.{Reply}
 use Rattle.model.specs.declared.Reply.the-variants.{Done, Refused, Unsupported, Yes, No, Runs}
+use Rattle.model.specs.declared.Counted.{Counted}
+use Rattle.model.specs.declared.Counted.the-variants.{Count, Refused as Declined}
 use Rattle.model.specs.declared.Term.{Term}
 use Rattle.model.specs.declared.Term.the-variants.{Any, Number}
 use Rattle.model.specs.declared.OptionTerm.{OptionTerm}
@@ -18,6 +20,7 @@ use Rattle.model.specs.declared.Request.{Request}
 use Rattle.model.specs.declared.Access.{Access}
 use Rattle.model.specs.declared.Question.{Question}
 use Rattle.model.specs.Answers.{Answered, refusalNumber}
+use Rattle.model.specs.Counting.{countedRefusal, countedNumber}
 use Rattle.model.specs.Session.{Written}
 
 -- ---- requests and questions
@@ -55,6 +58,11 @@ packed (Unsupported t) = t * 4294967296 + 9
 packed Yes = 4294967296
 packed No = 0
 packed (Runs n) = n * 4294967296
+
+-- a count: the refusal in bits 0 to 15, how many from bit 32 on
+abbrev pub packedCount : Counted → ℕ
+packedCount (Count n) = n % 4294967296 * 4294967296
+packedCount (Declined k) = k % 65536
 
 -- a line of text: the refusal in bits 0 to 15, the bytes written from bit 32 on
 abbrev pub packedText : Written → ℕ
@@ -103,6 +111,15 @@ number-back (Unsupported t) = omega arith
 number-back Yes = refl
 number-back No = refl
 number-back (Runs n) = omega arith
+
+pub counted-refusal-back : (r : Counted) → countedRefusal r < 65536 → packedCount r % 65536 ≡ countedRefusal r
+counted-refusal-back (Count n) h = omega arith
+counted-refusal-back (Declined k) h = omega arith
+
+pub counted-number-back : (r : Counted) → countedNumber r < 4294967296 →
+    packedCount r / 4294967296 ≡ countedNumber r
+counted-number-back (Count n) h = omega arith
+counted-number-back (Declined k) h = omega arith
 
 -- ---- what the contract of the exported request says
 

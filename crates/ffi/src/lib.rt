@@ -1,16 +1,19 @@
 // The library for C and Rust: the seven functions of crate base on numbers, truth values and lent slices. They add
 // nothing but the wording: every contract is that of base's function, on the request or question that the numbers
 // say. What a caller takes out of a packed reply is said in specs/Numbers.antt (`refusal-back`, `label-back`,
-// `number-back`) and specs/Bounds.antt (`text-parts` for a line of text).
+// `number-back`) and specs/Bounds.antt (`text-parts` for a line of text, `report-parts` for a rights sheet).
 ghost use mathlib.Core.Path.{_≡_};
 ghost use Rattle.foundation.specs.Intervals.{interval};
 ghost use Rattle.model.specs.Soundness.{soundBytes};
 ghost use Rattle.model.specs.Answers.{create, mayAnswer, whenAnswer};
+ghost use Rattle.model.specs.Report.{reportAnswer};
 ghost use Rattle.model.specs.Session.{textAnswer};
 ghost use Rattle.records.specs.Records.{recordsAnswer};
-ghost use Rattle.ffi.specs.Numbers.{termOf, optionOf, side, access, question, packed, packedText, AnsweredBy};
+ghost use Rattle.ffi.specs.Numbers.{termOf, optionOf, side, access, question, packed, packedCount, packedText};
+ghost use Rattle.ffi.specs.Numbers.{AnsweredBy};
 use foundation::Interval;
 use model::Access;
+use model::Counted;
 use model::OptionTerm;
 use model::Question;
 use model::Reply;
@@ -54,6 +57,16 @@ fn pack(r: Reply) -> u64
         Reply::Yes => 4294967296,
         Reply::No => 0,
         Reply::Runs(n) => (n as u64) * 4294967296,
+    }
+}
+
+// A reply that counts as one number.
+fn pack_count(r: Counted) -> u64
+    ensures { λ n. ⌜ n ≡ packedCount r ⌝ }
+{
+    match r {
+        Counted::Count(n) => n % 4294967296 * 4294967296,
+        Counted::Refused(k) => (k as u64) % 65536,
     }
 }
 
@@ -221,6 +234,17 @@ pub extern "C" fn access_base_request(
             rule: rule,
         },
     ))
+}
+
+// The rights sheet of an object.
+#[no_mangle]
+pub extern "C" fn access_base_report(base: &[u8], object: u32, page: &mut [u8]) -> u64
+    ensures { λ r. ⌜
+        (r ≡ packedCount (reportAnswer (now (base .entry)) object (now (page .entry)) .reply))
+        × (now (page .exit) ≡ reportAnswer (now (base .entry)) object (now (page .entry)) .lent)
+        ⌝ }
+{
+    pack_count(base::report(base, object, page))
 }
 
 // One line of text, its reply as text in the buffer.

@@ -97,15 +97,22 @@ pub fn move_down(s: &mut [u8], w: usize)
     }
 }
 
+// Makes every byte of a slice x.
+pub fn fill(s: &mut [u8], x: u8)
+    ensures { λ _. ⌜ now (s .exit) ≡ replicate (length (now (s .entry))) x ⌝ }
+{
+    let mut i = 0;
+    while i < s.len() {
+        s[i] = x;
+        i += 1;
+    }
+}
+
 // Makes every byte of a slice zero.
 pub fn clear(s: &mut [u8])
     ensures { λ _. ⌜ now (s .exit) ≡ replicate (length (now (s .entry))) 0 ⌝ }
 {
-    let mut i = 0;
-    while i < s.len() {
-        s[i] = 0;
-        i += 1;
-    }
+    fill(s, 0);
 }
 
 // Opens a gap of w bytes at `from`, in the part of s that ends at `to`: what stands there goes up by w, and the last w bytes of the part are lost.

@@ -38,5 +38,8 @@ pub mod HeldFacts
 pub mod LayoutRecords
 pub mod LayoutFacts
 pub mod TextFacts
+pub mod Counting
+pub mod Report
+pub mod ReportFacts
 pub mod Survival
 pub mod SurvivalFacts

@@ -1,4 +1,5 @@
--- Numbers that are printed can be read back: `decimal-back`, `instant-back`.
+-- Numbers that are printed can be read back (`decimal-back`, `instant-back`), and how long they are: one below 10 to the
+-- power of k has at most k digits (`decimal-below`).
 use mathlib.Core.Path.{_≡_, refl, sym, ap, _∙_}
 use Prim.Native.Nat.{ℕ, zero, suc, _+_, _-_, _*_, _/_, _%_, _^_, _≤_, _<_}
 use native.Mathlib.Nat.{pow-succ'}
@@ -125,3 +126,44 @@ instant-back n h = cases (eqb n lastInstant)
     (λ e. rw e (cases (eqList (decimal n) (ascii "inf"))
     (λ f. absurd (Option·some-ne-none n (sym (decimal-back n h) ∙ ap number (eqList-eq (decimal n) (ascii "inf") f))))
     (λ f. rw f (decimal-back n h))))
+
+-- ---- how long numbers are
+
+-- the last digit stands behind those of the tenth
+pub digits-more : (k n : ℕ) → 10 ≤ n → length (digits (suc k) n) ≡ suc (length (digits k (n / 10)))
+digits-more k n h = cases (ltb n 10)
+    (λ e. absurd (omega (arith, true-le (suc n) 10 e)))
+    (λ e. rw e (omega (arith, length-append (digits k (n / 10)) ((48 + n % 10) ∷ []))))
+
+pub digits-one : (k n : ℕ) → n < 10 → length (digits (suc k) n) ≡ 1
+digits-one k n h = cases (ltb n 10)
+    (λ e. rw e refl)
+    (λ e. absurd (omega (arith, false-le (suc n) 10 e)))
+
+digits-below : (m k n : ℕ) → n < 10 ^ suc k → length (digits m n) ≤ suc k
+digits-below zero k n h = omega arith
+digits-below (suc m) zero n h = omega (arith, digits-one m n h)
+digits-below (suc m) (suc k) n h = cases (ltb n 10)
+    (λ e. omega (arith, digits-one m n (true-le (suc n) 10 e)))
+    (λ e. let t : 10 ≤ n = omega (arith, false-le (suc n) 10 e) in
+    let l : n < 10 * 10 ^ suc k = rw (pow-succ' 10 (suc k)) at h in
+    omega (arith, digits-more m n t, digits-below m k (n / 10) (omega arith)))
+
+-- a number below 10 to the power of k + 1 has at most k + 1 digits
+pub decimal-below : (k n : ℕ) → n < 10 ^ suc k → length (decimal n) ≤ suc k
+unfolding decimal
+decimal-below k n h = digits-below 10 k n h
+
+digits-most : (k n : ℕ) → length (digits k n) ≤ k
+digits-most zero n = omega arith
+digits-most (suc k) n = cases (ltb n 10)
+    (λ e. omega (arith, digits-one k n (true-le (suc n) 10 e)))
+    (λ e. let t : 10 ≤ n = omega (arith, false-le (suc n) 10 e) in
+    omega (arith, digits-more k n t, digits-most k (n / 10)))
+
+pub decimal-most : (n : ℕ) → length (decimal n) ≤ 10
+unfolding decimal
+decimal-most n = digits-most 10 n
+
+pub instant-most : (t : ℕ) → length (printInstant t) ≤ 10
+instant-most t = cases (eqb t lastInstant) (λ e. rw e (omega arith)) (λ e. rw e (decimal-most t))

@@ -164,3 +164,9 @@ pub enum Reply {
     // the number of maximal intervals (01: runs) written to the list
     Runs(u32),
 }
+
+// The answer of a call that counts: how many, or refused with a number of the table.
+pub enum Counted {
+    Count(u64),
+    Refused(u32),
+}

@@ -28,13 +28,15 @@ digits-turn i n s h k =
     (sym (append-assoc (digits i (n / 10)) ((48 + n % 10) ∷ []) (drop (suc i) s)))
 
 -- the first digit goes to i, and the number is whole
-pub digits-end : (i n : ℕ) (s : List ℕ) → n < 10 → i < length s → length s ≡ 10 →
-    take (10 - i) (drop i (set s i (48 + n))) ≡ digits (suc i) n ++ drop (suc i) s
-digits-end i n s h k l =
+pub digits-end : (i n : ℕ) (s : List ℕ) → n < 10 → i < length s →
+    drop i (set s i (48 + n)) ≡ digits (suc i) n ++ drop (suc i) s
+digits-end i n s h k =
     let m : n % 10 ≡ n = omega arith in
-    let t : length (drop i (set s i (48 + n))) ≤ 10 - i = simp (length-drop, length-set) (omega arith) in
-    take-all (10 - i) (drop i (set s i (48 + n))) t
-    ∙ rw (le-true (suc n) 10 h, m) (stored i (48 + n) s k)
+    rw (le-true (suc n) 10 h, m) (stored i (48 + n) s k)
+
+-- what is lent from where the number starts
+pub lent-number : (i n : ℕ) (s : List ℕ) → length s ≡ 10 → drop i s ≡ decimal n → take (10 - i) (drop i s) ≡ decimal n
+lent-number i n s l e = take-all (10 - i) (drop i s) (simp length-drop (omega arith)) ∙ e
 
 -- none is found yet
 pub digits-start : (n : ℕ) (s : List ℕ) → length s ≡ 10 → digits 10 n ++ drop 10 s ≡ decimal n

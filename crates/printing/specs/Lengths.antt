@@ -1,65 +1,19 @@
--- How long the texts of replies are: a number below 10 to the k has at most k digits, and no reply is longer than
--- 24,000 bytes (`reply-most`).
-use mathlib.Core.Path.{_≡_, refl, ap, _∙_}
-use mathlib.Core.Bool.{true, false}
-use mathlib.Core.List.{List, [], _∷_, _++_}
-use Prim.Native.Nat.{ℕ, zero, suc, _+_, _*_, _/_, _%_, _^_, _≤_, _<_}
-use native.Mathlib.Nat.{pow-succ'}
+-- How long the texts of replies are: none is longer than 24,000 bytes (`reply-most`).
+use mathlib.Core.Path.{_≡_, ap, _∙_}
+use mathlib.Core.List.{List, _∷_, _++_}
+use Prim.Native.Nat.{ℕ, zero, suc, _+_, _*_, _≤_}
 use native.Mathlib.Omega.{arith}
-use lib.Dec.{ltb, eqb}
 use lib.ListN.{length, drop, getD, length-append}
-use Rattle.foundation.specs.Tests.{cases, true-le, false-le}
 use Rattle.foundation.specs.declared.Interval.{Interval}
 use Rattle.foundation.specs.Intervals.{interval}
 use Rattle.model.specs.declared.Reply.{Reply}
 use Rattle.model.specs.declared.Reply.the-variants.{Done, Refused, Unsupported, Yes, No, Runs}
-use Rattle.model.specs.Ranges.{lastInstant}
-use Rattle.model.specs.Text.{ascii, digits, decimal, printInstant, printRun, printMore, printRuns, printReply}
+use Rattle.model.specs.Text.{ascii, decimal, printInstant, printRun, printMore, printRuns, printReply}
+use Rattle.model.specs.TextFacts.{decimal-most, instant-most}
 use Rattle.model.specs.Session.{pairsOf, runsOf}
 use Rattle.printing.specs.Print.{longestRun, longestReply, RunsIn, RunsFit}
 
--- ---- numbers
-
--- the last digit stands behind those of the tenth
-pub digits-more : (k n : ℕ) → 10 ≤ n → length (digits (suc k) n) ≡ suc (length (digits k (n / 10)))
-digits-more k n h = cases (ltb n 10)
-    (λ e. absurd (omega (arith, true-le (suc n) 10 e)))
-    (λ e. rw e (omega (arith, length-append (digits k (n / 10)) ((48 + n % 10) ∷ []))))
-
-pub digits-one : (k n : ℕ) → n < 10 → length (digits (suc k) n) ≡ 1
-digits-one k n h = cases (ltb n 10)
-    (λ e. rw e refl)
-    (λ e. absurd (omega (arith, false-le (suc n) 10 e)))
-
-digits-below : (m k n : ℕ) → n < 10 ^ suc k → length (digits m n) ≤ suc k
-digits-below zero k n h = omega arith
-digits-below (suc m) zero n h = omega (arith, digits-one m n h)
-digits-below (suc m) (suc k) n h = cases (ltb n 10)
-    (λ e. omega (arith, digits-one m n (true-le (suc n) 10 e)))
-    (λ e. let t : 10 ≤ n = omega (arith, false-le (suc n) 10 e) in
-    let l : n < 10 * 10 ^ suc k = rw (pow-succ' 10 (suc k)) at h in
-    omega (arith, digits-more m n t, digits-below m k (n / 10) (omega arith)))
-
--- a number below 10 to the power of k + 1 has at most k + 1 digits
-pub decimal-below : (k n : ℕ) → n < 10 ^ suc k → length (decimal n) ≤ suc k
-unfolding decimal
-decimal-below k n h = digits-below 10 k n h
-
-digits-most : (k n : ℕ) → length (digits k n) ≤ k
-digits-most zero n = omega arith
-digits-most (suc k) n = cases (ltb n 10)
-    (λ e. omega (arith, digits-one k n (true-le (suc n) 10 e)))
-    (λ e. let t : 10 ≤ n = omega (arith, false-le (suc n) 10 e) in
-    omega (arith, digits-more k n t, digits-most k (n / 10)))
-
-pub decimal-most : (n : ℕ) → length (decimal n) ≤ 10
-unfolding decimal
-decimal-most n = digits-most 10 n
-
 -- ---- runs
-
-pub instant-most : (t : ℕ) → length (printInstant t) ≤ 10
-instant-most t = cases (eqb t lastInstant) (λ e. rw e (omega arith)) (λ e. rw e (decimal-most t))
 
 -- two instants and what stands between them
 pub run-length : (i : Interval) →

@@ -3,7 +3,7 @@
 ghost use mathlib.Core.Path.{_≡_};
 ghost use mathlib.Core.List.{_++_};
 ghost use Prim.Native.Nat.{_+_, _*_, _≤_};
-ghost use lib.ListN.{length, take};
+ghost use lib.ListN.{length, take, drop};
 ghost use Rattle.foundation.specs.Intervals.{interval};
 ghost use Rattle.model.specs.Text.{ascii, decimal, printInstant, printRun, printMore, printRuns, printReply};
 ghost use Rattle.model.specs.Session.{pairsOf, runsOf};
@@ -19,12 +19,11 @@ fn put_bytes(out: &mut [u8], at: usize, text: &[u8]) -> usize
     at + text.len()
 }
 
-// Prints a number. Its digits are found from the last one back.
-fn put_decimal(out: &mut [u8], at: usize, n: u32) -> usize
-    requires { ⌜ at + length (decimal n) ≤ length (now out) ⌝ }
-    ensures { λ e. ⌜ Printed at (decimal n) (now (out .entry)) (now (out .exit)) e ⌝ }
+// Writes a number to the end of a text; where it starts. Its digits are found from the last one back.
+pub fn decimal_text(text: &mut [u8; 10], n: u32) -> usize
+    requires { ⌜ length (now text) ≡ 10 ⌝ }
+    ensures { λ i. ⌜ (i ≤ 9) × (length (now (text .exit)) ≡ 10) × (drop i (now (text .exit)) ≡ decimal n) ⌝ }
 {
-    let mut text = [0u8; 10];
     let mut i = 9;
     let mut rest = n;
     while 10 <= rest {
@@ -33,6 +32,16 @@ fn put_decimal(out: &mut [u8], at: usize, n: u32) -> usize
         i -= 1;
     }
     text[i] = 48 + rest as u8;
+    i
+}
+
+// Prints a number.
+fn put_decimal(out: &mut [u8], at: usize, n: u32) -> usize
+    requires { ⌜ at + length (decimal n) ≤ length (now out) ⌝ }
+    ensures { λ e. ⌜ Printed at (decimal n) (now (out .entry)) (now (out .exit)) e ⌝ }
+{
+    let mut text = [0u8; 10];
+    let i = decimal_text(&mut text, n);
     put_bytes(out, at, &text[i..])
 }
 

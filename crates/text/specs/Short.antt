@@ -34,7 +34,8 @@ use Rattle.laws.specs.Rows.{label-left}
 use Rattle.laws.specs.SessionFacts.{when-most}
 use Rattle.scan.specs.Runs.{words-length}
 use Rattle.printing.specs.Print.{RunsFit}
-use Rattle.printing.specs.Lengths.{decimal-below, done-length, refused-length}
+use Rattle.model.specs.TextFacts.{decimal-below}
+use Rattle.printing.specs.Lengths.{done-length, refused-length}
 
 -- ---- rows of a table
 

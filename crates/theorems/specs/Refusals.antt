@@ -23,6 +23,9 @@ use Rattle.model.specs.Encoding.{size, encode, decode}
 use Rattle.model.specs.Soundness.{soundBytes}
 use Rattle.model.specs.Answers.{Answer, answering, refusing, refusalNumber, shown, create, requestTable, request}
 use Rattle.model.specs.Answers.{Answered, mayTable, whenTable, words, mayReply, mayAnswer, whenAnswer}
+use Rattle.model.specs.declared.Counted.the-variants.{Count}
+use Rattle.model.specs.Counting.{Counting, counting, declining, countedRefusal}
+use Rattle.model.specs.Report.{reportOf, reportTable, reportAnswer}
 use Rattle.model.specs.Text.{Line, order, asksMay, asksWhen, unreadable}
 use Rattle.model.specs.Session.{whenList, byteTurn}
 
@@ -93,6 +96,18 @@ when-refuses s x list n =
     let w = refused rows (refusing list) (answering (Runs k) (words runs ++ drop (2 * k) list)) number
     (λ k. refl) refl n in
     (w .0, kept (whenAnswer s x list) list (firstNumber rows) (w .1))
+
+-- the sheet, and its page
+pub report-refuses : (s : List ℕ) (o : ℕ) (page : List ℕ) → countedRefusal (reportAnswer s o page .reply) ≢ 0 →
+    Mem (countedRefusal (reportAnswer s o page .reply)) (2 ∷ 3 ∷ 6 ∷ 13 ∷ []) × (reportAnswer s o page .lent ≡ page)
+unfolding reportAnswer
+report-refuses s o page n =
+    let text = reportOf (decode s) o in
+    let k = length text in
+    let rows = row 2 (not (soundBytes s)) ∷ reportTable (decode s) o (length page) k in
+    let w = refused rows (declining page) (counting (Count k) (text ++ drop k page))
+    (λ (a : Counting). countedRefusal (a .reply)) (λ k. refl) refl n in
+    (w .0, ap (λ (a : Counting). a .lent) (w .1))
 
 -- ---- the same about the code
 

@@ -37,6 +37,12 @@ pub const LAST: u32 = u32::MAX;
 /// So many pairs always suffice for [`when`].
 pub const PAIRS: usize = 1_100;
 
+/// A row of a rights sheet has so many bytes.
+pub const ROW_BYTES: usize = 44;
+
+/// So many bytes always suffice for [`report`]: a row for each of 1,024 authorizations.
+pub const SHEET_BYTES: usize = 1_024 * ROW_BYTES;
+
 /// A buffer for [`text`] has at least so many bytes. They suffice for every reply but WHEN's.
 pub const TEXT_LEAST: usize = 16;
 
@@ -264,6 +270,35 @@ pub fn when<'l>(base: &[u8], access: Access, list: &'l mut [[u32; 2]]) -> Result
 pub fn records<'l>(base: &[u8], body: Body, first: u32, list: &'l mut [u32]) -> Result<&'l [u32], Refusal> {
     let reply = refusal::checked(raw::records(base, body as u32, first, list))?;
     Ok(&list[..reply.number as usize * body.width()])
+}
+
+/// The rights sheet of an object, to be hung up in the meter room: a row of [`ROW_BYTES`] bytes for each authorization on
+/// it, in the base's order, written to the front of the page; the rest of the page is untouched. A row has the label,
+/// the granter, the subject, the mode, the sign, the option, and the first and the last instant, right-aligned in
+/// columns of 5, 4, 4, 1, 1, 1, 10 and 10 bytes, with one blank between two columns and a newline last.
+/// [`SHEET_BYTES`] always suffice; an object with nothing on it needs no page.
+///
+/// ```
+/// use access_base::{create, report, text, Refusal, BYTES, SHEET_BYTES, TEXT_BYTES};
+///
+/// let mut base = vec![0; BYTES];
+/// let mut out = vec![0; TEXT_BYTES];
+/// create(&mut base)?;
+/// for line in ["4 1 NEW 7", "4 1 NEW 8", "5 1 GRANT 1 7 2 50 200 y", "5 1 DENY 3 7 1023 60 inf"] {
+///     text(&mut base, line, &mut out).expect("the buffer is long enough");
+/// }
+/// let mut page = vec![0; SHEET_BYTES];
+/// let rows = ["    1    1    2 1 + y         50        200\n", "    2    1 1023 3 - n         60        inf\n"];
+/// assert_eq!(report(&base, 7, &mut page)?, rows.concat());
+/// assert_eq!(report(&base, 7, &mut page[..87]), Err(Refusal::Full));
+/// assert_eq!(report(&base, 8, &mut [])?, "");
+/// assert_eq!(report(&base, 9, &mut []), Err(Refusal::NoSuchObject));
+/// assert_eq!(report(&base, 129, &mut page), Err(Refusal::OutOfRange));
+/// # Ok::<(), Refusal>(())
+/// ```
+pub fn report<'p>(base: &[u8], object: u32, page: &'p mut [u8]) -> Result<&'p str, Refusal> {
+    let reply = refusal::checked(raw::report(base, object, page))?;
+    Ok(core::str::from_utf8(&page[..reply.number as usize]).expect("sheets are in ASCII"))
 }
 
 /// Answers one line of text, a request or a question as the text session has it, without its newline. The reply's text

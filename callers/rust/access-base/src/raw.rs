@@ -94,6 +94,13 @@ mod linked {
             list: *mut u32,
             list_length: usize,
         ) -> u64;
+        pub fn access_base_report(
+            base: *const u8,
+            length: usize,
+            object: u32,
+            page: *mut u8,
+            page_length: usize,
+        ) -> u64;
         pub fn access_base_text(
             base: *mut u8,
             length: usize,
@@ -186,6 +193,11 @@ pub fn records(base: &[u8], body: u32, first: u32, list: &mut [u32]) -> Reply {
     unpacked(unsafe {
         linked::access_base_records(base.as_ptr(), base.len(), body, first, list.as_mut_ptr(), list.len())
     })
+}
+
+/// `access_base_report`: the number is that of the bytes written.
+pub fn report(base: &[u8], object: u32, page: &mut [u8]) -> Reply {
+    unpacked(unsafe { linked::access_base_report(base.as_ptr(), base.len(), object, page.as_mut_ptr(), page.len()) })
 }
 
 /// `access_base_text`: the number is that of the bytes written.

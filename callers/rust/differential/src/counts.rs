@@ -6,7 +6,7 @@ use crate::session::Failure;
 use crate::tally::Tally;
 use crate::world::boundaries;
 use access_base::raw::Numbers;
-use access_base::{Access, Interval, Operator, OptionTerm, Order, Request, Rule, Side, Term, BYTES, LAST};
+use access_base::{Access, Interval, Operator, OptionTerm, Order, Request, Rule, Side, Term, BYTES, LAST, SHEET_BYTES};
 
 /// How a course ends.
 pub type Outcome = Result<Tally, Box<Failure>>;
@@ -50,6 +50,15 @@ impl Course {
             self.take(Step::When { access, length, pattern: length as u64 }, wanted)?;
         }
         assert_eq!(self.pair.runs(access), Some(runs), "{}", self.name);
+        Ok(())
+    }
+
+    // The sheet of an object has so many bytes, and fits just such a page.
+    fn sheet(&mut self, object: u32, exact: usize) -> Result<(), Box<Failure>> {
+        for (length, wanted) in [(exact, 0), (exact + 4, 0), (exact - 1, FULL), (0, FULL)] {
+            self.take(Step::Report { object, length, pattern: length as u64 }, wanted)?;
+        }
+        assert_eq!(self.pair.sheet(object), Some(exact), "{}", self.name);
         Ok(())
     }
 
@@ -99,6 +108,7 @@ pub fn lines() -> Outcome {
         let (access, interval) = (Access { subject: 1 + i % 1_023, mode: 1 + i % 8, object: 7 }, span(i, i + 3));
         c.ask(0, 1, Order::Grant { access, interval, option: i % 3 == 0 }, 0)?;
     }
+    c.sheet(7, SHEET_BYTES)?;
     c.ask(0, 1, grant(5, 9, 9), FULL)?;
     c.ask(0, 1, deny(5, 9, 9), FULL)?;
     c.ask(0, 900, grant(5, 9, 9), 9)?;
@@ -358,6 +368,7 @@ pub fn labels() -> Outcome {
     c.ask(1, 1, deny(2, 3, 9), FULL)?;
     c.ask(1, 9, deny(2, 3, 9), 9)?;
     c.ask(1, 1, Order::Revoke { label: 65_535 }, 7)?;
+    c.take(Step::Report { object: 7, length: 0, pattern: 0 }, 0)?;
     c.ask(1, 1, Order::DropRule { label: 65_535 }, 0)?;
     c.ask(1, 1, one_rule, FULL)?;
     c.ask(1, 1, cut_grant(2, 0, LAST), 0)?;

@@ -5,7 +5,7 @@ use crate::random::Random;
 use crate::text;
 use crate::world::{World, WILD};
 use access_base::raw::Numbers;
-use access_base::{Access, OptionTerm, Side, Term, LAST, TEXT_BYTES, TEXT_LEAST};
+use access_base::{Access, OptionTerm, Side, Term, LAST, SHEET_BYTES, TEXT_BYTES, TEXT_LEAST};
 use oracle::session::Asked;
 
 /// The source of a session's requests and questions.
@@ -382,6 +382,15 @@ impl Generator<'_> {
         let lengths = [exact, exact.saturating_sub(2), exact.saturating_sub(1), exact + 1, exact + 2, 0, 2_200];
         let lengths = [self.random.pick(&lengths), self.random.pick(&lengths[..4])];
         lengths.map(|length| Step::When { access, length, pattern: self.random.any() }).to_vec()
+    }
+
+    /// The rights sheet of an object, on pages that just suffice or just do not. `sheet` says how long it is.
+    pub fn report(&mut self, contents: &Contents, sheet: impl Fn(u32) -> Option<usize>) -> Vec<Step> {
+        let object = if self.random.percent(8) { self.random.pick(&WILD) } else { self.object(contents) };
+        let exact = sheet(object).unwrap_or(0);
+        let lengths = [exact, exact.saturating_sub(1), exact + 4, exact.saturating_sub(44), 0, SHEET_BYTES];
+        let lengths = [self.random.pick(&lengths), self.random.pick(&lengths[..3])];
+        lengths.map(|length| Step::Report { object, length, pattern: self.random.any() }).to_vec()
     }
 
     /// A line of text, in buffers that just suffice or just do not. `told` says how long the reply's text is.

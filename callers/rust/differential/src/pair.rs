@@ -27,6 +27,15 @@ pub enum Step {
         /// The seed of what is in the list before.
         pattern: u64,
     },
+    /// The rights sheet of an object.
+    Report {
+        /// Whose sheet.
+        object: u32,
+        /// How many bytes the page has.
+        length: usize,
+        /// The seed of what is on the page before.
+        pattern: u64,
+    },
     /// A line of text.
     Text {
         /// Its bytes.
@@ -127,6 +136,11 @@ impl Pair {
         oracle.when(x.subject, x.mode, x.object, usize::MAX).ok().map(|runs| runs.len())
     }
 
+    /// How many bytes the rights sheet of an object has, by the oracle; none where it refuses.
+    pub fn sheet(&self, object: u32) -> Option<usize> {
+        self.oracle.as_ref()?.sheet(object, usize::MAX).ok().map(|page| page.len())
+    }
+
     /// The text of the reply to a line with its newline, by the oracle, and the oracle after it.
     pub fn told(&self, line: &[u8]) -> (Vec<u8>, Option<Oracle>) {
         let asked = oracle::session::read(line);
@@ -150,6 +164,7 @@ impl Pair {
             Step::Request(q) => self.request(&q),
             Step::May(access, instant) => self.may(access, instant),
             Step::When { access, length, pattern } => self.when(access, length, pattern),
+            Step::Report { object, length, pattern } => self.report(object, length, pattern),
             Step::Text { line, length, pattern } => self.text(&line, length, pattern),
         }
     }
@@ -244,6 +259,25 @@ impl Pair {
         }
         same(reply, expected.map_or_else(refused, |runs| (0, 0, runs.len() as u32)))?;
         same(list, expected_list)?;
+        same_bytes(&self.base, &self.before)?;
+        Ok(reply.0)
+    }
+
+    // "The reply is the byte count; bytes behind it are untouched."
+    fn report(&mut self, object: u32, length: usize, pattern: u64) -> Result<u32, Difference> {
+        let mut page = Random::new(pattern).bytes(length);
+        let mut expected_page = page.clone();
+        let reply = parts(raw::report(&self.base, object, &mut page));
+        let expected = match &self.oracle {
+            None => Err(2),
+            Some(oracle) => oracle.sheet(object, length),
+        };
+        self.tally.report(expected.as_ref().map(Vec::len).map_err(|row| *row));
+        if let Ok(sheet) = &expected {
+            expected_page[..sheet.len()].copy_from_slice(sheet);
+        }
+        same(reply, expected.map_or_else(refused, |sheet| (0, 0, sheet.len() as u32)))?;
+        same_bytes(&page, &expected_page)?;
         same_bytes(&self.base, &self.before)?;
         Ok(reply.0)
     }

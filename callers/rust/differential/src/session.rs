@@ -195,6 +195,9 @@ fn ask(pair: &mut Pair, generator: &mut Generator, contents: &Contents) -> Resul
     for step in generator.when(contents, |access| pair.runs(access)) {
         pair.take(step)?;
     }
+    for step in generator.report(contents, |object| pair.sheet(object)) {
+        pair.take(step)?;
+    }
     Ok(())
 }
 

@@ -12,6 +12,9 @@ pub struct Tally {
     runs: u64,
     most_runs: u64,
     when_refused: [u64; 14],
+    sheets: u64,
+    longest_sheet: usize,
+    sheets_refused: [u64; 14],
     texts: u64,
     unreadable: u64,
     longest_text: usize,
@@ -47,6 +50,16 @@ impl Tally {
         }
     }
 
+    pub(crate) fn report(&mut self, reply: Result<usize, u32>) {
+        match reply {
+            Ok(bytes) => {
+                self.sheets += 1;
+                self.longest_sheet = self.longest_sheet.max(bytes);
+            }
+            Err(row) => self.sheets_refused[row as usize] += 1,
+        }
+    }
+
     pub(crate) fn text(&mut self, text: &[u8], fits: bool) {
         if !fits {
             self.texts_refused += 1;
@@ -77,6 +90,15 @@ impl Tally {
         self.may.iter().chain(&self.may_refused).chain(&self.when_refused).sum::<u64>() + self.when
     }
 
+    /// How many rights sheets got the refusal, or were written (0).
+    pub fn sheets(&self, row: usize) -> u64 {
+        if row == 0 {
+            self.sheets
+        } else {
+            self.sheets_refused[row]
+        }
+    }
+
     /// How many lines of text were answered, how many of them could not be read, and how many buffers were too short.
     pub fn texts(&self) -> (u64, u64, u64) {
         (self.texts, self.unreadable, self.texts_refused)
@@ -94,6 +116,9 @@ impl Tally {
         self.when += other.when;
         self.runs += other.runs;
         self.most_runs = self.most_runs.max(other.most_runs);
+        self.sheets += other.sheets;
+        self.longest_sheet = self.longest_sheet.max(other.longest_sheet);
+        sum(&mut self.sheets_refused, &other.sheets_refused);
         self.texts += other.texts;
         self.unreadable += other.unreadable;
         self.longest_text = self.longest_text.max(other.longest_text);
@@ -114,9 +139,11 @@ impl fmt::Display for Tally {
             counts[2..].iter().try_for_each(|count| write!(f, "{count:>8}"))?;
             writeln!(f)?;
         }
-        for (word, answered, counts) in
-            [("MAY", self.may[0] + self.may[1], &self.may_refused), ("WHEN", self.when, &self.when_refused)]
-        {
+        for (word, answered, counts) in [
+            ("MAY", self.may[0] + self.may[1], &self.may_refused),
+            ("WHEN", self.when, &self.when_refused),
+            ("sheet", self.sheets, &self.sheets_refused),
+        ] {
             write!(f, "{word:<10}{answered:>9}")?;
             counts[2..].iter().try_for_each(|count| write!(f, "{count:>8}"))?;
             writeln!(f)?;
@@ -124,6 +151,7 @@ impl fmt::Display for Tally {
         writeln!(f, "{} requests, at most {} lines and {} rules", self.requests(), self.most_lines, self.most_rules)?;
         let [no, yes] = self.may;
         writeln!(f, "MAY: {yes} yes, {no} no; WHEN: {} runs, at most {}", self.runs, self.most_runs)?;
+        writeln!(f, "the longest sheet: {} bytes", self.longest_sheet)?;
         if self.texts + self.texts_refused > 0 {
             let (answered, unreadable, refused) = self.texts();
             write!(f, "{answered} lines of text, {unreadable} of them unreadable, at most {}", self.longest_text)?;

@@ -87,6 +87,7 @@ pub fn step(step: &Step) -> String {
         Step::When { access: x, length, .. } => {
             format!("WHEN {} {} {}    # list of {length} numbers", x.subject, x.mode, x.object)
         }
+        Step::Report { object, length, .. } => format!("# the sheet of {object}, on a page of {length} bytes"),
         Step::Text { line, length, .. } => {
             format!("{}    # as text, with a buffer of {length} bytes", line.escape_ascii())
         }

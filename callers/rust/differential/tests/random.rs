@@ -38,4 +38,8 @@ fn sessions() {
             assert!(tally.count(kind, *row) > 0, "kind {kind} never got {row}");
         }
     }
+    for (row, least) in [(0, 20_000), (2, 100), (3, 1_000), (6, 1_000), (13, 5_000)] {
+        let count = tally.sheets(row);
+        assert!(count > least, "sheets with {row}: {count}");
+    }
 }

@@ -1,12 +1,14 @@
-//! An independent implementation of document 01 ("Meter access base"), for tests only. It is written
-//! from the text of 01 and the readings A1 to A85, by brute force over cells of time, to be compared
-//! with the real library. Comments quote the sentence of 01 that a function transcribes.
+//! An independent implementation of document 01 ("Meter access base") and of the change requests of 02
+//! that have landed, for tests only. It is written from their texts and the readings of them, by brute
+//! force over cells of time, to be compared with the real library. Comments quote the sentence that a
+//! function transcribes, of 01 where none is named.
 
 mod bytes;
 mod cells;
 mod held;
 mod requests;
 pub mod session;
+mod sheet;
 mod support;
 
 pub use cells::Cells;

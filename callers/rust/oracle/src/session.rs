@@ -248,7 +248,8 @@ pub fn coarse_cells(session: &[Asked]) -> Cells {
     Cells::from_boundaries(boundaries)
 }
 
-fn show(instant: u32) -> String {
+/// "the last instant as `inf`"
+pub(crate) fn show(instant: u32) -> String {
     if instant == LAST {
         "inf".to_string()
     } else {

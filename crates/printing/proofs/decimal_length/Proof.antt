@@ -5,7 +5,7 @@ use mathlib.Core.Path.{_≡_, ap, _∙_}
 use Prim.Native.Nat.{ℕ, suc, _+_, _-_, _/_, _^_, _≤_, _<_}
 use lib.ListN.{length}
 use Rattle.model.specs.Text.{digits, decimal}
-use Rattle.printing.specs.Lengths.{digits-more, digits-one}
+use Rattle.model.specs.TextFacts.{digits-more, digits-one}
 use Rattle.printing.proofs.Digits.{below-next}
 use Rattle.printing.proofs.decimal_length.Statement.{statement}
 use Rattle.printing.proofs.decimal_length.Tie as tie

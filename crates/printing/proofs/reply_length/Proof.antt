@@ -9,7 +9,8 @@ use Rattle.model.specs.declared.Reply.{Reply}
 use Rattle.model.specs.Text.{printReply}
 use Rattle.model.specs.Session.{runsOf}
 use Rattle.printing.specs.Print.{RunsFit}
-use Rattle.printing.specs.Lengths.{decimal-most, done-length, refused-length}
+use Rattle.model.specs.TextFacts.{decimal-most}
+use Rattle.printing.specs.Lengths.{done-length, refused-length}
 use borrow.Author.Needs.{needs}
 use Rattle.printing.proofs.reply_length.Statement.{statement}
 use Rattle.printing.proofs.reply_length.Tie as tie

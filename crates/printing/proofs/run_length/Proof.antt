@@ -1,7 +1,8 @@
 -- `run_length` meets its contract: two instants and what stands between them.
 use native.Mathlib.Omega.{arith}
 use Rattle.foundation.specs.Intervals.{interval}
-use Rattle.printing.specs.Lengths.{instant-most, run-length}
+use Rattle.model.specs.TextFacts.{instant-most}
+use Rattle.printing.specs.Lengths.{run-length}
 use borrow.Author.Needs.{needs}
 use Rattle.printing.proofs.run_length.Statement.{statement}
 use Rattle.printing.proofs.run_length.Tie as tie
