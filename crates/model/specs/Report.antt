@@ -38,7 +38,8 @@ columns (c ∷ []) = c ++ (newline ∷ [])
 columns (c ∷ d ∷ rest) = c ++ (space ∷ columns (d ∷ rest))
 
 -- 02: "label 5 wide, granter 4, subject 4, mode 1, sign 1, option 1 ..., start 10, end 10, numbers and `inf`
--- right-aligned with blanks"; "The last instant prints as `inf`". `row-width` in ReportFacts: "44 bytes a row"
+-- right-aligned with blanks"; "The last instant prints as `inf`". `row-width` in ReportFacts: "44 bytes a
+-- row"
 unfoldable pub reportRow : Authorization → List ℕ
 reportRow a = columns (
     aligned 5 (decimal (a .head .label))
@@ -63,7 +64,8 @@ rowsOn o authorizations = each (keepIf (isOn o) authorizations) reportRow
 abbrev pub reportOf : Base → ℕ → List ℕ
 reportOf b o = rowsOn o (b .authorizations)
 
--- 3: the object's number is outside its range; 02: "A page buffer that is too small gets 13, an unknown object 6"
+-- 3: the object's number is outside its range; 02: "A page buffer that is too small gets 13, an unknown
+-- object 6"
 abbrev pub reportTable : Base → ℕ → ℕ → ℕ → List Row
 reportTable b o room need =
     row 3 (not (isObject o))

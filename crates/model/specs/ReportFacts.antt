@@ -1,5 +1,5 @@
--- What the sheet's definition says of lengths: a row of an authorization in its ranges has 44 bytes (`row-width`), and
--- the sheet of a sound base 44 for each authorization on the object (`report-length`).
+-- What the sheet's definition says of lengths: a row of an authorization in its ranges has 44 bytes
+-- (`row-width`), and the sheet of a sound base 44 for each authorization on the object (`report-length`).
 use mathlib.Core.Path.{_≡_, refl, sym, ap, _∙_}
 use mathlib.Core.Logic.{inl, inr}
 use Prim.Native.Nat.{ℕ, suc, _+_, _*_, _-_, _≤_}

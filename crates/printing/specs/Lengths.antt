@@ -96,7 +96,8 @@ fit-in No list f = tt
 fit-in (Runs n) list f = f .0
 
 -- no reply is longer than 24,000 bytes
-pub reply-most : (r : Reply) (list : List ℕ) → RunsFit r list → length (printReply r (runsOf r list)) ≤ longestReply
+pub reply-most : (r : Reply) (list : List ℕ) → RunsFit r list →
+    length (printReply r (runsOf r list)) ≤ longestReply
 reply-most (Done label count) list f =
     omega (arith, done-length label count, decimal-most label, decimal-most count)
 reply-most (Refused k) list f = omega (arith, refused-length k, decimal-most k)

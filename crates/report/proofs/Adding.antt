@@ -1,4 +1,5 @@
--- The rows of a body of authorizations, one after the other: what one authorization adds, and what stands on the page.
+-- The rows of a body of authorizations, one after the other: what one authorization adds, and what stands on
+-- the page.
 use mathlib.Core.Path.{_≡_, sym, ap, _∙_}
 use mathlib.Core.Bool.{Bool, true, false}
 use mathlib.Core.List.{List, [], _∷_, _++_}
@@ -32,7 +33,8 @@ module _ (o n : ℕ) (lines : List ℕ) (i : ℕ) (h : i < n) (a : Authorization
 
   -- one more is counted, or not
   pub count-next : (on : Bool) → isOn o a ≡ on →
-      length (keepIf (isOn o) (left n lines i)) ≡ pick on 1 0 + length (keepIf (isOn o) (left n lines (i + 1)))
+      length (keepIf (isOn o) (left n lines i)) ≡ pick on 1 0 + length
+      (keepIf (isOn o) (left n lines (i + 1)))
   count-next on q =
       ap (λ (xs : List Authorization). length (keepIf (isOn o) xs)) next ∙ by-test on q
     where

@@ -22,9 +22,11 @@ right w text h =
     let blanks : replicate w space ≡ replicate n space ++ replicate (length text) space =
     ap (λ (k : ℕ). replicate k space) whole ∙ sym (replicate-append-replicate n (length text) space) in
     let front : take n (replicate w space) ≡ replicate n space =
-    ap (take n) blanks ∙ take-at (replicate n space) (replicate (length text) space) n (length-replicate n space) in
+    ap (take n) blanks ∙ take-at (replicate n space) (replicate (length text) space) n
+    (length-replicate n space) in
     let behind : drop (n + length text) (replicate w space) ≡ [] =
-    drop-of-length-le (replicate w space) {i = n + length text} (rw (length-replicate w space) (omega arith)) in
+    drop-of-length-le (replicate w space) {i = n + length text}
+    (rw (length-replicate w space) (omega arith)) in
     rw (take-length text, front, behind) (append-nil (replicate n space ++ text))
 
 -- s with y in the place of its part from a to e, as it comes back from who was lent it

@@ -1,4 +1,5 @@
--- Rows as they are printed: those of session S's meter, a denial, numbers as wide as they get, and the last instant.
+-- Rows as they are printed: those of session S's meter, a denial, numbers as wide as they get, and the last
+-- instant.
 use mathlib.Core.Path.{_≡_, refl}
 use Prim.Native.Nat.{ℕ}
 use Prim.Native.String.{String}

@@ -8,8 +8,8 @@ mod sheet;
 
 use model::Counted;
 
-// Writes the sheet of an object to the front of a page: a row of 44 bytes for each authorization on it, in base order.
-// The reply is how many bytes that is, or a refusal; the bytes behind them are as they were.
+// Writes the sheet of an object to the front of a page: a row of 44 bytes for each authorization on it, in
+// base order. The reply is how many bytes that is, or a refusal; the bytes behind them are as they were.
 pub fn report(base: &[u8], object: u32, page: &mut [u8]) -> Counted
     ensures { λ r. ⌜ counting r (now (page .exit))
         ≡ reportAnswer (now (base .entry)) object (now (page .entry)) ⌝ }

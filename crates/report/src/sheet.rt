@@ -52,7 +52,8 @@ fn put_if(page: &mut [u8], at: usize, a: Authorization, on: bool) -> usize
     at
 }
 
-// Puts the rows of those of n authorizations that are on the object at the front of a page that has room for them.
+// Puts the rows of those of n authorizations that are on the object at the front of a page that has room for
+// them.
 fn put_rows(lines: &[u8], n: usize, object: u32, page: &mut [u8])
     requires { ⌜ Lines (now lines) n
         × (length (rowsOn object (authorizationsIn n (now lines))) ≤ length (now page)) ⌝ }
@@ -75,7 +76,7 @@ fn fill_page(lines: &[u8], n: usize, object: u32, page: &mut [u8]) -> Counted
         ≡ filled (rowsOn object (authorizationsIn n (now (lines .entry)))) (now (page .entry)) ⌝ }
 {
     let need = 44 * count_on(lines, n, object);
-    if page.len() <= need {
+    if page.len() < need {
         return Counted::Refused(13);
     }
     put_rows(lines, n, object, page);

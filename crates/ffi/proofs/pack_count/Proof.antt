@@ -14,4 +14,5 @@ returns-2 c = sym (ap packedCount (c .before .r2 .given .1))
 pub pack-count-spec : {M : Type 1} → statement M
 pack-count-spec =
     tie.close
-    (tie.spec (λ c. search needs) (λ c. search needs) (λ c. search needs) (λ c. search needs) returns returns-2)
+    (tie.spec (λ c. search needs) (λ c. search needs) (λ c. search needs)
+    (λ c. search needs) returns returns-2)

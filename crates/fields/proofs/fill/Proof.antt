@@ -26,7 +26,8 @@ loop-again c =
     let l = c .before .loop in (
       search needs,
       simp length-set (search needs),
-      ap (λ (d : List ℕ). set d (l .i) (a .x)) (l .inv .2) ∙ fill-more (l .i) (a .x) (now (a .s)) (search needs),
+      ap (λ (d : List ℕ). set d (l .i) (a .x)) (l .inv .2)
+          ∙ fill-more (l .i) (a .x) (now (a .s)) (search needs),
     )
 
 returns : tie.Need-returns Inv-loop μ-loop
@@ -39,5 +40,6 @@ returns c =
 pub fill-spec : {M : Type 1} → statement M
 fill-spec =
     tie.close
-    (tie.spec Inv-loop μ-loop loop-holds (λ c. search needs) (λ c. search needs) (λ c. search needs) loop-again (λ c. search needs)
+    (tie.spec Inv-loop μ-loop loop-holds (λ c. search needs) (λ c. search needs)
+    (λ c. search needs) loop-again (λ c. search needs)
     returns)

@@ -1,5 +1,5 @@
--- `decimal_text` meets its contract: at each turn the digits of what is left, before those that are stored, are the
--- number's.
+-- `decimal_text` meets its contract: at each turn the digits of what is left, before those that are stored,
+-- are the number's.
 use borrow.Author.Needs.{needs}
 use native.Mathlib.Omega.{arith}
 use mathlib.Core.Path.{_≡_, ap, _∙_}

@@ -30,5 +30,6 @@ returns c = printed-as (whole (c .before .before .before)) (c .before .before .p
 pub put-decimal-spec : {M : Type 1} → statement M
 put-decimal-spec =
     tie.close
-    (tie.spec (λ c κs. search needs) (λ c. search needs) (λ c. search needs) part-put-bytes-end put-bytes-requires
+    (tie.spec (λ c κs. search needs) (λ c. search needs)
+    (λ c. search needs) part-put-bytes-end put-bytes-requires
     (λ c. search needs) returns)

@@ -9,7 +9,8 @@ use Rattle.model.specs.declared.Head.{Head}
 use Rattle.model.specs.Text.{space, decimal}
 use Rattle.model.specs.Report.{aligned}
 use Rattle.report.specs.Columns.{headColumns}
-use Rattle.report.proofs.Filling.{Begun, put, begun-none, begun-length, begun-column, begun-splice, begun-all}
+use Rattle.report.proofs.Filling.{Begun, put, begun-none, begun-length, begun-column, begun-splice}
+use Rattle.report.proofs.Filling.{begun-all}
 use Rattle.report.proofs.rows.put_head.Statement.{statement}
 use Rattle.report.proofs.rows.put_head.Tie as tie
 
@@ -38,7 +39,8 @@ four c =
     let h = start .args .h in
     let l = start .pre .0 in
     let f = start .pre .1 in
-    let b₁ = begun-column (begun-none (now (start .args .row))) 5 (decimal (h .label)) (n₁ .put-number .last .0)
+    let b₁ = begun-column (begun-none (now (start .args .row))) 5 (decimal (h .label))
+    (n₁ .put-number .last .0)
     (omega arith) (omega arith) (f .label) (n₁ .put-number .ensures) in
     let b₂ = begun-column b₁ 10 (decimal (h .grantor)) (n₂ .put-number2 .last .0) (omega arith) (omega arith)
     (omega (arith, f .grantor)) (n₂ .put-number2 .ensures) in
@@ -50,7 +52,8 @@ four c =
 put4-requires : tie.Need-put4-requires
 put4-requires c κs =
     let r = c .before .before .before .before in
-    let start = r .before .before .before .before .before .before .before .before .before .before .before .before
+    let start = r .before .before .before .before .before .before .before .before .before .before .before
+    .before
     .before .before .before .before .before .before .before .before in
     let l = start .pre .0 in
     omega (arith, begun-length (four r) (omega arith))
@@ -62,19 +65,22 @@ returns c =
     let option = put .before in
     let sign = option .before in
     let r = sign .before .before .before in
-    let start = r .before .before .before .before .before .before .before .before .before .before .before .before
+    let start = r .before .before .before .before .before .before .before .before .before .before .before
+    .before
     .before .before .before .before .before .before .before .before in
     let h = start .args .h in
     let l = start .pre .0 in
     put .put4 .ensures
-    ∙ begun-all (begun-splice (four r) (space ∷ sign .sign-of .result ∷ space ∷ option .option-of .result ∷ [])
+    ∙ begun-all (begun-splice (four r) (space ∷ sign .sign-of .result ∷ space ∷ option .option-of .result
+    ∷ [])
     (omega arith)) l
     ∙ (λ k. numbers h ++ (space ∷ (sign .sign-of .ensures k ++ (space ∷ option .option-of .ensures k))))
 
 pub put-head-spec : {M : Type 1} → statement M
 put-head-spec =
     tie.close
-    (tie.spec (λ c. search needs) (λ c. search needs) (λ c. search needs) (λ c. search needs) (λ c κs. search needs)
+    (tie.spec (λ c. search needs) (λ c. search needs) (λ c. search needs) (λ c. search needs)
+    (λ c κs. search needs)
     (λ c. search needs) (λ c. search needs) (λ c. search needs) (λ c. search needs) (λ c κs. search needs)
     (λ c. search needs) (λ c. search needs) (λ c. search needs) (λ c. search needs) (λ c κs. search needs)
     (λ c. search needs) (λ c. search needs) (λ c. search needs) (λ c. search needs) (λ c κs. search needs)

@@ -34,5 +34,6 @@ returns c =
 pub put-number-spec : {M : Type 1} → statement M
 put-number-spec =
     tie.close
-    (tie.spec (λ c κs. search needs) (λ c. search needs) (λ c. search needs) part-put-right-end put-right-requires
+    (tie.spec (λ c κs. search needs) (λ c. search needs)
+    (λ c. search needs) part-put-right-end put-right-requires
     (λ c. search needs) returns)

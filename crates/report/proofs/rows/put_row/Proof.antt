@@ -20,8 +20,10 @@ use Rattle.report.proofs.rows.put_row.Tie as tie
 put-head-requires : tie.Need-put-head-requires
 put-head-requires c κs =
     let start = c .before .before .before in
-    let l = start .pre .0 in
-    (begun-room (begun-none (now (start .args .row))) 21 (omega arith) (omega arith), fits (start .args .a) (start .pre .1))
+    let l = start .pre .0 in (
+      begun-room (begun-none (now (start .args .row))) 21 (omega arith) (omega arith),
+      fits (start .args .a) (start .pre .1),
+    )
 
 -- the head is there
 one : (c : tie.After-row) → (let p = c .before in
@@ -40,7 +42,12 @@ put-instant-requires c κs =
     let r = c .before .before in
     let start = r .before .before .before .before .before in
     let l = start .pre .0 in
-    omega (arith, begun-room (one r) 32 (omega arith) (omega arith), instant-most (start .args .a .interval .start))
+    omega (
+      arith,
+      begun-room (one r) 32 (omega arith) (omega arith),
+      instant-most
+          (start .args .a .interval .start),
+    )
 
 -- and the first instant
 two : (c : tie.After-row2) → (let i = c .before in
@@ -62,7 +69,12 @@ put-instant-requires-2 c κs =
     let r = c .before .before in
     let start = r .before .before .before .before .before .before .before .before .before in
     let l = start .pre .0 in
-    omega (arith, begun-room (two r) 43 (omega arith) (omega arith), instant-most (start .args .a .interval .end))
+    omega (
+      arith,
+      begun-room (two r) 43 (omega arith) (omega arith),
+      instant-most
+          (start .args .a .interval .end),
+    )
 
 -- and the last
 three : (c : tie.After-row3) → (let j = c .before in
@@ -87,7 +99,8 @@ three c =
 same-length : tie.Need-same-length
 same-length c =
     let r = c .before in
-    let l = r .before .before .before .before .before .before .before .before .before .before .before .before .before
+    let l = r .before .before .before .before .before .before .before .before .before .before .before .before
+    .before
     .pre .0 in
     simp length-set (begun-length (three r) (omega arith))
 
@@ -110,6 +123,7 @@ returns c =
 pub put-row-spec : {M : Type 1} → statement M
 put-row-spec =
     tie.close
-    (tie.spec (λ c. search needs) (λ c. search needs) (λ c. search needs) put-head-requires (λ c. search needs)
+    (tie.spec (λ c. search needs) (λ c. search needs) (λ c. search needs) put-head-requires
+    (λ c. search needs)
     (λ c. search needs) (λ c. search needs) put-instant-requires (λ c. search needs) (λ c. search needs)
     (λ c. search needs) put-instant-requires-2 (λ c. search needs) same-length returns)

@@ -1,4 +1,5 @@
--- `report::sheet::count_on`: the loop's invariant is that those counted, and those left on the object, are all.
+-- `report::sheet::count_on`: the loop's invariant is that those counted, and those left on the object, are
+-- all.
 use borrow.Author.Needs.{needs}
 use native.Mathlib.Omega.{arith}
 use mathlib.Core.Path.{_≡_, sym, ap, _∙_}
@@ -31,8 +32,15 @@ abbrev μ-loop : tie.MeasureT-loop
 
 loop-holds : tie.Need-loop-holds Inv-loop μ-loop
 loop-holds c =
-    let a = c .before .args in
-    (search needs, search needs, omega (arith, ap (on (a .object)) (rest-all 24 authorizationOf (a .n) (now (a .lines)))))
+    let a = c .before .args in (
+      search needs,
+      search needs,
+      omega (
+        arith,
+        ap (on (a .object))
+            (rest-all 24 authorizationOf (a .n) (now (a .lines))),
+      ),
+    )
 
 loop-again : tie.Need-loop-again Inv-loop μ-loop
 loop-again c =
@@ -51,7 +59,8 @@ returns : tie.Need-returns Inv-loop μ-loop
 returns c =
     let l = c .before in
     let a = l .before .before .args in
-    let e = ap (on (a .object)) (rest-end 24 authorizationOf (a .n) (now (a .lines)) (l .loop .i) (omega arith)) in
+    let e = ap (on (a .object)) (rest-end 24 authorizationOf (a .n) (now (a .lines)) (l .loop .i)
+    (omega arith)) in
     (omega (arith, e), search needs)
 
 pub count-on-spec : {M : Type 1} → statement M

@@ -50,4 +50,5 @@ returns-2 c =
 pub fill-page-spec : {M : Type 1} → statement M
 fill-page-spec =
     tie.close
-    (tie.spec (λ c κs. search needs) (λ c. search needs) returns put-rows-requires (λ c. search needs) returns-2)
+    (tie.spec (λ c κs. search needs) (λ c. search needs) returns put-rows-requires
+    (λ c. search needs) returns-2)

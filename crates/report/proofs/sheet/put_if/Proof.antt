@@ -49,14 +49,16 @@ returns c =
     printed-as (ap (λ (on : Bool). rowOf on (a .a)) (sym (t .if1 .taken))) (record {
       ends = omega (arith, w);
       bytes =
-          part-back (now (a .page)) (a .at) (a .at + 44) (r .put-row .last .0) (omega arith) (omega arith) long
+          part-back (now (a .page)) (a .at) (a .at + 44) (r .put-row .last .0) (omega arith)
+          (omega arith) long
           ∙ ap (λ (y : List ℕ). splice (a .at) y (now (a .page))) (r .put-row .ensures);
     })
 
 returns-2 : tie.Need-returns-2
 returns-2 c =
     let a = c .before .before .args in
-    printed-as (ap (λ (on : Bool). rowOf on (a .a)) (sym (c .if1 .left))) (printed-none (a .at) (now (a .page)))
+    printed-as (ap (λ (on : Bool). rowOf on (a .a)) (sym (c .if1 .left)))
+    (printed-none (a .at) (now (a .page)))
 
 pub put-if-spec : {M : Type 1} → statement M
 put-if-spec =

@@ -1,5 +1,5 @@
--- `report::sheet::put_rows`: the loop's invariant is that the front of the page, and the rows of those left, are the sheet,
--- and that the page behind its front is as it was.
+-- `report::sheet::put_rows`: the loop's invariant is that the front of the page, and the rows of those left,
+-- are the sheet, and that the page behind its front is as it was.
 use borrow.Author.Needs.{needs}
 use native.Mathlib.Omega.{arith}
 use mathlib.Core.Path.{_≡_, refl, sym, ap, ap₂, _∙_}
@@ -24,7 +24,8 @@ use Rattle.report.proofs.sheet.put_rows.Tie as tie
 
 abbrev Inv-loop : tie.InvT-loop
 Inv-loop lines n object page₀ at₀ i₀ page at i =
-    (i ≤ n) × (at ≤ length page) × (length page ≡ length page₀) × (allb authorizationIn (left n lines i) ≡ true)
+    (i ≤ n) × (at ≤ length page) × (length page ≡ length page₀)
+    × (allb authorizationIn (left n lines i) ≡ true)
     × (take at page ++ rowsOn object (left n lines i) ≡ rowsOn object (authorizationsIn n lines))
     × (drop at page ≡ drop at page₀)
 
@@ -37,7 +38,8 @@ loop-holds c =
       search needs,
       search needs,
       refl,
-      ap (allb authorizationIn) (rest-all 24 authorizationOf (a .n) (now (a .lines))) ∙ c .before .before .pre .0 .ranges,
+      ap (allb authorizationIn) (rest-all 24 authorizationOf (a .n) (now (a .lines)))
+          ∙ c .before .before .pre .0 .ranges,
       ap (rowsOn (a .object)) (rest-all 24 authorizationOf (a .n) (now (a .lines))),
       refl,
     )
@@ -110,11 +112,13 @@ loop-again c =
       same ∙ l .loop .inv .2,
       ranges r .1,
       ap (λ (x : List ℕ). x ++ rest) (put-before p h)
-          ∙ append-assoc (take (l .loop .at) (l .loop .page)) (rowOf (on .is-on .result) (r .authorization-at .result)) rest
+          ∙ append-assoc (take (l .loop .at) (l .loop .page))
+          (rowOf (on .is-on .result) (r .authorization-at .result)) rest
           ∙ ap (λ (x : List ℕ). take (l .loop .at) (l .loop .page) ++ x) (sym (next on))
           ∙ l .loop .inv .4,
       put-behind p h
-          ∙ alike-behind (l .loop .at) (put .put-if .result) (l .loop .page) (now (a .page)) (omega (arith, p .ends))
+          ∙ alike-behind (l .loop .at) (put .put-if .result) (l .loop .page) (now (a .page))
+          (omega (arith, p .ends))
           (l .loop .inv .5),
     )
 

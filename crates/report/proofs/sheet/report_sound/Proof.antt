@@ -62,7 +62,8 @@ fill-page-requires c κs =
       there = there s (at .authorizations-at .result) (authorizationsAt (n .counts-of .result)) _
           (at .authorizations-at .ensures) (omega (arith, f));
       few = omega (arith, f);
-      ranges = rw (authorizations-lent s (n .counts-of .result) (n .counts-of .ensures) (at .authorizations-at .result)
+      ranges = rw (authorizations-lent s (n .counts-of .result) (n .counts-of .ensures)
+          (at .authorizations-at .result)
           (at .authorizations-at .ensures)) (authorizations-in s (start .pre));
     }
 
@@ -85,6 +86,8 @@ returns-3 c =
 pub report-sound-spec : {M : Type 1} → statement M
 report-sound-spec =
     tie.close
-    (tie.spec (λ c κs. search needs) returns (λ c κs. search needs) returns-2 counts-of-requires (λ c κs. search needs)
-    sub-fill-page part-fill-page-start (λ c. search needs) (λ c. search needs) fill-page-requires (λ c. search needs)
+    (tie.spec (λ c κs. search needs) returns (λ c κs. search needs) returns-2 counts-of-requires
+    (λ c κs. search needs)
+    sub-fill-page part-fill-page-start (λ c. search needs) (λ c. search needs) fill-page-requires
+    (λ c. search needs)
     returns-3)
