@@ -1,5 +1,5 @@
--- The answers of MAY and WHEN over the bytes of a base, by the rows of the table that apply: row 2, rows 3 and 6,
--- which the two share, and row 13.
+-- The answers of MAY and WHEN over the bytes of a base, by the rows of the table that apply: row 2, rows 3
+-- and 6, which the two share, and row 13.
 use Prim.Native.Nat.{ℕ, suc, _*_, _/_, _≤_, _<_}
 use mathlib.Core.Path.{_≡_, refl, sym, ap, _∙_}
 use mathlib.Core.Logic.{_≢_}
@@ -46,7 +46,8 @@ module _ (runs : List ℕ) (n : ℕ) (list : List ℕ) where
 
   pub runs-refused : length list / 2 < n → replyRuns runs n list ≡ refusing list 13
   runs-refused h =
-      ap (λ (g : Bool). refusedOr (row 13 g ∷ []) (refusing list) written) (le-true (suc (length list / 2)) n h)
+      ap (λ (g : Bool). refusedOr (row 13 g ∷ []) (refusing list) written)
+      (le-true (suc (length list / 2)) n h)
 
   pub runs-written : n ≤ length list / 2 → replyRuns runs n list ≡ written
   runs-written h =
@@ -74,7 +75,8 @@ module _ (s : List ℕ) (q : Question) where
   may-rows e i =
       let x = q .access in
       ap over e
-      ∙ ap (λ (g : Bool). refusedOr (row 3 (not g) ∷ row 6 (not (exists (decode s) (x .object))) ∷ []) Refused said)
+      ∙ ap (λ (g : Bool). refusedOr (row 3 (not g) ∷ row 6 (not (exists (decode s) (x .object))) ∷ []) Refused
+      said)
       (agree (accessIn x && isInstant (q .instant)) (accessIn x)
       (λ z. and-true (accessIn x) (isInstant (q .instant)) z .0)
       (λ z. and-intro (accessIn x) (isInstant (q .instant)) z i))
@@ -109,7 +111,8 @@ module _ (s : List ℕ) (x : Access) (list : List ℕ) where
   unfolding whenAnswer
   when-unsound e = ap over-list e
 
-  when-rows : soundBytes s ≡ true → whenAnswer s x list ≡ refusedOr (accessRows (decode s) x) (refusing list) all
+  when-rows : soundBytes s ≡ true → whenAnswer s x list
+      ≡ refusedOr (accessRows (decode s) x) (refusing list) all
   unfolding whenAnswer
   when-rows e =
       let n = length (when (decode s) x) in
@@ -122,7 +125,8 @@ module _ (s : List ℕ) (x : Access) (list : List ℕ) where
   when-refused e n = when-rows e ∙ turned-away (accessRows (decode s) x) (refusing list) all n
 
   -- n and the first pairs of `runs` are as many as there are, and those
-  pub when-answered : soundBytes s ≡ true → firstNumber (accessRows (decode s) x) ≡ 0 → (n : ℕ) (runs : List ℕ) →
+  pub when-answered : soundBytes s ≡ true → firstNumber (accessRows (decode s) x) ≡ 0 →
+      (n : ℕ) (runs : List ℕ) →
       n ≡ length (when (decode s) x) → take (2 * n) runs ≡ words (when (decode s) x) →
       whenAnswer s x list ≡ replyRuns runs n list
   when-answered e z n runs c w =

@@ -58,7 +58,8 @@ fn may_reply(yes: bool) -> Reply
     Reply::No
 }
 
-// The reply to WHEN, where the n intervals are in `runs`: the list is written only if it has room for all of them.
+// The reply to WHEN, where the n intervals are in `runs`: the list is written only if it has room for all of
+// them.
 fn when_reply(runs: &[u32; 2200], n: usize, list: &mut [u32]) -> Reply
     requires { ⌜ (n ≤ 1100) × (length (now runs) ≡ 2200) ⌝ }
     ensures { λ r. ⌜ answering r (now (list .exit)) ≡ replyRuns (now (runs .entry)) n (now (list .entry)) ⌝ }

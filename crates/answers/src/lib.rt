@@ -20,8 +20,8 @@ pub fn may(s: &[u8], q: Question) -> Reply
     may_sound(s, q)
 }
 
-// WHEN over bytes of any length: the maximal intervals at which the subject may do it to the object, written as pairs
-// at the front of the lent list.
+// WHEN over bytes of any length: the maximal intervals at which the subject may do it to the object, written
+// as pairs at the front of the lent list.
 pub fn when(s: &[u8], x: Access, list: &mut [u32]) -> Reply
     ensures { λ r. ⌜ answering r (now (list .exit)) ≡ whenAnswer (now (s .entry)) x (now (list .entry)) ⌝ }
 {

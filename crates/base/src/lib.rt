@@ -1,6 +1,6 @@
-// The library: what callers use of the access base. None of these functions has a requires, and every contract is an
-// equation with the definitions of crate model (Answers, for text Session): the reply and every byte of base, list and
-// buffer, for refusals too.
+// The library: what callers use of the access base. None of these functions has a requires, and every
+// contract is an equation with the definitions of crate model (Answers, for text Session): the reply and
+// every byte of base, list and buffer, for refusals too.
 pub use answers::may;
 pub use answers::when;
 pub use encoding::create;

@@ -194,6 +194,7 @@ module _ (s : List ℕ) (q : Request) (a : Allowed (REVOKEREF ∷ []) s q) (p : 
           s₃ ≡ encode (effect plainly (decode s) q)
       revoke-done x g s₃ e₃ =
           e₃
-          ∙ (λ j. encode (withRules (keepIf (λ r. not (dropsBy false (g j) q r)) (revoke-holds .base j .rules))
+          ∙ (λ j. encode (withRules (keepIf (λ r. not (dropsBy false (g j) q r))
+          (revoke-holds .base j .rules))
           (revoke-holds .base j)))
           ∙ ap encode (sym (effect-revoke (decode s) q false (a .kind)))

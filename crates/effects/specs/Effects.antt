@@ -1,5 +1,5 @@
--- What the code asks of an accepted request and of the base before it: where a record stands in its body, and which
--- rules go.
+-- What the code asks of an accepted request and of the base before it: where a record stands in its body, and
+-- which rules go.
 use mathlib.Core.Path.{_≡_}
 use Prim.Native.Nat.{ℕ, suc}
 use mathlib.Core.Bool.{Bool, true, false, not, _&&_, _||_}
@@ -30,8 +30,8 @@ firstIndex p (x ∷ xs) = pick (p x) 0 (suc (firstIndex p xs))
 abbrev pub bodyOf : ℕ → PrivilegeBody
 bodyOf kind = pick (eqb kind GRANTADM || eqb kind REVOKEADM) Administrators Referrers
 
--- The rules that a request removes (`drops` in Requests), where it is known whether its subject refers to its object or
--- administers it
+-- The rules that a request removes (`drops` in Requests), where it is known whether its subject refers to its
+-- object or administers it
 abbrev pub dropsBy : Bool → Bool → Request → Rule → Bool
 dropsBy refers administers q r =
     pick (is q (DROPRULE ∷ [])) (eqb (r .label) (q .label))

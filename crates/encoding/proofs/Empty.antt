@@ -26,7 +26,8 @@ over-zeros rest = refl
 pub empty-bytes : splice 12 (contentsOf noRecords) (splice 0 mark (replicate size 0)) ≡ encode emptyBase
 unfolding encode
 empty-bytes =
-    let e : replicate size 0 ≡ replicate 32 0 ++ replicate {A = ℕ} 27904 0 = sym (replicate-append-replicate 32 27904 0) in
+    let e : replicate size 0 ≡ replicate 32 0 ++ replicate {A = ℕ} 27904 0 =
+    sym (replicate-append-replicate 32 27904 0) in
     ap (λ (l : List ℕ). splice 12 (contentsOf noRecords) (splice 0 mark l)) e ∙ over-zeros (replicate 27904 0)
 
 module _ (s : List ℕ) where

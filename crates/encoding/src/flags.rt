@@ -2,7 +2,8 @@
 ghost use mathlib.Core.Path.{_≡_};
 ghost use lib.Dec.{ltb};
 ghost use Rattle.model.specs.Requests.{operatorOf};
-ghost use Rattle.model.specs.Encoding.{isNegative, hasOption, headFlags, optionFlags, optionOf, ruleFlags, operatorNumber};
+ghost use Rattle.model.specs.Encoding.{isNegative, hasOption, headFlags, optionFlags, optionOf, ruleFlags};
+ghost use Rattle.model.specs.Encoding.{operatorNumber};
 use model::Operator;
 use model::OptionTerm;
 

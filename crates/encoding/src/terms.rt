@@ -1,4 +1,5 @@
-// The rule that a request names, as the base has it. Its numbers fit their bytes, as they are in their ranges.
+// The rule that a request names, as the base has it. Its numbers fit their bytes, as they are in their
+// ranges.
 ghost use mathlib.Core.Path.{_≡_};
 ghost use Prim.Native.Nat.{_<_};
 ghost use Rattle.model.specs.Requests.{newRule, numberOf, sideOf};

@@ -1,5 +1,5 @@
--- What base's functions reply is small enough to come apart again: every packed reply gives back its refusal, its
--- label and its number (Numbers), a packed reply to a request says what the request's definition says
+-- What base's functions reply is small enough to come apart again: every packed reply gives back its refusal,
+-- its label and its number (Numbers), a packed reply to a request says what the request's definition says
 -- (`request-parts`), and so does one to a line of text (`text-parts`).
 use mathlib.Core.Path.{_≡_, refl, sym, ap, subst, _∙_}
 use mathlib.Core.Logic.{_≢_, ⊎-elim}
@@ -28,7 +28,8 @@ use Rattle.model.specs.Session.{Written, textAnswer}
 use Rattle.text.specs.Short.{Short, request-short, may-short}
 use Rattle.text.specs.Room.{refused-untouched}
 use Rattle.records.specs.Records.{bodyOf, widthOf, rows, pageRows, paged, pageAnswer, recordsAnswer}
-use Rattle.ffi.specs.Numbers.{labelOf, numberOf, packedText, refusal-back, label-back, number-back, AnsweredBy}
+use Rattle.ffi.specs.Numbers.{labelOf, numberOf, packedText, refusal-back, label-back, number-back}
+use Rattle.ffi.specs.Numbers.{AnsweredBy}
 
 -- the bounds under which a packed reply comes apart again
 pub record Small (r : Reply) : Type 0 where
@@ -36,7 +37,8 @@ pub record Small (r : Reply) : Type 0 where
   pub label : labelOf r < 65536
 
 -- the refusal by rows is small if a test over them says so
-refused-small : (rows : List Row) → allb (λ r. ltb (r .number) 65536) rows ≡ true → Small (Refused (firstNumber rows))
+refused-small : (rows : List Row) → allb (λ r. ltb (r .number) 65536) rows ≡ true →
+    Small (Refused (firstNumber rows))
 refused-small rows e =
     let w : ltb (firstNumber rows) 65536 ≡ true = first-all (λ n. ltb n 65536) rows refl e in
     record { refusal = true-le (suc (firstNumber rows)) 65536 w; label = omega arith }
@@ -106,7 +108,8 @@ label-shown Yes = refl
 label-shown No = refl
 label-shown (Runs n) = refl
 
--- what the number that the exported request gives says of the request's definition: with 9 comes an uncovered instant
+-- what the number that the exported request gives says of the request's definition: with 9 comes an uncovered
+-- instant
 pub record RequestParts (s : List ℕ) (q : Request) (n : ℕ) : Type 0 where
   pub refusal : n % 65536 ≡ refusalNumber (request s q .reply)
   pub label : n / 65536 % 65536 ≡ labelOf (request s q .reply)
@@ -165,7 +168,8 @@ pub record TextParts (w : Written) (n : ℕ) : Type 0 where
   pub label : n / 65536 % 65536 ≡ 0
   pub count : n / 4294967296 ≡ w .count
 
-pub text-parts : (s line out : List ℕ) → TextParts (textAnswer s line out) (packedText (textAnswer s line out))
+pub text-parts : (s line out : List ℕ) → TextParts (textAnswer s line out)
+    (packedText (textAnswer s line out))
 text-parts s line out =
     let w = textAnswer s line out in
     let h : w .refusal < 65536 = ⊎-elim (λ e. omega (arith, e))

@@ -1,6 +1,6 @@
--- Requests and replies as C passes them: numbers and truth values alone. A star has a truth value of its own beside
--- its number, so that no number is a star; a reply is one number of 64 bits, in three parts that C takes out by
--- shifts: `refusal-back`, `label-back` and `number-back` say that it gets what the reply holds.
+-- Requests and replies as C passes them: numbers and truth values alone. A star has a truth value of its own
+-- beside its number, so that no number is a star; a reply is one number of 64 bits, in three parts that C
+-- takes out by shifts: `refusal-back`, `label-back` and `number-back` say that it gets what the reply holds.
 use mathlib.Core.Path.{_≡_, refl}
 use mathlib.Core.Bool.{Bool}
 use mathlib.Core.List.{List}
@@ -46,8 +46,8 @@ question subject mode object instant = record { access = access subject mode obj
 
 -- ---- replies
 
--- the refusal's number or 0 in bits 0 to 15; the new label or 0 in bits 16 to 31; from bit 32 on the authorizations
--- in the base, the uncovered instant that goes with 9, 1 for yes, or the runs
+-- the refusal's number or 0 in bits 0 to 15; the new label or 0 in bits 16 to 31; from bit 32 on the
+-- authorizations in the base, the uncovered instant that goes with 9, 1 for yes, or the runs
 abbrev pub packed : Reply → ℕ
 packed (Done label count) = count * 4294967296 + label % 65536 * 65536
 packed (Refused n) = n % 65536

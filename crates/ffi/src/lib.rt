@@ -1,14 +1,15 @@
-// The library for C and Rust: the seven functions of crate base on numbers, truth values and lent slices. They add
-// nothing but the wording: every contract is that of base's function, on the request or question that the numbers
-// say. What a caller takes out of a packed reply is said in specs/Numbers.antt (`refusal-back`, `label-back`,
-// `number-back`) and specs/Bounds.antt (`text-parts` for a line of text).
+// The library for C and Rust: the seven functions of crate base on numbers, truth values and lent slices.
+// They add nothing but the wording: every contract is that of base's function, on the request or question
+// that the numbers say. What a caller takes out of a packed reply is said in specs/Numbers.antt
+// (`refusal-back`, `label-back`, `number-back`) and specs/Bounds.antt (`text-parts` for a line of text).
 ghost use mathlib.Core.Path.{_≡_};
 ghost use Rattle.foundation.specs.Intervals.{interval};
 ghost use Rattle.model.specs.Soundness.{soundBytes};
 ghost use Rattle.model.specs.Answers.{create, mayAnswer, whenAnswer};
 ghost use Rattle.model.specs.Session.{textAnswer};
 ghost use Rattle.records.specs.Records.{recordsAnswer};
-ghost use Rattle.ffi.specs.Numbers.{termOf, optionOf, side, access, question, packed, packedText, AnsweredBy};
+ghost use Rattle.ffi.specs.Numbers.{termOf, optionOf, side, access, question, packed, packedText};
+ghost use Rattle.ffi.specs.Numbers.{AnsweredBy};
 use foundation::Interval;
 use model::Access;
 use model::OptionTerm;
@@ -110,7 +111,8 @@ pub extern "C" fn access_base_when(
 ) -> u64
     ensures { λ r. ⌜
         (r ≡ packed (whenAnswer (now (base .entry)) (access subject mode object) (now (list .entry)) .reply))
-        × (now (list .exit) ≡ whenAnswer (now (base .entry)) (access subject mode object) (now (list .entry)) .lent)
+        × (now (list .exit) ≡ whenAnswer (now (base .entry)) (access subject mode object)
+        (now (list .entry)) .lent)
         ⌝ }
 {
     let x = Access {
@@ -175,10 +177,12 @@ pub extern "C" fn access_base_request(
       interval = interval start end;
       option = option;
       rule = record {
-        left = side «left_any_subject» «left_subject» «left_any_mode» «left_mode» «left_object» «left_negative»;
+        left = side «left_any_subject» «left_subject» «left_any_mode» «left_mode» «left_object»
+            «left_negative»;
         operator = operator;
         right =
-            side «right_any_subject» «right_subject» «right_any_mode» «right_mode» «right_object» «right_negative»;
+            side «right_any_subject» «right_subject» «right_any_mode» «right_mode» «right_object»
+            «right_negative»;
         grantor = termOf «any_grantor» grantor;
         option = optionOf «any_option» «with_option»;
       };

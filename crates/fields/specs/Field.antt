@@ -7,7 +7,8 @@ use lib.ListN.{length, take, drop, replicate}
 unfoldable pub splice : ℕ → List ℕ → List ℕ → List ℕ
 splice at bs s = take at s ++ bs ++ drop (at + length bs) s
 
--- s with the w bytes at `from` twice: what stands from there up to index `to` is moved up by w, and the w bytes before `to` are lost
+-- s with the w bytes at `from` twice: what stands from there up to index `to` is moved up by w, and the w
+-- bytes before `to` are lost
 unfoldable pub gapped : ℕ → ℕ → ℕ → List ℕ → List ℕ
 gapped from to w s = take (from + w) s ++ take (to - from - w) (drop from s) ++ drop to s
 

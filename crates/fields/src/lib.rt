@@ -75,7 +75,8 @@ pub fn copy(s: &mut [u8], at: usize, src: &[u8], n: usize)
 // Moves the bytes of a slice up by w places: the first w are as they were, and the last w are lost.
 pub fn move_up(s: &mut [u8], w: usize)
     requires { ⌜ w ≤ length (now s) ⌝ }
-    ensures { λ _. ⌜ now (s .exit) ≡ take w (now (s .entry)) ++ take (length (now (s .entry)) - w) (now (s .entry)) ⌝ }
+    ensures { λ _. ⌜ now (s .exit) ≡ take w (now (s .entry))
+        ++ take (length (now (s .entry)) - w) (now (s .entry)) ⌝ }
 {
     let mut i = s.len();
     while w < i {
@@ -87,7 +88,8 @@ pub fn move_up(s: &mut [u8], w: usize)
 // Moves the bytes of a slice down by w places: the first w are lost, and the last w are as they were.
 pub fn move_down(s: &mut [u8], w: usize)
     requires { ⌜ w ≤ length (now s) ⌝ }
-    ensures { λ _. ⌜ now (s .exit) ≡ drop w (now (s .entry)) ++ drop (length (now (s .entry)) - w) (now (s .entry)) ⌝ }
+    ensures { λ _. ⌜ now (s .exit) ≡ drop w (now (s .entry))
+        ++ drop (length (now (s .entry)) - w) (now (s .entry)) ⌝ }
 {
     let n = s.len() - w;
     let mut i = 0;
@@ -108,7 +110,8 @@ pub fn clear(s: &mut [u8])
     }
 }
 
-// Opens a gap of w bytes at `from`, in the part of s that ends at `to`: what stands there goes up by w, and the last w bytes of the part are lost.
+// Opens a gap of w bytes at `from`, in the part of s that ends at `to`: what stands there goes up by w, and
+// the last w bytes of the part are lost.
 pub fn open_gap(s: &mut [u8], from: usize, to: usize, w: usize)
     requires { ⌜ (from + w ≤ to) × (to ≤ length (now s)) ⌝ }
     ensures { λ _. ⌜ now (s .exit) ≡ gapped from to w (now (s .entry)) ⌝ }
@@ -126,7 +129,8 @@ pub fn take_out(s: &mut [u8], w: usize)
     clear(&mut s[n..]);
 }
 
-// Takes w bytes out at `from`, of the part of s that ends at `to`: what stands behind them comes down, and the last w bytes of the part are zero.
+// Takes w bytes out at `from`, of the part of s that ends at `to`: what stands behind them comes down, and
+// the last w bytes of the part are zero.
 pub fn close_gap(s: &mut [u8], from: usize, to: usize, w: usize)
     requires { ⌜ (from + w ≤ to) × (to ≤ length (now s)) ⌝ }
     ensures { λ _. ⌜ now (s .exit) ≡ closed from to w (now (s .entry)) ⌝ }
@@ -151,8 +155,8 @@ pub fn same(a: &[u8], b: &[u8]) -> bool
     true
 }
 
-// Whether every byte of a slice is zero. It asks all of them, also behind one that is not: a loop with one way out is
-// compiled to many bytes at a time.
+// Whether every byte of a slice is zero. It asks all of them, also behind one that is not: a loop with one
+// way out is compiled to many bytes at a time.
 pub fn zeros(s: &[u8]) -> bool
     ensures { λ r. ⌜ r ≡ allb (λ x. eqb x 0) (now (s .entry)) ⌝ }
 {

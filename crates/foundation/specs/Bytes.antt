@@ -68,7 +68,8 @@ module _ {A : Type 0} (f : List ℕ → A) (enc : A → List ℕ) (w : ℕ) (P :
     (wide : (x : A) → length (enc x) ≡ w)
     (back : (x : A) (rest : List ℕ) → P x → f (enc x ++ rest) ≡ x) where
   behind-one : (x : A) (rest : List ℕ) → drop w (enc x ++ rest) ≡ rest
-  behind-one x rest = subst (λ (n : ℕ). drop n (enc x ++ rest) ≡ rest) (wide x) (drop-append-seam (enc x) rest)
+  behind-one x rest = subst (λ (n : ℕ). drop n (enc x ++ rest) ≡ rest) (wide x)
+      (drop-append-seam (enc x) rest)
 
   pub records-back : (xs : List A) → ((x : A) → Mem x xs → P x) → (rest : List ℕ) →
       records w f (length xs) (each xs enc ++ rest) ≡ xs
@@ -81,4 +82,5 @@ module _ {A : Type 0} (f : List ℕ → A) (enc : A → List ℕ) (w : ℕ) (P :
 pub behind : {A : Type 0} (enc : A → List ℕ) (w : ℕ) → ((x : A) → length (enc x) ≡ w) →
     (xs : List A) (rest : List ℕ) →
     drop (w * length xs) (each xs enc ++ rest) ≡ rest
-behind enc w h xs rest = drop-at (each xs enc) rest (w * length xs) (length-each xs enc w h ∙ mul-comm (length xs) w)
+behind enc w h xs rest = drop-at (each xs enc) rest (w * length xs)
+    (length-each xs enc w h ∙ mul-comm (length xs) w)

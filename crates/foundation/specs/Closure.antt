@@ -1,5 +1,5 @@
--- A step on sets of keys that only adds: after as many steps as there are keys nothing is added (`settled`), and what
--- is reached is the smallest closed set above the start (`least`). Also the size of a set.
+-- A step on sets of keys that only adds: after as many steps as there are keys nothing is added (`settled`),
+-- and what is reached is the smallest closed set above the start (`least`). Also the size of a set.
 use mathlib.Core.Path.{_≡_, ap}
 use mathlib.Core.Logic.{⊎-elim}
 use Prim.Native.Nat.{ℕ, zero, suc, _≤_, _<_}
@@ -8,7 +8,8 @@ use mathlib.Core.Bool.{Bool, true, false}
 use mathlib.Core.List.{List}
 use lib.ListN.{length}
 use Rattle.foundation.specs.Lists.{Mem}
-use Rattle.foundation.specs.Totals.{count, count-le, count-mono, count-same, total, total-le, Gap, total-gap}
+use Rattle.foundation.specs.Totals.{count, count-le, count-mono, count-same, total, total-le, Gap}
+use Rattle.foundation.specs.Totals.{total-gap}
 use Rattle.foundation.specs.Totals.{still-after}
 
 -- n steps of F from S

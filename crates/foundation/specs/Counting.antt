@@ -1,6 +1,6 @@
--- How many maximal intervals there are of a test that changes at marks only: twice their number is at most the number
--- of marks and two (`maximal-count`). For each interval's start, and the instant behind its end, is 0, the instant
--- behind the last, or a mark, and no two of them are the same.
+-- How many maximal intervals there are of a test that changes at marks only: twice their number is at most
+-- the number of marks and two (`maximal-count`). For each interval's start, and the instant behind its end,
+-- is 0, the instant behind the last, or a mark, and no two of them are the same.
 use mathlib.Core.Path.{_≡_, refl, sym, ap, _∙_, subst}
 use mathlib.Core.Logic.{inl, inr, _≢_, ⊎-elim}
 use Prim.Native.Nat.{ℕ, zero, suc, _+_, _*_, _≤_, _<_}
@@ -10,11 +10,14 @@ use mathlib.Core.List.{List, [], _∷_}
 use lib.Dec.{leb, eqb}
 use lib.ListN.{length}
 use Rattle.foundation.specs.declared.Interval.{Interval}
-use Rattle.foundation.specs.Tests.{cases, le-true, le-false, true-le, false-le, true-eq, false-eq, and-true}
+use Rattle.foundation.specs.Tests.{cases, le-true, le-false, true-le, false-le, true-eq, false-eq}
+use Rattle.foundation.specs.Tests.{and-true}
 use Rattle.foundation.specs.Lists.{Mem}
 use Rattle.foundation.specs.Closure.{size, size-le, size-less}
-use Rattle.foundation.specs.Intervals.{interval, inInterval, inInterval-in, inInterval-true, covered, Separate}
-use Rattle.foundation.specs.Intervals.{none-below, head-in, tail-in, maximal, maximal-separate, maximal-covered}
+use Rattle.foundation.specs.Intervals.{interval, inInterval, inInterval-in, inInterval-true, covered}
+use Rattle.foundation.specs.Intervals.{Separate}
+use Rattle.foundation.specs.Intervals.{none-below, head-in, tail-in, maximal, maximal-separate}
+use Rattle.foundation.specs.Intervals.{maximal-covered}
 use Rattle.foundation.specs.Marks.{clear-part, rep, Steady}
 
 -- fewer members of a list are at least b than at least k, if one of them is at least k and below b
@@ -43,10 +46,12 @@ module _ (f : ℕ → Bool) (ms : List ℕ) (c : Steady f ms) where
     abbrev Exact : ℕ → List Interval → Type 0
     Exact k rs = (t : ℕ) → k ≤ suc t → covered rs t ≡ inInterval (interval 0 e) t && f t
 
-    module _ (r : Interval) (rs : List Interval) (k : ℕ) (a : Separate k (r ∷ rs)) (h : Exact k (r ∷ rs)) where
+    module _ (r : Interval) (rs : List Interval) (k : ℕ) (a : Separate k (r ∷ rs))
+        (h : Exact k (r ∷ rs)) where
       inside : (t : ℕ) → r .start ≤ t → t ≤ r .end → (t ≤ e) × (f t ≡ true)
       inside t p q =
-          let w = and-true (inInterval (interval 0 e) t) (f t) (sym (h t (omega arith)) ∙ head-in r rs t p q) in
+          let w = and-true (inInterval (interval 0 e) t) (f t)
+          (sym (h t (omega arith)) ∙ head-in r rs t p q) in
           (inInterval-true (interval 0 e) t (w .0) .1, w .1)
 
       outside : (t : ℕ) → k ≤ suc t → t ≤ e → covered (r ∷ rs) t ≡ false → f t ≡ false
@@ -68,12 +73,14 @@ module _ (f : ℕ → Bool) (ms : List ℕ) (c : Steady f ms) where
           (λ q. inr (inl (ap suc (true-eq (r .end) e q))))
           (λ q. let d = false-eq (r .end) e q in
           let i = inside (r .end) (a .1) (omega arith) in
-          let o = outside (suc (r .end)) (omega arith) (omega arith) (tail-in r rs (suc (r .end)) (omega arith)
+          let o = outside (suc (r .end)) (omega arith) (omega arith)
+          (tail-in r rs (suc (r .end)) (omega arith)
           ∙ none-below rs (suc (suc (r .end))) (suc (r .end)) (a .2) (omega arith)) in
           inr (inr (turn (r .end) (λ p. true≢false (sym (i .1) ∙ sym p ∙ o)))))
 
     -- each interval passes two of the bounds
-    separate-count : (rs : List Interval) (k : ℕ) → Separate k rs → Exact k rs → 2 * length rs ≤ size (leb k) bounds
+    separate-count : (rs : List Interval) (k : ℕ) → Separate k rs → Exact k rs →
+        2 * length rs ≤ size (leb k) bounds
     separate-count [] k a h = omega arith
     separate-count (r ∷ rs) k a h =
         let s = suc (r .start) in
@@ -85,7 +92,8 @@ module _ (f : ℕ → Bool) (ms : List ℕ) (c : Steady f ms) where
           separate-count rs (suc u) (a .2) (λ t l. sym (tail-in r rs t (omega arith)) ∙ h t (omega arith)),
         )
 
-pub maximal-count : (f : ℕ → Bool) (ms : List ℕ) → Steady f ms → (e : ℕ) → 2 * length (maximal 0 e f) ≤ length ms + 2
+pub maximal-count : (f : ℕ → Bool) (ms : List ℕ) → Steady f ms → (e : ℕ) →
+    2 * length (maximal 0 e f) ≤ length ms + 2
 maximal-count f ms c e = omega (
   arith,
   size-le (leb 0) (bounds f ms c e),

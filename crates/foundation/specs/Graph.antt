@@ -1,8 +1,7 @@
--- Directed graphs over a list of nodes: paths, cycles through a strict edge, and ranks.
--- `edge` says which node leads to which, `strict` which edges no cycle may have, `weight` what an edge counts in a
--- rank, and `own` which nodes count by themselves.
--- `reaches-path` and `cyclic-path`: the tests find exactly the paths. `cyclic-map`: nodes may have other names. What
--- ranks are is shown in GraphFacts.
+-- Directed graphs over a list of nodes: paths, cycles through a strict edge, and ranks. `edge` says which
+-- node leads to which, `strict` which edges no cycle may have, `weight` what an edge counts in a rank, and
+-- `own` which nodes count by themselves. `reaches-path` and `cyclic-path`: the tests find exactly the paths.
+-- `cyclic-map`: nodes may have other names. What ranks are is shown in GraphFacts.
 use mathlib.Core.Path.{_≡_, refl, ap, _∙_}
 use mathlib.Core.Logic.{_↔_}
 use Prim.Native.Nat.{ℕ, zero, suc, _+_, _*_, max}
@@ -17,7 +16,8 @@ use Rattle.foundation.specs.Totals.{count}
 use Rattle.foundation.specs.Closure.{iter, settled}
 
 module _ {K : Type 0} where
-  -- a path from q: its first edge is one of `first`, every further one is of `edge` and leaves a node of the list
+  -- a path from q: its first edge is one of `first`, every further one is of `edge` and leaves a node of the
+  -- list
   pub data Path (first edge : K → K → Bool) (nodes : List K) (q : K) : K → Type 0 where
     direct : {r : K} → first q r ≡ true → Path first edge nodes q r
     onward : {p r : K} → Path first edge nodes q p → Mem p nodes → edge p r ≡ true → Path first edge nodes q r
@@ -50,7 +50,8 @@ module _ {K : Type 0} where
   abbrev pub heavy : (K → K → ℕ) → K → K → Bool
   heavy weight q r = ltb 0 (weight q r)
 
-  -- the most that a path of at most n edges counts which ends in r: its edges' weights, and its first node's own
+  -- the most that a path of at most n edges counts which ends in r: its edges' weights, and its first node's
+  -- own
   unfoldable pub rankIn : (edge : K → K → Bool) (weight : K → K → ℕ) (own : K → Bool) → ℕ → List K → K → ℕ
   rankIn edge weight own zero nodes r = count (own r)
   rankIn edge weight own (suc n) nodes r = max (count (own r))
@@ -78,7 +79,8 @@ module _ {K : Type 0} (first edge : K → K → Bool) (nodes : List K) (q : K) w
   abbrev over : (K → Bool) → K → Bool
   over S r = anyb (λ p. edge p r && S p) nodes
 
-  over-node : (S : K → Bool) (r : K) → over S r ≡ true → (p : K) × Mem p nodes × (edge p r ≡ true) × (S p ≡ true)
+  over-node : (S : K → Bool) (r : K) → over S r ≡ true →
+      (p : K) × Mem p nodes × (edge p r ≡ true) × (S p ≡ true)
   over-node S r e =
       let m = any-mem (λ p. edge p r && S p) nodes e in
       let w = and-true (edge (m .0) r) (S (m .0)) (m .2) in
@@ -88,7 +90,8 @@ module _ {K : Type 0} (first edge : K → K → Bool) (nodes : List K) (q : K) w
   node-over S r p m e s = or-true-right (first q r) (over S r)
       (mem-any (λ p. edge p r && S p) nodes p m (and-intro (edge p r) (S p) e s))
 
-  round-mono : (S Q : K → Bool) → ((r : K) → S r ≡ true → Q r ≡ true) → (r : K) → round S r ≡ true → round Q r ≡ true
+  round-mono : (S Q : K → Bool) → ((r : K) → S r ≡ true → Q r ≡ true) → (r : K) → round S r ≡ true →
+      round Q r ≡ true
   round-mono S Q h r e = or-cases (first q r) (over S r) e
       (λ a. or-intro-left (first q r) (over Q r) a)
       (λ a. let w = over-node S r a in node-over Q r (w .0) (w .1) (w .2) (h (w .0) (w .3)))
@@ -99,7 +102,8 @@ module _ {K : Type 0} (first edge : K → K → Bool) (nodes : List K) (q : K) w
   reaches-closed r m = settled nodes round
       (λ S. (r : K) → S r ≡ true → round S r ≡ true)
       (λ S g. round-mono S (round S) g)
-      (λ S Q g g′ h r m. ap (λ (b : Bool). first q r || b) (any-cong-mem (λ p. edge p r && S p) (λ p. edge p r && Q p)
+      (λ S Q g g′ h r m. ap (λ (b : Bool). first q r || b)
+      (any-cong-mem (λ p. edge p r && S p) (λ p. edge p r && Q p)
       nodes (λ p n. ap (λ (b : Bool). edge p r && b) (h p n))))
       (λ S g r e. g r e)
       (λ r. false) (λ r e. absurd (false≢true e)) (length nodes) (omega arith) r m
@@ -112,8 +116,10 @@ module _ {K : Type 0} (first edge : K → K → Bool) (nodes : List K) (q : K) w
       (λ a. let w = over-node (iter round n (λ r. false)) r a in onward (found n (w .0) (w .3)) (w .1) (w .2))
 
   finds : {r : K} → Path first edge nodes q r → Mem r nodes → reaches first edge nodes q r ≡ true
-  finds (direct {r} e) m = reaches-closed r m ∙ or-intro-left (first q r) (over (reaches first edge nodes q) r) e
-  finds (onward {p} {r} c n e) m = reaches-closed r m ∙ node-over (reaches first edge nodes q) r p n e (finds c n)
+  finds (direct {r} e) m = reaches-closed r m ∙ or-intro-left (first q r)
+      (over (reaches first edge nodes q) r) e
+  finds (onward {p} {r} c n e) m = reaches-closed r m
+      ∙ node-over (reaches first edge nodes q) r p n e (finds c n)
 
   pub reaches-path : (r : K) → Mem r nodes → (reaches first edge nodes q r ≡ true) ↔ Path first edge nodes q r
   unfolding reaches

@@ -1,7 +1,7 @@
--- Ranks in a graph where no strict edge lies on a cycle: they rise along the edges, strictly along the strict ones,
--- none exceeds the number of nodes (`ranked`), and they are the most that a walk counts (`rank-most`, `rank-walk`).
--- As many rounds as there are nodes find them (`rank-soon`).
--- At the end, for code that computes them: rounds until nothing changes, or until a rank exceeds the number of nodes.
+-- Ranks in a graph where no strict edge lies on a cycle: they rise along the edges, strictly along the strict
+-- ones, none exceeds the number of nodes (`ranked`), and they are the most that a walk counts (`rank-most`,
+-- `rank-walk`). As many rounds as there are nodes find them (`rank-soon`). At the end, for code that computes
+-- them: rounds until nothing changes, or until a rank exceeds the number of nodes.
 use mathlib.Core.Path.{_≡_, refl, sym, ap, ap₂, _∙_}
 use mathlib.Core.Logic.{_⊎_, inl, inr, _↔_, ⊎-elim}
 use Prim.Native.Nat.{ℕ, zero, suc, _+_, _-_, _*_, _≤_, _<_, max}
@@ -14,7 +14,8 @@ use Rattle.foundation.specs.Tests.{cases, must-fail, and-true, and-intro
 use Rattle.foundation.specs.Lists.{keepIf, Mem, keepIf-mem, kept}
 use Rattle.foundation.specs.Totals.{count, count-le, count-mono, count-same, total-le, still-after}
 use Rattle.foundation.specs.Closure.{size, size-le, size-mono, size-less}
-use Rattle.foundation.specs.Graph.{Path, direct, onward, reaches, strictEdge, cyclic, most, heavy, rankIn, rank}
+use Rattle.foundation.specs.Graph.{Path, direct, onward, reaches, strictEdge, cyclic, most, heavy}
+use Rattle.foundation.specs.Graph.{rankIn, rank}
 use Rattle.foundation.specs.Graph.{Walk, alone, then, reaches-path, cyclic-path}
 
 -- ---- the most of a list
@@ -96,7 +97,8 @@ module _ {K : Type 0} (edge : K → K → Bool) (weight : K → K → ℕ) (own 
   )
 
   -- no more than what the node has of its own and what others contribute
-  after-le : (n b : ℕ) (r : K) → count (own r) ≤ b → ((q : K) → Mem q nodes → edge q r ≡ true → by n r q ≤ b) →
+  after-le : (n b : ℕ) (r : K) → count (own r) ≤ b →
+      ((q : K) → Mem q nodes → edge q r ≡ true → by n r q ≤ b) →
       after (suc n) r ≤ b
   after-le n b r g h = omega (
     arith,
@@ -121,7 +123,8 @@ module _ {K : Type 0} (edge : K → K → Bool) (weight : K → K → ℕ) (own 
       ((q r : K) → Mem q nodes → Mem r nodes → edge q r ≡ true → weight q r + g q ≤ g r) →
       (n : ℕ) (r : K) → Mem r nodes → after n r ≤ g r
   within g a b zero r m = omega (arith, rank-zero r, a r m)
-  within g a b (suc n) r m = after-le n (g r) r (a r m) (λ q k e. omega (arith, within g a b n q k, b q r k m e))
+  within g a b (suc n) r m = after-le n (g r) r (a r m)
+      (λ q k e. omega (arith, within g a b n q k, b q r k m e))
 
   -- a round looks at the nodes' ranks only
   step-cong : (m n : ℕ) → ((q : K) → Mem q nodes → after m q ≡ after n q) →
@@ -161,7 +164,8 @@ module _ {K : Type 0} (edge : K → K → Bool) (weight : K → K → ℕ) (own 
     no-return r m = must-fail (cyclic edge strict nodes) (above r r) free
         (λ e. cyclic-path edge strict nodes .1 (r, m, above-path r r m .0 e))
 
-    -- an edge to r: what is above q is above r, and so is q itself, which is not above q, if the edge is strict
+    -- an edge to r: what is above q is above r, and so is q itself, which is not above q, if the edge is
+    -- strict
     above-less : (q r : K) → Mem q nodes → Mem r nodes → edge q r ≡ true →
         weight q r + 2 * size (above q) nodes ≤ 2 * size (above r) nodes
     above-less q r m n e = cases (strict q r)
@@ -210,7 +214,8 @@ module _ {K : Type 0} (edge : K → K → Bool) (weight : K → K → ℕ) (own 
       few = after-few (length nodes * (2 * length nodes));
     }
 
-    walk-le : {n : ℕ} {r : K} → Walk edge weight own nodes n r → Mem r nodes → n ≤ rank edge weight own nodes r
+    walk-le : {n : ℕ} {r : K} → Walk edge weight own nodes n r → Mem r nodes →
+        n ≤ rank edge weight own nodes r
     walk-le (alone {r}) m = rank-own r
     walk-le (then {n} {q} {r} w k e) m = omega (arith, walk-le w k, rank-by q r k m e)
 
@@ -219,7 +224,8 @@ module _ {K : Type 0} (edge : K → K → Bool) (weight : K → K → ℕ) (own 
         n ≤ rank edge weight own nodes r
     rank-most r m w = walk-le w m
 
-    -- ---- as many rounds as there are nodes are enough: each finds the rank of one node more, until all are found
+    -- ---- as many rounds as there are nodes are enough: each finds the rank of one node more, until all are
+    -- found
 
     -- n rounds find the rank of r
     abbrev known : ℕ → K → Bool
@@ -235,7 +241,8 @@ module _ {K : Type 0} (edge : K → K → Bool) (weight : K → K → ℕ) (own 
     known-on n r e = le-true (rank edge weight own nodes r) (after (suc n) r)
         (omega (arith, known-le n r e, rises n r))
 
-    -- if a round finds no further one, all were found: else one less for each that is missing would bound the ranks
+    -- if a round finds no further one, all were found: else one less for each that is missing would bound the
+    -- ranks
     module _ (n : ℕ) (none : (r : K) → Mem r nodes → count (known n r) ≡ count (known (suc n) r)) where
       abbrev lower : K → ℕ
       lower r = rank edge weight own nodes r - count (not (known n r))
@@ -249,7 +256,8 @@ module _ {K : Type 0} (edge : K → K → Bool) (weight : K → K → ℕ) (own 
       lower-edge q r m k e = cases (known n r)
           (λ a. rw a (omega (arith, rank-by q r m k e)))
           (λ a. cases (known n q)
-          (λ b. let less = unknown-less (suc n) r (sym (count-same (known n r) (known (suc n) r) (none r k)) ∙ a) in
+          (λ b. let less = unknown-less (suc n) r (sym (count-same (known n r) (known (suc n) r) (none r k))
+          ∙ a) in
           rw (a, b) (omega (arith, known-le n q b, by-le n q r m e)))
           (λ b. rw (a, b) (omega (arith, unknown-less n q b, rank-by q r m k e))))
 
@@ -278,7 +286,8 @@ module _ {K : Type 0} (edge : K → K → Bool) (weight : K → K → ℕ) (own 
     pub rank-soon : Still (length nodes)
     rank-soon r m =
         let e = all-known r m in
-        known-rank (length nodes) r m e ∙ sym (known-rank (suc (length nodes)) r m (known-on (length nodes) r e))
+        known-rank (length nodes) r m e ∙ sym (known-rank (suc (length nodes)) r m
+        (known-on (length nodes) r e))
 
   -- ---- for code: rounds until nothing changes, or until a rank exceeds the number of nodes
 
@@ -301,7 +310,8 @@ module _ {K : Type 0} (edge : K → K → Bool) (weight : K → K → ℕ) (own 
   -- then no strict edge lies on a cycle
   pub still-sound : (n : ℕ) → Still n → cyclic edge strict nodes ≡ false
   still-sound n h = cases (cyclic edge strict nodes)
-      (λ e. let w = cyclic-path edge strict nodes .0 e in absurd (omega (arith, still-less n h (w .2) (w .1) (w .1))))
+      (λ e. let w = cyclic-path edge strict nodes .0 e in
+      absurd (omega (arith, still-less n h (w .2) (w .1) (w .1))))
       (λ e. e)
 
   -- and the ranks are found
@@ -317,4 +327,5 @@ module _ {K : Type 0} (edge : K → K → Bool) (weight : K → K → ℕ) (own 
   -- a rank above the number of nodes: a strict edge lies on a cycle
   pub large-cycle : (n : ℕ) (r : K) → Mem r nodes → 2 * length nodes < rankIn edge weight own n nodes r →
       cyclic edge strict nodes ≡ true
-  large-cycle n r m l = cases (cyclic edge strict nodes) (λ e. e) (λ e. absurd (omega (arith, after-few e n r m)))
+  large-cycle n r m l = cases (cyclic edge strict nodes) (λ e. e)
+      (λ e. absurd (omega (arith, after-few e n r m)))

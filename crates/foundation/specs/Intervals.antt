@@ -7,7 +7,8 @@ use mathlib.Core.Bool.{Bool, true, false, not, _&&_, _||_, true≢false, false�
 use mathlib.Core.List.{List, [], _∷_}
 use lib.Dec.{leb, ltb, eqb}
 use Rattle.foundation.specs.declared.Interval.{Interval}
-use Rattle.foundation.specs.Tests.{pick, cases, agree, le-true, le-false, true-le, false-le, true-eq, false-eq}
+use Rattle.foundation.specs.Tests.{pick, cases, agree, le-true, le-false, true-le, false-le, true-eq}
+use Rattle.foundation.specs.Tests.{false-eq}
 use Rattle.foundation.specs.Tests.{or-assoc, or-false, and-true, and-intro}
 
 abbrev pub interval : ℕ → ℕ → Interval
@@ -60,7 +61,8 @@ inInterval-true r t e =
     (true-le (r .start) t (p .0), true-le t (r .end) (p .1))
 
 pub inInterval-in : (r : Interval) (t : ℕ) → r .start ≤ t → t ≤ r .end → inInterval r t ≡ true
-inInterval-in r t p q = and-intro (leb (r .start) t) (leb t (r .end)) (le-true (r .start) t p) (le-true t (r .end) q)
+inInterval-in r t p q = and-intro (leb (r .start) t) (leb t (r .end)) (le-true (r .start) t p)
+    (le-true t (r .end) q)
 
 inInterval-below : (r : Interval) (t : ℕ) → t < r .start → inInterval r t ≡ false
 inInterval-below r t h = rw (le-false (r .start) t h)
@@ -79,14 +81,16 @@ none-below (r ∷ rs) k t a h =
     rw (inInterval-below r t (omega arith), none-below rs (suc (suc (r .end))) t (a .2) (omega arith))
 
 -- what a interval covers, its list covers
-pub head-in : (r : Interval) (rs : List Interval) (t : ℕ) → r .start ≤ t → t ≤ r .end → covered (r ∷ rs) t ≡ true
+pub head-in : (r : Interval) (rs : List Interval) (t : ℕ) → r .start ≤ t → t ≤ r .end →
+    covered (r ∷ rs) t ≡ true
 head-in r rs t p q = rw (inInterval-in r t p q)
 
 pub tail-in : (r : Interval) (rs : List Interval) (t : ℕ) → r .end < t → covered (r ∷ rs) t ≡ covered rs t
 tail-in r rs t h = rw (inInterval-above r t h)
 
 module _ (r : Interval) (rs : List Interval) (q : Interval) (qs : List Interval) (j k : ℕ)
-    (a : Separate j (r ∷ rs)) (b : Separate k (q ∷ qs)) (h : (t : ℕ) → covered (r ∷ rs) t ≡ covered (q ∷ qs) t) where
+    (a : Separate j (r ∷ rs)) (b : Separate k (q ∷ qs))
+    (h : (t : ℕ) → covered (r ∷ rs) t ≡ covered (q ∷ qs) t) where
   start-le : q .start ≤ r .start
   start-le = cases (leb (q .start) (r .start)) (λ e. true-le _ _ e)
       (λ e. absurd (true≢false (sym (head-in r rs (r .start) (omega arith) (a .1)) ∙ h (r .start)
@@ -110,8 +114,10 @@ module _ (r : Interval) (rs : List Interval) (q : Interval) (qs : List Interval)
 pub unique : (rs qs : List Interval) (j k : ℕ) → Separate j rs → Separate k qs →
     ((t : ℕ) → covered rs t ≡ covered qs t) → rs ≡ qs
 unique [] [] j k a b h = refl
-unique [] (q ∷ qs) j k a b h = absurd (false≢true (h (q .start) ∙ head-in q qs (q .start) (omega arith) (b .1)))
-unique (r ∷ rs) [] j k a b h = absurd (true≢false (sym (head-in r rs (r .start) (omega arith) (a .1)) ∙ h (r .start)))
+unique [] (q ∷ qs) j k a b h = absurd (false≢true (h (q .start)
+    ∙ head-in q qs (q .start) (omega arith) (b .1)))
+unique (r ∷ rs) [] j k a b h = absurd (true≢false (sym (head-in r rs (r .start) (omega arith) (a .1))
+    ∙ h (r .start)))
 unique (r ∷ rs) (q ∷ qs) j k a b h =
     let f₁ = start-le r rs q qs j k a b h in
     let f₂ = start-le q qs r rs k j b a (λ t. sym (h t)) in
@@ -143,7 +149,8 @@ join r q t h k m = cases (leb t (r .end))
     (λ e. let l = false-le t (r .end) e in
     rw (e, le-true (r .start) t (omega arith), le-true (q .start) t (omega arith)))
 
-pub prepend-covered : (r : Interval) (rs : List Interval) (t : ℕ) → r .start ≤ r .end → Separate (suc (r .end)) rs →
+pub prepend-covered : (r : Interval) (rs : List Interval) (t : ℕ) → r .start ≤ r .end →
+    Separate (suc (r .end)) rs →
     covered (prepend r rs) t ≡ inInterval r t || covered rs t
 unfolding prepend
 prepend-covered r [] t h a = refl
@@ -159,7 +166,8 @@ pub maximalFrom-yes : (f : ℕ → Bool) (s n : ℕ) → f s ≡ true →
 unfolding maximalFrom
 maximalFrom-yes f s n e = rw (e, maximalFrom)
 
-pub maximalFrom-no : (f : ℕ → Bool) (s n : ℕ) → f s ≡ false → maximalFrom f s (suc n) ≡ maximalFrom f (suc s) n
+pub maximalFrom-no : (f : ℕ → Bool) (s n : ℕ) → f s ≡ false →
+    maximalFrom f s (suc n) ≡ maximalFrom f (suc s) n
 unfolding maximalFrom
 maximalFrom-no f s n e = rw (e, maximalFrom)
 
@@ -168,7 +176,8 @@ unfolding maximalFrom
 maximalFrom-separate f zero s = tt
 maximalFrom-separate f (suc n) s = cases (f s)
     (λ e. rw (maximalFrom-yes f s n e)
-    (prepend-separate (interval s s) (maximalFrom f (suc s) n) (omega arith) (maximalFrom-separate f n (suc s))))
+    (prepend-separate (interval s s) (maximalFrom f (suc s) n) (omega arith)
+    (maximalFrom-separate f n (suc s))))
     (λ e. rw (maximalFrom-no f s n e)
     (separate-weaken (maximalFrom f (suc s) n) s (suc s) (omega arith) (maximalFrom-separate f n (suc s))))
 
@@ -193,7 +202,8 @@ maximalFrom-covered f zero s t = cases (leb s t)
 maximalFrom-covered f (suc n) s t = cases (f s)
     (λ e. rw (
       maximalFrom-yes f s n e,
-      prepend-covered (interval s s) (maximalFrom f (suc s) n) t (omega arith) (maximalFrom-separate f n (suc s)),
+      prepend-covered (interval s s) (maximalFrom f (suc s) n) t (omega arith)
+          (maximalFrom-separate f n (suc s)),
       maximalFrom-covered f n (suc s) t,
     ) (here e))
     (λ e. rw (maximalFrom-no f s n e, maximalFrom-covered f n (suc s) t) (other e))
@@ -215,15 +225,25 @@ maximalFrom-covered f (suc n) s t = cases (f s)
         (λ q. let p = true-eq t s q in
         rw (within-below (suc s) n t (omega arith), within-in s (suc n) t (omega arith) (omega arith), p, e))
         (λ q. let p = false-eq t s q in rw (behind (omega arith))))
-        (λ l. let m = false-le s t l in rw (within-below (suc s) n t (omega arith), within-below s (suc n) t m))
+        (λ l. let m = false-le s t l in rw (
+          within-below (suc s) n t (omega arith),
+          within-below s (suc n) t m,
+        ))
 
     here : f s ≡ true → inInterval (interval s s) t || (within (suc s) n t && f t) ≡ within s (suc n) t && f t
     here e = cases (leb s t)
         (λ l. let m = true-le s t l in cases (eqb t s)
         (λ q. let p = true-eq t s q in rw (inInterval-in (interval s s) t m (omega arith)) (sym (at-s p e)))
-        (λ q. let p = false-eq t s q in rw (inInterval-above (interval s s) t (omega arith), behind (omega arith))))
+        (λ q. let p = false-eq t s q in rw (
+          inInterval-above (interval s s) t (omega arith),
+          behind (omega arith),
+        )))
         (λ l. let m = false-le s t l in
-        rw (inInterval-below (interval s s) t m, within-below (suc s) n t (omega arith), within-below s (suc n) t m))
+        rw (
+          inInterval-below (interval s s) t m,
+          within-below (suc s) n t (omega arith),
+          within-below s (suc n) t m,
+        ))
 
 -- ---- maximal: what it covers, and that nothing else does so
 
@@ -262,7 +282,8 @@ always-all a t f e u h k = cases (f u) (λ p. p) (λ p. absurd (false≢true (
 
 pub all-always : (a t : ℕ) (f : ℕ → Bool) → ((u : ℕ) → a ≤ u → u ≤ t → f u ≡ true) → always a t f ≡ true
 unfolding always
-all-always a t f h = rw (← (maximal-unique a t (λ u. not (f u)) 0 [] tt (λ u. sym (cases (inInterval (interval a t) u)
+all-always a t f h = rw (← (maximal-unique a t (λ u. not (f u)) 0 [] tt
+    (λ u. sym (cases (inInterval (interval a t) u)
     (λ e. let p = inInterval-true (interval a t) u e in rw (e, h u (p .0) (p .1)))
     (λ e. rw e)))))
 

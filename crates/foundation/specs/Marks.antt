@@ -1,4 +1,5 @@
--- Marks: instants at which a test can change. Asking at marks only gives the same maximal intervals (`walk-maximal`).
+-- Marks: instants at which a test can change. Asking at marks only gives the same maximal intervals
+-- (`walk-maximal`).
 use mathlib.Core.Path.{_≡_, refl, sym, ap, _∙_}
 use Prim.Native.Nat.{ℕ, zero, suc, _-_, _≤_, _<_}
 use native.Mathlib.Omega.{arith}
@@ -12,7 +13,8 @@ use Rattle.foundation.specs.Tests.{false-le, and-true, and-intro, and-fa
 use Rattle.foundation.specs.Lists.{Mem}
 use Rattle.foundation.specs.Intervals.{interval, inInterval, inInterval-in, inInterval-above, prepend}
 use Rattle.foundation.specs.Intervals.{prepend-separate, prepend-covered, separate-weaken, maximal}
-use Rattle.foundation.specs.Intervals.{maximal-separate, maximal-covered, maximal-unique, always, always-all}
+use Rattle.foundation.specs.Intervals.{maximal-separate, maximal-covered, maximal-unique, always}
+use Rattle.foundation.specs.Intervals.{always-all}
 use Rattle.foundation.specs.Intervals.{all-always}
 
 -- the least mark above a that is below d, or d
@@ -29,8 +31,8 @@ clear (m ∷ ms) a t = not (ltb a m && leb m t) && clear ms a t
 abbrev pub Steady : {X : Type 0} → (ℕ → X) → List ℕ → Type 0
 Steady f ms = (a t : ℕ) → a ≤ t → clear ms a t ≡ true → f t ≡ f a
 
--- the maximal intervals of a to e where f holds, f being asked at a and at the marks behind it. With no fuel left,
--- `maximal`
+-- the maximal intervals of a to e where f holds, f being asked at a and at the marks behind it. With no fuel
+-- left, `maximal`
 unfoldable pub walk : (ℕ → Bool) → List ℕ → ℕ → ℕ → ℕ → List Interval
 unfolding prepend next
 walk f ms e zero a = maximal a e f
@@ -110,22 +112,30 @@ module _ (f : ℕ → Bool) (ms : List ℕ) (c : Steady f ms) (e a : ℕ) (h : a
       prepend (interval a (next a ms (suc e) - 1)) (maximal (next a ms (suc e)) e f) ≡ maximal a e f
   block-yes q =
       let n = next-above a ms (suc e) (omega arith) in
-      let ap₁ = separate-weaken (maximal (next a ms (suc e)) e f) (suc (next a ms (suc e) - 1)) (next a ms (suc e))
+      let ap₁ = separate-weaken (maximal (next a ms (suc e)) e f) (suc (next a ms (suc e) - 1))
+      (next a ms (suc e))
       (omega arith) (maximal-separate (next a ms (suc e)) e f) in
       maximal-unique a e f a (prepend (interval a (next a ms (suc e) - 1)) (maximal (next a ms (suc e)) e f))
-      (prepend-separate (interval a (next a ms (suc e) - 1)) (maximal (next a ms (suc e)) e f) (omega arith) ap₁)
-      (λ t. prepend-covered (interval a (next a ms (suc e) - 1)) (maximal (next a ms (suc e)) e f) t (omega arith) ap₁
+      (prepend-separate (interval a (next a ms (suc e) - 1)) (maximal (next a ms (suc e)) e f)
+      (omega arith) ap₁)
+      (λ t. prepend-covered (interval a (next a ms (suc e) - 1)) (maximal (next a ms (suc e)) e f) t
+      (omega arith) ap₁
       ∙ rw (maximal-covered (next a ms (suc e)) e f t) (go t))
     where
       go : (t : ℕ) →
-          inInterval (interval a (next a ms (suc e) - 1)) t || (inInterval (interval (next a ms (suc e)) e) t && f t)
+          inInterval (interval a (next a ms (suc e) - 1)) t
+          || (inInterval (interval (next a ms (suc e)) e) t && f t)
           ≡ inInterval (interval a e) t && f t
       go t =
           let n = next-above a ms (suc e) (omega arith) in
           let u = next-le a ms (suc e) in
           cases (leb (next a ms (suc e)) t)
           (λ l. let m = true-le (next a ms (suc e)) t l in
-          rw (inInterval-above (interval a (next a ms (suc e) - 1)) t (omega arith), l, le-true a t (omega arith)))
+          rw (
+            inInterval-above (interval a (next a ms (suc e) - 1)) t (omega arith),
+            l,
+            le-true a t (omega arith),
+          ))
           (λ l. let m = false-le (next a ms (suc e)) t l in cases (leb a t)
           (λ p. let g = true-le a t p in
           rw (
@@ -143,10 +153,12 @@ walk-maximal f ms c e (suc k) a = cases (leb a e)
     (λ l. let h = true-le a e l in
     let i = walk-maximal f ms c e k (next a ms (suc e)) in
     cases (f a)
-    (λ q. walk-yes f ms e k a l q ∙ ap (λ (r : List Interval). prepend (interval a (next a ms (suc e) - 1)) r) i
+    (λ q. walk-yes f ms e k a l q ∙ ap (λ (r : List Interval). prepend (interval a (next a ms (suc e) - 1)) r)
+    i
     ∙ block-yes f ms c e a h q)
     (λ q. walk-no f ms e k a l q ∙ i ∙ block-no f ms c e a h q))
-    (λ l. let h = false-le a e l in walk-end f ms e k a l ∙ maximal-unique a e f a [] tt (λ t. sym (empty f a e h t)))
+    (λ l. let h = false-le a e l in walk-end f ms e k a l
+    ∙ maximal-unique a e f a [] tt (λ t. sym (empty f a e h t)))
 
 -- ---- clear and steady
 
@@ -165,7 +177,12 @@ leb-flip u t = cases (leb t u)
 pub inInterval-clear : (r : Interval) (a t : ℕ) → a ≤ t → not (ltb a (r .start) && leb (r .start) t) ≡ true →
     not (ltb a (suc (r .end)) && leb (suc (r .end)) t) ≡ true → inInterval r t ≡ inInterval r a
 inInterval-clear r a t h e₁ e₂ =
-    rw (clear-one (r .start) a t h e₁, leb-flip (r .end) t, leb-flip (r .end) a, clear-one (suc (r .end)) a t h e₂)
+    rw (
+      clear-one (r .start) a t h e₁,
+      leb-flip (r .end) t,
+      leb-flip (r .end) a,
+      clear-one (suc (r .end)) a t h e₂,
+    )
 
 -- of what is clear, a part is
 pub clear-part : (ms : List ℕ) (a b t u : ℕ) → a ≤ b → u ≤ t → clear ms a t ≡ true → clear ms b u ≡ true
@@ -173,7 +190,8 @@ clear-part [] a b t u h l e = refl
 clear-part (m ∷ ms) a b t u h l e =
     let p = and-true (not (ltb a m && leb m t)) (clear ms a t) e in
     and-intro (not (ltb b m && leb m u)) (clear ms b u)
-    (ap not (must-fail (ltb a m && leb m t) (ltb b m && leb m u) (not-true (ltb a m && leb m t) (p .0)) wider))
+    (ap not (must-fail (ltb a m && leb m t) (ltb b m && leb m u)
+    (not-true (ltb a m && leb m t) (p .0)) wider))
     (clear-part ms a b t u h l (p .1))
   where
     wider : ltb b m && leb m u ≡ true → ltb a m && leb m t ≡ true
@@ -193,7 +211,8 @@ clear-both (x ∷ xs) ys a t e =
 pub not-steady : (ms : List ℕ) (f : ℕ → Bool) → Steady f ms → Steady (λ u. not (f u)) ms
 not-steady ms f c a t h e = ap not (c a t h e)
 
-pub always-steady : (ms : List ℕ) (f : ℕ → Bool) → Steady f ms → (s a t : ℕ) → s ≤ a → a ≤ t → clear ms a t ≡ true →
+pub always-steady : (ms : List ℕ) (f : ℕ → Bool) → Steady f ms → (s a t : ℕ) → s ≤ a → a ≤ t →
+    clear ms a t ≡ true →
     always s t f ≡ always s a f
 always-steady ms f c s a t h k e = agree (always s t f) (always s a f)
     (λ p. all-always s a f (λ u x y. always-all s t f p u x (omega arith)))

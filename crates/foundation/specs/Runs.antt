@@ -1,5 +1,5 @@
--- Maximal intervals found from left to right: instants passed over where the test fails (`maximal-skip`), and one
--- interval where it holds up to an instant where it fails, or to the end (`maximal-run`).
+-- Maximal intervals found from left to right: instants passed over where the test fails (`maximal-skip`), and
+-- one interval where it holds up to an instant where it fails, or to the end (`maximal-run`).
 use mathlib.Core.Path.{_≡_, sym, ap, _∙_, subst}
 use mathlib.Core.Bool.{Bool, true, false, _&&_, _||_}
 use mathlib.Core.List.{List, [], _∷_}
@@ -8,7 +8,8 @@ use native.Mathlib.Omega.{arith}
 use lib.Dec.{leb}
 use Rattle.foundation.specs.declared.Interval.{Interval}
 use Rattle.foundation.specs.Tests.{cases, le-true, le-false, true-le, false-le, and-false}
-use Rattle.foundation.specs.Intervals.{interval, inInterval, inInterval-in, inInterval-above, Separate, covered}
+use Rattle.foundation.specs.Intervals.{interval, inInterval, inInterval-in, inInterval-above, Separate}
+use Rattle.foundation.specs.Intervals.{covered}
 use Rattle.foundation.specs.Intervals.{maximal, maximal-separate, maximal-covered, maximal-unique}
 
 -- behind the end there is nothing
@@ -57,7 +58,12 @@ maximal-run a m e f h l all stop =
     same : (t : ℕ) → covered (interval a (m - 1) ∷ maximal m e f) t ≡ inInterval (interval a e) t && f t
     same t = cases (leb m t)
         (λ p. let q = true-le m t p in
-        rw (inInterval-above (interval a (m - 1)) t (omega arith), maximal-covered m e f t, p, le-true a t (omega arith)))
+        rw (
+          inInterval-above (interval a (m - 1)) t (omega arith),
+          maximal-covered m e f t,
+          p,
+          le-true a t (omega arith),
+        ))
         (λ p. let q = false-le m t p in cases (leb a t)
         (λ r. let s = true-le a t r in
         rw (

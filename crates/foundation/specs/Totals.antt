@@ -1,5 +1,5 @@
--- Numbers summed over a list of keys. Values that only rise from round to round, and whose total is bounded, stand
--- still after as many rounds as the bound says: `still-after`.
+-- Numbers summed over a list of keys. Values that only rise from round to round, and whose total is bounded,
+-- stand still after as many rounds as the bound says: `still-after`.
 use mathlib.Core.Path.{_≡_, refl}
 use mathlib.Core.Logic.{_⊎_, inl, inr, ⊎-elim}
 use Prim.Native.Nat.{ℕ, zero, suc, _+_, _*_, _≤_, _<_}
@@ -38,7 +38,8 @@ module _ {K : Type 0} where
   total f [] = 0
   total f (k ∷ ks) = f k + total f ks
 
-  pub total-le : (f : K → ℕ) (b : ℕ) (ks : List K) → ((k : K) → Mem k ks → f k ≤ b) → total f ks ≤ length ks * b
+  pub total-le : (f : K → ℕ) (b : ℕ) (ks : List K) → ((k : K) → Mem k ks → f k ≤ b) →
+      total f ks ≤ length ks * b
   total-le f b [] h = omega arith
   total-le f b (k ∷ ks) h = omega (arith, h k (inl refl), total-le f b ks (λ j m. h j (inr m)))
 

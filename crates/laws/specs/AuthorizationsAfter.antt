@@ -1,6 +1,6 @@
--- The authorizations that a request leaves, by its kind: one more (`granted-authorizations`), what a withdrawal
--- leaves (`withdrawn-authorizations`), or the same. So each is the new one, or a piece of one that was there
--- (`origin`).
+-- The authorizations that a request leaves, by its kind: one more (`granted-authorizations`), what a
+-- withdrawal leaves (`withdrawn-authorizations`), or the same. So each is the new one, or a piece of one that
+-- was there (`origin`).
 use mathlib.Core.Path.{_≡_, refl, ap, _∙_}
 use mathlib.Core.Logic.{_⊎_, inl, inr, ⊎-elim}
 use Prim.Native.Nat.{ℕ, suc}
@@ -15,7 +15,8 @@ use Rattle.model.specs.declared.Request.{Request}
 use Rattle.model.specs.Base.{Base}
 use Rattle.model.specs.Support.{supported, live}
 use Rattle.model.specs.Withdrawal.{authorization, restrict}
-use Rattle.model.specs.Requests.{REVOKE, REVOKEP, REVOKEN, REVOKEADM, grants, withdraws, rootAfter, newHead, takes}
+use Rattle.model.specs.Requests.{REVOKE, REVOKEP, REVOKEN, REVOKEADM, grants, withdraws, rootAfter, newHead}
+use Rattle.model.specs.Requests.{takes}
 use Rattle.model.specs.Requests.{leave, affects}
 use Rattle.model.specs.Means.{plainly}
 use Rattle.model.specs.Step.{effect}

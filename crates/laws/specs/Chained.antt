@@ -1,5 +1,6 @@
 -- Lists in order: each element and the next pass a test (`chained`), or each stands so to all that follow
--- (`Pairwise`). By a transitive relation the one gives the other; members left out or put last keep the order.
+-- (`Pairwise`). By a transitive relation the one gives the other; members left out or put last keep the
+-- order.
 use mathlib.Core.Path.{_≡_, refl}
 use mathlib.Core.Logic.{inl, inr, ⊎-elim}
 use mathlib.Core.Bool.{Bool, true, _&&_}
@@ -52,17 +53,20 @@ pub pairwise-chained : {A : Type 0} (R : A → A → Type 0) (p : A → A → Bo
 pairwise-chained R p h [] a = refl
 pairwise-chained R p h (x ∷ []) a = refl
 pairwise-chained R p h (x ∷ y ∷ zs) a =
-    and-intro (p x y) (chained p (y ∷ zs)) (h x y (a .0 y (inl refl))) (pairwise-chained R p h (y ∷ zs) (a .1))
+    and-intro (p x y) (chained p (y ∷ zs)) (h x y (a .0 y (inl refl)))
+    (pairwise-chained R p h (y ∷ zs) (a .1))
 
 -- two tests at once
-pub chained-both : {A : Type 0} (p q : A → A → Bool) (xs : List A) → chained p xs ≡ true → chained q xs ≡ true →
+pub chained-both : {A : Type 0} (p q : A → A → Bool) (xs : List A) → chained p xs ≡ true →
+    chained q xs ≡ true →
     chained (λ x y. p x y && q x y) xs ≡ true
 chained-both p q [] e f = refl
 chained-both p q (x ∷ []) e f = refl
 chained-both p q (x ∷ y ∷ zs) e f =
     let u = and-true (p x y) (chained p (y ∷ zs)) e in
     let v = and-true (q x y) (chained q (y ∷ zs)) f in
-    and-intro (p x y && q x y) (chained (λ x y. p x y && q x y) (y ∷ zs)) (and-intro (p x y) (q x y) (u .0) (v .0))
+    and-intro (p x y && q x y) (chained (λ x y. p x y && q x y) (y ∷ zs))
+    (and-intro (p x y) (q x y) (u .0) (v .0))
     (chained-both p q (y ∷ zs) (u .1) (v .1))
 
 -- ---- a test that is transitive
@@ -70,16 +74,19 @@ chained-both p q (x ∷ y ∷ zs) e f =
 abbrev pub Passing : {A : Type 0} → (A → A → Bool) → A → A → Type 0
 Passing p x y = p x y ≡ true
 
-pub all-chained : {A : Type 0} (p : A → A → Bool) (xs : List A) → Pairwise (Passing p) xs → chained p xs ≡ true
+pub all-chained : {A : Type 0} (p : A → A → Bool) (xs : List A) → Pairwise (Passing p) xs →
+    chained p xs ≡ true
 all-chained p xs a = pairwise-chained (Passing p) p (λ x y f. f) xs a
 
-module _ {A : Type 0} (p : A → A → Bool) (trans : (x y z : A) → p x y ≡ true → p y z ≡ true → p x z ≡ true) where
-  pub chained-all : (xs : List A) → chained p xs ≡ true → Pairwise (Passing p) xs
-  chained-all xs e = chained-pairwise (Passing p) p trans xs (λ x y m n f. f) e
+module _ {A : Type 0} (p : A → A → Bool) (trans : (x y z : A) → p x y ≡ true → p y z ≡ true → p x z ≡ true)
+  where
+    pub chained-all : (xs : List A) → chained p xs ≡ true → Pairwise (Passing p) xs
+    chained-all xs e = chained-pairwise (Passing p) p trans xs (λ x y m n f. f) e
 
-  pub chained-keep : (k : A → Bool) (xs : List A) → chained p xs ≡ true → chained p (keepIf k xs) ≡ true
-  chained-keep k xs e = all-chained p (keepIf k xs) (pairwise-keep (Passing p) k xs (chained-all xs e))
+    pub chained-keep : (k : A → Bool) (xs : List A) → chained p xs ≡ true → chained p (keepIf k xs) ≡ true
+    chained-keep k xs e = all-chained p (keepIf k xs) (pairwise-keep (Passing p) k xs (chained-all xs e))
 
-  pub chained-last : (xs : List A) (z : A) → chained p xs ≡ true → ((y : A) → Mem y xs → p y z ≡ true) →
-      chained p (xs ++ (z ∷ [])) ≡ true
-  chained-last xs z e h = all-chained p (xs ++ (z ∷ [])) (pairwise-last (Passing p) xs z (chained-all xs e) h)
+    pub chained-last : (xs : List A) (z : A) → chained p xs ≡ true → ((y : A) → Mem y xs → p y z ≡ true) →
+        chained p (xs ++ (z ∷ [])) ≡ true
+    chained-last xs z e h = all-chained p (xs ++ (z ∷ []))
+        (pairwise-last (Passing p) xs z (chained-all xs e) h)

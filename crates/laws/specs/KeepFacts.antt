@@ -1,5 +1,5 @@
--- What keeping some instants of authorizations leaves: the heads that still cover an instant (`live-keep`), pieces of
--- the authorizations that were there (`pieces-of`), in order and apart (`keep-sorted`).
+-- What keeping some instants of authorizations leaves: the heads that still cover an instant (`live-keep`),
+-- pieces of the authorizations that were there (`pieces-of`), in order and apart (`keep-sorted`).
 use mathlib.Core.Path.{_≡_, refl, sym, ap, ap₂, _∙_}
 use mathlib.Core.Logic.{_⊎_, inl, inr, ⊎-elim}
 use Prim.Native.Nat.{ℕ, suc, _≤_, _<_}
@@ -7,11 +7,13 @@ use native.Mathlib.Omega.{arith}
 use mathlib.Core.Bool.{Bool, true, not, _&&_, _||_, Bool·beq}
 use mathlib.Core.List.{List, [], _∷_, _++_}
 use lib.Dec.{ltb, eqb}
-use Rattle.foundation.specs.Tests.{pick, cases, le-true, true-le, true-eq, eq-true, ne-false, and-true, and-intro}
+use Rattle.foundation.specs.Tests.{pick, cases, le-true, true-le, true-eq, eq-true, ne-false, and-true}
+use Rattle.foundation.specs.Tests.{and-intro}
 use Rattle.foundation.specs.Tests.{or-true-right, or-cases, implied, beq-eq, beq-self}
 use Rattle.foundation.specs.Lists.{keepIf, Mem, append-mem, conjunct}
 use Rattle.foundation.specs.declared.Interval.{Interval}
-use Rattle.foundation.specs.Intervals.{interval, inInterval, inInterval-true, covered, Separate, head-in, none-below}
+use Rattle.foundation.specs.Intervals.{interval, inInterval, inInterval-true, covered, Separate, head-in}
+use Rattle.foundation.specs.Intervals.{none-below}
 use Rattle.foundation.specs.Intervals.{maximal, maximal-separate, maximal-covered, maximal-unique}
 use Rattle.model.specs.declared.Head.{Head}
 use Rattle.model.specs.declared.Authorization.{Authorization}
@@ -33,7 +35,11 @@ pub live-pieces : (t : ℕ) (h : Head) (is : List Interval) (k : ℕ) → Separa
 live-pieces t h [] k a = refl
 live-pieces t h (i ∷ is) k a = cases (inInterval i t)
     (λ e. let p = inInterval-true i t e in
-    rw (e, live-pieces t h is (suc (suc (i .end))) (a .2), none-below is (suc (suc (i .end))) t (a .2) (omega arith)))
+    rw (
+      e,
+      live-pieces t h is (suc (suc (i .end))) (a .2),
+      none-below is (suc (suc (i .end))) t (a .2) (omega arith),
+    ))
     (λ e. rw (e, live-pieces t h is (suc (suc (i .end))) (a .2)))
 
 pub live-keep : (q : Head → ℕ → Bool) (xs : List Authorization) (t : ℕ) →
@@ -48,16 +54,19 @@ live-keep q (a ∷ xs) t =
       maximal-covered (a .interval .start) (a .interval .end) (q (a .head)) t,
       live-keep q xs t,
     )
-    (cases (inInterval (a .interval) t) (λ e. cases (q (a .head) t) (λ f. rw (e, f)) (λ f. rw (e, f))) (λ e. rw e))
+    (cases (inInterval (a .interval) t) (λ e. cases (q (a .head) t) (λ f. rw (e, f)) (λ f. rw (e, f)))
+    (λ e. rw e))
 
 -- tests that agree at each instant of each authorization keep the same
 pub keep-cong : (p q : Head → ℕ → Bool) (xs : List Authorization) →
-    ((a : Authorization) → Mem a xs → (t : ℕ) → inInterval (a .interval) t ≡ true → p (a .head) t ≡ q (a .head) t) →
+    ((a : Authorization) → Mem a xs → (t : ℕ) → inInterval (a .interval) t ≡ true →
+    p (a .head) t ≡ q (a .head) t) →
     keep p xs ≡ keep q xs
 unfolding keep
 keep-cong p q [] h = refl
 keep-cong p q (a ∷ xs) h = ap₂ (λ (is : List Interval) (r : List Authorization). pieces (a .head) is ++ r)
-    (maximal-unique (a .interval .start) (a .interval .end) (q (a .head)) (a .interval .start) (intervalsOf p a)
+    (maximal-unique (a .interval .start) (a .interval .end) (q (a .head)) (a .interval .start)
+    (intervalsOf p a)
     (maximal-separate (a .interval .start) (a .interval .end) (p (a .head)))
     (λ t. maximal-covered (a .interval .start) (a .interval .end) (p (a .head)) t
     ∙ cases (inInterval (a .interval) t) (λ e. rw (e, h a (inl refl) t e)) (λ e. rw e)))
@@ -85,10 +94,12 @@ within h i (r ∷ is) k p c x (inl e) =
     let v = inInterval-true i (r .end) (c (r .end) (head-in r is (r .end) (p .1) (omega arith))) in
     rw e (refl, p .1, u .0, v .1)
 within h i (r ∷ is) k p c x (inr m) =
-    within h i is (suc (suc (r .end))) (p .2) (λ t d. c t (or-true-right (inInterval r t) (covered is t) d)) x m
+    within h i is (suc (suc (r .end))) (p .2) (λ t d. c t (or-true-right (inInterval r t) (covered is t) d)) x
+    m
 
 -- what is kept of an authorization lies in it
-pub piece-of : (p : Head → ℕ → Bool) (a x : Authorization) → Mem x (pieces (a .head) (intervalsOf p a)) → Piece x a
+pub piece-of : (p : Head → ℕ → Bool) (a x : Authorization) → Mem x (pieces (a .head) (intervalsOf p a)) →
+    Piece x a
 piece-of p a x m = within (a .head) (a .interval) (intervalsOf p a) (a .interval .start)
     (maximal-separate (a .interval .start) (a .interval .end) (p (a .head)))
     (λ t c. and-true (inInterval (a .interval) t) (p (a .head) t)
@@ -130,7 +141,8 @@ sameHead-eq h k e =
       mode = true-eq (h .mode) (k .mode) (t _ (inr (inr (inr (inr (inl refl)))))) i;
       negative = beq-eq (h .negative) (k .negative) (t _ (inr (inr (inr (inr (inr (inl refl))))))) i;
       option = beq-eq (h .option) (k .option) (t _ (inr (inr (inr (inr (inr (inr (inl refl)))))))) i;
-      granted = true-eq (h .granted) (k .granted) (t _ (inr (inr (inr (inr (inr (inr (inr (inl refl))))))))) i;
+      granted = true-eq (h .granted) (k .granted) (t _ (inr (inr (inr (inr (inr (inr (inr (inl refl)))))))))
+          i;
     }
 
 pub sameHead-self : (h : Head) → sameHead h h ≡ true
@@ -173,7 +185,8 @@ precedes-trans a c d (inr p) (inl q) = inl (omega (arith, label-eq a c (p .0)))
 precedes-trans a c d (inr p) (inr q) = inr (p .0 ∙ q .0, p .1, omega (arith, p .2, q .1, q .2))
 
 -- the two tests of 01 say that
-pub tests-precedes : (a c : Authorization) → a .interval .start ≤ a .interval .end → rises a c && apart a c ≡ true →
+pub tests-precedes : (a c : Authorization) → a .interval .start ≤ a .interval .end →
+    rises a c && apart a c ≡ true →
     Precedes a c
 tests-precedes a c l e =
     let w = and-true (rises a c) (apart a c) e in
@@ -181,7 +194,8 @@ tests-precedes a c l e =
     (eqb (a .head .label) (c .head .label) && ltb (a .interval .start) (c .interval .start)) (w .0)
     (λ p. inl (true-le (suc (a .head .label)) (c .head .label) p))
     (λ p.
-    let x = and-true (eqb (a .head .label) (c .head .label)) (ltb (a .interval .start) (c .interval .start)) p .0 in
+    let x = and-true (eqb (a .head .label) (c .head .label))
+    (ltb (a .interval .start) (c .interval .start)) p .0 in
     let y = and-true (sameHead (a .head) (c .head)) (ltb (suc (a .interval .end)) (c .interval .start))
     (implied (eqb (a .head .label) (c .head .label))
     (sameHead (a .head) (c .head) && ltb (suc (a .interval .end)) (c .interval .start)) x (w .1)) in
@@ -212,7 +226,8 @@ precedes-piece : (a x c y : Authorization) → Piece x a → Piece y c → Prece
 precedes-piece a x c y p q (inl e) = inl (omega (arith, label-eq x a (p .0), label-eq y c (q .0)))
 precedes-piece a x c y p q (inr e) = inr (p .0 ∙ e .0 ∙ sym (q .0), p .1, omega (arith, p .3, q .2, e .2))
 
-pieces-from : (h : Head) (is : List Interval) (k : ℕ) → Separate k is → (x : Authorization) → Mem x (pieces h is) →
+pieces-from : (h : Head) (is : List Interval) (k : ℕ) → Separate k is → (x : Authorization) →
+    Mem x (pieces h is) →
     (x .head ≡ h) × (k ≤ x .interval .start)
 pieces-from h [] k a x m = absurd (m .lower)
 pieces-from h (i ∷ is) k a x (inl e) = rw e (refl, a .0)

@@ -7,7 +7,8 @@ use lib.Dec.{eqb}
 use Rattle.foundation.specs.Tests.{must-fail, true-eq, not-true, or-false}
 use Rattle.foundation.specs.Lists.{anyb, allb, any-mem, all-mem}
 use Rattle.model.specs.declared.Request.{Request}
-use Rattle.model.specs.Requests.{NEW, GRANT, DENY, REVOKE, REVOKEP, REVOKEN, ADDRULE, GRANTADM, REVOKEADM, GRANTREF}
+use Rattle.model.specs.Requests.{NEW, GRANT, DENY, REVOKE, REVOKEP, REVOKEN, ADDRULE, GRANTADM, REVOKEADM}
+use Rattle.model.specs.Requests.{GRANTREF}
 use Rattle.model.specs.Requests.{REVOKEREF, is}
 
 -- ---- the kinds of `grants`, `labels` and `withdraws` in Requests
@@ -51,7 +52,8 @@ module _ (q : Request) where
   is-kinds ks ls = kind-all (λ k. anyb (eqb k) ls) ks
 
   -- none of the kinds ks is one of ls
-  pub is-apart : (ks ls : List ℕ) → allb (λ k. not (anyb (eqb k) ls)) ks ≡ true → is q ks ≡ true → is q ls ≡ false
+  pub is-apart : (ks ls : List ℕ) → allb (λ k. not (anyb (eqb k) ls)) ks ≡ true → is q ks ≡ true →
+      is q ls ≡ false
   is-apart ks ls h e = not-true (is q ls) (kind-all (λ k. not (anyb (eqb k) ls)) ks h e)
 
   -- each of the kinds ks is one of ls, and the request's is not

@@ -1,16 +1,20 @@
--- The ledger's entries and the authorizations that are their maximal intervals: the same instants, kept alike.
+-- The ledger's entries and the authorizations that are their maximal intervals: the same instants, kept
+-- alike.
 use mathlib.Core.Path.{_≡_, refl, sym, ap, ap₂, _∙_, fun-ext}
 use mathlib.Core.Logic.{inl, inr}
 use Prim.Native.Nat.{ℕ, suc, _≤_}
 use native.Mathlib.Omega.{arith}
 use mathlib.Core.Bool.{Bool, true, _&&_, _||_}
 use mathlib.Core.List.{List, [], _∷_, _++_, append-assoc, map-append}
-use Rattle.foundation.specs.Tests.{cases, and-true, and-false, and-assoc, or-true-right, or-intro-left, or-false}
+use Rattle.foundation.specs.Tests.{cases, and-true, and-false, and-assoc, or-true-right, or-intro-left}
+use Rattle.foundation.specs.Tests.{or-false}
 use Rattle.foundation.specs.Tests.{or-and}
 use Rattle.foundation.specs.Lists.{Mem}
 use Rattle.foundation.specs.declared.Interval.{Interval}
-use Rattle.foundation.specs.Intervals.{interval, inInterval, inInterval-in, inInterval-true, covered, Separate}
-use Rattle.foundation.specs.Intervals.{separate-weaken, maximal, maximal-separate, maximal-covered, maximal-unique}
+use Rattle.foundation.specs.Intervals.{interval, inInterval, inInterval-in, inInterval-true, covered}
+use Rattle.foundation.specs.Intervals.{Separate}
+use Rattle.foundation.specs.Intervals.{separate-weaken, maximal, maximal-separate, maximal-covered}
+use Rattle.foundation.specs.Intervals.{maximal-unique}
 use Rattle.model.specs.declared.Head.{Head}
 use Rattle.model.specs.declared.Authorization.{Authorization}
 use Rattle.model.specs.Ranges.{lastInstant}
@@ -27,7 +31,10 @@ Framed (e ∷ es) = ((t : ℕ) → e .at t ≡ true → t ≤ lastInstant) × Fr
 
 pub framed-keep : (p : Head → ℕ → Bool) (es : List Entry) → Framed es → Framed (keepEntries p es)
 framed-keep p [] f = tt
-framed-keep p (e ∷ es) f = ((λ t h. f .0 t (and-true (e .at t) (p (e .head) t) h .0)), framed-keep p es (f .1))
+framed-keep p (e ∷ es) f = (
+  (λ t h. f .0 t (and-true (e .at t) (p (e .head) t) h .0)),
+  framed-keep p es (f .1),
+)
 
 pub framed-append : (xs ys : List Entry) → Framed xs → Framed ys → Framed (xs ++ ys)
 framed-append [] ys f g = g
@@ -59,12 +66,14 @@ live-lines (e ∷ es) f t =
 -- ---- keeping, by authorizations and by entries
 
 -- intervals that end by b, and then intervals from b + 2 on
-pub separate-append : (xs ys : List Interval) (k b : ℕ) → Separate k xs → ((t : ℕ) → covered xs t ≡ true → t ≤ b) →
+pub separate-append : (xs ys : List Interval) (k b : ℕ) → Separate k xs →
+    ((t : ℕ) → covered xs t ≡ true → t ≤ b) →
     k ≤ suc (suc b) → Separate (suc (suc b)) ys → Separate k (xs ++ ys)
 separate-append [] ys k b a h l c = separate-weaken ys k (suc (suc b)) l c
 separate-append (x ∷ xs) ys k b a h l c =
     let u : x .end ≤ b = h (x .end)
-    (or-intro-left (inInterval x (x .end)) (covered xs (x .end)) (inInterval-in x (x .end) (a .1) (omega arith))) in (
+    (or-intro-left (inInterval x (x .end)) (covered xs (x .end))
+    (inInterval-in x (x .end) (a .1) (omega arith))) in (
       a .0,
       a .1,
       separate-append xs ys (suc (suc (x .end))) b (a .2)
@@ -104,7 +113,8 @@ refine-maximal a e f p =
     (λ t. refine-covered p (maximal a e f) t
     ∙ rw (maximal-covered a e f t) (and-assoc (inInterval (interval a e) t) (f t) (p t)))
 
-pub keep-append : (p : Head → ℕ → Bool) (xs ys : List Authorization) → keep p (xs ++ ys) ≡ keep p xs ++ keep p ys
+pub keep-append : (p : Head → ℕ → Bool) (xs ys : List Authorization) →
+    keep p (xs ++ ys) ≡ keep p xs ++ keep p ys
 unfolding keep
 keep-append p [] ys = refl
 keep-append p (x ∷ xs) ys =
@@ -143,7 +153,8 @@ restrict-settle root es f =
 -- ---- nothing is lost where all is kept
 
 -- a test that every instant passes keeps the entries as they are
-pub keep-all : (p : Head → ℕ → Bool) (es : List Entry) → ((t : ℕ) (h : Head) → Mem h (standing t es) → p h t ≡ true) →
+pub keep-all : (p : Head → ℕ → Bool) (es : List Entry) →
+    ((t : ℕ) (h : Head) → Mem h (standing t es) → p h t ≡ true) →
     keepEntries p es ≡ es
 keep-all p [] h = refl
 keep-all p (e ∷ es) h = ap₂ {C = List Entry} (λ (x : Entry) (xs : List Entry). x ∷ xs)

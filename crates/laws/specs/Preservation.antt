@@ -1,6 +1,6 @@
 -- THEOREM 7: an accepted request on a sound base leaves a sound base, for all twelve kinds. The parts are in
--- SoundPrivileges, SoundRules, SoundAuthors, SoundAuthorizations and SoundSupport; what it says of lent bytes is in
--- RequestFacts.
+-- SoundPrivileges, SoundRules, SoundAuthors, SoundAuthorizations and SoundSupport; what it says of lent bytes
+-- is in RequestFacts.
 use mathlib.Core.Path.{_≡_}
 use mathlib.Core.Bool.{true}
 use Rattle.model.specs.declared.Request.{Request}
@@ -10,7 +10,8 @@ use Rattle.model.specs.Step.{refusal, effect}
 use Rattle.model.specs.StepFacts.{Accepted, accepted}
 use Rattle.model.specs.Soundness.{sound}
 use Rattle.model.specs.SoundnessFacts.{Sound, sound-tests, tests-sound}
-use Rattle.laws.specs.SoundPrivileges.{counts-after, order-objects, order-administrators, order-referrers}
+use Rattle.laws.specs.SoundPrivileges.{counts-after, order-objects, order-administrators}
+use Rattle.laws.specs.SoundPrivileges.{order-referrers}
 use Rattle.laws.specs.SoundPrivileges.{ranges-clock, ranges-last, ranges-objects, ranges-administrators}
 use Rattle.laws.specs.SoundPrivileges.{ranges-referrers, exist-administrators, exist-referrers}
 use Rattle.laws.specs.SoundPrivileges.{owners-after}

@@ -6,7 +6,8 @@ use mathlib.Core.List.{List, [], _∷_}
 use Prim.Native.Nat.{ℕ, suc, _≤_, _<_}
 use native.Mathlib.Omega.{arith}
 use lib.Dec.{ltb, eqb}
-use Rattle.foundation.specs.Tests.{pick, cases, and-true, and-intro, or-cases, or-intro-left, or-true-right, or-none}
+use Rattle.foundation.specs.Tests.{pick, cases, and-true, and-intro, or-cases, or-intro-left, or-true-right}
+use Rattle.foundation.specs.Tests.{or-none}
 use Rattle.foundation.specs.Tests.{true-le, le-true, false-le, true-eq, eq-true, false-eq}
 use Rattle.foundation.specs.Lists.{allb, Mem, any-mem, mem-any, any-false, mem-all, kept, keepIf-mem}
 use Rattle.model.specs.declared.Privilege.{Privilege}
@@ -117,8 +118,10 @@ module _ (given withdrawn : Bool) (o s : ℕ) (ps : List Privilege) where
 
   pub changed-order : (r : Privilege → Privilege → Bool) →
       ((x y z : Privilege) → r x y ≡ true → r y z ≡ true → r x z ≡ true) →
-      (given ≡ true → (x : Privilege) → Mem x ps → before (privilege o s) x ≡ true → r (privilege o s) x ≡ true) →
-      (given ≡ true → (x : Privilege) → Mem x ps → before (privilege o s) x ≡ false → r x (privilege o s) ≡ true) →
+      (given ≡ true → (x : Privilege) → Mem x ps → before (privilege o s) x ≡ true →
+      r (privilege o s) x ≡ true) →
+      (given ≡ true → (x : Privilege) → Mem x ps → before (privilege o s) x ≡ false →
+      r x (privilege o s) ≡ true) →
       chained r ps ≡ true → chained r now ≡ true
   changed-order r trans up down e = cases given
       (λ k. rw k (all-chained r (insert (privilege o s) ps)
@@ -149,7 +152,8 @@ module _ (given withdrawn : Bool) (o s : ℕ) (ps : List Privilege) where
       (λ l. rw (k, l) m))
 
   -- in order, if that of s on o is put in only where it is not there
-  pub changed-before : chained before ps ≡ true → (given ≡ true → listed ps o s ≡ false) → chained before now ≡ true
+  pub changed-before : chained before ps ≡ true → (given ≡ true → listed ps o s ≡ false) →
+      chained before now ≡ true
   changed-before e h = changed-order before before-trans (λ k x m c. c)
       (λ k x m c. before-other (privilege o s) x c (any-false (isPrivilege o s) ps (h k) x m)) e
 

@@ -1,4 +1,5 @@
--- Requests over lent bytes: an accepted one leaves the encoding of its effect, a refused one the bytes as they were.
+-- Requests over lent bytes: an accepted one leaves the encoding of its effect, a refused one the bytes as
+-- they were.
 use mathlib.Core.Path.{_≡_, sym, ap, _∙_, subst}
 use mathlib.Core.Logic.{_≢_}
 use Prim.Native.Nat.{ℕ}
@@ -22,11 +23,13 @@ use Rattle.laws.specs.Preservation.{effect-sound}
 
 -- ---- on unsound bytes
 
-pub request-unsound : (s : List ℕ) (q : Request) → soundBytes s ≡ false → request s q ≡ answering (Refused 2) s
+pub request-unsound : (s : List ℕ) (q : Request) → soundBytes s ≡ false →
+    request s q ≡ answering (Refused 2) s
 unfolding request
 request-unsound s q e =
     let n : firstNumber (requestTable s q) ≡ 2 = rw e in
-    turned-away (requestTable s q) (refusing s) _ (λ z. omega (arith, n)) ∙ ap (λ (k : ℕ). answering (Refused k) s) n
+    turned-away (requestTable s q) (refusing s) _ (λ z. omega (arith, n))
+    ∙ ap (λ (k : ℕ). answering (Refused k) s) n
 
 -- ---- on the encoding of a sound base
 
@@ -57,7 +60,8 @@ module _ (b : Base) (q : Request) (s : sound b ≡ true) where
       ∙ ap (λ (k : ℕ). answering (Refused k) (encode b)) encoded-table
 
   -- the reply tells whether the table lets it pass
-  pub done-passes : {label count : ℕ} → request (encode b) q .reply ≡ Done label count → refusal plainly b q ≡ 0
+  pub done-passes : {label count : ℕ} → request (encode b) q .reply ≡ Done label count →
+      refusal plainly b q ≡ 0
   done-passes e = cases (eqb (refusal plainly b q) 0)
       (λ x. true-eq (refusal plainly b q) 0 x)
       (λ x. let n = false-eq (refusal plainly b q) 0 x in
@@ -82,4 +86,5 @@ request-sound s q e =
     subst (λ (a : Answer). soundBytes (a .lent) ≡ true) (sym (request-accepted b q (w .1) n))
     (encode-sound (effect plainly b q) (effect-sound b q (w .1) n)))
     (λ z. let n = false-eq (refusal plainly b q) 0 z in
-    subst (λ (a : Answer). soundBytes (a .lent) ≡ true) (sym (request-refused b q (w .1) n)) (encode-sound b (w .1))))
+    subst (λ (a : Answer). soundBytes (a .lent) ≡ true) (sym (request-refused b q (w .1) n))
+    (encode-sound b (w .1))))

@@ -1,6 +1,6 @@
--- On a sound base it is the same to restrict the authorizations on the named object and mode, as 01 says, and to
--- restrict all: `restrict-all`. What a request takes is affected, so that an authorization which is not affected
--- keeps its chains.
+-- On a sound base it is the same to restrict the authorizations on the named object and mode, as 01 says, and
+-- to restrict all: `restrict-all`. What a request takes is affected, so that an authorization which is not
+-- affected keeps its chains.
 use mathlib.Core.Path.{_≡_, refl, sym, ap, _∙_}
 use mathlib.Core.Logic.{inl, inr, _≢_}
 use Prim.Native.Nat.{ℕ}
@@ -17,7 +17,8 @@ use Rattle.model.specs.Base.{Base}
 use Rattle.model.specs.Support.{sameObjectAndMode, supported, supported-chain, live, root}
 use Rattle.model.specs.SupportFacts.{mem-live, live-mem, chain-local}
 use Rattle.model.specs.Withdrawal.{restrict}
-use Rattle.model.specs.Requests.{REVOKE, REVOKEP, REVOKEN, REVOKEADM, is, withdraws, rootAfter, names, takes, leave}
+use Rattle.model.specs.Requests.{REVOKE, REVOKEP, REVOKEN, REVOKEADM, is, withdraws, rootAfter, names, takes}
+use Rattle.model.specs.Requests.{leave}
 use Rattle.model.specs.Requests.{affects}
 use Rattle.model.specs.Means.{plainly}
 use Rattle.model.specs.Step.{effect}
@@ -64,7 +65,8 @@ module _ (xs : List Authorization) (q : Request) (k h : Head) (t : ℕ) (a : Aut
 
       byGrantor : eqb (k .object) (q .object) && eqb (k .grantor) (q .subject) ≡ true →
           eqb (h .object) (q .object) ≡ true
-      byGrantor l = rw (← object) (and-true (eqb (k .object) (q .object)) (eqb (k .grantor) (q .subject)) l .0)
+      byGrantor l = rw (← object) (and-true (eqb (k .object) (q .object))
+          (eqb (k .grantor) (q .subject)) l .0)
 
 -- ---- roots
 

@@ -1,5 +1,5 @@
--- What the table's rows say of an accepted request, a fact each: that a test passes, or fails, because the row's
--- condition would hold otherwise (`must-pass`, `must-fail` in Tests).
+-- What the table's rows say of an accepted request, a fact each: that a test passes, or fails, because the
+-- row's condition would hold otherwise (`must-pass`, `must-fail` in Tests).
 use mathlib.Core.Path.{_≡_, refl}
 use mathlib.Core.Logic.{inl, inr}
 use mathlib.Core.Bool.{true, false, _&&_, _||_}
@@ -16,8 +16,10 @@ use Rattle.model.specs.Support.{gaps}
 use Rattle.model.specs.Stratification.{stratified}
 use Rattle.model.specs.Requests.{NEW, ADDRULE, GRANTADM, GRANTREF, is, grants, labels, newHead, rulesAfter}
 use Rattle.model.specs.Means.{plainly}
-use Rattle.model.specs.Step.{namesObject, namesSubject, namesMode, namesInterval, ruleTermsIn, badInterval, noObject}
-use Rattle.model.specs.Step.{notPermitted, notSupported, alreadyThere, notStratified, countsHold, full, effect}
+use Rattle.model.specs.Step.{namesObject, namesSubject, namesMode, namesInterval, ruleTermsIn, badInterval}
+use Rattle.model.specs.Step.{noObject}
+use Rattle.model.specs.Step.{notPermitted, notSupported, alreadyThere, notStratified, countsHold, full}
+use Rattle.model.specs.Step.{effect}
 use Rattle.model.specs.Soundness.{intervalIn, startsFirst}
 use Rattle.model.specs.StepFacts.{Accepted, in-range}
 
@@ -28,7 +30,8 @@ module _ (b : Base) (q : Request) (g : Accepted b q) where
   now-in = must-pass _ (isInstant (q .now)) (in-range q (g .range) _ (inr (inl refl))) (λ e. rw e)
 
   pub requester-in : isSubject (q .requester) ≡ true
-  requester-in = must-pass _ (isSubject (q .requester)) (in-range q (g .range) _ (inr (inr (inl refl)))) (λ e. rw e)
+  requester-in = must-pass _ (isSubject (q .requester)) (in-range q (g .range) _ (inr (inr (inl refl))))
+      (λ e. rw e)
 
   pub object-in : namesObject q ≡ true → isObject (q .object) ≡ true
   object-in k = must-pass _ (isObject (q .object)) (in-range q (g .range) _ (inr (inr (inr (inl refl)))))
@@ -58,13 +61,15 @@ module _ (b : Base) (q : Request) (g : Accepted b q) where
   pub starts-first : namesInterval q ≡ true → startsFirst (q .interval) ≡ true
   starts-first k =
       let l = false-le (suc (q .interval .end)) (q .interval .start)
-      (must-fail (badInterval q) (ltb (q .interval .end) (q .interval .start)) (g .interval) (λ e. rw (k, e))) in
+      (must-fail (badInterval q) (ltb (q .interval .end) (q .interval .start)) (g .interval)
+      (λ e. rw (k, e))) in
       le-true (q .interval .start) (q .interval .end) (omega arith)
 
   pub starts-late : labels q ≡ true → q .now ≤ q .interval .start
   starts-late k =
       let l = false-le (suc (q .interval .start)) (q .now)
-      (must-fail (badInterval q) (ltb (q .interval .start) (q .now)) (g .interval) (λ e. rw (k, e, or-true))) in
+      (must-fail (badInterval q) (ltb (q .interval .start) (q .now)) (g .interval)
+      (λ e. rw (k, e, or-true))) in
       omega arith
 
   pub object-exists : namesObject q ≡ true → is q (NEW ∷ []) ≡ false → exists b (q .object) ≡ true
@@ -72,7 +77,8 @@ module _ (b : Base) (q : Request) (g : Accepted b q) where
 
   pub both-exist : is q (ADDRULE ∷ []) ≡ true →
       exists b (q .rule .left .object) && exists b (q .rule .right .object) ≡ true
-  both-exist k = must-pass (noObject b q) (exists b (q .rule .left .object) && exists b (q .rule .right .object))
+  both-exist k = must-pass (noObject b q) (exists b (q .rule .left .object)
+      && exists b (q .rule .right .object))
       (g .object) (λ e. rw (k, e, or-true))
 
   pub may-rule : is q (ADDRULE ∷ []) ≡ true →
@@ -85,7 +91,8 @@ module _ (b : Base) (q : Request) (g : Accepted b q) where
   pub all-covered : grants q ≡ true → controls b (q .object) (q .requester) ≡ false →
       none? (gaps (b .authorizations) (newHead (suc (b .last)) q) (q .interval)) ≡ true
   all-covered k c = must-pass (notSupported plainly b q)
-      (none? (gaps (b .authorizations) (newHead (suc (b .last)) q) (q .interval))) (g .support) (λ e. rw (k, c, e))
+      (none? (gaps (b .authorizations) (newHead (suc (b .last)) q) (q .interval))) (g .support)
+      (λ e. rw (k, c, e))
 
   pub object-new : is q (NEW ∷ []) ≡ true → exists b (q .object) ≡ false
   object-new k = must-fail (alreadyThere b q) (exists b (q .object)) (g .fresh) (λ e. rw (k, e))
@@ -93,12 +100,14 @@ module _ (b : Base) (q : Request) (g : Accepted b q) where
   pub not-administrator : is q (GRANTADM ∷ []) ≡ true →
       (owns b (q .object) (q .subject) ≡ false) × (administers b (q .object) (q .subject) ≡ false)
   not-administrator k = or-none (owns b (q .object) (q .subject)) (administers b (q .object) (q .subject))
-      (must-fail (alreadyThere b q) (controls b (q .object) (q .subject)) (g .fresh) (λ e. rw (k, e, or-true)))
+      (must-fail (alreadyThere b q) (controls b (q .object) (q .subject)) (g .fresh)
+      (λ e. rw (k, e, or-true)))
 
   pub not-referrer : is q (GRANTREF ∷ []) ≡ true →
       (owns b (q .object) (q .subject) ≡ false) × (refers b (q .object) (q .subject) ≡ false)
   not-referrer k = or-none (owns b (q .object) (q .subject)) (refers b (q .object) (q .subject))
-      (must-fail (alreadyThere b q) (owns b (q .object) (q .subject) || refers b (q .object) (q .subject)) (g .fresh)
+      (must-fail (alreadyThere b q) (owns b (q .object) (q .subject) || refers b (q .object) (q .subject))
+      (g .fresh)
       (λ e. rw (k, e, or-true)))
 
   pub no-circle : is q (ADDRULE ∷ []) ≡ true → stratified (rulesAfter b q) ≡ true
@@ -108,5 +117,6 @@ module _ (b : Base) (q : Request) (g : Accepted b q) where
   counts-in = must-pass (full plainly b q) (countsHold (effect plainly b q)) (g .room) (λ e. rw e)
 
   pub label-left : labels q ≡ true → b .last < lastLabel
-  label-left k = false-le lastLabel (b .last) (must-fail (full plainly b q) (leb lastLabel (b .last)) (g .room)
+  label-left k = false-le lastLabel (b .last) (must-fail (full plainly b q) (leb lastLabel (b .last))
+      (g .room)
       (λ e. rw (k, e, or-true)))

@@ -1,5 +1,5 @@
--- The rules that a request leaves: each is an old one that is not dropped, or ADDRULE's (`rule-from`, `rule-origin`);
--- a part of stratified rules is stratified (`stratified-less`).
+-- The rules that a request leaves: each is an old one that is not dropped, or ADDRULE's (`rule-from`,
+-- `rule-origin`); a part of stratified rules is stratified (`stratified-less`).
 use mathlib.Core.Path.{_≡_, refl, ap, _∙_}
 use mathlib.Core.Logic.{_⊎_, inl, inr, ⊎-elim}
 use mathlib.Core.Bool.{Bool, true, false, not}
@@ -35,7 +35,8 @@ module _ (b : Base) (q : Request) where
 
   rule-from : (r : Rule) → Mem r (after .rules) → From r
   rule-from r m = cases (is q (ADDRULE ∷ []))
-      (λ k. ⊎-elim (λ n. inr (n, rw (kind-is q ADDRULE k))) (λ e. inl (k, e)) (last-mem r (b .rules) new (rw k at m)))
+      (λ k. ⊎-elim (λ n. inr (n, rw (kind-is q ADDRULE k))) (λ e. inl (k, e))
+      (last-mem r (b .rules) new (rw k at m)))
       (λ k. cases (is q (DROPRULE ∷ REVOKEADM ∷ REVOKEREF ∷ []))
       (λ l. let w = kept (λ r. not (drops b q r)) (b .rules) r (rw (k, l) at m) in
       inr (w .0, not-true (drops b q r) (w .1)))
@@ -47,7 +48,8 @@ module _ (b : Base) (q : Request) where
 
   -- what holds of every rule that is not dropped and of ADDRULE's holds of all
   pub kept-all : (p : Rule → Bool) → ((r : Rule) → Mem r (b .rules) → drops b q r ≡ false → p r ≡ true) →
-      (is q (ADDRULE ∷ []) ≡ true → p (newRule (suc (b .last)) q) ≡ true) → allb p (effect plainly b q .rules) ≡ true
+      (is q (ADDRULE ∷ []) ≡ true → p (newRule (suc (b .last)) q) ≡ true) →
+      allb p (effect plainly b q .rules) ≡ true
   kept-all p old fresh = mem-all p (after .rules)
       (λ r m. ⊎-elim (λ w. ap p (w .1) ∙ fresh (w .0)) (λ w. old r (w .0) (w .1)) (rule-from r m))
 
@@ -56,13 +58,15 @@ module _ (b : Base) (q : Request) where
 
   -- what holds of every old rule and of ADDRULE's holds of all
   pub rules-all : (p : Rule → Bool) → ((r : Rule) → Mem r (b .rules) → p r ≡ true) →
-      (is q (ADDRULE ∷ []) ≡ true → p (newRule (suc (b .last)) q) ≡ true) → allb p (effect plainly b q .rules) ≡ true
+      (is q (ADDRULE ∷ []) ≡ true → p (newRule (suc (b .last)) q) ≡ true) →
+      allb p (effect plainly b q .rules) ≡ true
   rules-all p old fresh = kept-all p (λ r m d. old r m) fresh
 
 -- ---- fewer rules
 
 -- a path among some of the nodes is one among all
-path-more : {K : Type 0} (first edge : K → K → Bool) (xs ys : List K) → ((x : K) → Mem x xs → Mem x ys) → {q r : K} →
+path-more : {K : Type 0} (first edge : K → K → Bool) (xs ys : List K) → ((x : K) → Mem x xs → Mem x ys) →
+    {q r : K} →
     Path first edge xs q r → Path first edge ys q r
 path-more first edge xs ys h (direct e) = direct e
 path-more first edge xs ys h (onward {p} c m e) = onward (path-more first edge xs ys h c) (h p m) e
@@ -71,7 +75,8 @@ path-more first edge xs ys h (onward {p} c m e) = onward (path-more first edge x
 pub stratified-less : (rs us : List Rule) → ((r : Rule) → Mem r rs → Mem r us) → stratified us ≡ true →
     stratified rs ≡ true
 unfolding stratified
-stratified-less rs us h e = ap not (must-fail (cyclic precedes (heavy weight) us) (cyclic precedes (heavy weight) rs)
+stratified-less rs us h e = ap not (must-fail (cyclic precedes (heavy weight) us)
+    (cyclic precedes (heavy weight) rs)
     (not-true (cyclic precedes (heavy weight) us) e)
     (λ c. let w = cyclic-path precedes (heavy weight) rs .0 c in cyclic-path precedes (heavy weight) us .1
     (w .0, h (w .0) (w .1), path-more (strictEdge precedes (heavy weight)) precedes rs us h (w .2))))

@@ -1,5 +1,5 @@
--- A session through the library's answers over lent bytes is the session: `session-bytes`. The bytes always encode
--- the base that the session has, which is sound.
+-- A session through the library's answers over lent bytes is the session: `session-bytes`. The bytes always
+-- encode the base that the session has, which is sound.
 use mathlib.Core.Path.{_≡_, refl, sym, ap, ap₂, _∙_, subst₂}
 use Prim.Native.Nat.{ℕ, suc, _*_, _/_, _≤_}
 use native.Mathlib.Omega.{arith}
@@ -30,7 +30,8 @@ use Rattle.model.specs.Answers.{Answer, answering, refusing, mayTable, whenTabl
 use Rattle.model.specs.Answers.{whenAnswer}
 use Rattle.model.specs.Text.{Line, order, asksMay, asksWhen, unreadable, newline, lines, readLine, printRuns}
 use Rattle.model.specs.Text.{printReply}
-use Rattle.model.specs.Session.{Turn, pairs, turn, transcript, session, ByteTurn, pairsOf, runsOf, whenList, byteTurn}
+use Rattle.model.specs.Session.{Turn, pairs, turn, transcript, session, ByteTurn, pairsOf, runsOf, whenList}
+use Rattle.model.specs.Session.{byteTurn}
 use Rattle.model.specs.Session.{byteTranscript, byteSession}
 use Rattle.laws.specs.Preservation.{effect-sound}
 use Rattle.laws.specs.RequestFacts.{request-accepted, request-refused}
@@ -68,7 +69,8 @@ module _ (b : Base) (s : sound b ≡ true) where
   asked-may : (q : Question) → Same (byteTurn (encode b) (asksMay q)) (turn plainly asDefined b (asksMay q))
   unfolding mayAnswer
   asked-may q =
-      let e : mayAnswer (encode b) q ≡ refusedOr (mayTable b q) Refused (mayReply (may b (q .access) (q .instant))) =
+      let e : mayAnswer (encode b) q ≡ refusedOr (mayTable b q) Refused
+      (mayReply (may b (q .access) (q .instant))) =
       rw (encode-sound b s, decode-encode b s) in
       record { text = ap (λ (r : Reply). printReply r []) e; bytes = refl; kept = s }
 
@@ -82,13 +84,15 @@ module _ (b : Base) (s : sound b ≡ true) where
   asked-when : (x : Access) → Same (byteTurn (encode b) (asksWhen x)) (turn plainly asDefined b (asksWhen x))
   asked-when x =
       let rows = whenTable b x pairs (length (when b x)) in
-      let a = answering (Runs (length (when b x))) (words (when b x) ++ drop (2 * length (when b x)) whenList) in
+      let a = answering (Runs (length (when b x)))
+      (words (when b x) ++ drop (2 * length (when b x)) whenList) in
       record {
         text = ap shownRuns (when-answer x) ∙ cases (eqb (firstNumber rows) 0)
             (λ e. let z = true-eq (firstNumber rows) 0 e in
             ap shownRuns (answered rows (refusing whenList) a z)
             ∙ ap printRuns (pairs-back (when b x) (drop (2 * length (when b x)) whenList))
-            ∙ ap (λ (r : Reply). printReply r (when b x)) (sym (answered rows Refused (Runs (length (when b x))) z)))
+            ∙ ap (λ (r : Reply). printReply r (when b x))
+            (sym (answered rows Refused (Runs (length (when b x))) z)))
             (λ e. let n = false-eq (firstNumber rows) 0 e in
             ap shownRuns (turned-away rows (refusing whenList) a n)
             ∙ ap (λ (r : Reply). printReply r (when b x))
@@ -113,7 +117,8 @@ same-transcript [] b s = refl
 same-transcript (l ∷ ls) b s =
     let w = same-turn b s (readLine l) in
     ap₂ (λ (x y : List ℕ). x ++ (newline ∷ y)) (w .text)
-    (ap (byteTranscript ls) (w .bytes) ∙ same-transcript ls (turn plainly asDefined b (readLine l) .base) (w .kept))
+    (ap (byteTranscript ls) (w .bytes) ∙ same-transcript ls (turn plainly asDefined b (readLine l) .base)
+    (w .kept))
 
 -- the program may keep its base as bytes and ask the library
 pub session-bytes : (input : List ℕ) → byteSession input ≡ session input

@@ -1,5 +1,5 @@
--- An accepted request on a sound base leaves authorizations that pass the tests of soundness, but for their support
--- (SoundSupport).
+-- An accepted request on a sound base leaves authorizations that pass the tests of soundness, but for their
+-- support (SoundSupport).
 use mathlib.Core.Path.{_≡_, refl, sym, ap, _∙_}
 use mathlib.Core.Logic.{inl, inr}
 use Prim.Native.Nat.{ℕ, suc}
@@ -7,7 +7,8 @@ use native.Mathlib.Omega.{arith}
 use mathlib.Core.Bool.{Bool, true, false, not, _&&_, true≢false}
 use mathlib.Core.List.{[], _∷_}
 use lib.Dec.{leb, eqb}
-use Rattle.foundation.specs.Tests.{cases, must-fail, le-true, true-le, ne-false, not-true, and-true, and-intro}
+use Rattle.foundation.specs.Tests.{cases, must-fail, le-true, true-le, ne-false, not-true, and-true}
+use Rattle.foundation.specs.Tests.{and-intro}
 use Rattle.foundation.specs.Lists.{anyb, allb, Mem, any-mem, any-false, all-mem}
 use Rattle.model.specs.declared.Head.{Head}
 use Rattle.model.specs.declared.Authorization.{Authorization}
@@ -23,12 +24,14 @@ use Rattle.model.specs.Soundness.{chained, rises, intervalIn, authorizationIn, 
 use Rattle.model.specs.Soundness.{denialsPlain, labelsAgree}
 use Rattle.model.specs.SoundnessFacts.{Sound}
 use Rattle.model.specs.SoundTests.{ranges-test, exist-test, labels-test}
-use Rattle.laws.specs.Kinds.{grantKinds, labelKinds, objectKinds, subjectKinds, modeKinds, intervalKinds}
+use Rattle.laws.specs.Kinds.{grantKinds, labelKinds, objectKinds, subjectKinds, modeKinds}
+use Rattle.laws.specs.Kinds.{intervalKinds}
 use Rattle.laws.specs.Kinds.{is-kinds, is-apart}
 use Rattle.laws.specs.Chained.{pairwise-chained}
 use Rattle.laws.specs.KeepFacts.{apart, Precedes, precedes-rises, precedes-apart}
 use Rattle.laws.specs.SoundFacts.{granted-before, label-given, rule-label-given}
-use Rattle.laws.specs.Rows.{now-in, requester-in, object-in, subject-in, mode-in, interval-in, clock-rises}
+use Rattle.laws.specs.Rows.{now-in, requester-in, object-in, subject-in, mode-in, interval-in}
+use Rattle.laws.specs.Rows.{clock-rises}
 use Rattle.laws.specs.Rows.{starts-first, starts-late, object-exists, label-left}
 use Rattle.laws.specs.SoundPrivileges.{exists-stays, last-stays}
 use Rattle.laws.specs.RulesAfter.{RuleOrigin, rule-origin}
@@ -37,7 +40,8 @@ use Rattle.laws.specs.AuthorizationsAfter.{newAuthorization, each-after,
 -- what the tests of an authorization's head ask
 abbrev headIn : Head → Bool
 headIn h =
-    isLabel (h .label) && isSubject (h .grantor) && isSubject (h .subject) && isObject (h .object) && isMode (h .mode)
+    isLabel (h .label) && isSubject (h .grantor) && isSubject (h .subject) && isObject (h .object)
+    && isMode (h .mode)
     && isInstant (h .granted)
 
 -- ---- a grant or denial that is accepted
@@ -88,7 +92,8 @@ module _ (b : Base) (q : Request) (s : Sound b) (g : Accepted b q) where
       (le-true (a .interval .start) lastInstant (omega (arith, w .1, w .3)))
       (le-true (a .interval .end) lastInstant (omega (arith, w .3)))))
 
-  pub intervals-authorizations : allb (λ a. startsFirst (a .interval)) (effect plainly b q .authorizations) ≡ true
+  pub intervals-authorizations : allb (λ a. startsFirst (a .interval)) (effect plainly b q .authorizations)
+      ≡ true
   intervals-authorizations = each-after b q s (λ a. startsFirst (a .interval))
       (λ e. starts-first b q g (new-names b q g e))
       (λ a c m w. le-true (a .interval .start) (a .interval .end) (w .1))
@@ -116,7 +121,8 @@ module _ (b : Base) (q : Request) (s : Sound b) (g : Accepted b q) where
       allb (λ a. exists (effect plainly b q) (a .head .object)) (effect plainly b q .authorizations) ≡ true
   exist-authorizations = heads-after b q s (λ h. exists (effect plainly b q) (h .object))
       (λ e. exists-stays b q (q .object) (new-object b q g e))
-      (λ c m. exists-stays b q (c .head .object) (all-mem (λ a. exists b (a .head .object)) (b .authorizations)
+      (λ c m. exists-stays b q (c .head .object) (all-mem (λ a. exists b (a .head .object))
+      (b .authorizations)
       (exist-test b s _ (inr (inr (inl refl)))) c m))
 
   pub labels-authorizations :
@@ -129,7 +135,8 @@ module _ (b : Base) (q : Request) (s : Sound b) (g : Accepted b q) where
   pub labels-apart :
       allb (λ a. not (anyb (λ r. eqb (r .label) (a .head .label)) (effect plainly b q .rules)))
       (effect plainly b q .authorizations) ≡ true
-  labels-apart = heads-after b q s (λ h. not (anyb (λ r. eqb (r .label) (h .label)) (effect plainly b q .rules)))
+  labels-apart = heads-after b q s (λ h. not (anyb (λ r. eqb (r .label) (h .label))
+      (effect plainly b q .rules)))
       (λ e. apart-from (suc (b .last)) (λ r m. new-one e r (rule-origin b q r m)))
       (λ c m. apart-from (c .head .label) (λ r n. old-one c m r (rule-origin b q r n)))
     where

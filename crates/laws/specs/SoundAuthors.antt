@@ -1,11 +1,12 @@
--- An accepted request on a sound base: each rule's author has the powers that ADDRULE needs (`authors-after`). For
--- what REVOKEADM or REVOKEREF takes from an author drops the rules that need it.
+-- An accepted request on a sound base: each rule's author has the powers that ADDRULE needs
+-- (`authors-after`). For what REVOKEADM or REVOKEREF takes from an author drops the rules that need it.
 use mathlib.Core.Path.{_≡_}
 use mathlib.Core.Bool.{true, false, _&&_, _||_}
 use mathlib.Core.List.{[], _∷_}
 use Prim.Native.Nat.{ℕ, suc}
 use lib.Dec.{eqb}
-use Rattle.foundation.specs.Tests.{cases, and-true, and-intro, or-cases, or-intro-left, or-true-right, true-eq}
+use Rattle.foundation.specs.Tests.{cases, and-true, and-intro, or-cases, or-intro-left, or-true-right}
+use Rattle.foundation.specs.Tests.{true-eq}
 use Rattle.foundation.specs.Tests.{must-pass, must-fail, or-true}
 use Rattle.foundation.specs.Lists.{all-mem}
 use Rattle.model.specs.declared.Rule.{Rule}
@@ -89,5 +90,6 @@ module _ (b : Base) (q : Request) where
     pub authors-after : authorsMay after ≡ true
     authors-after = kept-all b q (λ r. mayRule after (r .author) (r .left .object) (r .right .object))
         (λ r m d. author-stays r d
-        (all-mem (λ r. mayRule b (r .author) (r .left .object) (r .right .object)) (b .rules) (s .authors) r m))
+        (all-mem (λ r. mayRule b (r .author) (r .left .object) (r .right .object)) (b .rules)
+        (s .authors) r m))
         (λ k. author-stays new (rw (kind-is q ADDRULE k)) (may-rule b q g k))

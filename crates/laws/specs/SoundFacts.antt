@@ -1,4 +1,5 @@
--- What soundness says of the authorizations and rules of a base, member by member and in the numbers' own terms.
+-- What soundness says of the authorizations and rules of a base, member by member and in the numbers' own
+-- terms.
 use mathlib.Core.Path.{_≡_, refl}
 use mathlib.Core.Logic.{inl, inr}
 use Prim.Native.Nat.{ℕ, _≤_}
@@ -35,7 +36,8 @@ module _ (b : Base) (s : Sound b) where
   -- no label is above the last given
   pub label-given : (a : Authorization) → Mem a (b .authorizations) → a .head .label ≤ b .last
   label-given a m = true-le (a .head .label) (b .last)
-      (all-mem (λ a. leb (a .head .label) (b .last)) (b .authorizations) (labels-test b s _ (inr (inl refl))) a m)
+      (all-mem (λ a. leb (a .head .label) (b .last)) (b .authorizations)
+      (labels-test b s _ (inr (inl refl))) a m)
 
   pub rule-label-given : (r : Rule) → Mem r (b .rules) → r .label ≤ b .last
   rule-label-given r m = true-le (r .label) (b .last)
@@ -45,7 +47,8 @@ module _ (b : Base) (s : Sound b) where
   pub sorted : Sorted (b .authorizations)
   sorted = chained-pairwise Precedes (λ a c. rises a c && apart a c) precedes-trans (b .authorizations)
       (λ a c m n e. tests-precedes a c (interval-rises a m) e)
-      (chained-both rises apart (b .authorizations) (order-test b s _ (inr (inr (inr (inl refl))))) (s .agree))
+      (chained-both rises apart (b .authorizations) (order-test b s _ (inr (inr (inr (inl refl)))))
+      (s .agree))
 
   pub all-supported : (t : ℕ) (h : Head) → Mem h (live t (b .authorizations)) → supportedAt b t h ≡ true
   all-supported = everywhere-live (b .authorizations) (λ h t. supportedAt b t h) (s .support)

@@ -1,5 +1,6 @@
--- An accepted request on a sound base: the counts, the clock, the last label, and the owners, administrators and
--- referrers are sound after it. Who controls an object, or may refer to it, still does, unless that is withdrawn.
+-- An accepted request on a sound base: the counts, the clock, the last label, and the owners, administrators
+-- and referrers are sound after it. Who controls an object, or may refer to it, still does, unless that is
+-- withdrawn.
 use mathlib.Core.Path.{_≡_, refl, sym, ap, _∙_}
 use mathlib.Core.Logic.{inl, inr, _≢_, ⊎-elim}
 use mathlib.Core.Bool.{Bool, true, false, not, _&&_, true≢false, false≢true}
@@ -54,14 +55,16 @@ module _ (b : Base) (q : Request) where
   -- unless the request withdraws it
   pub administers-stays : (o u : ℕ) → loses q REVOKEADM o u ≡ false →
       administers b o u ≡ true → administers after o u ≡ true
-  administers-stays o u h = listed-stays (is q (GRANTADM ∷ [])) (is q (REVOKEADM ∷ [])) (q .object) (q .subject)
+  administers-stays o u h = listed-stays (is q (GRANTADM ∷ [])) (is q (REVOKEADM ∷ [])) (q .object)
+      (q .subject)
       (b .administrators) o u (λ k. rw k at h)
 
   pub refers-stays : (o u : ℕ) → loses q REVOKEREF o u ≡ false → refers b o u ≡ true → refers after o u ≡ true
   refers-stays o u h = listed-stays (is q (GRANTREF ∷ [])) (is q (REVOKEREF ∷ [])) (q .object) (q .subject)
       (b .referrers) o u (λ k. rw k at h)
 
-  pub controls-stays : (o u : ℕ) → loses q REVOKEADM o u ≡ false → controls b o u ≡ true → controls after o u ≡ true
+  pub controls-stays : (o u : ℕ) → loses q REVOKEADM o u ≡ false → controls b o u ≡ true →
+      controls after o u ≡ true
   controls-stays o u h e = or-cases (owns b o u) (administers b o u) e
       (λ k. or-intro-left (owns after o u) (administers after o u) (owns-stays o u k))
       (λ k. or-true-right (owns after o u) (administers after o u) (administers-stays o u h k))
@@ -97,7 +100,8 @@ module _ (b : Base) (q : Request) where
     order-objects = changed-order (is q (NEW ∷ [])) false (q .object) (q .requester) (b .objects)
         (λ p r. ltb (p .object) (r .object))
         (λ x y z. ltb-trans (x .object) (y .object) (z .object))
-        (λ k x m e. le-true (suc (q .object)) (x .object) (before-cases (privilege (q .object) (q .requester)) x e
+        (λ k x m e. le-true (suc (q .object)) (x .object)
+        (before-cases (privilege (q .object) (q .requester)) x e
         (λ l. l) (λ i l. absurd (new-apart k x m (sym i)))))
         (λ k x m e. le-true (suc (x .object)) (q .object)
         (omega (arith, before-not (privilege (q .object) (q .requester)) x e, new-apart k x m)))
@@ -109,7 +113,8 @@ module _ (b : Base) (q : Request) where
         (object-in b q g (rw (kind-is q NEW k))) (requester-in b q g))
         (all-mem privilegeIn (b .objects) (ranges-test b s _ (inr (inr (inl refl)))))
 
-    -- who does not own an object that exists does not own it now: only an object that did not exist gets an owner
+    -- who does not own an object that exists does not own it now: only an object that did not exist gets an
+    -- owner
     not-owner : (o u : ℕ) → exists b o ≡ true → owns b o u ≡ false → owns after o u ≡ false
     not-owner o u e n = must-fail (owns b o u) (owns after o u) n
         (λ h. let w = any-mem (isPrivilege o u) (after .objects) h in ⊎-elim
@@ -138,7 +143,8 @@ module _ (b : Base) (q : Request) where
           (subject-in b q g (is-kinds q (GRANTADM ∷ GRANTREF ∷ []) subjectKinds refl (grant k))))
           (all-mem privilegeIn ps e)
 
-      exist-those : allb (λ p. exists b (p .object)) ps ≡ true → allb (λ p. exists after (p .object)) those ≡ true
+      exist-those : allb (λ p. exists b (p .object)) ps ≡ true →
+          allb (λ p. exists after (p .object)) those ≡ true
       exist-those e = changed-all given withdrawn (q .object) (q .subject) ps (λ p. exists after (p .object))
           (λ k. exists-stays (q .object) (given-exists k))
           (λ x m. exists-stays (x .object) (all-mem (λ p. exists b (p .object)) ps e x m))
@@ -161,7 +167,8 @@ module _ (b : Base) (q : Request) where
     referrer = is-kinds q (GRANTREF ∷ []) (GRANTADM ∷ GRANTREF ∷ []) refl
 
     pub order-administrators : chained before (after .administrators) ≡ true
-    order-administrators = changed-before (is q (GRANTADM ∷ [])) (is q (REVOKEADM ∷ [])) (q .object) (q .subject)
+    order-administrators = changed-before (is q (GRANTADM ∷ [])) (is q (REVOKEADM ∷ [])) (q .object)
+        (q .subject)
         (b .administrators) (order-test b s _ (inr (inl refl))) (λ k. not-administrator b q g k .1)
 
     pub order-referrers : chained before (after .referrers) ≡ true
@@ -191,4 +198,5 @@ module _ (b : Base) (q : Request) where
         (owners-those (is q (GRANTADM ∷ [])) (is q (REVOKEADM ∷ [])) (b .administrators) administrator
         (exist-test b s _ (inl refl)) (owners-test b s _ (inl refl)) (λ k. not-administrator b q g k .0))
         (owners-those (is q (GRANTREF ∷ [])) (is q (REVOKEREF ∷ [])) (b .referrers) referrer
-        (exist-test b s _ (inr (inl refl))) (owners-test b s _ (inr (inl refl))) (λ k. not-referrer b q g k .0))
+        (exist-test b s _ (inr (inl refl))) (owners-test b s _ (inr (inl refl)))
+        (λ k. not-referrer b q g k .0))

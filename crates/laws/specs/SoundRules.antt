@@ -107,7 +107,8 @@ module _ (b : Base) (q : Request) where
           stars-match isSubject refl (q .rule .left .subject) (q .rule .right .subject)
               (l _ (inl refl)) (r _ (inl refl)) (terms-in k _ (inr (inr (inr (inr (inl refl)))))),
           stars-match isMode refl (q .rule .left .mode) (q .rule .right .mode)
-              (l _ (inr (inl refl))) (r _ (inr (inl refl))) (terms-in k _ (inr (inr (inr (inr (inr (inl refl))))))),
+              (l _ (inr (inl refl))) (r _ (inr (inl refl)))
+              (terms-in k _ (inr (inr (inr (inr (inr (inl refl))))))),
         ))
 
     pub right-after : rightDenialsPlain after ≡ true
@@ -119,4 +120,5 @@ module _ (b : Base) (q : Request) where
     strata-after = cases (is q (ADDRULE ∷ []))
         (λ k. no-circle b q g k)
         (λ k. stratified-less (after .rules) (b .rules)
-        (λ r m. ⊎-elim (λ w. absurd (true≢false (sym (w .0) ∙ k))) (λ n. n) (rule-origin b q r m)) (s .strata))
+        (λ r m. ⊎-elim (λ w. absurd (true≢false (sym (w .0) ∙ k))) (λ n. n) (rule-origin b q r m))
+        (s .strata))

@@ -12,7 +12,8 @@ use Rattle.model.specs.declared.Head.{Head}
 use Rattle.model.specs.declared.Request.{Request}
 use Rattle.model.specs.Base.{Base, controls}
 use Rattle.model.specs.Support.{supported, supported-chain, first, then, live, root, supportedAt}
-use Rattle.model.specs.SupportFacts.{live-last, live-old, supported-more, still, live-everywhere, covered-together}
+use Rattle.model.specs.SupportFacts.{live-last, live-old, supported-more, still, live-everywhere}
+use Rattle.model.specs.SupportFacts.{covered-together}
 use Rattle.model.specs.Withdrawal.{restrict}
 use Rattle.model.specs.Requests.{REVOKEADM, is, grants, withdraws, rootAfter, newHead, leave}
 use Rattle.model.specs.Means.{plainly}
@@ -24,7 +25,8 @@ use Rattle.laws.specs.Kinds.{grantKinds, withdrawalKinds, is-apart, not-
 use Rattle.laws.specs.KeepFacts.{live-keep}
 use Rattle.laws.specs.SoundFacts.{all-supported}
 use Rattle.laws.specs.Rows.{all-covered}
-use Rattle.laws.specs.AuthorizationsAfter.{newAuthorization, granted-authorizations, same-authorizations}
+use Rattle.laws.specs.AuthorizationsAfter.{newAuthorization, granted-authorizations}
+use Rattle.laws.specs.AuthorizationsAfter.{same-authorizations}
 use Rattle.laws.specs.Restriction.{roots-stay, withdrawn-all}
 
 module _ (b : Base) (q : Request) (s : Sound b) (g : Accepted b q) where
@@ -38,7 +40,8 @@ module _ (b : Base) (q : Request) (s : Sound b) (g : Accepted b q) where
       (λ c. first c)
       (λ c. let w = inInterval-true (q .interval) t i in
       let k = covered-together xs h (q .interval) .0 (all-covered b q g e c) t (w .0) (w .1) in
-      then (supported-chain (root b) (live t xs) (k .0) .0 (all-supported b s t (k .0) (k .1))) (k .1) (k .2)))
+      then (supported-chain (root b) (live t xs) (k .0) .0 (all-supported b s t (k .0) (k .1))) (k .1)
+      (k .2)))
 
   -- those that were there stay supported, by no fewer heads
   stay-supported : is q (REVOKEADM ∷ []) ≡ false → (t : ℕ) (heads : List Head) →
@@ -60,7 +63,8 @@ module _ (b : Base) (q : Request) (s : Sound b) (g : Accepted b q) where
   -- what restriction leaves is supported by what it leaves
   withdrawn-supported : (t : ℕ) (h : Head) →
       Mem h (live t (restrict (rootAfter b q) (λ h. true) (leave q (b .authorizations)))) →
-      supported (rootAfter b q) (live t (restrict (rootAfter b q) (λ h. true) (leave q (b .authorizations)))) h ≡ true
+      supported (rootAfter b q) (live t (restrict (rootAfter b q) (λ h. true) (leave q (b .authorizations))))
+      h ≡ true
   unfolding restrict
   withdrawn-supported t h m =
       let r = rootAfter b q in
@@ -74,9 +78,11 @@ module _ (b : Base) (q : Request) (s : Sound b) (g : Accepted b q) where
   pub support-after : allSupported (effect plainly b q) ≡ true
   support-after = live-everywhere (effect plainly b q .authorizations)
       (λ h t. supportedAt (effect plainly b q) t h) (λ t h m. cases (grants q)
-      (λ e. rw (granted-authorizations b q e) (granted-supported e t h (rw (granted-authorizations b q e) at m)))
+      (λ e. rw (granted-authorizations b q e) (granted-supported e t h
+      (rw (granted-authorizations b q e) at m)))
       (λ e. cases (withdraws q)
       (λ w. rw (withdrawn-all b q s w) (withdrawn-supported t h (rw (withdrawn-all b q s w) at m)))
       (λ w. rw (same-authorizations b q e w)
-      (stay-supported (not-kind q (REVOKEADM ∷ []) withdrawalKinds refl w) t (live t (b .authorizations)) (λ k n. n) h
+      (stay-supported (not-kind q (REVOKEADM ∷ []) withdrawalKinds refl w) t (live t (b .authorizations))
+      (λ k n. n) h
       (all-supported b s t h (rw (same-authorizations b q e w) at m))))))

@@ -1,6 +1,6 @@
--- The next mark is the least instant above the given one at which an authorization or a rule starts, or directly
--- after the end of one (`next-mark-least`, `next-mark-is`), and there is none exactly if no such instant is left
--- (`next-mark-none`). `next-least`, `next-is` and `next-none` say the same of any marks.
+-- The next mark is the least instant above the given one at which an authorization or a rule starts, or
+-- directly after the end of one (`next-mark-least`, `next-mark-is`), and there is none exactly if no such
+-- instant is left (`next-mark-none`). `next-least`, `next-is` and `next-none` say the same of any marks.
 use mathlib.Core.Path.{_≡_, refl, sym, ap, _∙_}
 use mathlib.Core.Logic.{_⊎_, inl, inr, _↔_}
 use Prim.Native.Nat.{ℕ, suc, _≤_, _<_}
@@ -36,7 +36,8 @@ module _ (t d : ℕ) where
       took w (inl p) i = omega arith
       took w (inr n) i = omega (arith, i n)
 
-      left : ltb t x && ltb x (next t ms d) ≡ false → Mem m (x ∷ ms) → (Mem m ms → next t ms d ≤ m) → next t ms d ≤ m
+      left : ltb t x && ltb x (next t ms d) ≡ false → Mem m (x ∷ ms) → (Mem m ms → next t ms d ≤ m) →
+          next t ms d ≤ m
       left e (inl p) i =
           let f : ltb x (next t ms d) ≡ false = sym (rw (le-true (suc t) x (omega arith))) ∙ e in
           omega (arith, false-le (suc x) (next t ms d) f)
@@ -75,7 +76,8 @@ Bounds i m = (m ≡ i .start) ⊎ (m ≡ suc (i .end))
 -- something can change at m: an authorization or a rule starts there, or ended right before
 abbrev pub Turns : List Authorization → List Rule → ℕ → Type 0
 Turns auths rules m =
-    ((a : Authorization) × Mem a auths × Bounds (a .interval) m) ⊎ ((r : Rule) × Mem r rules × Bounds (r .interval) m)
+    ((a : Authorization) × Mem a auths × Bounds (a .interval) m) ⊎
+    ((r : Rule) × Mem r rules × Bounds (r .interval) m)
 
 marks-each : (xs : List Authorization) → marksOf xs ≡ each xs (λ x. boundaries (x .interval))
 marks-each [] = refl
@@ -102,7 +104,8 @@ module _ {A : Type 0} (interval : A → Interval) (xs : List A) (m : ℕ) where
       (w .0, w .1, one-bound (interval (w .0)) (w .2))
 
   bound-each : ((x : A) × Mem x xs × Bounds (interval x) m) → Mem m (each xs (λ x. boundaries (interval x)))
-  bound-each w = mem-each xs (λ x. boundaries (interval x)) (w .0) m (w .1) (bound-one (interval (w .0)) (w .2))
+  bound-each w = mem-each xs (λ x. boundaries (interval x)) (w .0) m (w .1)
+      (bound-one (interval (w .0)) (w .2))
 
 module _ (auths : List Authorization) (rules : List Rule) where
   -- the marks are the instants at which something can change
@@ -135,7 +138,8 @@ module _ (auths : List Authorization) (rules : List Rule) where
         go m (inr w) = inr (mark-turns m .0 (w .0), w .1, w .2)
 
     -- and there is none exactly if nothing changes any more
-    pub next-mark-none : (next t (marks auths rules) d ≡ d) ↔ ((m : ℕ) → Turns auths rules m → t < m → m < d → ⊥)
+    pub next-mark-none : (next t (marks auths rules) d ≡ d) ↔
+        ((m : ℕ) → Turns auths rules m → t < m → m < d → ⊥)
     next-mark-none = (
       (λ e m k. next-none t d (marks auths rules) .0 e m (mark-turns m .1 k)),
       (λ f. next-none t d (marks auths rules) .1 (λ m k. f m (mark-turns m .0 k))),

@@ -1,5 +1,5 @@
--- The marks of a body of records that have a start and an end, read from the bytes; for authorizations and rules they
--- are the model's (`lines-marks`, `rules-marks`).
+-- The marks of a body of records that have a start and an end, read from the bytes; for authorizations and
+-- rules they are the model's (`lines-marks`, `rules-marks`).
 use mathlib.Core.Path.{_≡_, refl, ap}
 use Prim.Native.Nat.{ℕ, zero, suc, _+_}
 use mathlib.Core.Bool.{_&&_}

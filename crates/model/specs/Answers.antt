@@ -1,5 +1,5 @@
--- The library's answers over lent bytes: create, a request, MAY and WHEN, with their refusals (01, "Requests", "Replies
--- that refuse", "What the promises settle").
+-- The library's answers over lent bytes: create, a request, MAY and WHEN, with their refusals (01,
+-- "Requests", "Replies that refuse", "What the promises settle").
 use Prim.Native.Nat.{ℕ, _*_, _/_}
 use mathlib.Core.Path.{_≡_}
 use mathlib.Core.Bool.{Bool, true, not, _&&_}
@@ -86,7 +86,8 @@ abbrev pub requests : List Request → List ℕ → List ℕ
 requests [] s = s
 requests (q ∷ rest) s = requests rest (request s q .lent)
 
--- What the contract of the library's request says: the reply r and the bytes s′ that it leaves in the place of s
+-- What the contract of the library's request says: the reply r and the bytes s′ that it leaves in the place
+-- of s
 pub record Answered (s : List ℕ) (q : Request) (r : Reply) (s′ : List ℕ) : Type 0 where
   pub reply : shown r ≡ request s q .reply
   pub instant : instantFits (decode s) q r ≡ true
@@ -126,8 +127,8 @@ mayAnswer s q =
     let r = mayReply (may (decode s) (q .access) (q .instant)) in
     refusedOr (row 2 (not (soundBytes s)) ∷ mayTable (decode s) q) Refused r
 
--- WHEN over lent bytes and a lent list: the runs "at the front of a lent list; the reply is the number of runs, and the
--- rest of the list is untouched"
+-- WHEN over lent bytes and a lent list: the runs "at the front of a lent list; the reply is the number of
+-- runs, and the rest of the list is untouched"
 unfoldable pub whenAnswer : List ℕ → Access → List ℕ → Answer
 whenAnswer s x list =
     let runs = when (decode s) x in

@@ -61,6 +61,7 @@ refers b o s = listed (b .referrers) o s
 abbrev pub controls : Base → ℕ → ℕ → Bool
 controls b o s = owns b o s || administers b o s
 
--- 01, ADDRULE: "the author needs own or administer on the left object, and own, administer or refer on the right one"
+-- 01, ADDRULE: "the author needs own or administer on the left object, and own, administer or refer on the
+-- right one"
 abbrev pub mayRule : Base → ℕ → ℕ → ℕ → Bool
 mayRule b s left right = controls b left s && (controls b right s || refers b right s)

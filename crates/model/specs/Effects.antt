@@ -1,5 +1,6 @@
--- What each accepted request does to the base, one equation a kind, each to be read by itself (01, "Requests"). All are
--- proved from `Step.effect`, which is done where no row of the table applies. What an equation does not name stays.
+-- What each accepted request does to the base, one equation a kind, each to be read by itself (01,
+-- "Requests"). All are proved from `Step.effect`, which is done where no row of the table applies. What an
+-- equation does not name stays.
 use mathlib.Core.Path.{_≡_}
 use Prim.Native.Nat.{ℕ, suc}
 use mathlib.Core.Bool.{true, false, not, _&&_, _||_}
@@ -14,7 +15,8 @@ use Rattle.model.specs.declared.Request.{Request}
 use Rattle.model.specs.Base.{Base, privilege, isPrivilege, administers, refers}
 use Rattle.model.specs.Support.{sameObjectAndMode, root, rootIn}
 use Rattle.model.specs.Withdrawal.{keep, restrict}
-use Rattle.model.specs.Requests.{NEW, GRANT, DENY, REVOKE, REVOKEP, REVOKEN, ADDRULE, DROPRULE, GRANTADM}
+use Rattle.model.specs.Requests.{NEW, GRANT, DENY, REVOKE, REVOKEP, REVOKEN, ADDRULE, DROPRULE}
+use Rattle.model.specs.Requests.{GRANTADM}
 use Rattle.model.specs.Requests.{REVOKEADM, GRANTREF, REVOKEREF, insert, sideOf, operatorOf, numberOf}
 use Rattle.model.specs.Requests.{takes, leave, affects}
 use Rattle.model.specs.Means.{plainly}
@@ -152,8 +154,8 @@ module _ (b : Base) (q : Request) where
   unfolding leave takes affects
   effect-revoke e = rw e
 
-  -- "REVOKEP ... (mode, object, subject, interval) take[s] the interval out of the requester's positive lines", then
-  -- unsupported instants of those on that object and mode
+  -- "REVOKEP ... (mode, object, subject, interval) take[s] the interval out of the requester's positive
+  -- lines", then unsupported instants of those on that object and mode
   pub effect-revokep : q .kind ≡ REVOKEP →
       effect plainly b q
       ≡ withClock (q .now) (withAuthorizations (restrict (root b)
@@ -203,8 +205,8 @@ module _ (b : Base) (q : Request) where
       (withAdministrators (insert (privilege (q .object) (q .subject)) (b .administrators)) b)
   effect-grantadm e = rw e
 
-  -- "REVOKEADM removes every line on the object that the subject granted ..., then all unbacked instants on that object;
-  -- and the subject's rules with it on the left, and on the right unless a referrer"
+  -- "REVOKEADM removes every line on the object that the subject granted ..., then all unbacked instants on
+  -- that object; and the subject's rules with it on the left, and on the right unless a referrer"
   pub effect-revokeadm : q .kind ≡ REVOKEADM →
       let administrators = keepIf (λ p. not (isPrivilege (q .object) (q .subject) p)) (b .administrators) in
       effect plainly b q

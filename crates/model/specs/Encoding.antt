@@ -64,8 +64,8 @@ operatorNumber Unless = 4
 abbrev pub privilegeBytes : Privilege → List ℕ
 privilegeBytes p = bytesOf 2 (p .object) ++ bytesOf 2 (p .subject)
 
--- 01: "Line, 24 bytes: label, granter, subject, object (two each), mode, flags (one each), two zero, then granted-at,
--- start, end (four each)"
+-- 01: "Line, 24 bytes: label, granter, subject, object (two each), mode, flags (one each), two zero, then
+-- granted-at, start, end (four each)"
 abbrev pub authorizationBytes : Authorization → List ℕ
 authorizationBytes a =
     let h = a .head in
@@ -73,8 +73,8 @@ authorizationBytes a =
     ++ (h .mode ∷ headFlags (h .negative) (h .option) ∷ 0 ∷ 0 ∷ [])
     ++ bytesOf 4 (h .granted) ++ bytesOf 4 (a .interval .start) ++ bytesOf 4 (a .interval .end)
 
--- 01: "Rule, 28 bytes: label, author, left subject, left object, right subject, right object, right granter (two each),
--- left mode, right mode, operator, flags (one each), two zero, start, end (four each)"
+-- 01: "Rule, 28 bytes: label, author, left subject, left object, right subject, right object, right granter
+-- (two each), left mode, right mode, operator, flags (one each), two zero, start, end (four each)"
 abbrev pub ruleBytes : Rule → List ℕ
 ruleBytes r =
     bytesOf 2 (r .label) ++ bytesOf 2 (r .author)
@@ -88,26 +88,29 @@ ruleBytes r =
 abbrev pub entry : ℕ → ℕ → List ℕ
 entry offset n = bytesOf 2 offset ++ bytesOf 2 n
 
--- 01: "Bytes 12 to 31: five entries ... objects, administrators, referrers, lines, rules. The first body starts at
--- 32, each next where the one before ends"
+-- 01: "Bytes 12 to 31: five entries ... objects, administrators, referrers, lines, rules. The first body
+-- starts at 32, each next where the one before ends"
 abbrev pub contents : (objects administrators referrers authorizations rules : ℕ) → List ℕ
 contents objects administrators referrers authorizations rules =
     let at₂ = 32 + 4 * objects in
     let at₃ = at₂ + 4 * administrators in
     let at₄ = at₃ + 4 * referrers in
     let at₅ = at₄ + 24 * authorizations in
-    entry 32 objects ++ entry at₂ administrators ++ entry at₃ referrers ++ entry at₄ authorizations ++ entry at₅ rules
+    entry 32 objects ++ entry at₂ administrators ++ entry at₃ referrers ++ entry at₄ authorizations
+    ++ entry at₅ rules
 
 -- 01: "4 to 7: clock ... 8 to 9: last label given. 10 to 11: zero"
 abbrev pub heading : Base → List ℕ
 heading b =
     mark ++ bytesOf 4 (b .clock) ++ bytesOf 2 (b .last) ++ (0 ∷ 0 ∷ [])
-    ++ contents (length (b .objects)) (length (b .administrators)) (length (b .referrers)) (length (b .authorizations))
+    ++ contents (length (b .objects)) (length (b .administrators)) (length (b .referrers))
+    (length (b .authorizations))
     (length (b .rules))
 
 abbrev pub bodies : Base → List ℕ
 bodies b =
-    each (b .objects) privilegeBytes ++ each (b .administrators) privilegeBytes ++ each (b .referrers) privilegeBytes
+    each (b .objects) privilegeBytes ++ each (b .administrators) privilegeBytes
+    ++ each (b .referrers) privilegeBytes
     ++ each (b .authorizations) authorizationBytes ++ each (b .rules) ruleBytes
 
 -- 01: "All bytes behind the last body are zero"

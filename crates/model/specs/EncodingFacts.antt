@@ -1,6 +1,6 @@
--- The base as bytes, theorem 6: a sound base is read back as it was written (`decode-encode`). What is written is
--- sound, of the one length and made of bytes (`encode-sound`, `encode-length`, `encode-bytes`); sound bytes have that
--- length (`sound-length`); the empty base is sound (`empty-sound`).
+-- The base as bytes, theorem 6: a sound base is read back as it was written (`decode-encode`). What is
+-- written is sound, of the one length and made of bytes (`encode-sound`, `encode-length`, `encode-bytes`);
+-- sound bytes have that length (`sound-length`); the empty base is sound (`empty-sound`).
 use mathlib.Core.Path.{_≡_, refl, sym, ap, _∙_}
 use mathlib.Core.Logic.{inl, inr}
 use Prim.Native.Nat.{ℕ, zero, suc, _+_, _-_, _*_, _<_}
@@ -20,7 +20,8 @@ use Rattle.model.specs.declared.Rule.{Rule}
 use Rattle.model.specs.Base.{Base, emptyBase}
 use Rattle.model.specs.Stratification.{stratified}
 use Rattle.model.specs.Step.{countsHold}
-use Rattle.model.specs.Encoding.{size, privilegeBytes, authorizationBytes, ruleBytes, heading, bodies, encode}
+use Rattle.model.specs.Encoding.{size, privilegeBytes, authorizationBytes, ruleBytes, heading, bodies}
+use Rattle.model.specs.Encoding.{encode}
 use Rattle.model.specs.Encoding.{privilegeOf, authorizationOf, ruleOf, decode}
 use Rattle.model.specs.Soundness.{sound, soundBytes}
 use Rattle.model.specs.SoundnessFacts.{sound-tests, sound-bytes}
@@ -29,7 +30,8 @@ use Rattle.model.specs.FlagFacts.{rule-flags-most, operator-most}
 use Rattle.model.specs.FitsFacts.{PrivilegeFits, IntervalFits, AuthorizationFits, RuleFits, counts-fit}
 use Rattle.model.specs.FitsFacts.{CountsFit, BaseFits, base-fits}
 
--- ---- what is written is read back. A field's number depends on its own bytes: `[]` serves for what is behind them
+-- ---- what is written is read back. A field's number depends on its own bytes: `[]` serves for what is
+-- behind them
 
 interval-back : (i : Interval) → IntervalFits i →
     interval (le 4 (bytesOf 4 (i .start))) (le 4 (bytesOf 4 (i .end))) ≡ i
@@ -38,7 +40,8 @@ interval-back i f k = record {
   end = le-bytes 4 (i .end) [] (f .end) k;
 }
 
-privilege-back : (p : Privilege) (rest : List ℕ) → PrivilegeFits p → privilegeOf (privilegeBytes p ++ rest) ≡ p
+privilege-back : (p : Privilege) (rest : List ℕ) → PrivilegeFits p →
+    privilegeOf (privilegeBytes p ++ rest) ≡ p
 privilege-back p rest f i = record {
   object = le-bytes 2 (p .object) [] (f .object) i;
   subject = le-bytes 2 (p .subject) [] (f .subject) i;
@@ -197,7 +200,8 @@ unfolding encode
 length-fits b c =
     let front = heading b ++ bodies b in
     let l : length front ≡ 32 + length (bodies b) = length-append (heading b) (bodies b) in
-    length-append front (replicate (size - length front) 0) ∙ rw (length-replicate {A = ℕ} (size - length front) 0)
+    length-append front (replicate (size - length front) 0)
+    ∙ rw (length-replicate {A = ℕ} (size - length front) 0)
     (omega (arith, l, bodies-length b, c))
 
 pub encode-length : (b : Base) → countsHold b ≡ true → length (encode b) ≡ size

@@ -1,5 +1,5 @@
--- Each field of a base in its ranges fits the bytes that it is written in: `base-fits`, with a record for what each
--- part says.
+-- Each field of a base in its ranges fits the bytes that it is written in: `base-fits`, with a record for
+-- what each part says.
 use mathlib.Core.Path.{_≡_, refl}
 use mathlib.Core.Logic.{inl, inr}
 use Prim.Native.Nat.{ℕ, _^_, _≤_, _<_}
@@ -16,12 +16,15 @@ use Rattle.model.specs.declared.Privilege.{Privilege}
 use Rattle.model.specs.declared.Authorization.{Authorization}
 use Rattle.model.specs.declared.Side.{Side}
 use Rattle.model.specs.declared.Rule.{Rule}
-use Rattle.model.specs.Ranges.{between, isInstant, isSubject, isObject, isMode, isLabel, lastInstant, lastLabel}
-use Rattle.model.specs.Ranges.{mostObjects, mostAdministrators, mostReferrers, mostAuthorizations, mostRules}
+use Rattle.model.specs.Ranges.{between, isInstant, isSubject, isObject, isMode, isLabel, lastInstant}
+use Rattle.model.specs.Ranges.{lastLabel}
+use Rattle.model.specs.Ranges.{mostObjects, mostAdministrators, mostReferrers, mostAuthorizations}
+use Rattle.model.specs.Ranges.{mostRules}
 use Rattle.model.specs.Base.{Base}
 use Rattle.model.specs.Stratification.{isStar}
 use Rattle.model.specs.Step.{countsHold}
-use Rattle.model.specs.Soundness.{privilegeIn, intervalIn, authorizationIn, orStar, sideIn, ruleIn, sound}
+use Rattle.model.specs.Soundness.{privilegeIn, intervalIn, authorizationIn, orStar, sideIn, ruleIn}
+use Rattle.model.specs.Soundness.{sound}
 use Rattle.model.specs.SoundnessFacts.{sound-tests}
 use Rattle.model.specs.SoundTests.{ranges-test}
 
@@ -46,7 +49,8 @@ mode-fits : (n : ℕ) → isMode n ≡ true → n < 256
 mode-fits n = below 1 8 256 n (omega arith)
 
 -- where the numbers of a range fit, so does the star
-or-star : (range : ℕ → Bool) (bound n : ℕ) → 0 < bound → (range n ≡ true → n < bound) → orStar range n ≡ true →
+or-star : (range : ℕ → Bool) (bound n : ℕ) → 0 < bound → (range n ≡ true → n < bound) →
+    orStar range n ≡ true →
     n < bound
 or-star range bound n h f e = or-cases (isStar n) (range n) e (λ z. omega (arith, true-eq n 0 z)) f
 
@@ -86,7 +90,8 @@ pub record AuthorizationFits (a : Authorization) : Type 0 where
 authorization-fits : (a : Authorization) → authorizationIn a ≡ true → AuthorizationFits a
 authorization-fits a e =
     let h = a .head in
-    let t = conjunct (isLabel (h .label) ∷ isSubject (h .grantor) ∷ isSubject (h .subject) ∷ isObject (h .object)
+    let t = conjunct (isLabel (h .label) ∷ isSubject (h .grantor) ∷ isSubject (h .subject)
+    ∷ isObject (h .object)
     ∷ isMode (h .mode) ∷ isInstant (h .granted) ∷ intervalIn (a .interval) ∷ []) e in
     record {
       label = label-fits (h .label) (t _ (inl refl));
@@ -105,7 +110,8 @@ pub record SideFits (s : Side) : Type 0 where
 
 side-fits : (s : Side) → sideIn s ≡ true → SideFits s
 side-fits s e =
-    let t = conjunct (orStar isSubject (s .subject) ∷ orStar isMode (s .mode) ∷ isObject (s .object) ∷ []) e in
+    let t = conjunct (orStar isSubject (s .subject) ∷ orStar isMode (s .mode) ∷ isObject (s .object) ∷ [])
+    e in
     record {
       subject = subject-or-star-fits (s .subject) (t _ (inl refl));
       mode = mode-or-star-fits (s .mode) (t _ (inr (inl refl)));
@@ -142,14 +148,16 @@ pub record CountsFit (b : Base) : Type 0 where
 
 pub counts-fit : (b : Base) → countsHold b ≡ true → CountsFit b
 counts-fit b e =
-    let t = conjunct (leb (length (b .objects)) mostObjects ∷ leb (length (b .administrators)) mostAdministrators
+    let t = conjunct (leb (length (b .objects)) mostObjects
+    ∷ leb (length (b .administrators)) mostAdministrators
     ∷ leb (length (b .referrers)) mostReferrers ∷ leb (length (b .authorizations)) mostAuthorizations
     ∷ leb (length (b .rules)) mostRules ∷ []) e in
     record {
       objects = true-le (length (b .objects)) mostObjects (t _ (inl refl));
       administrators = true-le (length (b .administrators)) mostAdministrators (t _ (inr (inl refl)));
       referrers = true-le (length (b .referrers)) mostReferrers (t _ (inr (inr (inl refl))));
-      authorizations = true-le (length (b .authorizations)) mostAuthorizations (t _ (inr (inr (inr (inl refl)))));
+      authorizations = true-le (length (b .authorizations)) mostAuthorizations
+          (t _ (inr (inr (inr (inl refl)))));
       rules = true-le (length (b .rules)) mostRules (t _ (inr (inr (inr (inr (inl refl))))));
     }
 
@@ -163,7 +171,8 @@ pub record BaseFits (b : Base) : Type 0 where
   pub authorizations : (a : Authorization) → Mem a (b .authorizations) → AuthorizationFits a
   pub rules : (r : Rule) → Mem r (b .rules) → RuleFits r
 
-privileges-fit : (ps : List Privilege) → allb privilegeIn ps ≡ true → (p : Privilege) → Mem p ps → PrivilegeFits p
+privileges-fit : (ps : List Privilege) → allb privilegeIn ps ≡ true → (p : Privilege) → Mem p ps →
+    PrivilegeFits p
 privileges-fit ps e p m = privilege-fits p (all-mem privilegeIn ps e p m)
 
 pub base-fits : (b : Base) → sound b ≡ true → BaseFits b

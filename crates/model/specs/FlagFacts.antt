@@ -1,5 +1,5 @@
--- Flags and operators as numbers: read back as they were written, and how large they are. How they stand in a byte is
--- known to these laws alone.
+-- Flags and operators as numbers: read back as they were written, and how large they are. How they stand in a
+-- byte is known to these laws alone.
 use mathlib.Core.Path.{_≡_, refl}
 use Prim.Native.Nat.{_≤_}
 use native.Mathlib.Omega.{arith}
@@ -9,7 +9,8 @@ use Rattle.model.specs.declared.Operator.the-variants.{Whenever, AsLongA
 use Rattle.model.specs.declared.OptionTerm.{OptionTerm}
 use Rattle.model.specs.declared.OptionTerm.the-variants.{With, Without, Either}
 use Rattle.model.specs.Requests.{operatorOf}
-use Rattle.model.specs.Encoding.{asBit, bit, headFlags, isNegative, hasOption, optionFlags, optionOf, ruleFlags}
+use Rattle.model.specs.Encoding.{asBit, bit, headFlags, isNegative, hasOption, optionFlags, optionOf}
+use Rattle.model.specs.Encoding.{ruleFlags}
 use Rattle.model.specs.Encoding.{operatorNumber}
 
 pub head-flags-back : (negative option : Bool) →

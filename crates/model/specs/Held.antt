@@ -1,7 +1,7 @@
--- What is held, in 01's words ("Rules"): an inductive reading of `holds` in Rules, with no rounds and no fuel in it.
--- An inductive type is the smallest set closed under its constructors.
--- THEOREM `held` in HeldFacts: with stratified rules `holds always b t p ≡ true` exactly if `Held b t p`.
--- THEOREM `may-held` there: MAY says yes exactly if the access is held and its denial is not.
+-- What is held, in 01's words ("Rules"): an inductive reading of `holds` in Rules, with no rounds and no fuel
+-- in it. An inductive type is the smallest set closed under its constructors. THEOREM `held` in HeldFacts:
+-- with stratified rules `holds always b t p ≡ true` exactly if `Held b t p`. THEOREM `may-held` there: MAY
+-- says yes exactly if the access is held and its denial is not.
 use mathlib.Core.Path.{_≡_}
 use Prim.Native.Nat.{ℕ, zero, suc, _≤_}
 use mathlib.Core.Bool.{true}
@@ -23,8 +23,8 @@ pub record ByAuthorization (b : Base) (t : ℕ) (p : Pattern) : Type 0 where
   pub fitting : fits p (authorization .head) ≡ true
 
 module _ (b : Base) (k : ℕ) where
-  -- 01: "In its interval": r is a rule of rank k with the operator o, its left side is what is looked for, and its
-  -- interval has t
+  -- 01: "In its interval": r is a rule of rank k with the operator o, its left side is what is looked for,
+  -- and its interval has t
   pub record Applies (o : Operator) (r : Rule) (t : ℕ) (p : Pattern) : Type 0 where
     pub listed : Mem r (b .rules)
     pub rank : stratum (b .rules) r ≡ k
@@ -32,8 +32,8 @@ module _ (b : Base) (k : ℕ) where
     pub left : derivesFor b p r ≡ true
     pub inside : inInterval (r .interval) t ≡ true
 
-  -- 01: "What is held is built rank by rank, each the smallest set closed under its rules": what is held up to rank
-  -- k, `Lower` being what is held by the ranks below
+  -- 01: "What is held is built rank by rank, each the smallest set closed under its rules": what is held up
+  -- to rank k, `Lower` being what is held by the ranks below
   pub data HeldUpTo (Lower : ℕ → Pattern → Type 0) : ℕ → Pattern → Type 0 where
     -- what the ranks below hold stays
     lower : {t : ℕ} {p : Pattern} → Lower t p → HeldUpTo Lower t p
@@ -42,15 +42,16 @@ module _ (b : Base) (k : ℕ) where
         HeldUpTo Lower t (rightOf r (p .access)) → HeldUpTo Lower t p
     -- 01: "ASLONGAS if held at all instants from the rule's start to t"
     asLongAs : {t : ℕ} {p : Pattern} (r : Rule) → Applies AsLongAs r t p →
-        ((u : ℕ) → r .interval .start ≤ u → u ≤ t → HeldUpTo Lower u (rightOf r (p .access))) → HeldUpTo Lower t p
+        ((u : ℕ) → r .interval .start ≤ u → u ≤ t → HeldUpTo Lower u (rightOf r (p .access))) →
+        HeldUpTo Lower t p
     -- 01: "WHENEVERNOT and UNLESS likewise with 'not held'": not held by the ranks below
     wheneverNot : {t : ℕ} {p : Pattern} (r : Rule) → Applies WheneverNot r t p →
         (Lower t (rightOf r (p .access)) → ⊥) → HeldUpTo Lower t p
     unless : {t : ℕ} {p : Pattern} (r : Rule) → Applies Unless r t p →
         ((u : ℕ) → r .interval .start ≤ u → u ≤ t → Lower u (rightOf r (p .access)) → ⊥) → HeldUpTo Lower t p
 
--- 01: "Held means given by a line or by a rule, denied or not": what is held by authorizations and by the rules of
--- the ranks below k
+-- 01: "Held means given by a line or by a rule, denied or not": what is held by authorizations and by the
+-- rules of the ranks below k
 abbrev pub HeldBelow : Base → ℕ → ℕ → Pattern → Type 0
 HeldBelow b zero t p = ByAuthorization b t p
 HeldBelow b (suc k) t p = HeldUpTo b k (HeldBelow b k) t p

@@ -1,4 +1,5 @@
--- What holds is what is held in 01's words: `held`, and `may-held` for the question MAY. Rank by rank: `held-below`.
+-- What holds is what is held in 01's words: `held`, and `may-held` for the question MAY. Rank by rank:
+-- `held-below`.
 use mathlib.Core.Path.{_≡_, refl, sym, ap, _∙_}
 use mathlib.Core.Logic.{_↔_}
 use Prim.Native.Nat.{ℕ, zero, suc, _*_, _≤_}
@@ -87,7 +88,8 @@ module _ (base : Base) where
     -- what the operator of a rule allows, from what rounds have found
     allowed : (S : Fact → Bool) → ((u : ℕ) (q : Pattern) → holding S u q ≡ true → UpTo k u q) →
         (o : Operator) (r : Rule) (t : ℕ) (p : Pattern) → Applies base k o r t p →
-        operate always o (λ u. holding S u (rightOf r (p .access))) (λ u. holding (below k) u (rightOf r (p .access)))
+        operate always o (λ u. holding S u (rightOf r (p .access)))
+        (λ u. holding (below k) u (rightOf r (p .access)))
         (r .interval .start) t ≡ true → UpTo k t p
     allowed S h Whenever r t p a e = whenever r a (h t (rightOf r (p .access)) e)
     allowed S h AsLongAs r t p a e =

@@ -1,5 +1,6 @@
--- What holds changes at marks only (`below-steady`). Theorem 4: what the rules of a stratum derive is closed under
--- them (`closed`) and the smallest such set (`smallest`); `below-stratum` says which rules it speaks of.
+-- What holds changes at marks only (`below-steady`). Theorem 4: what the rules of a stratum derive is closed
+-- under them (`closed`) and the smallest such set (`smallest`); `below-stratum` says which rules it speaks
+-- of.
 use mathlib.Core.Path.{_≡_, refl, sym, _∙_, subst}
 use mathlib.Core.Logic.{inl}
 use Prim.Native.Nat.{ℕ, zero, suc, _≤_, _<_}
@@ -101,7 +102,8 @@ module _ (base : Base) where
       (fact r y (a .0)) (in-keys base y r y (a .0) m (inl refl, inl refl, inl refl) (a .1)))
       ∙ sym (below-steady (suc k) r m y (a .0) (x .at) (a .2) (a .3))
 
-  -- THEOREM 4, smallest: a part of every set that has the lower strata in it and is closed under stratum k's rules
+  -- THEOREM 4, smallest: a part of every set that has the lower strata in it and is closed under stratum k's
+  -- rules
   pub smallest : (k : ℕ) (Q : Fact → Bool) → ((x : Fact) → derivedBelow always base k x ≡ true → Q x ≡ true) →
       ((x : Fact) → round always base k (derivedBelow always base k) Q x ≡ true → Q x ≡ true) →
       (x : Fact) → derivedBelow always base (suc k) x ≡ true → Q x ≡ true

@@ -1,5 +1,5 @@
--- The facts that those about an access can rest on: finitely many about accesses near it, at 0 and at the marks
--- (`keys`). A round looks at these only (`round-local`).
+-- The facts that those about an access can rest on: finitely many about accesses near it, at 0 and at the
+-- marks (`keys`). A round looks at these only (`round-local`).
 use mathlib.Core.Path.{_≡_, refl, sym, ap, _∙_, subst}
 use mathlib.Core.Logic.{inr}
 use Prim.Native.Nat.{ℕ, _≤_}
@@ -126,7 +126,8 @@ module _ (base : Base) where
         ∙ h (fact r y (a .0)) (in-keys x r y (a .0) m n (a .1))
         ∙ sym (d r m y (a .0) u (a .2) (a .3))
 
-    right-local : (L : Fact → Bool) (p : Pattern) → Near x (p .access) → (u : ℕ) → right L S p u ≡ right L Q p u
+    right-local : (L : Fact → Bool) (p : Pattern) → Near x (p .access) → (u : ℕ) →
+        right L S p u ≡ right L Q p u
     right-local L p n u = right-cong (holding S u) (holding Q u) (holding L u) (holding L u) p
         (λ q e. holds-cong base S Q u u q refl
         (λ r m. everywhere r (q .access) u m (subst (Near x) (sym e) n)))

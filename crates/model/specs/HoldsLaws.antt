@@ -5,7 +5,8 @@ use native.Mathlib.Omega.{arith}
 use mathlib.Core.Bool.{Bool, true, false, not, _&&_, _||_, Bool·beq}
 use lib.Dec.{leb, eqb}
 use lib.ListN.{length}
-use Rattle.foundation.specs.Tests.{pick, cases, le-true, le-false, true-le, false-le, eq-true, and-true, and-intro}
+use Rattle.foundation.specs.Tests.{pick, cases, le-true, le-false, true-le, false-le, eq-true, and-true}
+use Rattle.foundation.specs.Tests.{and-intro}
 use Rattle.foundation.specs.Lists.{anyb, Mem, any-cong-mem}
 use Rattle.foundation.specs.Graph.{heavy}
 use Rattle.foundation.specs.Intervals.{inInterval, always, always-cong}
@@ -17,7 +18,8 @@ use Rattle.model.specs.Base.{Base}
 use Rattle.model.specs.Support.{live}
 use Rattle.model.specs.Stratification.{precedes, negating, weight, stratified, stratum, precedes-feeds}
 use Rattle.model.specs.Stratification.{heavy-negates}
-use Rattle.model.specs.Rules.{Pattern, Fact, fact, fits, derivesFor, rightOf, rightHolds, operate, holdsBy, derives, derivedBelow, holds}
+use Rattle.model.specs.Rules.{Pattern, Fact, fact, fits, derivesFor, rightOf, rightHolds, operate}
+use Rattle.model.specs.Rules.{holdsBy, derives, derivedBelow, holds}
 use Rattle.model.specs.SideFacts.{fit-feeds}
 use Rattle.model.specs.RightFacts.{right-own}
 use Rattle.model.specs.HoldsFacts.{closed}
@@ -42,9 +44,9 @@ pub strictly-fed : (base : Base) (r : Rule) → negating (r .operator) ≡ true 
     StrictlyFed base r p
 strictly-fed base r g p h q e = (h q e, heavy-negates q r ∙ g)
 
--- A rule's right side looks up to the rule's stratum only at what those derive that the rule looks at, and below it
--- only at what those of them derive whose step counts: where that is settled, `all` being what holds at last, so is
--- the right side.
+-- A rule's right side looks up to the rule's stratum only at what those derive that the rule looks at, and
+-- below it only at what those of them derive whose step counts: where that is settled, `all` being what holds
+-- at last, so is the right side.
 pub right-settled : (base : Base) (r : Rule) (x : Access) (same lower all : Pattern → Bool) →
     ((p : Pattern) → Fed base r p → same p ≡ all p) →
     ((p : Pattern) → StrictlyFed base r p → lower p ≡ all p) →
@@ -54,11 +56,13 @@ right-settled base r x same lower all h k =
 
 -- a negating operator looks at its second test, the others at their first
 operate-settled : (o : Operator) (f g h : ℕ → Bool) → ((u : ℕ) → f u ≡ h u) →
-    (negating o ≡ true → (u : ℕ) → g u ≡ h u) → (a t : ℕ) → operate always o f g a t ≡ operate always o h h a t
+    (negating o ≡ true → (u : ℕ) → g u ≡ h u) → (a t : ℕ) →
+    operate always o f g a t ≡ operate always o h h a t
 operate-settled Whenever f g h p q a t = p t
 operate-settled AsLongAs f g h p q a t = always-cong a t f h p
 operate-settled WheneverNot f g h p q a t = ap not (q refl t)
-operate-settled Unless f g h p q a t = always-cong a t (λ u. not (g u)) (λ u. not (h u)) (λ u. ap not (q refl u))
+operate-settled Unless f g h p q a t = always-cong a t (λ u. not (g u)) (λ u. not (h u))
+    (λ u. ap not (q refl u))
 
 module _ (base : Base) where
   abbrev below : ℕ → Fact → Bool
@@ -142,8 +146,8 @@ module _ (base : Base) where
           (feeder-below (base .rules) s q r k m (l .0) (l .1))
           (omega (arith, stratum-few (base .rules) s r m)))
 
-    -- 01, the operators: a rule derives its left side at the instants of its interval where its operator allows it, the
-    -- right side being looked at in all that holds, of whatever stratum
+    -- 01, the operators: a rule derives its left side at the instants of its interval where its operator
+    -- allows it, the right side being looked at in all that holds, of whatever stratum
     pub derived-law : (r : Rule) → Mem r (base .rules) → (x : Access) (t : ℕ) →
         derived (fact r x t)
         ≡ inInterval (r .interval) t

@@ -1,6 +1,6 @@
 -- Theorem 5: MAY changes at marks only (`may-steady`), so that asking at marks gives the definition's answers
--- (`may-marks`, `when-marks`) and WHEN writes at most one interval more than there are authorizations and rules
--- (`when-count`).
+-- (`may-marks`, `when-marks`) and WHEN writes at most one interval more than there are authorizations and
+-- rules (`when-count`).
 use mathlib.Core.Path.{_≡_, refl, sym, ap, ap₂, _∙_, fun-ext}
 use Prim.Native.Nat.{ℕ, zero, suc, _+_, _*_, _≤_}
 use native.Mathlib.Omega.{arith}
@@ -72,7 +72,8 @@ module _ (n : ℕ) (base : Base) where
       holdsBy always base S t p ≡ holdsBy at base Q t p
   holds-agree S Q h t p = holds-cong base S Q t t p refl (λ r m. h (fact r (p .access) t) m)
 
-  right-agree : (L L′ S S′ : Fact → Bool) → Agree L L′ → Agree S S′ → (p : Pattern) → right L S p ≡ rightAt L′ S′ p
+  right-agree : (L L′ S S′ : Fact → Bool) → Agree L L′ → Agree S S′ → (p : Pattern) →
+      right L S p ≡ rightAt L′ S′ p
   right-agree L L′ S S′ h k p = fun-ext (λ u. right-cong
       (holdsBy always base S u) (holdsBy at base S′ u)
       (holdsBy always base L u) (holdsBy at base L′ u) p
@@ -128,13 +129,19 @@ unfolding when whenAtMarks
 when-marks n b x = sym (walk-maximal (λ t. may b x t) (allMarks b) (may-steady b x) lastInstant n 0)
     ∙ ap (λ (f : ℕ → Bool). walk f (allMarks b) lastInstant n 0) (fun-ext (λ t. may-marks n b x t))
 
-pub all-marks-length : (b : Base) → length (allMarks b) ≡ 2 * length (b .authorizations) + 2 * length (b .rules)
+pub all-marks-length : (b : Base) → length (allMarks b)
+    ≡ 2 * length (b .authorizations) + 2 * length (b .rules)
 all-marks-length b = length-append (marksOf (b .authorizations)) (ruleMarks (b .rules))
     ∙ ap₂ (λ (i j : ℕ). i + j) (marks-length (b .authorizations)) (rule-marks-length (b .rules))
 
--- An interval begins and ends at marks, and no two share one. With 01's 1,024 authorizations and 64 rules there are
--- at most 1,089
-pub when-count : (b : Base) (x : Access) → length (when b x) ≤ length (b .authorizations) + length (b .rules) + 1
+-- An interval begins and ends at marks, and no two share one. With 01's 1,024 authorizations and 64 rules
+-- there are at most 1,089
+pub when-count : (b : Base) (x : Access) → length (when b x) ≤ length (b .authorizations) + length
+    (b .rules) + 1
 unfolding when
 when-count b x =
-    omega (arith, maximal-count (λ t. may b x t) (allMarks b) (may-steady b x) lastInstant, all-marks-length b)
+    omega (
+      arith,
+      maximal-count (λ t. may b x t) (allMarks b) (may-steady b x) lastInstant,
+      all-marks-length b,
+    )

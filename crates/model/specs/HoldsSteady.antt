@@ -1,5 +1,5 @@
--- What is built from facts that change at marks only changes at marks only (`holds-steady`, `round-steady`), and from
--- more facts no less is derived (`round-mono`).
+-- What is built from facts that change at marks only changes at marks only (`holds-steady`, `round-steady`),
+-- and from more facts no less is derived (`round-mono`).
 use mathlib.Core.Path.{_≡_, refl, sym, ap, ap₂, _∙_, subst}
 use mathlib.Core.Logic.{inl, inr}
 use Prim.Native.Nat.{ℕ, suc, _*_}
@@ -72,7 +72,8 @@ module _ (base : Base) where
 
   -- ---- what is built from steady sets is steady
 
-  -- what holds of a pattern rests on the authorizations at the instant and on the facts about the pattern's access
+  -- what holds of a pattern rests on the authorizations at the instant and on the facts about the pattern's
+  -- access
   pub holds-cong : (S Q : Fact → Bool) (t u : ℕ) (p : Pattern) →
       live t (base .authorizations) ≡ live u (base .authorizations) →
       ((r : Rule) → Mem r (base .rules) → S (fact r (p .access) t) ≡ Q (fact r (p .access) u)) →
@@ -93,7 +94,8 @@ module _ (base : Base) where
       (λ r m. c r m (p .access) a t h e)
 
   pub right-by-steady : (L S : Fact → Bool) → Stead L → Stead S → (p : Pattern) → Steady (right L S p) marks
-  right-by-steady L S c d p = right-steady marks (holding S) (holding L) p (holds-steady S d) (holds-steady L c)
+  right-by-steady L S c d p = right-steady marks (holding S) (holding L) p (holds-steady S d)
+      (holds-steady L c)
 
   derives-steady : (L S : Fact → Bool) → Stead L → Stead S → Stead (derived L S)
   derives-steady L S c d r m x a t h e =
@@ -113,7 +115,8 @@ module _ (base : Base) where
 
   -- ---- from more facts no less is derived
 
-  holds-mono : (S Q : Fact → Bool) → Part S Q → (t : ℕ) (p : Pattern) → holding S t p ≡ true → holding Q t p ≡ true
+  holds-mono : (S Q : Fact → Bool) → Part S Q → (t : ℕ) (p : Pattern) → holding S t p ≡ true →
+      holding Q t p ≡ true
   holds-mono S Q h t p =
       let x : Rule → Fact = λ r. fact r (p .access) t in
       let s : Rule → Bool = λ r. derivesFor base p r && S (x r) in
@@ -126,10 +129,12 @@ module _ (base : Base) where
       let r = x .rule in
       let p = rightOf r (x .access) in
       let s = r .interval .start in
-      let from : (Fact → Bool) → Bool = λ S. operate always (r .operator) (right L S p) (right L L p) s (x .at) in
+      let from : (Fact → Bool) → Bool = λ S. operate always (r .operator) (right L S p) (right L L p) s
+      (x .at) in
       and-mono (inInterval (r .interval) (x .at)) (from S) (from Q)
       (operate-mono (right L S p) (right L Q p) (right L L p)
-      (λ u. right-mono (holding S u) (holding Q u) (holding L u) p (holds-mono S Q h u)) (r .operator) s (x .at))
+      (λ u. right-mono (holding S u) (holding Q u) (holding L u) p (holds-mono S Q h u)) (r .operator) s
+      (x .at))
 
   pub round-mono : (k : ℕ) (L S Q : Fact → Bool) → Part S Q → Part (stage k L S) (stage k L Q)
   round-mono k L S Q h x e =

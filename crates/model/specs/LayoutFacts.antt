@@ -1,11 +1,13 @@
--- The bytes of a base as 01 says them are those that `encode` writes: `laid`, and with soundness `sound-laid`.
+-- The bytes of a base as 01 says them are those that `encode` writes: `laid`, and with soundness
+-- `sound-laid`.
 use mathlib.Core.Path.{_≡_, refl, sym, ap, _∙_}
 use mathlib.Core.Logic.{_↔_}
 use Prim.Native.Nat.{ℕ, _+_, _-_, _*_, _≤_, _<_}
 use native.Mathlib.Omega.{arith}
 use mathlib.Core.Bool.{true}
 use mathlib.Core.List.{List, [], _∷_, _++_, append-assoc}
-use lib.ListN.{length, take, drop, getD, replicate, length-append, length-drop, getD-replicate, take-append-drop}
+use lib.ListN.{length, take, drop, getD, replicate, length-append, length-drop, getD-replicate}
+use lib.ListN.{take-append-drop}
 use lib.Seq.{drop-append-add, getD-append-add, getD-drop}
 use Rattle.foundation.specs.Tests.{and-intro}
 use Rattle.foundation.specs.Lists.{each, length-each}
@@ -14,7 +16,8 @@ use Rattle.foundation.specs.BytesFacts.{Bytes, mem-bytes, byte-kept, number-kep
 use Rattle.foundation.specs.Records.{length-records}
 use Rattle.foundation.specs.BytesFacts.{body-kept, behind-at, record-in}
 use Rattle.model.specs.Base.{Base}
-use Rattle.model.specs.Encoding.{size, mark, privilegeBytes, authorizationBytes, ruleBytes, entry, heading}
+use Rattle.model.specs.Encoding.{size, mark, privilegeBytes, authorizationBytes, ruleBytes, entry}
+use Rattle.model.specs.Encoding.{heading}
 use Rattle.model.specs.Encoding.{bodies, encode, privilegeOf, authorizationOf, ruleOf, decode}
 use Rattle.model.specs.EncodingFacts.{privileges-length, bodies-length, sound-length, encode-bytes}
 use Rattle.model.specs.Soundness.{sound, soundBytes}
@@ -95,7 +98,8 @@ module _ (s : List ℕ) (l : Laid s) where
   bodies-kept : bodies (decode s) ++ s₆ ≡ s₁
   unfolding decode
   bodies-kept = simp append-assoc (rw (
-    body-kept 28 ruleOf ruleBytes RuleLaid rule-kept (numberAt s 30) (numberAt s 28) s s₅ at₅ (omega arith) (l .bytes)
+    body-kept 28 ruleOf ruleBytes RuleLaid rule-kept (numberAt s 30) (numberAt s 28) s s₅ at₅ (omega arith)
+        (l .bytes)
         (l .rules),
     body-kept 24 authorizationOf authorizationBytes AuthorizationLaid authorization-kept (numberAt s 26)
         (numberAt s 24) s s₄ at₄ (omega arith) (l .bytes) (l .authorizations),
@@ -190,13 +194,16 @@ module _ (s : List ℕ) (long : length s ≡ size) (bytes : Bytes s) (kept : enc
   parts = sym kept
 
   parts₄ : s ≡ front₄ ++ (each (d .authorizations) authorizationBytes ++ (each (d .rules) ruleBytes ++ zeros))
-  parts₄ = parts ∙ regroup (heading d) (each (d .objects) privilegeBytes) (each (d .administrators) privilegeBytes)
-      (each (d .referrers) privilegeBytes) (each (d .authorizations) authorizationBytes) (each (d .rules) ruleBytes)
+  parts₄ = parts ∙ regroup (heading d) (each (d .objects) privilegeBytes)
+      (each (d .administrators) privilegeBytes)
+      (each (d .referrers) privilegeBytes) (each (d .authorizations) authorizationBytes)
+      (each (d .rules) ruleBytes)
       zeros
 
   parts₅ : s ≡ front₅ ++ (each (d .rules) ruleBytes ++ zeros)
   parts₅ = parts₄
-      ∙ sym (append-assoc front₄ (each (d .authorizations) authorizationBytes) (each (d .rules) ruleBytes ++ zeros))
+      ∙ sym (append-assoc front₄ (each (d .authorizations) authorizationBytes)
+      (each (d .rules) ruleBytes ++ zeros))
 
   length₄ : length front₄ ≡ 32 + 4 * numberAt s 14 + 4 * numberAt s 18 + 4 * numberAt s 22
   length₄ = simp (length-append, privileges-length) (omega (arith, decoded-lengths s))
@@ -229,14 +236,16 @@ module _ (s : List ℕ) (long : length s ≡ size) (bytes : Bytes s) (kept : enc
 
   o₄ : numberAt s 24 ≡ length front₄
   unfolding encode
-  o₄ = written 24 (32 + 4 * length (d .objects) + 4 * length (d .administrators) + 4 * length (d .referrers)) refl
+  o₄ = written 24 (32 + 4 * length (d .objects) + 4 * length (d .administrators) + 4 * length (d .referrers))
+      refl
       (omega (arith, decoded-lengths s, front-length s, ends)) ∙ omega (arith, decoded-lengths s, length₄)
 
   o₅ : numberAt s 28 ≡ length front₅
   unfolding encode
   o₅ = written 28 (32 + 4 * length (d .objects) + 4 * length (d .administrators) + 4 * length (d .referrers)
       + 24 * length (d .authorizations)) refl
-      (omega (arith, decoded-lengths s, front-length s, ends)) ∙ omega (arith, decoded-lengths s, length₄, length₅)
+      (omega (arith, decoded-lengths s, front-length s, ends))
+      ∙ omega (arith, decoded-lengths s, length₄, length₅)
 
   authorization-at : (i : ℕ) → i < numberAt s 26 → AuthorizationLaid (drop (numberAt s 24 + 24 * i) s)
   authorization-at i h =
@@ -286,8 +295,9 @@ module _ (s : List ℕ) (long : length s ≡ size) (bytes : Bytes s) (kept : enc
 
 -- ---- the theorems
 
--- THEOREM: 27,936 bytes are laid out as 01 says exactly if they are what is written of what they hold. Both premises
--- are needed: `encode` writes a mode above 255 as it is, and more records than there is room for at greater length.
+-- THEOREM: 27,936 bytes are laid out as 01 says exactly if they are what is written of what they hold. Both
+-- premises are needed: `encode` writes a mode above 255 as it is, and more records than there is room for at
+-- greater length.
 pub laid : (s : List ℕ) → length s ≡ size → ((i : ℕ) → byteAt s i < 256) →
     (eqList (encode (decode s)) s ≡ true) ↔ Laid s
 laid s n b = (

@@ -1,5 +1,5 @@
--- One record of a base's bytes: what is written is laid out as 01 says (`authorization-laid`, `rule-laid`), and what
--- is laid out so is written back (`privilege-kept`, `authorization-kept`, `rule-kept`).
+-- One record of a base's bytes: what is written is laid out as 01 says (`authorization-laid`, `rule-laid`),
+-- and what is laid out so is written back (`privilege-kept`, `authorization-kept`, `rule-kept`).
 use mathlib.Core.Path.{_≡_, refl, sym}
 use Prim.Native.Nat.{ℕ, _/_, _%_, _^_, _≤_, _<_}
 use native.Mathlib.Nat.{pow-le-pow-right, div-eq-of-lt}
@@ -15,8 +15,10 @@ use Rattle.model.specs.declared.Rule.{Rule}
 use Rattle.model.specs.declared.Operator.{Operator}
 use Rattle.model.specs.declared.Operator.the-variants.{Whenever, AsLongAs, WheneverNot, Unless}
 use Rattle.model.specs.Requests.{operatorOf}
-use Rattle.model.specs.Encoding.{bit, headFlags, isNegative, hasOption, optionOf, ruleFlags, operatorNumber}
-use Rattle.model.specs.Encoding.{privilegeBytes, authorizationBytes, ruleBytes, privilegeOf, authorizationOf}
+use Rattle.model.specs.Encoding.{bit, headFlags, isNegative, hasOption, optionOf, ruleFlags}
+use Rattle.model.specs.Encoding.{operatorNumber}
+use Rattle.model.specs.Encoding.{privilegeBytes, authorizationBytes, ruleBytes, privilegeOf}
+use Rattle.model.specs.Encoding.{authorizationOf}
 use Rattle.model.specs.Encoding.{ruleOf}
 use Rattle.model.specs.FlagFacts.{head-flags-most, rule-flags-most, operator-most}
 use Rattle.model.specs.Layout.{byteAt, AuthorizationLaid, RuleLaid}
@@ -88,7 +90,8 @@ authorization-laid a y =
     record {
       zero₁₀ = refl;
       zero₁₁ = refl;
-      clear = λ k l m. high-clear 2 g (omega (arith, head-flags-most (a .head .negative) (a .head .option))) k l;
+      clear = λ k l m. high-clear 2 g (omega (arith, head-flags-most (a .head .negative) (a .head .option))) k
+          l;
     }
 
 pub rule-laid : (r : Rule) (y : List ℕ) → RuleLaid (ruleBytes r ++ y)

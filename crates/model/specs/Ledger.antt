@@ -18,8 +18,8 @@ use Rattle.model.specs.Requests.{grants, labels, objectsAfter, administr
 use Rattle.model.specs.Means.{plainly}
 use Rattle.model.specs.Step.{refusal, effect}
 
--- 01: "GRANT and DENY enter label, requester, sign, fields, now and their instants": what one of them entered, and the
--- instants that are left of it
+-- 01: "GRANT and DENY enter label, requester, sign, fields, now and their instants": what one of them
+-- entered, and the instants that are left of it
 pub record Entry : Type 0 where
   pub head : Head
   pub at : ℕ → Bool
@@ -55,9 +55,9 @@ settle root es = keepEntries (λ h t. supported root (standing t es) h) es
 abbrev pub newEntry : Ledger → Request → List Entry
 newEntry a q = pick (grants q) (entry (newHead (suc (a .last)) q) (inInterval (q .interval)) ∷ []) []
 
--- 01: "NEW, GRANTADM and REVOKEADM settle owners and administrators; GRANT, DENY and ADDRULE take labels from 1 up. ...
--- REVOKE empties its label's entry, REVOKEADM all that its subject gave on the object; REVOKEP and REVOKEN cut the
--- interval from the requester's grants or denials of that mode, object and subject" (`takes`)
+-- 01: "NEW, GRANTADM and REVOKEADM settle owners and administrators; GRANT, DENY and ADDRULE take labels from
+-- 1 up. ... REVOKE empties its label's entry, REVOKEADM all that its subject gave on the object; REVOKEP and
+-- REVOKEN cut the interval from the requester's grants or denials of that mode, object and subject" (`takes`)
 abbrev pub enter : Ledger → Request → Ledger
 enter a q =
     let owners = objectsAfter q (a .owners) in
@@ -70,7 +70,8 @@ enter a q =
           (keepEntries (λ h t. not (takes q h t)) (a .entries) ++ newEntry a q);
     }
 
--- 01: "The account skips exactly the requests that the table below refuses, each on the base that those before it leave"
+-- 01: "The account skips exactly the requests that the table below refuses, each on the base that those
+-- before it leave"
 abbrev pub follow : List Request → Base → Ledger → Ledger
 follow [] b a = a
 follow (q ∷ rest) b a = elim (eqb (refusal plainly b q) 0) [
@@ -82,8 +83,8 @@ follow (q ∷ rest) b a = elim (eqb (refusal plainly b q) 0) [
 unfoldable pub ledger : List Request → Ledger
 ledger qs = follow qs emptyBase emptyLedger
 
--- 01: "the longest runs of each entry's instants, with that entry's label, giver, receiver, meter, mode, sign, option and
--- time"
+-- 01: "the longest runs of each entry's instants, with that entry's label, giver, receiver, meter, mode,
+-- sign, option and time"
 unfoldable pub linesOf : List Entry → List Authorization
 linesOf [] = []
 linesOf (e ∷ rest) = pieces (e .head) (maximal 0 lastInstant (e .at)) ++ linesOf rest

@@ -1,5 +1,6 @@
--- What requests ask of every instant, in two readings: `plainly`, which is the definition, and `atMarks`, which asks only
--- where something can change and can therefore be computed. `same-means` (MeansFacts) proves that they agree.
+-- What requests ask of every instant, in two readings: `plainly`, which is the definition, and `atMarks`,
+-- which asks only where something can change and can therefore be computed. `same-means` (MeansFacts) proves
+-- that they agree.
 use Prim.Native.Nat.{ℕ, suc}
 use mathlib.Core.Bool.{Bool, not, _||_}
 use mathlib.Core.List.{List, [], _∷_, _++_}
@@ -26,7 +27,8 @@ pub record Means : Type 0 where
 abbrev pub plainly : Means
 plainly = record { left = leave; restricted = restrict; uncovered = gaps }
 
--- ---- at marks. The first argument is fuel, the most marks that a walk meets; it is a variable in every proof
+-- ---- at marks. The first argument is fuel, the most marks that a walk meets; it is a variable in every
+-- proof
 
 abbrev pub boundaries : Interval → List ℕ
 boundaries i = i .start ∷ suc (i .end) ∷ []
@@ -49,7 +51,8 @@ unfoldable pub keepAt : ℕ → List ℕ → (Head → ℕ → Bool) → List Au
 unfolding walk
 keepAt n marks p [] = []
 keepAt n marks p (a ∷ rest) =
-    pieces (a .head) (walk (p (a .head)) marks (a .interval .end) n (a .interval .start)) ++ keepAt n marks p rest
+    pieces (a .head) (walk (p (a .head)) marks (a .interval .end) n (a .interval .start))
+    ++ keepAt n marks p rest
 
 unfoldable pub leaveAt : ℕ → Request → List Authorization → List Authorization
 unfolding keepAt
@@ -57,7 +60,8 @@ leaveAt n q xs = keepAt n (boundaries (q .interval)) (λ h t. not (takes q h t))
 
 unfoldable pub restrictAt : ℕ → (Head → Bool) → (Head → Bool) → List Authorization → List Authorization
 unfolding keepAt
-restrictAt n root affected xs = keepAt n (marksOf xs) (λ h t. not (affected h) || supported root (live t xs) h) xs
+restrictAt n root affected xs = keepAt n (marksOf xs)
+    (λ h t. not (affected h) || supported root (live t xs) h) xs
 
 unfoldable pub gapsAt : ℕ → List Authorization → Head → Interval → List Interval
 unfolding walk coveredFor

@@ -1,5 +1,5 @@
--- The two readings agree: what is found at marks is the definition's (`same-means`, `same-questions`), and so is the
--- outcome of a request (`step-marks`), for every fuel.
+-- The two readings agree: what is found at marks is the definition's (`same-means`, `same-questions`), and so
+-- is the outcome of a request (`step-marks`), for every fuel.
 use mathlib.Core.Path.{_≡_, refl, sym, ap, fun-ext}
 use Prim.Native.Nat.{ℕ}
 use mathlib.Core.Bool.{Bool, not, _||_}
@@ -14,7 +14,8 @@ use Rattle.model.specs.Base.{Base}
 use Rattle.model.specs.Support.{supports, supported, live, coveredFor, gaps}
 use Rattle.model.specs.Withdrawal.{keep, restrict}
 use Rattle.model.specs.Requests.{takes, leave}
-use Rattle.model.specs.Means.{Means, plainly, atMarks, boundaries, marksOf, keepAt, leaveAt, restrictAt, gapsAt}
+use Rattle.model.specs.Means.{Means, plainly, atMarks, boundaries, marksOf, keepAt, leaveAt, restrictAt}
+use Rattle.model.specs.Means.{gapsAt}
 use Rattle.model.specs.Questions.{asDefined, readAtMarks}
 use Rattle.model.specs.Step.{stepBy, step}
 use Rattle.model.specs.SupportMarks.{interval-steady, live-steady, supported-steady}

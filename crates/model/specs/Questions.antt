@@ -1,5 +1,5 @@
--- What the two questions ask of every instant, in two readings, as Means has them for requests: `asDefined` and `readAtMarks`.
--- `same-questions` (MeansFacts) proves that they agree.
+-- What the two questions ask of every instant, in two readings, as Means has them for requests: `asDefined`
+-- and `readAtMarks`. `same-questions` (MeansFacts) proves that they agree.
 use Prim.Native.Nat.{ℕ}
 use mathlib.Core.Bool.{Bool, not}
 use mathlib.Core.List.{List}

@@ -32,7 +32,8 @@ lastLabel = 65535
 abbrev pub isLabel : ℕ → Bool
 isLabel n = between 1 lastLabel n
 
--- 01: "At most 1,024 lines, 64 rules, 128 administrators, 128 referrers", and no more objects than there are numbers
+-- 01: "At most 1,024 lines, 64 rules, 128 administrators, 128 referrers", and no more objects than there are
+-- numbers
 abbrev pub mostObjects : ℕ
 mostObjects = 128
 

@@ -136,10 +136,10 @@ names q h =
     && eqb (h .mode) (q .mode)
     && pick (is q (REVOKEN ∷ [])) (h .negative) (not (h .negative))
 
--- The instants that a request takes out of an authorization, whatever supports it.
--- 01: "REVOKE label removes all lines of that label"; "REVOKEP and REVOKEN (mode, object, subject, interval) take the
--- interval out of the requester's positive lines or denials"; "REVOKEADM removes every line on the object that the
--- subject granted, even one a transferable grant would back"
+-- The instants that a request takes out of an authorization, whatever supports it. 01: "REVOKE label removes
+-- all lines of that label"; "REVOKEP and REVOKEN (mode, object, subject, interval) take the interval out of
+-- the requester's positive lines or denials"; "REVOKEADM removes every line on the object that the subject
+-- granted, even one a transferable grant would back"
 unfoldable pub takes : Request → Head → ℕ → Bool
 takes q h t =
     pick (is q (REVOKE ∷ [])) (eqb (h .label) (q .label))
@@ -152,12 +152,13 @@ unfoldable pub leave : Request → List Authorization → List Authorization
 unfolding keep
 leave q xs = keep (λ h t. not (takes q h t)) xs
 
--- The authorizations that a withdrawal then restricts to their supported instants.
--- 01: "All three then take out of the lines on that object and mode every instant that is not backed"; REVOKEADM "then
--- all unbacked instants on that object"
+-- The authorizations that a withdrawal then restricts to their supported instants. 01: "All three then take
+-- out of the lines on that object and mode every instant that is not backed"; REVOKEADM "then all unbacked
+-- instants on that object"
 unfoldable pub affects : List Authorization → Request → Head → Bool
 affects xs q h =
-    pick (is q (REVOKE ∷ [])) (anyb (λ a. eqb (a .head .label) (q .label) && sameObjectAndMode (a .head) h) xs)
+    pick (is q (REVOKE ∷ [])) (anyb (λ a. eqb (a .head .label) (q .label) && sameObjectAndMode (a .head) h)
+    xs)
     (pick (is q (REVOKEP ∷ REVOKEN ∷ [])) (eqb (h .object) (q .object) && eqb (h .mode) (q .mode))
     (pick (is q (REVOKEADM ∷ [])) (eqb (h .object) (q .object))
     false))
@@ -194,9 +195,9 @@ newRule label q = record {
   interval = q .interval;
 }
 
--- The rules that a request removes.
--- 01: "DROPRULE label"; REVOKEADM: "the subject's rules with it on the left, and on the right unless a referrer";
--- "REVOKEREF removes the subject's rules with it on the right unless an administrator"
+-- The rules that a request removes. 01: "DROPRULE label"; REVOKEADM: "the subject's rules with it on the
+-- left, and on the right unless a referrer"; "REVOKEREF removes the subject's rules with it on the right
+-- unless an administrator"
 abbrev pub drops : Base → Request → Rule → Bool
 drops b q r =
     pick (is q (DROPRULE ∷ [])) (eqb (r .label) (q .label))

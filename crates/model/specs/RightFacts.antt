@@ -1,5 +1,5 @@
--- When a rule's right side holds, and what its operator makes of that: the laws of `rightHolds` and `operate`. Both
--- change at marks only, and from more facts they give no less.
+-- When a rule's right side holds, and what its operator makes of that: the laws of `rightHolds` and
+-- `operate`. Both change at marks only, and from more facts they give no less.
 use mathlib.Core.Path.{_≡_, refl, sym, _∙_}
 use Prim.Native.Nat.{ℕ, _≤_}
 use mathlib.Core.Bool.{Bool, true, not}
@@ -14,14 +14,16 @@ use Rattle.model.specs.Rules.{Pattern, rightHolds, operate}
 -- ---- the laws of `rightHolds`; nothing else looks into it
 
 -- where more holds up to the stratum, no less counts as held
-pub right-mono : (same more lower : Pattern → Bool) (p : Pattern) → ((q : Pattern) → same q ≡ true → more q ≡ true) →
+pub right-mono : (same more lower : Pattern → Bool) (p : Pattern) →
+    ((q : Pattern) → same q ≡ true → more q ≡ true) →
     rightHolds same lower p ≡ true → rightHolds more lower p ≡ true
 right-mono same more lower p h e = h p e
 
 -- it looks only at what holds of the right side's access
 pub right-cong : (same same′ lower lower′ : Pattern → Bool) (p : Pattern) →
     ((q : Pattern) → q .access ≡ p .access → same q ≡ same′ q) →
-    ((q : Pattern) → q .access ≡ p .access → lower q ≡ lower′ q) → rightHolds same lower p ≡ rightHolds same′ lower′ p
+    ((q : Pattern) → q .access ≡ p .access → lower q ≡ lower′ q) →
+    rightHolds same lower p ≡ rightHolds same′ lower′ p
 right-cong same same′ lower lower′ p h k = h p refl
 
 -- and therefore changes only where that does

@@ -22,7 +22,8 @@ use Rattle.model.specs.Base.{Base}
 use Rattle.model.specs.Support.{live}
 use Rattle.model.specs.Stratification.{star, isStar, fitsOption, stratum}
 
--- What is looked for: an access, positive or denied, from a grantor or from any (0), with an option or with either
+-- What is looked for: an access, positive or denied, from a grantor or from any (0), with an option or with
+-- either
 pub record Pattern : Type 0 where
   pub access : Access
   pub negative : Bool
@@ -43,15 +44,16 @@ fits p h =
     && fitsGrantor (p .grantor) (h .grantor)
     && fitsOption (p .option) (h .option)
 
--- 01: "A starred rule stands for one rule per subject or mode": the accesses on the left of the rules it stands for
--- in the base. Objects are not starred, so nothing in the base is looked at.
+-- 01: "A starred rule stands for one rule per subject or mode": the accesses on the left of the rules it
+-- stands for in the base. Objects are not starred, so nothing in the base is looked at.
 unfoldable pub standsFor : Base → Rule → Access → Bool
 standsFor b r x =
     (isStar (r .left .subject) || eqb (r .left .subject) (x .subject))
     && (isStar (r .left .mode) || eqb (r .left .mode) (x .mode))
     && eqb (r .left .object) (x .object)
 
--- 01: "The left side is never transferable and its granter is the author": what the rule derives is what is looked for
+-- 01: "The left side is never transferable and its granter is the author": what the rule derives is what is
+-- looked for
 unfoldable pub derivesFor : Base → Pattern → Rule → Bool
 derivesFor b p r =
     standsFor b r (p .access)
@@ -81,14 +83,14 @@ pub record Fact : Type 0 where
 abbrev pub fact : Rule → Access → ℕ → Fact
 fact r x t = record { rule = r; access = x; at = t }
 
--- What counts as held on a rule's right side, `same` being what holds up to the rule's stratum and `lower` what holds
--- below it: that it holds. (01: "denied or not")
+-- What counts as held on a rule's right side, `same` being what holds up to the rule's stratum and `lower`
+-- what holds below it: that it holds. (01: "denied or not")
 abbrev pub rightHolds : (Pattern → Bool) → (Pattern → Bool) → Pattern → Bool
 rightHolds same lower p = same p
 
--- 01: "WHENEVER gives the left side at t if the right is held at t; ASLONGAS if held at all instants from the rule's start
--- to t; WHENEVERNOT and UNLESS likewise with 'not held'". The negating ones look at the strata below, `lower`.
--- `every a t f` says that f holds at all instants from a to t.
+-- 01: "WHENEVER gives the left side at t if the right is held at t; ASLONGAS if held at all instants from the
+-- rule's start to t; WHENEVERNOT and UNLESS likewise with 'not held'". The negating ones look at the strata
+-- below, `lower`. `every a t f` says that f holds at all instants from a to t.
 abbrev pub operate : (ℕ → ℕ → (ℕ → Bool) → Bool) → Operator → (ℕ → Bool) → (ℕ → Bool) → ℕ → ℕ → Bool
 operate every Whenever same lower start t = same t
 operate every AsLongAs same lower start t = every start t same
@@ -111,7 +113,8 @@ module _ (every : ℕ → ℕ → (ℕ → Bool) → Bool) (b : Base) where
   derives lower S x =
       let r = x .rule in
       let p = rightOf r (x .access) in
-      let v = operate every (r .operator) (rightBy lower S p) (rightBy lower lower p) (r .interval .start) (x .at) in
+      let v = operate every (r .operator) (rightBy lower S p) (rightBy lower lower p) (r .interval .start)
+      (x .at) in
       inInterval (r .interval) (x .at) && v
 
   -- one round in stratum k: what lower strata derive stays, what a rule of the stratum derives is added
@@ -122,14 +125,16 @@ module _ (every : ℕ → ℕ → (ℕ → Bool) → Bool) (b : Base) where
       let d = derives lower S x in
       pick (ltb n k) l (eqb n k && d)
 
-  -- rounds enough that one more would add nothing (`closed`): one for each rule, subject, mode, object and mark
+  -- rounds enough that one more would add nothing (`closed`): one for each rule, subject, mode, object and
+  -- mark
   abbrev pub enough : ℕ
   enough =
       let m = length (b .rules) in
       let n = suc m in
       suc (m * (n * (n * (n * suc (2 * length (b .authorizations) + 2 * m)))))
 
-  -- 01: "What is held is built rank by rank, each the smallest set closed under its rules": what the strata below k derive
+  -- 01: "What is held is built rank by rank, each the smallest set closed under its rules": what the strata
+  -- below k derive
   unfoldable pub derivedBelow : ℕ → Fact → Bool
   unfolding iter
   derivedBelow zero x = false

@@ -14,7 +14,8 @@ use Rattle.model.specs.Questions.{Questions, asDefined}
 use Rattle.model.specs.Step.{row, refusedOr, stepBy}
 use Rattle.model.specs.Encoding.{encode}
 use Rattle.model.specs.Answers.{mayTable, whenTable, mayReply, request, mayAnswer, whenAnswer}
-use Rattle.model.specs.Text.{Line, order, asksMay, asksWhen, unreadable, newline, lines, readLine, printReply}
+use Rattle.model.specs.Text.{Line, order, asksMay, asksWhen, unreadable, newline, lines, readLine}
+use Rattle.model.specs.Text.{printReply}
 
 -- the reply to one line, with the runs of a WHEN, and the base after it
 pub record Turn : Type 0 where
@@ -118,8 +119,9 @@ shortestBuffer = 16
 abbrev pub replyLine : List ℕ → List ℕ → List ℕ
 replyLine s line = let x = byteTurn s (readLine line) in printReply (x .reply) (x .runs) ++ (newline ∷ [])
 
--- 13: the buffer has fewer than 16 bytes, whatever the line says, or fewer than the text has; nothing lent is altered
--- then. So no request is carried out whose reply cannot be told: only WHEN's can be longer, and WHEN changes nothing.
+-- 13: the buffer has fewer than 16 bytes, whatever the line says, or fewer than the text has; nothing lent is
+-- altered then. So no request is carried out whose reply cannot be told: only WHEN's can be longer, and WHEN
+-- changes nothing.
 unfoldable pub textAnswer : List ℕ → List ℕ → List ℕ → Written
 textAnswer s line out =
     let text = replyLine s line in

@@ -1,5 +1,5 @@
--- What is looked for and what is given: the laws of `fits`, `standsFor`, `derivesFor`, `rightOf` and `feeds`. Who
--- looks into these otherwise says so on an `unfolding` line.
+-- What is looked for and what is given: the laws of `fits`, `standsFor`, `derivesFor`, `rightOf` and `feeds`.
+-- Who looks into these otherwise says so on an `unfolding` line.
 use mathlib.Core.Path.{_≡_}
 use mathlib.Core.Logic.{_↔_}
 use Prim.Native.Nat.{ℕ}
@@ -23,7 +23,8 @@ pub fits-is : (p : Pattern) (h : Head) → (fits p h ≡ true)
     × (fitsOption (p .option) (h .option) ≡ true))
 unfolding fits
 fits-is p h = and-six
-    (eqb (h .subject) (p .access .subject)) (eqb (h .mode) (p .access .mode)) (eqb (h .object) (p .access .object))
+    (eqb (h .subject) (p .access .subject)) (eqb (h .mode) (p .access .mode))
+    (eqb (h .object) (p .access .object))
     (Bool·beq (h .negative) (p .negative)) (fitsGrantor (p .grantor) (h .grantor))
     (fitsOption (p .option) (h .option))
 

@@ -32,8 +32,8 @@ rises a c =
     ltb (a .head .label) (c .head .label)
     || (eqb (a .head .label) (c .head .label) && ltb (a .interval .start) (c .interval .start))
 
--- 01: "Objects name their owner and rise by number; the other two rise by object, then subject"; "Lines rise by label,
--- then start"; "Rules rise by label"
+-- 01: "Objects name their owner and rise by number; the other two rise by object, then subject"; "Lines rise
+-- by label, then start"; "Rules rise by label"
 abbrev pub inOrder : Base → Bool
 inOrder b =
     chained (λ p q. ltb (p .object) (q .object)) (b .objects)
@@ -51,7 +51,8 @@ intervalIn i = isInstant (i .start) && isInstant (i .end)
 abbrev pub authorizationIn : Authorization → Bool
 authorizationIn a =
     let h = a .head in
-    isLabel (h .label) && isSubject (h .grantor) && isSubject (h .subject) && isObject (h .object) && isMode (h .mode)
+    isLabel (h .label) && isSubject (h .grantor) && isSubject (h .subject) && isObject (h .object)
+    && isMode (h .mode)
     && isInstant (h .granted) && intervalIn (a .interval)
 
 -- in its range, or the star
@@ -83,12 +84,14 @@ startsFirst i = leb (i .start) (i .end)
 -- 01: "start is not above end"
 abbrev pub intervalsHold : Base → Bool
 intervalsHold b =
-    allb (λ a. startsFirst (a .interval)) (b .authorizations) && allb (λ r. startsFirst (r .interval)) (b .rules)
+    allb (λ a. startsFirst (a .interval)) (b .authorizations)
+    && allb (λ r. startsFirst (r .interval)) (b .rules)
 
 -- 01: "granted-at is not above start or clock"
 abbrev pub grantedInTime : Base → Bool
 grantedInTime b =
-    allb (λ a. leb (a .head .granted) (a .interval .start) && leb (a .head .granted) (b .clock)) (b .authorizations)
+    allb (λ a. leb (a .head .granted) (a .interval .start) && leb (a .head .granted) (b .clock))
+    (b .authorizations)
 
 -- 01: "a denial is not transferable"
 abbrev pub denialsPlain : Base → Bool
@@ -126,16 +129,18 @@ sameHead h k =
     && Bool·beq (h .option) (k .option)
     && eqb (h .granted) (k .granted)
 
--- 01: "lines of one label differ only in their intervals, with at least one instant missing between two". As they rise by
--- label, those of one label stand together
+-- 01: "lines of one label differ only in their intervals, with at least one instant missing between two". As
+-- they rise by label, those of one label stand together
 abbrev pub labelsAgree : Base → Bool
 labelsAgree b = chained (λ a c. not (eqb (a .head .label) (c .head .label))
-    || (sameHead (a .head) (c .head) && ltb (suc (a .interval .end)) (c .interval .start))) (b .authorizations)
+    || (sameHead (a .head) (c .head) && ltb (suc (a .interval .end)) (c .interval .start)))
+    (b .authorizations)
 
 -- 01: "each line is backed at each of its instants"
 abbrev pub allSupported : Base → Bool
 allSupported b =
-    allb (λ a. always (a .interval .start) (a .interval .end) (λ t. supportedAt b t (a .head))) (b .authorizations)
+    allb (λ a. always (a .interval .start) (a .interval .end) (λ t. supportedAt b t (a .head)))
+    (b .authorizations)
 
 -- 01: "each author has the powers that ADDRULE needs"
 abbrev pub authorsMay : Base → Bool
@@ -173,7 +178,7 @@ soundTests b =
 unfoldable pub sound : Base → Bool
 sound b = allb (λ x. x) (soundTests b)
 
--- Bytes are sound exactly if they are how a sound base is written: the mark, the contents, the zero bytes and the unused
--- flag bits are as `encode` puts them
+-- Bytes are sound exactly if they are how a sound base is written: the mark, the contents, the zero bytes and
+-- the unused flag bits are as `encode` puts them
 unfoldable pub soundBytes : List ℕ → Bool
 soundBytes s = eqList (encode (decode s)) s && sound (decode s)

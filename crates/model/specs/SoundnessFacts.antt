@@ -11,8 +11,10 @@ use Rattle.model.specs.Base.{Base}
 use Rattle.model.specs.Stratification.{stratified}
 use Rattle.model.specs.Step.{countsHold}
 use Rattle.model.specs.Encoding.{encode, decode}
-use Rattle.model.specs.Soundness.{inOrder, rangesHold, intervalsHold, grantedInTime, denialsPlain, objectsExist}
-use Rattle.model.specs.Soundness.{ownersApart, labelsApart, labelsAgree, allSupported, authorsMay, starsMatch}
+use Rattle.model.specs.Soundness.{inOrder, rangesHold, intervalsHold, grantedInTime, denialsPlain}
+use Rattle.model.specs.Soundness.{objectsExist}
+use Rattle.model.specs.Soundness.{ownersApart, labelsApart, labelsAgree, allSupported, authorsMay}
+use Rattle.model.specs.Soundness.{starsMatch}
 use Rattle.model.specs.Soundness.{rightDenialsPlain, soundTests, sound, soundBytes}
 
 -- a field a test
@@ -52,7 +54,8 @@ sound-tests b e =
       authors = t _ (inr (inr (inr (inr (inr (inr (inr (inr (inr (inr (inr (inl refl))))))))))));
       stars = t _ (inr (inr (inr (inr (inr (inr (inr (inr (inr (inr (inr (inr (inl refl)))))))))))));
       right = t _ (inr (inr (inr (inr (inr (inr (inr (inr (inr (inr (inr (inr (inr (inl refl))))))))))))));
-      strata = t _ (inr (inr (inr (inr (inr (inr (inr (inr (inr (inr (inr (inr (inr (inr (inl refl)))))))))))))));
+      strata = t _ (inr (inr (inr (inr (inr (inr (inr
+          (inr (inr (inr (inr (inr (inr (inr (inl refl)))))))))))))));
     }
 
 pub tests-sound : (b : Base) → Sound b → sound b ≡ true

@@ -1,5 +1,6 @@
--- One request on a base: its effect, the table of refusals, and the outcome (01, "Requests" and "Replies that refuse").
--- The section's parameter says how the answers about every instant are found (Means): `step` takes the definition.
+-- One request on a base: its effect, the table of refusals, and the outcome (01, "Requests" and "Replies that
+-- refuse"). The section's parameter says how the answers about every instant are found (Means): `step` takes
+-- the definition.
 use Prim.Native.Nat.{ℕ, suc}
 use mathlib.Core.Bool.{Bool, true, false, not, _&&_, _||_}
 use mathlib.Core.List.{List, [], _∷_, _++_}
@@ -19,14 +20,18 @@ use Rattle.model.specs.declared.Request.{Request}
 use Rattle.model.specs.declared.Reply.{Reply}
 use Rattle.model.specs.declared.Reply.the-variants.{Done, Refused}
 use Rattle.model.specs.Ranges.{between, isInstant, isSubject, isObject, isMode, isLabel, lastLabel}
-use Rattle.model.specs.Ranges.{mostAdministrators, mostReferrers, mostAuthorizations, mostRules, mostObjects}
+use Rattle.model.specs.Ranges.{mostAdministrators, mostReferrers, mostAuthorizations, mostRules}
+use Rattle.model.specs.Ranges.{mostObjects}
 use Rattle.model.specs.Base.{Base, exists, owns, administers, refers, controls, mayRule}
 use Rattle.model.specs.Support.{coveredFor}
 use Rattle.model.specs.Withdrawal.{authorization}
 use Rattle.model.specs.Stratification.{stratified}
-use Rattle.model.specs.Requests.{NEW, GRANT, DENY, REVOKE, REVOKEP, REVOKEN, ADDRULE, DROPRULE, GRANTADM}
-use Rattle.model.specs.Requests.{REVOKEADM, GRANTREF, REVOKEREF, is, grants, labels, withdraws, objectsAfter}
-use Rattle.model.specs.Requests.{administratorsAfter, referrersAfter, rootAfter, newHead, affects, rulesAfter}
+use Rattle.model.specs.Requests.{NEW, GRANT, DENY, REVOKE, REVOKEP, REVOKEN, ADDRULE, DROPRULE}
+use Rattle.model.specs.Requests.{GRANTADM}
+use Rattle.model.specs.Requests.{REVOKEADM, GRANTREF, REVOKEREF, is, grants, labels, withdraws}
+use Rattle.model.specs.Requests.{objectsAfter}
+use Rattle.model.specs.Requests.{administratorsAfter, referrersAfter, rootAfter, newHead, affects}
+use Rattle.model.specs.Requests.{rulesAfter}
 use Rattle.model.specs.Means.{Means, plainly}
 
 -- ---- the table's conditions, one a row
@@ -123,16 +128,18 @@ noLabel b q =
     (is q (REVOKE ∷ []) && not (anyb (λ a. eqb (a .head .label) (q .label)) (b .authorizations)))
     || (is q (DROPRULE ∷ []) && not (anyb (λ r. eqb (r .label) (q .label)) (b .rules)))
 
--- 8: "requester is not its granter (REVOKE) or author (DROPRULE), not the owner (the four privilege requests), or lacks a
--- rule's powers (ADDRULE)"
+-- 8: "requester is not its granter (REVOKE) or author (DROPRULE), not the owner (the four privilege
+-- requests), or lacks a rule's powers (ADDRULE)"
 abbrev pub notPermitted : Base → Request → Bool
 notPermitted b q =
-    (is q (REVOKE ∷ []) && anyb (λ a. eqb (a .head .label) (q .label) && not (eqb (a .head .grantor) (q .requester)))
+    (is q (REVOKE ∷ []) && anyb (λ a. eqb (a .head .label) (q .label)
+    && not (eqb (a .head .grantor) (q .requester)))
     (b .authorizations))
     || (is q (DROPRULE ∷ []) && anyb (λ r. eqb (r .label) (q .label) && not (eqb (r .author) (q .requester)))
     (b .rules))
     || (is q (GRANTADM ∷ REVOKEADM ∷ GRANTREF ∷ REVOKEREF ∷ []) && not (owns b (q .object) (q .requester)))
-    || (is q (ADDRULE ∷ []) && not (mayRule b (q .requester) (q .rule .left .object) (q .rule .right .object)))
+    || (is q (ADDRULE ∷ []) && not (mayRule b (q .requester) (q .rule .left .object)
+    (q .rule .right .object)))
 
 -- 9: what goes with it: t lies in the span and is uncovered
 abbrev pub isGap : Base → Request → ℕ → Bool
@@ -175,9 +182,9 @@ pub record Row : Type 0 where
 abbrev pub row : ℕ → Bool → Row
 row n g = record { number = n; given = g }
 
--- The number of the first row whose condition holds, or 0. 01: "The lowest number that applies is given": the rows
--- stand in the order of their numbers, so the first that applies is it (StepFacts: `first-given`, `first-applies`,
--- `first-none`).
+-- The number of the first row whose condition holds, or 0. 01: "The lowest number that applies is given": the
+-- rows stand in the order of their numbers, so the first that applies is it (StepFacts: `first-given`,
+-- `first-applies`, `first-none`).
 abbrev pub firstNumber : List Row → ℕ
 firstNumber [] = 0
 firstNumber (r ∷ rest) = let n = firstNumber rest in pick (r .given) (r .number) n
@@ -191,7 +198,8 @@ pub record Outcome : Type 0 where
   pub reply : Reply
   pub base : Base
 
--- the reply to an accepted request: the new label or 0, and the number of authorizations (01: lines) now in the base
+-- the reply to an accepted request: the new label or 0, and the number of authorizations (01: lines) now in
+-- the base
 abbrev pub accepting : Base → Request → Base → Reply
 accepting b q after = Done (pick (labels q) (suc (b .last)) 0) (length (after .authorizations))
 
@@ -215,7 +223,8 @@ module _ (M : Means) where
     rules = rulesAfter b q;
   }
 
-  -- 9: "the giver of a grant or denial is neither owner nor administrator, and some instant of it is not covered"
+  -- 9: "the giver of a grant or denial is neither owner nor administrator, and some instant of it is not
+  -- covered"
   abbrev pub notSupported : Base → Request → Bool
   notSupported b q =
       grants q

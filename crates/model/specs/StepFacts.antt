@@ -1,5 +1,5 @@
--- What the table says: a refusal's number is that of the first row that applies, and an accepted request passes every
--- row.
+-- What the table says: a refusal's number is that of the first row that applies, and an accepted request
+-- passes every row.
 use mathlib.Core.Path.{_≡_, refl, sym, ap, subst, _∙_}
 use mathlib.Core.Logic.{inl, inr, _≢_, ⊎-elim}
 use mathlib.Core.Bool.{Bool, true, false, true≢false, _&&_}
@@ -13,8 +13,10 @@ use Rattle.model.specs.declared.Request.{Request}
 use Rattle.model.specs.declared.Reply.the-variants.{Refused}
 use Rattle.model.specs.Base.{Base}
 use Rattle.model.specs.Means.{Means, plainly}
-use Rattle.model.specs.Step.{Row, firstNumber, rangeTests, outOfRange, behindClock, badInterval, noObject}
-use Rattle.model.specs.Step.{noLabel, notPermitted, notSupported, alreadyThere, notHeld, notStratified, full}
+use Rattle.model.specs.Step.{Row, firstNumber, rangeTests, outOfRange, behindClock, badInterval}
+use Rattle.model.specs.Step.{noObject}
+use Rattle.model.specs.Step.{noLabel, notPermitted, notSupported, alreadyThere, notHeld, notStratified}
+use Rattle.model.specs.Step.{full}
 use Rattle.model.specs.Step.{table, refusal, refusedOr, accepting, effect, Outcome, step}
 
 -- ---- the first row that applies
@@ -33,7 +35,8 @@ first-given (r ∷ rest) n = cases (r .given)
     (λ g. let w = first-given rest (λ z. n (rw g z)) in (w .0, inr (w .1), w .2, w .3 ∙ sym (rw g)))
 
 -- where a row's condition holds and that of none before it, its number is given
-pub first-applies : (front : List Row) (r : Row) (rest : List Row) → ((s : Row) → Mem s front → s .given ≡ false) →
+pub first-applies : (front : List Row) (r : Row) (rest : List Row) →
+    ((s : Row) → Mem s front → s .given ≡ false) →
     r .given ≡ true → firstNumber (front ++ (r ∷ rest)) ≡ r .number
 first-applies [] r rest h g = rw g
 first-applies (s ∷ front) r rest h g = rw (h s (inl refl)) (first-applies front r rest (λ x m. h x (inr m)) g)
@@ -83,7 +86,8 @@ rising? n [] = true
 rising? n (r ∷ rest) = ltb n (r .number) && rising? (r .number) rest
 
 -- where they rise, the first number that applies is the lowest
-pub first-lowest : (n : ℕ) (rows : List Row) → rising? n rows ≡ true → (r : Row) → Mem r rows → r .given ≡ true →
+pub first-lowest : (n : ℕ) (rows : List Row) → rising? n rows ≡ true → (r : Row) → Mem r rows →
+    r .given ≡ true →
     firstNumber rows ≤ r .number
 first-lowest n [] up r m g = absurd (m .lower)
 first-lowest n (s ∷ rest) up r m g =

@@ -33,8 +33,8 @@ fitsOption With o = o
 fitsOption Without o = not o
 fitsOption Either o = true
 
--- 01: "Rule q feeds rule r if q's left side can fit r's right: same sign and object, subject and mode equal or starred on
--- either side, granter starred or q's author, option starred or not transferable"
+-- 01: "Rule q feeds rule r if q's left side can fit r's right: same sign and object, subject and mode equal
+-- or starred on either side, granter starred or q's author, option starred or not transferable"
 unfoldable pub feeds : Rule → Rule → Bool
 feeds q r =
     Bool·beq (q .left .negative) (r .right .negative)
@@ -66,7 +66,8 @@ weight q r = count (negates r)
 unfoldable pub stratified : List Rule → Bool
 stratified rules = not (cyclic precedes (heavy weight) rules)
 
--- 01: "A rule's rank is the most WHENEVERNOT and UNLESS rules on a feeding path that ends in it, itself included"
+-- 01: "A rule's rank is the most WHENEVERNOT and UNLESS rules on a feeding path that ends in it, itself
+-- included"
 unfoldable pub stratum : List Rule → Rule → ℕ
 stratum rules r = rank precedes weight negates rules r
 

@@ -1,4 +1,5 @@
--- Theorem 3: forbidden circles and ranks in 01's words. `label-free`: a rule's label does not matter for them.
+-- Theorem 3: forbidden circles and ranks in 01's words. `label-free`: a rule's label does not matter for
+-- them.
 use mathlib.Core.Path.{_≡_, sym, ap, ap₂, _∙_, subst}
 use mathlib.Core.Logic.{_↔_}
 use Prim.Native.Nat.{ℕ, _*_, _≤_, _<_}
@@ -8,7 +9,8 @@ use lib.ListN.{length}
 use Rattle.foundation.specs.Tests.{and-true, and-intro, not-true, not-false}
 use Rattle.foundation.specs.Lists.{Mem}
 use Rattle.foundation.specs.Totals.{count}
-use Rattle.foundation.specs.Graph.{Path, direct, onward, Walk, strictEdge, heavy, cyclic, cyclic-path, cyclic-map}
+use Rattle.foundation.specs.Graph.{Path, direct, onward, Walk, strictEdge, heavy, cyclic, cyclic-path}
+use Rattle.foundation.specs.Graph.{cyclic-map}
 use Rattle.foundation.specs.GraphFacts.{Ranked, ranked, rank-most, rank-walk}
 use Rattle.model.specs.declared.Rule.{Rule}
 use Rattle.model.specs.Stratification.{feeds, precedes, negates, weight, stratified, stratum}
@@ -28,7 +30,8 @@ path-feeds rules q r t =
     let edge : Rule → Rule → Bool = λ p s. precedes-feeds p s t in
     Path edge edge rules q r
 
-walk-feeds : (rules : List Rule) (n : ℕ) (r : Rule) → Walk precedes weight negates rules n r ≡ FeedingWalk rules n r
+walk-feeds : (rules : List Rule) (n : ℕ) (r : Rule) →
+    Walk precedes weight negates rules n r ≡ FeedingWalk rules n r
 walk-feeds rules n r t = Walk (λ p s. precedes-feeds p s t) (λ p s. weight-negates p s t) negates rules n r
 
 module _ (rules : List Rule) where
@@ -80,8 +83,8 @@ module _ (rules : List Rule) where
       circle r m n (onward {p} c k e) =
           cyclic-path precedes (heavy weight) rules .1 (p, k, closes c e (heavy-negates p r ∙ n) m)
 
-  -- 01: "A rule's rank is the most WHENEVERNOT and UNLESS rules on a feeding path that ends in it, itself included":
-  -- a path has as many,
+  -- 01: "A rule's rank is the most WHENEVERNOT and UNLESS rules on a feeding path that ends in it, itself
+  -- included": a path has as many,
   pub stratum-walk : (r : Rule) → FeedingWalk rules (stratum rules r) r
   unfolding stratum
   stratum-walk r = subst (λ (T : Type 0). T) (walk-feeds rules (stratum rules r) r)
@@ -108,7 +111,8 @@ module _ (rules : List Rule) where
     feeder-not-above q r m n e = laws .atmost q r m n e
 
     -- and below it where the step counts
-    pub feeder-below : (q r : Rule) → Mem q rules → Mem r rules → precedes q r ≡ true → heavy weight q r ≡ true →
+    pub feeder-below : (q r : Rule) → Mem q rules → Mem r rules → precedes q r ≡ true →
+        heavy weight q r ≡ true →
         stratum rules q < stratum rules r
     unfolding stratum
     feeder-below q r m n e g = laws .less q r m n e g

@@ -7,7 +7,8 @@ use native.Mathlib.Omega.{arith}
 use mathlib.Core.Bool.{Bool, true, not, _&&_, _||_}
 use mathlib.Core.List.{List, [], _∷_}
 use lib.Dec.{leb, ltb, eqb}
-use Rattle.foundation.specs.Tests.{pick, cases, agree, true-le, true-eq, and-true, and-intro, or-true-right, or-false}
+use Rattle.foundation.specs.Tests.{pick, cases, agree, true-le, true-eq, and-true, and-intro, or-true-right}
+use Rattle.foundation.specs.Tests.{or-false}
 use Rattle.foundation.specs.Lists.{anyb, Mem, any-mem, mem-any, any-cong, any-none, conjunct}
 use Rattle.foundation.specs.declared.Interval.{Interval}
 use Rattle.foundation.specs.Intervals.{inInterval, maximal}
@@ -20,9 +21,9 @@ use Rattle.model.specs.Base.{Base, listed}
 abbrev pub sameObjectAndMode : Head → Head → Bool
 sameObjectAndMode h k = eqb (h .object) (k .object) && eqb (h .mode) (k .mode)
 
--- 01: "every line but the last is positive and transferable; each one's subject is the next one's granter; granted-at
--- rises strictly": `earlier` may stand directly before `later` in a chain. Its laws are `supports-rises`,
--- `supports-object` and `supports-mode`; nothing else looks into it.
+-- 01: "every line but the last is positive and transferable; each one's subject is the next one's granter;
+-- granted-at rises strictly": `earlier` may stand directly before `later` in a chain. Its laws are
+-- `supports-rises`, `supports-object` and `supports-mode`; nothing else looks into it.
 unfoldable pub supports : Head → Head → Bool
 supports earlier later =
     sameObjectAndMode earlier later
@@ -36,15 +37,16 @@ abbrev pub rootIn : List Privilege → List Privilege → Head → Bool
 rootIn owners administrators h =
     listed owners (h .object) (h .grantor) || listed administrators (h .object) (h .grantor)
 
--- A chain of `heads` ends in h. Before each of a chain stands one granted strictly earlier, so that no chain is longer
--- than h's granted-at says; that is the fuel n.
+-- A chain of `heads` ends in h. Before each of a chain stands one granted strictly earlier, so that no chain
+-- is longer than h's granted-at says; that is the fuel n.
 unfoldable pub supportedIn : (Head → Bool) → List Head → ℕ → Head → Bool
 supportedIn root heads zero h = root h
 supportedIn root heads (suc n) h =
     let further = anyb (λ k. let r = supportedIn root heads n k in supports k h && r) heads in
     root h || further
 
--- 01: "A line is backed at t if a chain of lines on its object and mode ends in it", `heads` being those that cover t
+-- 01: "A line is backed at t if a chain of lines on its object and mode ends in it", `heads` being those that
+-- cover t
 unfoldable pub supported : (Head → Bool) → List Head → Head → Bool
 unfolding supportedIn
 supported root heads h = supportedIn root heads (h .granted) h
@@ -62,8 +64,9 @@ supportedAt b t h = supported (root b) (live t (b .authorizations)) h
 
 -- ---- the cover that a new authorization needs
 
--- 01, GRANT: "positive transferable lines on that object and mode, granted strictly before now, that together cover every
--- instant": t is covered for h if some authorization that covers t may stand directly before h in a chain
+-- 01, GRANT: "positive transferable lines on that object and mode, granted strictly before now, that together
+-- cover every instant": t is covered for h if some authorization that covers t may stand directly before h in
+-- a chain
 unfoldable pub coveredFor : List Authorization → Head → ℕ → Bool
 coveredFor xs h t = anyb (λ k. supports k h) (live t xs)
 
@@ -72,8 +75,8 @@ gaps xs h i = maximal (i .start) (i .end) (λ t. not (coveredFor xs h t))
 
 -- ---- the same in 01's words
 
--- A chain ends in the index. `first`: its grantor is owner or administrator. `then`: one of the heads, itself the end of
--- a chain, stands directly before it
+-- A chain ends in the index. `first`: its grantor is owner or administrator. `then`: one of the heads, itself
+-- the end of a chain, stands directly before it
 pub data Chain (root : Head → Bool) (heads : List Head) : Head → Type 0 where
   first : {h : Head} → root h ≡ true → Chain root heads h
   then : {k h : Head} → Chain root heads k → Mem k heads → supports k h ≡ true → Chain root heads h
@@ -132,7 +135,8 @@ module _ (root : Head → Bool) (heads : List Head) where
   finds (then {k} {h} c m s) (suc n) l =
       rw (supportedIn-step root heads n h)
       (or-true-right (root h) _ (mem-any (λ k. supports k h && supportedIn root heads n k) heads k m
-      (and-intro (supports k h) (supportedIn root heads n k) s (finds c n (omega (arith, supports-rises k h s))))))
+      (and-intro (supports k h) (supportedIn root heads n k) s
+      (finds c n (omega (arith, supports-rises k h s))))))
 
   -- THEOREM 2: supported exactly if a chain exists
   pub supported-chain : (h : Head) → (supported root heads h ≡ true) ↔ Chain root heads h
@@ -145,7 +149,8 @@ module _ (root : Head → Bool) (heads : List Head) where
   only g q zero h l =
       q h
       ∙ rw (any-none (λ k. supports k h && g k) heads
-      (λ k. cases (supports k h) (λ s. absurd (omega (arith, supports-rises k h s))) (λ s. rw s))) (or-false (root h))
+      (λ k. cases (supports k h) (λ s. absurd (omega (arith, supports-rises k h s))) (λ s. rw s)))
+      (or-false (root h))
   only g q (suc n) h l =
       q h
       ∙ ap (λ (b : Bool). root h || b)
@@ -171,7 +176,8 @@ module _ (root : Head → Bool) (heads : List Head) where
           (and-intro (supports k h) (supported root heads k) s (supported-chain k .1 c)))
 
   -- and the only solution of that equation
-  pub supported-only : (g : Head → Bool) → ((h : Head) → g h ≡ root h || anyb (λ k. supports k h && g k) heads) →
+  pub supported-only : (g : Head → Bool) → ((h : Head) →
+      g h ≡ root h || anyb (λ k. supports k h && g k) heads) →
       (h : Head) → g h ≡ supported root heads h
   unfolding supported
   supported-only g q h = only g q (h .granted) h (omega arith)

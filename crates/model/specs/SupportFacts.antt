@@ -1,5 +1,5 @@
--- What supports what: more roots and heads support more, the supported support one another, and one hop is enough
--- (theorem 2, second half: `one-hop`). A chain stays on one object and mode (`chain-local`).
+-- What supports what: more roots and heads support more, the supported support one another, and one hop is
+-- enough (theorem 2, second half: `one-hop`). A chain stays on one object and mode (`chain-local`).
 use mathlib.Core.Path.{_≡_, refl, sym, ap, _∙_}
 use mathlib.Core.Logic.{_⊎_, inl, inr, _↔_, ⊎-elim}
 use Prim.Native.Nat.{ℕ, zero, suc, _≤_, _<_}
@@ -7,7 +7,8 @@ use native.Mathlib.Omega.{arith}
 use mathlib.Core.Bool.{Bool, true, _&&_, _||_}
 use mathlib.Core.List.{List, [], _∷_, _++_}
 use Rattle.foundation.specs.Tests.{cases, agree, and-true, or-true-right, or-intro-left, or-cases}
-use Rattle.foundation.specs.Lists.{anyb, allb, keepIf, Mem, any-mem, mem-any, all-mem, mem-all, mem-left, mem-right}
+use Rattle.foundation.specs.Lists.{anyb, allb, keepIf, Mem, any-mem, mem-any, all-mem, mem-all, mem-left}
+use Rattle.foundation.specs.Lists.{mem-right}
 use Rattle.foundation.specs.Lists.{last-mem, keepIf-mem}
 use Rattle.foundation.specs.declared.Interval.{Interval}
 use Rattle.foundation.specs.Intervals.{inInterval, inInterval-true, inInterval-in, none?, always, always-all}
@@ -15,7 +16,8 @@ use Rattle.foundation.specs.Intervals.{all-always}
 use Rattle.model.specs.declared.Head.{Head}
 use Rattle.model.specs.declared.Authorization.{Authorization}
 use Rattle.model.specs.Support.{supports, supports-rises, supports-object, supports-mode, supported}
-use Rattle.model.specs.Support.{supported-chain, supported-step, Chain, first, then, live, coveredFor, gaps}
+use Rattle.model.specs.Support.{supported-chain, supported-step, Chain, first, then, live, coveredFor}
+use Rattle.model.specs.Support.{gaps}
 
 -- ---- the heads that cover an instant
 
@@ -46,7 +48,8 @@ live-append t (x ∷ xs) ys = cases (inInterval (x .interval) t)
     (λ e. rw (e, live-append t xs ys))
 
 -- with one more at the end: a head that covered t, or the new one, which does
-pub live-last : (t : ℕ) (xs : List Authorization) (a : Authorization) (h : Head) → Mem h (live t (xs ++ (a ∷ []))) →
+pub live-last : (t : ℕ) (xs : List Authorization) (a : Authorization) (h : Head) →
+    Mem h (live t (xs ++ (a ∷ []))) →
     Mem h (live t xs) ⊎ ((h ≡ a .head) × (inInterval (a .interval) t ≡ true))
 live-last t xs a h m =
     let w = live-mem t (xs ++ (a ∷ [])) h m in ⊎-elim
@@ -136,8 +139,8 @@ module _ (root : Head → Bool) (xs : List Authorization) where
     pub hop-supported : (h : Head) → Mem h (live t xs) → supported root (live t xs) h ≡ true
     hop-supported h m = supported-chain root (live t xs) h .1 (hop-chain (suc (h .granted)) h m (omega arith))
 
--- a test of heads passes at every instant of every authorization exactly if, at every instant, it passes of each head
--- that covers it
+-- a test of heads passes at every instant of every authorization exactly if, at every instant, it passes of
+-- each head that covers it
 module _ (xs : List Authorization) (f : Head → ℕ → Bool) where
   pub everywhere-live : allb (λ a. always (a .interval .start) (a .interval .end) (f (a .head))) xs ≡ true →
       (t : ℕ) (h : Head) → Mem h (live t xs) → f h t ≡ true
@@ -146,7 +149,8 @@ module _ (xs : List Authorization) (f : Head → ℕ → Bool) where
       let s = inInterval-true (w .0 .interval) t (w .3) in
       ap (λ (k : Head). f k t) (sym (w .2))
       ∙ always-all (w .0 .interval .start) (w .0 .interval .end) (f (w .0 .head))
-      (all-mem (λ a. always (a .interval .start) (a .interval .end) (f (a .head))) xs e (w .0) (w .1)) t (s .0) (s .1)
+      (all-mem (λ a. always (a .interval .start) (a .interval .end) (f (a .head))) xs e (w .0) (w .1)) t
+      (s .0) (s .1)
 
   pub live-everywhere : ((t : ℕ) (h : Head) → Mem h (live t xs) → f h t ≡ true) →
       allb (λ a. always (a .interval .start) (a .interval .end) (f (a .head))) xs ≡ true
@@ -154,13 +158,14 @@ module _ (xs : List Authorization) (f : Head → ℕ → Bool) where
       (λ a m. all-always (a .interval .start) (a .interval .end) (f (a .head))
       (λ t p q. g t (a .head) (mem-live t xs a m (inInterval-in (a .interval) t p q))))
 
--- THEOREM 2, second half: each authorization is supported at each of its instants exactly if at each of them its head
--- is a root or one that covers the instant may stand directly before it
+-- THEOREM 2, second half: each authorization is supported at each of its instants exactly if at each of them
+-- its head is a root or one that covers the instant may stand directly before it
 pub one-hop : (root : Head → Bool) (xs : List Authorization) →
     allb (λ a. always (a .interval .start) (a .interval .end) (λ t. supported root (live t xs) (a .head))) xs
     ≡ allb (λ a. always (a .interval .start) (a .interval .end) (hop root xs (a .head))) xs
 one-hop root xs = agree
-    (allb (λ a. always (a .interval .start) (a .interval .end) (λ t. supported root (live t xs) (a .head))) xs)
+    (allb (λ a. always (a .interval .start) (a .interval .end) (λ t. supported root (live t xs) (a .head)))
+    xs)
     (allb (λ a. always (a .interval .start) (a .interval .end) (hop root xs (a .head))) xs)
     (λ e. live-everywhere xs (hop root xs) (λ t h m. supported-hop root xs h t
     (everywhere-live xs (λ h t. supported root (live t xs) h) e t h m)))
@@ -174,8 +179,8 @@ gaps-always : (xs : List Authorization) (h : Head) (i : Interval) →
 unfolding gaps always
 gaps-always xs h i = refl
 
--- 01, GRANT: "that together cover every instant": nothing is uncovered exactly if at each instant some authorization
--- that covers it may stand directly before the new one; they need not be one
+-- 01, GRANT: "that together cover every instant": nothing is uncovered exactly if at each instant some
+-- authorization that covers it may stand directly before the new one; they need not be one
 pub covered-together : (xs : List Authorization) (h : Head) (i : Interval) → (none? (gaps xs h i) ≡ true) ↔
     ((t : ℕ) → i .start ≤ t → t ≤ i .end → (k : Head) × Mem k (live t xs) × (supports k h ≡ true))
 unfolding coveredFor

@@ -1,4 +1,5 @@
--- Which authorizations cover an instant, and whether one is supported there, changes at their boundaries only.
+-- Which authorizations cover an instant, and whether one is supported there, changes at their boundaries
+-- only.
 use mathlib.Core.Path.{refl, ap}
 use Prim.Native.Nat.{suc}
 use mathlib.Core.Bool.{Bool, true, not, _&&_}

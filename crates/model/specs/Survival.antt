@@ -1,6 +1,7 @@
--- The words of demand 3, in the fields of the requests: what a grant or denial gives, what takes an instant back or
--- the administration away, when an instant stands, what is behind it, and when it survives the later requests of a
--- list. They do not lean on `takes`, which says what a withdrawal takes (`taken` in SurvivalFacts compares the two).
+-- The words of demand 3, in the fields of the requests: what a grant or denial gives, what takes an instant
+-- back or the administration away, when an instant stands, what is behind it, and when it survives the later
+-- requests of a list. They do not lean on `takes`, which says what a withdrawal takes (`taken` in
+-- SurvivalFacts compares the two).
 use mathlib.Core.Path.{_≡_}
 use mathlib.Core.Logic.{_≢_}
 use Prim.Native.Nat.{ℕ, _≤_}
@@ -36,14 +37,15 @@ pub data Gives (g : Request) (label : ℕ) (h : Head) : Type 0 where
   grant : g .kind ≡ GRANT → h ≡ headOf g label false (g .option) → Gives g label h
   denial : g .kind ≡ DENY → h ≡ headOf g label true false → Gives g label h
 
--- "from an empty base, where each gets the base that the one before left and nobody else writes to it": the bytes
--- after a list of requests
+-- "from an empty base, where each gets the base that the one before left and nobody else writes to it": the
+-- bytes after a list of requests
 abbrev pub after : List Request → List ℕ
 after qs = requests qs (encode emptyBase)
 
--- "each instant of an accepted grant or denial": in the list qs the request g, with `earlier` before it and `later`
--- behind it, is accepted, and t is one of its instants, to which it gives the head h
-pub record Given (qs earlier : List Request) (g : Request) (later : List Request) (h : Head) (t : ℕ) : Type 0 where
+-- "each instant of an accepted grant or denial": in the list qs the request g, with `earlier` before it and
+-- `later` behind it, is accepted, and t is one of its instants, to which it gives the head h
+pub record Given (qs earlier : List Request) (g : Request) (later : List Request) (h : Head)
+    (t : ℕ) : Type 0 where
   pub place : qs ≡ earlier ++ (g ∷ later)
   pub label : ℕ
   pub count : ℕ
@@ -54,7 +56,8 @@ pub record Given (qs earlier : List Request) (g : Request) (later : List Request
 
 -- ---- what takes it away
 
--- "its giver has ... taken it back": by its label, or by naming what was given and an interval with the instant
+-- "its giver has ... taken it back": by its label, or by naming what was given and an interval with the
+-- instant
 pub data TakesBack (q : Request) (h : Head) (t : ℕ) : Type 0 where
   label : q .kind ≡ REVOKE → q .requester ≡ h .grantor → q .label ≡ h .label → TakesBack q h t
   grant :
@@ -79,13 +82,14 @@ pub data LosesAdministration (q : Request) (h : Head) : Type 0 where
 abbrev pub Stands : Base → Head → ℕ → Type 0
 Stands b h t = Mem h (live t (b .authorizations))
 
--- "a chain behind it: transferable grants for that meter and mode, times strictly rising up to its own, each still
--- covering the instant, leading from the owner or an administrator to the giver, or none where the giver is one"
+-- "a chain behind it: transferable grants for that meter and mode, times strictly rising up to its own, each
+-- still covering the instant, leading from the owner or an administrator to the giver, or none where the
+-- giver is one"
 abbrev pub Behind : Base → Head → ℕ → Type 0
 Behind b h t = Chain (root b) (live t (b .authorizations)) h
 
--- "its giver has neither taken it back nor lost the meter's administration since, and ... after ... every later
--- accepted request it had a chain behind it", from the bytes s on; a refused request is passed over
+-- "its giver has neither taken it back nor lost the meter's administration since, and ... after ... every
+-- later accepted request it had a chain behind it", from the bytes s on; a refused request is passed over
 pub data Survives (h : Head) (t : ℕ) : List Request → List ℕ → Type 0 where
   end : {s : List ℕ} → Survives h t [] s
   refused : {q : Request} {later : List Request} {s : List ℕ} →

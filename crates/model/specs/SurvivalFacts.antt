@@ -1,5 +1,5 @@
--- What an accepted request takes out of an authorization (`takes`) is what its giver takes back or loses with the
--- administration of the object: `taken`.
+-- What an accepted request takes out of an authorization (`takes`) is what its giver takes back or loses with
+-- the administration of the object: `taken`.
 use mathlib.Core.Path.{_≡_, refl, sym, ap, _∙_}
 use mathlib.Core.Logic.{_⊎_, inl, inr, _↔_, ⊎-elim}
 use Prim.Native.Nat.{ℕ, _≤_}
@@ -18,7 +18,8 @@ use Rattle.model.specs.Requests.{REVOKE, REVOKEP, REVOKEN, REVOKEADM, ta
 use Rattle.model.specs.Step.{notPermitted}
 use Rattle.model.specs.StepFacts.{Accepted}
 use Rattle.model.specs.SupportFacts.{live-mem}
-use Rattle.model.specs.Survival.{TakesBack, label, grant, denial, LosesAdministration, administration, Stands}
+use Rattle.model.specs.Survival.{TakesBack, label, grant, denial, LosesAdministration, administration}
+use Rattle.model.specs.Survival.{Stands}
 
 module _ (q : Request) (h : Head) (t : ℕ) where
   -- what REVOKEP and REVOKEN compare, with their test of the sign
@@ -106,13 +107,15 @@ module _ (b : Base) (q : Request) (g : Accepted b q) (h : Head) (t : ℕ) (m : S
       let his : Authorization → Bool = λ a. eqb (a .head .grantor) (q .requester) in
       let other : Authorization → Bool = λ a. eqb (a .head .label) (q .label) && not (his a) in
       let none = any-false other (b .authorizations)
-      (must-fail (notPermitted b q) (anyb other (b .authorizations)) (g .permitted) (λ x. rw (k, x))) a (w .1) in
+      (must-fail (notPermitted b q) (anyb other (b .authorizations)) (g .permitted) (λ x. rw (k, x))) a
+      (w .1) in
       let same : eqb (a .head .label) (q .label) ≡ true =
       eq-true (a .head .label) (q .label) (ap (λ (x : Head). x .label) (w .2) ∙ sym e) in
       sym (true-eq (a .head .grantor) (q .requester) (not-false (his a) (rw same at none)))
       ∙ ap (λ (x : Head). x .grantor) (w .2)
 
-  -- what an accepted request takes of what stands is what its giver takes back or loses with the administration
+  -- what an accepted request takes of what stands is what its giver takes back or loses with the
+  -- administration
   pub taken : (takes q h t ≡ true) ↔ (TakesBack q h t ⊎ LosesAdministration q h)
   unfolding takes
   taken = (forth, ⊎-elim (back q h t) (lost q h t))

@@ -24,7 +24,8 @@ use Rattle.model.specs.declared.Question.{Question}
 use Rattle.model.specs.declared.Reply.{Reply}
 use Rattle.model.specs.declared.Reply.the-variants.{Done, Refused, Unsupported, Yes, No, Runs}
 use Rattle.model.specs.Ranges.{between, lastInstant}
-use Rattle.model.specs.Requests.{NEW, GRANT, DENY, REVOKE, REVOKEP, REVOKEN, ADDRULE, DROPRULE, GRANTADM}
+use Rattle.model.specs.Requests.{NEW, GRANT, DENY, REVOKE, REVOKEP, REVOKEN, ADDRULE, DROPRULE}
+use Rattle.model.specs.Requests.{GRANTADM}
 use Rattle.model.specs.Requests.{REVOKEADM, GRANTREF, REVOKEREF}
 
 -- the bytes of an ASCII text
@@ -76,8 +77,8 @@ leadingZero [] = false
 leadingZero (c ∷ []) = false
 leadingZero (c ∷ d ∷ s) = eqb c 48
 
--- 01: "Numbers have 1 to 10 digits with no leading zero (zero itself is `0`)"; "A number above the last instant ... cannot
--- be read"
+-- 01: "Numbers have 1 to 10 digits with no leading zero (zero itself is `0`)"; "A number above the last
+-- instant ... cannot be read"
 abbrev pub number : List ℕ → Option ℕ
 number s =
     let n = valueFrom 0 s in
@@ -231,7 +232,8 @@ side = do
   negative ← field sign
   read (record { subject = subject; mode = mode; object = object; negative = negative })
 
--- "ADDRULE: left subject, mode, object, sign; operator; right subject, mode, object, sign, granter, option; start end"
+-- "ADDRULE: left subject, mode, object, sign; operator; right subject, mode, object, sign, granter, option;
+-- start end"
 abbrev pub ruleLine : ℕ → ℕ → Reader Line
 ruleLine now who = do
   left ← side
@@ -305,7 +307,8 @@ readLine s = elim (leb (length s) 96) [ true ↦ orUnreadable (anyLine (split sp
 
 -- ---- printing
 
--- the decimal digits of n, at most k of them (`decimal-back` in TextFacts: ten are enough for every number that is read)
+-- the decimal digits of n, at most k of them (`decimal-back` in TextFacts: ten are enough for every number
+-- that is read)
 abbrev pub digits : ℕ → ℕ → List ℕ
 digits zero n = []
 digits (suc k) n = let front = digits k (n / 10) in pick (ltb n 10) [] front ++ ((48 + n % 10) ∷ [])
@@ -331,7 +334,8 @@ abbrev pub printRuns : List Interval → List ℕ
 printRuns [] = ascii "none"
 printRuns (i ∷ rest) = printRun i ++ printMore rest
 
--- "`done L N` (new label or 0, lines now in the base), `refused K`, `yes`, `no`, or the runs", which stand in the list
+-- "`done L N` (new label or 0, lines now in the base), `refused K`, `yes`, `no`, or the runs", which stand in
+-- the list
 abbrev pub printReply : Reply → List Interval → List ℕ
 printReply (Done label count) runs = ascii "done " ++ decimal label ++ ascii " " ++ decimal count
 printReply (Refused n) runs = ascii "refused " ++ decimal n

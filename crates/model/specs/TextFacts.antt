@@ -12,7 +12,8 @@ use Rattle.foundation.specs.Tests.{cases, le-true, true-le, false-le, true-eq, 
 use Rattle.foundation.specs.Lists.{allb}
 use Rattle.foundation.specs.Bytes.{eqList, eqList-eq}
 use Rattle.model.specs.Ranges.{lastInstant}
-use Rattle.model.specs.Text.{ascii, isDigit, valueFrom, leadingZero, number, instant, digits, decimal, printInstant}
+use Rattle.model.specs.Text.{ascii, isDigit, valueFrom, leadingZero, number, instant, digits, decimal}
+use Rattle.model.specs.Text.{printInstant}
 
 -- ---- one digit more at the end
 
@@ -116,12 +117,14 @@ written-back k n s a b h w =
 
 pub decimal-back : (n : ℕ) → n ≤ lastInstant → number (decimal n) ≡ some n
 unfolding decimal
-decimal-back n h = written-back 10 n (digits 10 n) (omega arith) (omega arith) h (digits-written 10 n (omega arith))
+decimal-back n h = written-back 10 n (digits 10 n) (omega arith) (omega arith) h
+    (digits-written 10 n (omega arith))
 
 -- the digits of a number are not `inf`, which is no number
 pub instant-back : (n : ℕ) → n ≤ lastInstant → instant (printInstant n) ≡ some n
 instant-back n h = cases (eqb n lastInstant)
     (λ e. rw e (ap some (sym (true-eq n lastInstant e))))
     (λ e. rw e (cases (eqList (decimal n) (ascii "inf"))
-    (λ f. absurd (Option·some-ne-none n (sym (decimal-back n h) ∙ ap number (eqList-eq (decimal n) (ascii "inf") f))))
+    (λ f. absurd (Option·some-ne-none n (sym (decimal-back n h)
+    ∙ ap number (eqList-eq (decimal n) (ascii "inf") f))))
     (λ f. rw f (decimal-back n h))))

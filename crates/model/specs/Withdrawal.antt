@@ -21,8 +21,8 @@ keep p [] = []
 keep p (a ∷ rest) =
     pieces (a .head) (maximal (a .interval .start) (a .interval .end) (p (a .head))) ++ keep p rest
 
--- 01: "then take out of the lines on that object and mode every instant that is not backed": `affected` says which
--- authorizations are looked at, `root` which heads are given by an owner or administrator
+-- 01: "then take out of the lines on that object and mode every instant that is not backed": `affected` says
+-- which authorizations are looked at, `root` which heads are given by an owner or administrator
 unfoldable pub restrict : (Head → Bool) → (Head → Bool) → List Authorization → List Authorization
 unfolding keep
 restrict root affected xs = keep (λ h t. not (affected h) || supported root (live t xs) h) xs

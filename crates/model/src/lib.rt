@@ -1,4 +1,5 @@
-// The public types of the access base: what the definitions in specs/ speak of and what the code passes by value.
+// The public types of the access base: what the definitions in specs/ speak of and what the code passes by
+// value.
 
 use foundation::Interval;
 
@@ -100,7 +101,8 @@ pub struct Rule {
     pub interval: Interval,
 }
 
-// A number of a request where a star may stand instead. The star is no number, so that 0 remains out of range.
+// A number of a request where a star may stand instead. The star is no number, so that 0 remains out of
+// range.
 pub enum Term {
     Any,
     Number(u32),
@@ -114,7 +116,8 @@ pub struct SideTerms {
     pub negative: bool,
 }
 
-// A rule as a request words it; its interval is the request's. The operator is its number in the base's bytes, 1 to 4.
+// A rule as a request words it; its interval is the request's. The operator is its number in the base's
+// bytes, 1 to 4.
 pub struct RuleTerms {
     pub left: SideTerms,
     pub operator: u32,
@@ -123,8 +126,8 @@ pub struct RuleTerms {
     pub option: OptionTerm,
 }
 
-// A request of any kind. The kind is a number, so that an unknown one can be said; a field that the kind does not name
-// is not looked at.
+// A request of any kind. The kind is a number, so that an unknown one can be said; a field that the kind does
+// not name is not looked at.
 pub struct Request {
     pub now: u32,
     pub requester: u32,

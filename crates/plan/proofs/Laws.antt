@@ -36,7 +36,8 @@ module _ (lines masks spots : List ℕ) (t : ℕ) where
   light-start i p h = ap (bit i) (getD-replicate 520 p 0 0 h) ∙ bit-zero i
 
   -- the j-th authorization, where b says whether it has t, and spot is its place
-  module _ (j : ℕ) (direct : List ℕ) (b : Bool) (spot : ℕ) (e : b ≡ inInterval (authorizationAt lines j .interval) t)
+  module _ (j : ℕ) (direct : List ℕ) (b : Bool) (spot : ℕ)
+      (e : b ≡ inInterval (authorizationAt lines j .interval) t)
       (g : spot ≡ getD spots j 0) (lit : Lit lines j masks spots t direct) where
     abbrev mask : ℕ
     mask = getD masks j 0

@@ -1,6 +1,7 @@
--- The subjects that matter to a question, gathered from the question's own: each subject in turn brings those on the
--- right of the rules that have it on their left (`withRights`), until each had its turn (`gather-start`,
--- `gather-turn`, `gather-end`). A rule has one turn at most, so the subjects are at most one more than the rules.
+-- The subjects that matter to a question, gathered from the question's own: each subject in turn brings those
+-- on the right of the rules that have it on their left (`withRights`), until each had its turn
+-- (`gather-start`, `gather-turn`, `gather-end`). A rule has one turn at most, so the subjects are at most one
+-- more than the rules.
 use mathlib.Core.Path.{_≡_, refl, sym, ap, _∙_, subst}
 use mathlib.Core.Logic.{_⊎_, inl, inr, ⊎-elim}
 use mathlib.Core.Bool.{Bool, true, false, _||_, true≢false}
@@ -72,7 +73,8 @@ module _ (v : ℕ) (r : Rule) (U : List ℕ) where
   step-longer = ⊎-elim (λ e. ([], e ∙ sym (append-nil U))) (λ e. (s ∷ [], e .0)) step-is
 
   step-apart : Apart U → Apart (followed v r U)
-  step-apart a = ⊎-elim (λ e. subst Apart (sym e) a) (λ e. subst Apart (sym (e .0)) (apart-new U s (e .1) a)) step-is
+  step-apart a = ⊎-elim (λ e. subst Apart (sym e) a)
+      (λ e. subst Apart (sym (e .0)) (apart-new U s (e .1) a)) step-is
 
   step-named : leftIs v r ≡ true → isStar s ≡ false → among (followed v r U) s ≡ true
   step-named e n = cases (knownIn U s)
@@ -105,7 +107,8 @@ turn-named v (r ∷ rules) U q (inr m) e n = turn-named v rules (followed v r U)
 many-le : (p : Rule → Bool) (rules : List Rule) → howMany p rules ≤ length rules
 many-le p rules = omega (arith, total-le (λ r. count (p r)) 1 rules (λ r m. count-le (p r)))
 
-many-split : (p q w : Rule → Bool) (rules : List Rule) → ((r : Rule) → count (w r) ≡ count (p r) + count (q r)) →
+many-split : (p q w : Rule → Bool) (rules : List Rule) →
+    ((r : Rule) → count (w r) ≡ count (p r) + count (q r)) →
     howMany w rules ≡ howMany p rules + howMany q rules
 many-split p q w [] h = refl
 many-split p q w (r ∷ rules) h = omega (arith, h r, many-split p q w rules h)
@@ -178,7 +181,8 @@ module _ (subject : ℕ) (rules : List Rule) where
           omega (arith, ap (λ (x : ℕ). indexOf x U) e, g .apart k (omega (arith, g .count))) in
           rw (a, ne-false s v d, le-true (suc j) (k + 1) (omega arith)))
           (λ a. let l = false-le (suc i) k a in cases (eqb s v)
-          (λ b. let z : i ≡ k = ap (λ (x : ℕ). indexOf x U) (true-eq s v b) ∙ g .apart k (omega (arith, g .count)) in
+          (λ b. let z : i ≡ k = ap (λ (x : ℕ). indexOf x U) (true-eq s v b)
+          ∙ g .apart k (omega (arith, g .count)) in
           let same = index-in s U rest (omega (arith, g .count)) in
           rw (a, b, le-true (suc j) (k + 1) (omega arith)))
           (λ b. let d : (i ≡ k → ⊥) = λ z. false-eq s v b (own s z) in
@@ -196,7 +200,8 @@ module _ (subject : ℕ) (rules : List Rule) where
 
       pub gather-room : m + howMany (leftIs v) rules ≤ 1 + length rules
       gather-room =
-          let e = many-split (leftBefore k U) (leftIs v) (leftBefore (k + 1) (U ++ [])) rules (turn-count []) in
+          let e = many-split (leftBefore k U) (leftIs v) (leftBefore (k + 1) (U ++ [])) rules
+          (turn-count []) in
           omega (arith, g .room, many-le (leftBefore (k + 1) (U ++ [])) rules)
 
       pub gather-turn : (n : ℕ) (W : List ℕ) → W ≡ withRights v rules U → length W ≡ n →
@@ -204,7 +209,8 @@ module _ (subject : ℕ) (rules : List Rule) where
       gather-turn n W w len room =
           let l : Longer U W = subst (Longer U) (sym w) (turn-longer v rules U) in
           let rest = l .0 in
-          let e : (r : Rule) → count (leftBefore (k + 1) W r) ≡ count (leftBefore k U r) + count (leftIs v r) =
+          let e : (r : Rule) → count (leftBefore (k + 1) W r)
+          ≡ count (leftBefore k U r) + count (leftIs v r) =
           subst (λ (X : List ℕ). (r : Rule) → count (leftBefore (k + 1) X r) ≡ count (leftBefore k U r)
           + count (leftIs v r)) (sym (l .1)) (turn-count rest) in
           record {

@@ -45,7 +45,8 @@ number-nth (q ∷ rules) w (suc i) r rest m e =
     let l = true-le (suc (q .label)) (r .label) (w .0 r n) in
     rw (ne-false (q .label) (r .label) (λ z. omega arith)) (ap suc (number-nth rules (w .1) i r rest n e))
   where
-    mem-drop : (rules : List Rule) (i : ℕ) (r : Rule) (rest : List Rule) → drop i rules ≡ r ∷ rest → Mem r rules
+    mem-drop : (rules : List Rule) (i : ℕ) (r : Rule) (rest : List Rule) → drop i rules ≡ r ∷ rest →
+        Mem r rules
     mem-drop [] i r rest e =
         let n : _≡_ {A = List Rule} [] (r ∷ rest) = sym (drop-nil i) ∙ e in
         let z : _≡_ {A = ℕ} 0 1 = cc in
@@ -76,7 +77,8 @@ mode-of : (a : Authorization) → authorizationIn a ≡ true → isMode (a .head
 mode-of a e =
     let h = a .head in
     conjunct (isLabel (h .label) ∷ isSubject (h .grantor) ∷ isSubject (h .subject) ∷ isObject (h .object)
-    ∷ isMode (h .mode) ∷ isInstant (h .granted) ∷ intervalIn (a .interval) ∷ []) e _ (inr (inr (inr (inr (inl refl)))))
+    ∷ isMode (h .mode) ∷ isInstant (h .granted) ∷ intervalIn (a .interval) ∷ []) e _
+    (inr (inr (inr (inr (inl refl)))))
 
 shape : (r : Rule) → ruleIn r ≡ true →
     Bool·beq (isStar (r .left .subject)) (isStar (r .right .subject))
@@ -89,9 +91,11 @@ shape r e f =
     record {
       subjects = alike (isStar (r .left .subject)) (isStar (r .right .subject)) (stars .0);
       modes = alike (isStar (r .left .mode)) (isStar (r .right .mode)) (stars .1);
-      left = moded (orStar isSubject (r .left .subject)) (orStar isMode (r .left .mode)) (isObject (r .left .object))
+      left = moded (orStar isSubject (r .left .subject)) (orStar isMode (r .left .mode))
+          (isObject (r .left .object))
           (t _ (inr (inr (inl refl))));
-      right = moded (orStar isSubject (r .right .subject)) (orStar isMode (r .right .mode)) (isObject (r .right .object))
+      right = moded (orStar isSubject (r .right .subject)) (orStar isMode (r .right .mode))
+          (isObject (r .right .object))
           (t _ (inr (inr (inr (inl refl)))));
     }
   where
@@ -106,7 +110,8 @@ shape r e f =
 
 -- ---- the bodies
 
-pub grounds : (lines : List ℕ) (na : ℕ) (body : List ℕ) (n : ℕ) → na ≤ 1024 → na * 24 ≤ length lines → n ≤ 64 →
+pub grounds : (lines : List ℕ) (na : ℕ) (body : List ℕ) (n : ℕ) → na ≤ 1024 → na * 24 ≤ length lines →
+    n ≤ 64 →
     n * 28 ≤ length body → stratified (rulesIn n body) ≡ true → chained rising (rulesIn n body) ≡ true →
     allb authorizationIn (authorizationsIn na lines) ≡ true → allb ruleIn (rulesIn n body) ≡ true →
     allb (λ r. Bool·beq (isStar (r .left .subject)) (isStar (r .right .subject))

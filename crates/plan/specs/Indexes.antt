@@ -47,7 +47,8 @@ pub index-in : (v : ℕ) (U rest : List ℕ) → indexOf v U < length U → inde
 index-in v [] rest h = absurd (omega arith)
 index-in v (u ∷ us) rest h = cases (eqb u v)
     (λ e. rw e)
-    (λ e. let k : suc (indexOf v us) < suc (length us) = rw e at h in rw (e, index-in v us rest (omega arith)))
+    (λ e. let k : suc (indexOf v us) < suc (length us) = rw e at h in
+    rw (e, index-in v us rest (omega arith)))
 
 -- what is not gets the place behind them
 pub index-new : (v : ℕ) (U : List ℕ) → length U ≤ indexOf v U → indexOf v (U ++ (v ∷ [])) ≡ length U

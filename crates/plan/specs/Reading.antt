@@ -1,5 +1,5 @@
--- The answer to MAY, read off a table that says what the rules derive at an instant (`read-off`): for each sign, an
--- authorization for the access, or a bit of a rule whose left side is on the object with that sign.
+-- The answer to MAY, read off a table that says what the rules derive at an instant (`read-off`): for each
+-- sign, an authorization for the access, or a bit of a rule whose left side is on the object with that sign.
 use mathlib.Core.Path.{_≡_, refl, sym, ap, ap₂, _∙_, subst}
 use Prim.Native.Nat.{ℕ}
 use native.Mathlib.Omega.{arith}
@@ -27,7 +27,8 @@ use Rattle.questions.specs.Feeding.{common, in-common, mask-rule, mask-number}
 use Rattle.plan.specs.Scene.{numberIn, derivesOn, baseIn, Prepared, bitsOf, mayBeSet, At}
 
 module _ (lines : List ℕ) (na : ℕ) (body : List ℕ) (n : ℕ) (U L S F M P K : List ℕ) (l g top : ℕ)
-    (ready : Prepared lines na body n U L S F M P K l g top) (t : ℕ) (T : List ℕ) (at : At lines na body n U t T)
+    (ready : Prepared lines na body n U L S F M P K l g top) (t : ℕ) (T : List ℕ)
+    (at : At lines na body n U t T)
     (x : Access) (there : counted U x ≡ true) where
   abbrev base : Base
   base = baseIn lines na body n
@@ -60,7 +61,8 @@ module _ (lines : List ℕ) (na : ℕ) (body : List ℕ) (n : ℕ) (U L S F M P 
         let r = w .0 in
         let v = and-true (derivesFor base (asked x negative) r) (bitsOf lines na body n U T r x) (w .2) in
         in-common word (maskOf (derivesOn (x .object) negative) rules) (numberIn rules r) (v .1)
-        (mask-number rules (numberIn rules) (ruleAt body) (ready .grounds .numbering) (derivesOn (x .object) negative) r
+        (mask-number rules (numberIn rules) (ruleAt body) (ready .grounds .numbering)
+        (derivesOn (x .object) negative) r
         (w .1) ∙ on-object r (v .0))
 
     back : given negative ≡ true → anyb derived rules ≡ true
@@ -71,10 +73,12 @@ module _ (lines : List ℕ) (na : ℕ) (body : List ℕ) (n : ℕ) (U L S F M P 
         let i = w .0 in
         let r = ruleAt body i in
         let h = mask-inside test rules i (w .2) in
-        let k : test r ≡ true = sym (mask-rule rules (numberIn rules) (ruleAt body) numbering test i h) ∙ w .2 in
+        let k : test r ≡ true = sym (mask-rule rules (numberIn rules) (ruleAt body) numbering test i h)
+        ∙ w .2 in
         let v = and-true (eqb (r .left .object) (x .object)) (Bool·beq (r .left .negative) negative) k in
         let y = accessOf U (ruleAt body) i (placeOf U x) in
-        let same : y ≡ x = at-place U x there (r .left .object) (true-eq (r .left .object) (x .object) (v .0)) in
+        let same : y ≡ x = at-place U x there (r .left .object)
+        (true-eq (r .left .object) (x .object) (v .0)) in
         let c = counted U y in
         let d = standsFor base r y in
         let f = truth base t r y in

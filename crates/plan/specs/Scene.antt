@@ -1,5 +1,6 @@
--- What the code keeps of a base while it answers a question: the subjects that matter, and tables of what does not change
--- from mark to mark (`Prepared`). At a mark a table of words says what the rules derive there (`At`).
+-- What the code keeps of a base while it answers a question: the subjects that matter, and tables of what
+-- does not change from mark to mark (`Prepared`). At a mark a table of words says what the rules derive there
+-- (`At`).
 use mathlib.Core.Path.{_≡_}
 use Prim.Native.Nat.{ℕ, zero, suc, _+_, _*_, _-_, _≤_, _<_}
 use mathlib.Core.Bool.{Bool, true, false, _&&_, _||_, Bool·beq}
@@ -25,7 +26,8 @@ use Rattle.sweep.specs.Sweep.{subjects, modes, places, looksBy}
 use Rattle.sweep.specs.Progress.{Has}
 use Rattle.questions.specs.Table.{Bits, Before, Right}
 use Rattle.questions.specs.Planned as planned
-use Rattle.questions.specs.Drawn.{indexOf, among, Subjects, Numbering, Shaped, counted, placeOf, leads, accessOf, Coded}
+use Rattle.questions.specs.Drawn.{indexOf, among, Subjects, Numbering, Shaped, counted, placeOf, leads}
+use Rattle.questions.specs.Drawn.{accessOf, Coded}
 
 -- ---- leaves
 
@@ -115,7 +117,8 @@ module _ (lines : List ℕ) (na : ℕ) (body : List ℕ) (n : ℕ) where
       pub levels : Holds n body (stratum (rulesIn n body)) L
       pub sides : (i : ℕ) → i < n → Coded U (ruleAt body) S i
       pub feed : Holds n body (feedersOf (rulesIn n body)) F
-      pub masks : (j : ℕ) → j < na → getD M j 0 ≡ maskOf (fitsRight (authorizationAt lines j .head)) (rulesIn n body)
+      pub masks : (j : ℕ) → j < na → getD M j 0 ≡ maskOf (fitsRight (authorizationAt lines j .head))
+          (rulesIn n body)
       pub spots : (j : ℕ) → j < na → getD P j 0 ≡ spotOf U (authorizationAt lines j .head)
       pub looks : (r p : ℕ) → r < n → p < length U * modes →
           bit r (getD K p 0) ≡ looksBy (getD S (4 * r) 0) (getD S (4 * r + 2) 0) p

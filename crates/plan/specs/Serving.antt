@@ -1,5 +1,5 @@
--- From mark to mark: any table serves where no rule looks back (`serves-first`), and the table of a mark up to the next
--- (`serves-next`).
+-- From mark to mark: any table serves where no rule looks back (`serves-first`), and the table of a mark up
+-- to the next (`serves-next`).
 use mathlib.Core.Path.{_≡_}
 use Prim.Native.Nat.{ℕ, _-_, _≤_, _<_}
 use native.Mathlib.Omega.{arith}
@@ -28,4 +28,5 @@ module _ (lines : List ℕ) (na : ℕ) (body : List ℕ) (n : ℕ) (U : List ℕ
       Serves lines na body n U m T
   serves-next a m T h l at =
       before-next (baseIn lines na body n) (counted U) (bitsOf lines na body n U T) a m h
-      (next-clear a (marks (authorizationsIn na lines) (rulesIn n body)) 4294967296 (m - 1) (omega arith)) (at .right)
+      (next-clear a (marks (authorizationsIn na lines) (rulesIn n body)) 4294967296 (m - 1) (omega arith))
+      (at .right)

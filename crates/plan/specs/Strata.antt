@@ -1,5 +1,5 @@
--- The strata of one mark, one after the other: what the sweep of stratum k leaves is right below stratum k + 1
--- (`stratum-done`), and with the last one it is what the rules derive (`strata-done`).
+-- The strata of one mark, one after the other: what the sweep of stratum k leaves is right below stratum k +
+-- 1 (`stratum-done`), and with the last one it is what the rules derive (`strata-done`).
 use mathlib.Core.Path.{_≡_, refl, sym, ap, ap₂, _∙_, subst}
 use Prim.Native.Nat.{ℕ, zero, suc, _+_, _*_, _^_, _≤_, _<_}
 use native.Mathlib.Omega.{arith}
@@ -86,7 +86,8 @@ module _ (lines : List ℕ) (na : ℕ) (body : List ℕ) (n : ℕ) (U L S F M P 
   }
 
   -- the sweep may start, every place being looked at
-  pub stratum-ready : (t k : ℕ) (before direct T D : List ℕ) → Done lines na body n U t k T → length D ≡ places →
+  pub stratum-ready : (t k : ℕ) (before direct T D : List ℕ) → Done lines na body n U t k T →
+      length D ≡ places →
       ((i : ℕ) → i < places → getD D i 0 ≡ 1) → Ready (plan (stageAt t k) S F) before direct T D
   stratum-ready t k before direct T D d len ones =
       let fits : length U * modes ≤ places = omega (arith, ready .few) in
@@ -104,7 +105,8 @@ module _ (lines : List ℕ) (na : ℕ) (body : List ℕ) (n : ℕ) (U L S F M P 
 
   -- what it leaves is right below stratum k + 1
   pub stratum-done : (t k : ℕ) (before direct T₀ T : List ℕ) → k ≤ 2 * n → Serves lines na body n U t before →
-      Direct (authorizationsIn na lines) t U (rulesIn n body) (ruleAt body) direct → Done lines na body n U t k T₀ →
+      Direct (authorizationsIn na lines) t U (rulesIn n body) (ruleAt body) direct →
+      Done lines na body n U t k T₀ →
       Smallest (plan (stageAt t k) S F) before direct T₀ T → Done lines na body n U t (suc k) T
   stratum-done t k before direct T₀ T h was dir d z =
       let base = baseIn lines na body n in
@@ -128,7 +130,8 @@ module _ (lines : List ℕ) (na : ℕ) (body : List ℕ) (n : ℕ) (U L S F M P 
         has = d .has;
         right = λ r x o. d .right r x o (omega (
           arith,
-          ready .highest r (o .0) (node-leads (baseIn lines na body n) U (numberIn rules) (ruleAt body) (ready .listed)
+          ready .highest r (o .0) (node-leads (baseIn lines na body n) U (numberIn rules) (ruleAt body)
+              (ready .listed)
               (ready .few) (gr .numbering) (gr .shaped) r x o),
         ));
       }
@@ -148,7 +151,14 @@ module _ (lines : List ℕ) (na : ℕ) (body : List ℕ) (n : ℕ) (U L S F M P 
   -- the stage that the code makes is that of the stratum
   pub stage-is : (t k m living new level : ℕ) → length U ≡ m → living ≡ maskOf (livingAt t) (rulesIn n body) →
       new ≡ maskOf (freshAt t) (rulesIn n body) → level ≡ maskOf (λ (v : ℕ). eqb v k) (numbersIn n L) →
-      record { used = m * modes; rules = n; active = bitAnd (bitAnd l living) level; fresh = new; negating = g }
+      record {
+        used = m * modes;
+        rules = n;
+        active = bitAnd (bitAnd l living) level;
+        fresh = new;
+        negating =
+            g;
+      }
       ≡ stageAt t k
   stage-is t k m living new level c e f w i = record {
     used = sym c i * modes;

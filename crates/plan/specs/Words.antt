@@ -1,5 +1,5 @@
--- Words bit by bit: what `and` and `or` make of them, the masks of several tests at once, and that the words for an
--- instant say which authorizations fit the right sides of the rules (`direct-is`).
+-- Words bit by bit: what `and` and `or` make of them, the masks of several tests at once, and that the words
+-- for an instant say which authorizations fit the right sides of the rules (`direct-is`).
 use mathlib.Core.Path.{_≡_, refl, sym, ap, ap₂, _∙_}
 use mathlib.Core.Bool.{Bool, true, false, not, _&&_, _||_, Bool·beq, false≢true}
 use mathlib.Core.List.{List, [], _∷_}
@@ -98,7 +98,8 @@ mask-and p q (x ∷ xs) =
 -- ---- masks of records, by their places
 
 -- two masks of n records are one where the records at each place answer alike
-pub mask-same : {A B : Type 0} (w v : ℕ) (f : List ℕ → A) (g : List ℕ → B) (p : A → Bool) (q : B → Bool) (n : ℕ)
+pub mask-same : {A B : Type 0} (w v : ℕ) (f : List ℕ → A) (g : List ℕ → B) (p : A → Bool) (q : B → Bool)
+    (n : ℕ)
     (s u : List ℕ) → ((i : ℕ) → i < n → p (f (drop (i * w) s)) ≡ q (g (drop (i * v) u))) →
     maskOf p (records w f n s) ≡ maskOf q (records v g n u)
 mask-same w v f g p q zero s u h = refl
@@ -206,7 +207,8 @@ mask-some w p xs = words-meet (length xs) w (maskOf p xs) (mask-lt p xs)
 abbrev pub liveFits : ℕ → Pattern → Authorization → Bool
 liveFits t p a = inInterval (a .interval) t && fits p (a .head)
 
-pub any-live : (t : ℕ) (p : Pattern) (xs : List Authorization) → anyb (fits p) (live t xs) ≡ anyb (liveFits t p) xs
+pub any-live : (t : ℕ) (p : Pattern) (xs : List Authorization) →
+    anyb (fits p) (live t xs) ≡ anyb (liveFits t p) xs
 any-live t p [] = refl
 any-live t p (a ∷ xs) = cases (inInterval (a .interval) t)
     (λ e. rw (e, any-live t p xs))

@@ -16,8 +16,8 @@ pub use subjects::index_of;
 pub use tables::prepare;
 pub use walk::go_to;
 
-// What is known of a question: how many subjects matter; as masks the rules whose left side can be about one of them,
-// and those with WHENEVERNOT or UNLESS; and the highest stratum of the first.
+// What is known of a question: how many subjects matter; as masks the rules whose left side can be about one
+// of them, and those with WHENEVERNOT or UNLESS; and the highest stratum of the first.
 pub struct Outline {
     pub subjects: usize,
     pub lead: u64,

@@ -215,7 +215,8 @@ pub fn light(
     direct: &mut [u64; 520],
 )
     requires { ⌜ (na * 24 ≤ length (now lines)) × (na ≤ 1024) ⌝ }
-    ensures { λ _. ⌜ Lit (now (lines .entry)) na (now (masks .entry)) (now (spots .entry)) t (now (direct .exit)) ⌝ }
+    ensures { λ _. ⌜ Lit (now (lines .entry)) na (now (masks .entry)) (now (spots .entry)) t
+        (now (direct .exit)) ⌝ }
 {
     *direct = [0; 520];
     let mut j = 0;

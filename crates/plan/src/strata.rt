@@ -1,4 +1,5 @@
-// What the rules derive at an instant: stratum by stratum, each the smallest table that its rules do not lead out of.
+// What the rules derive at an instant: stratum by stratum, each the smallest table that its rules do not lead
+// out of.
 ghost use mathlib.Core.Path.{_≡_};
 ghost use Prim.Native.Nat.{_≤_};
 ghost use lib.ListN.{length, take};
@@ -30,7 +31,8 @@ fn sweep_strata(
     table: &mut [u64; 520],
     changed: &mut [u8; 520],
 )
-    requires { ⌜ Prepared (now lines) na (now body) n (take (o .subjects) (now u)) (now levels) (now sides) (now feed)
+    requires { ⌜ Prepared (now lines) na (now body) n (take (o .subjects) (now u)) (now levels) (now sides)
+        (now feed)
         (now masks) (now spots) (now looks) (o .lead) (o .negating) (o .top) ⌝ }
     requires { ⌜ (length (take (o .subjects) (now u)) ≡ o .subjects)
         × Serves (now lines) na (now body) n (take (o .subjects) (now u)) t (now before) ⌝ }
@@ -57,8 +59,8 @@ fn sweep_strata(
     }
 }
 
-// Puts into `table` what the rules derive at t, `before` being the table of an instant before, or any where no rule
-// looks back from t. `direct` and `changed` are tables to work in.
+// Puts into `table` what the rules derive at t, `before` being the table of an instant before, or any where
+// no rule looks back from t. `direct` and `changed` are tables to work in.
 pub fn derive(
     lines: &[u8],
     na: usize,
@@ -78,7 +80,8 @@ pub fn derive(
     table: &mut [u64; 520],
     changed: &mut [u8; 520],
 )
-    requires { ⌜ Prepared (now lines) na (now body) n (take (o .subjects) (now u)) (now levels) (now sides) (now feed)
+    requires { ⌜ Prepared (now lines) na (now body) n (take (o .subjects) (now u)) (now levels) (now sides)
+        (now feed)
         (now masks) (now spots) (now looks) (o .lead) (o .negating) (o .top) ⌝ }
     requires { ⌜ (length (take (o .subjects) (now u)) ≡ o .subjects)
         × Serves (now lines) na (now body) n (take (o .subjects) (now u)) t (now before) ⌝ }

@@ -52,7 +52,8 @@ fn add_subject(u: &mut [u16; 65], m: usize, v: u16) -> usize
     m + 1
 }
 
-// Puts the subject on the right of a rule behind m subjects, if the rule has v on its left; how many they are then.
+// Puts the subject on the right of a rule behind m subjects, if the rule has v on its left; how many they are
+// then.
 fn follow(r: Rule, v: u16, u: &mut [u16; 65], m: usize) -> usize
     requires { ⌜ (m + count (leftIs v r) ≤ 65) × (length (now u) ≡ 65) ⌝ }
     ensures { λ k. ⌜ (k ≤ m + count (leftIs v r)) × (length (now (u .exit)) ≡ 65)
@@ -68,7 +69,8 @@ fn follow(r: Rule, v: u16, u: &mut [u16; 65], m: usize) -> usize
 fn add_rights(body: &[u8], n: usize, v: u16, u: &mut [u16; 65], m: usize) -> usize
     requires { ⌜ (n * 28 ≤ length (now body)) × (length (now u) ≡ 65)
         × (m + howMany (leftIs v) (rulesIn n (now body)) ≤ 65) ⌝ }
-    ensures { λ k. ⌜ (k ≤ m + howMany (leftIs v) (rulesIn n (now (body .entry)))) × (length (now (u .exit)) ≡ 65)
+    ensures { λ k. ⌜ (k ≤ m + howMany (leftIs v) (rulesIn n (now (body .entry))))
+        × (length (now (u .exit)) ≡ 65)
         × (take k (now (u .exit)) ≡ withRights v (rulesIn n (now (body .entry))) (take m (now (u .entry)))) ⌝ }
 {
     let mut k = m;
@@ -80,8 +82,8 @@ fn add_rights(body: &[u8], n: usize, v: u16, u: &mut [u16; 65], m: usize) -> usi
     k
 }
 
-// Puts the subject of a question into u, and behind it, each once, those on the right of rules that have one of u on
-// their left; how many they are. No other subject matters to the question.
+// Puts the subject of a question into u, and behind it, each once, those on the right of rules that have one
+// of u on their left; how many they are. No other subject matters to the question.
 pub fn gather(body: &[u8], n: usize, subject: u16, u: &mut [u16; 65]) -> usize
     requires { ⌜ (n * 28 ≤ length (now body)) × (n ≤ 64) ⌝ }
     ensures { λ m. ⌜ Gathered subject (rulesIn n (now (body .entry))) m (take m (now (u .exit))) ⌝ }
@@ -162,7 +164,8 @@ pub fn leading(body: &[u8], n: usize, u: &[u16; 65], m: usize) -> u64
 // The place of an authorization to a subject, with a mode; 520 where the subject does not matter.
 fn spot(u: &[u16; 65], m: usize, subject: u16, mode: u8) -> u16
     requires { ⌜ (m ≤ 65) × (length (take m (now u)) ≡ m) × (isMode mode ≡ true) ⌝ }
-    ensures { λ r. ⌜ ((h : Head) → h .subject ≡ subject → h .mode ≡ mode → r ≡ spotOf (take m (now (u .entry))) h) ⌝ }
+    ensures { λ r. ⌜ ((h : Head) → h .subject ≡ subject → h .mode ≡ mode →
+        r ≡ spotOf (take m (now (u .entry))) h) ⌝ }
 {
     let i = index_of(u, m, subject);
     if i < m {

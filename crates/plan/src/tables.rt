@@ -27,7 +27,8 @@ pub fn prepare(
     looks: &mut [u64; 520],
 ) -> Outline
     requires { ⌜ Grounds (now lines) na (now body) n ⌝ }
-    ensures { λ o. ⌜ Prepared (now (lines .entry)) na (now (body .entry)) n (take (o .subjects) (now (u .exit)))
+    ensures { λ o. ⌜ Prepared (now (lines .entry)) na (now (body .entry)) n
+        (take (o .subjects) (now (u .exit)))
         (now (levels .exit)) (now (sides .exit)) (now (feed .exit)) (now (masks .exit)) (now (spots .exit))
         (now (looks .exit)) (o .lead) (o .negating) (o .top)
         × (length (take (o .subjects) (now (u .exit))) ≡ o .subjects)

@@ -26,10 +26,12 @@ fn sooner(r: Rule, a: u32) -> u32
     a
 }
 
-// The instant to start at to know what the rules derive at t: the least start of a rule that looks back, or t.
+// The instant to start at to know what the rules derive at t: the least start of a rule that looks back, or
+// t.
 fn first_look(body: &[u8], n: usize, t: u32) -> u32
     requires { ⌜ n * 28 ≤ length (now body) ⌝ }
-    ensures { λ x. ⌜ (x ≤ t) × ((q : Rule) → Mem q (rulesIn n (now (body .entry))) → lasting (q .operator) ≡ true →
+    ensures { λ x. ⌜ (x ≤ t) × ((q : Rule) → Mem q (rulesIn n (now (body .entry))) →
+        lasting (q .operator) ≡ true →
         x ≤ q .interval .start) ⌝ }
 {
     let mut a = t;
@@ -69,7 +71,8 @@ pub fn go_to(
     t: u32,
     table: &mut [u64; 520],
 )
-    requires { ⌜ Prepared (now lines) na (now body) n (take (o .subjects) (now u)) (now levels) (now sides) (now feed)
+    requires { ⌜ Prepared (now lines) na (now body) n (take (o .subjects) (now u)) (now levels) (now sides)
+        (now feed)
         (now masks) (now spots) (now looks) (o .lead) (o .negating) (o .top) ⌝ }
     requires { ⌜ length (take (o .subjects) (now u)) ≡ o .subjects ⌝ }
     ensures { λ _. ⌜ At (now (lines .entry)) na (now (body .entry)) n (take (o .subjects) (now (u .entry))) t

@@ -18,7 +18,8 @@ stored i x s h =
 -- a number of more than one digit has others before the last
 pub below-next : (i n : ℕ) → 10 ≤ n → n < 10 ^ suc i → (1 ≤ i) × (n / 10 < 10 ^ i)
 below-next zero n h k = absurd (omega arith)
-below-next (suc j) n h k = let l : n < 10 * 10 ^ suc j = rw (pow-succ' 10 (suc j)) at k in (omega arith, omega arith)
+below-next (suc j) n h k = let l : n < 10 * 10 ^ suc j = rw (pow-succ' 10 (suc j)) at k in
+    (omega arith, omega arith)
 
 -- the last digit goes to i, and the others stand before it
 pub digits-turn : (i n : ℕ) (s : List ℕ) → 10 ≤ n → i < length s →
@@ -40,4 +41,5 @@ digits-end i n s h k l =
 pub digits-start : (n : ℕ) (s : List ℕ) → length s ≡ 10 → digits 10 n ++ drop 10 s ≡ decimal n
 unfolding decimal
 digits-start n s l =
-    ap (λ (t : List ℕ). digits 10 n ++ t) (drop-of-length-le s {i = 10} (omega arith)) ∙ append-nil (digits 10 n)
+    ap (λ (t : List ℕ). digits 10 n ++ t) (drop-of-length-le s {i = 10} (omega arith))
+    ∙ append-nil (digits 10 n)

@@ -1,5 +1,5 @@
--- How long the texts of replies are: a number below 10 to the k has at most k digits, and no reply is longer than
--- 24,000 bytes (`reply-most`).
+-- How long the texts of replies are: a number below 10 to the k has at most k digits, and no reply is longer
+-- than 24,000 bytes (`reply-most`).
 use mathlib.Core.Path.{_≡_, refl, ap, _∙_}
 use mathlib.Core.Bool.{true, false}
 use mathlib.Core.List.{List, [], _∷_, _++_}
@@ -142,7 +142,8 @@ fit-in No list f = tt
 fit-in (Runs n) list f = f .0
 
 -- no reply is longer than 24,000 bytes
-pub reply-most : (r : Reply) (list : List ℕ) → RunsFit r list → length (printReply r (runsOf r list)) ≤ longestReply
+pub reply-most : (r : Reply) (list : List ℕ) → RunsFit r list →
+    length (printReply r (runsOf r list)) ≤ longestReply
 reply-most (Done label count) list f =
     omega (arith, done-length label count, decimal-most label, decimal-most count)
 reply-most (Refused k) list f = omega (arith, refused-length k, decimal-most k)

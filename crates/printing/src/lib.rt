@@ -1,5 +1,5 @@
-// Replies printed as text into a lent buffer that the text fits. Each function prints at a place, alters no other
-// byte, and gives the place behind.
+// Replies printed as text into a lent buffer that the text fits. Each function prints at a place, alters no
+// other byte, and gives the place behind.
 ghost use mathlib.Core.Path.{_≡_};
 ghost use mathlib.Core.List.{_++_};
 ghost use Prim.Native.Nat.{_+_, _*_, _≤_};
@@ -90,8 +90,10 @@ fn put_runs(out: &mut [u8], at: usize, list: &[u32], n: usize) -> usize
 
 // Prints what a request that is accepted gets: the new label or 0, and how many authorizations there are now.
 fn put_done(out: &mut [u8], at: usize, label: u32, count: u32) -> usize
-    requires { ⌜ at + length (ascii "done " ++ decimal label ++ ascii " " ++ decimal count) ≤ length (now out) ⌝ }
-    ensures { λ n. ⌜ Printed at (ascii "done " ++ decimal label ++ ascii " " ++ decimal count) (now (out .entry))
+    requires { ⌜ at + length (ascii "done " ++ decimal label ++ ascii " " ++ decimal count) ≤ length
+        (now out) ⌝ }
+    ensures { λ n. ⌜ Printed at (ascii "done " ++ decimal label ++ ascii " " ++ decimal count)
+        (now (out .entry))
         (now (out .exit)) n ⌝ }
 {
     let first = put_bytes(out, at, b"done ");
@@ -109,8 +111,8 @@ fn put_refused(out: &mut [u8], at: usize, k: u32) -> usize
     put_decimal(out, number, k)
 }
 
-// Prints a reply, and for WHEN the intervals in the list, at the front of a buffer that it fits; how many bytes that
-// is.
+// Prints a reply, and for WHEN the intervals in the list, at the front of a buffer that it fits; how many
+// bytes that is.
 pub fn put_reply(out: &mut [u8], r: Reply, list: &[u32]) -> usize
     requires { ⌜ (length (printReply r (runsOf r (now list))) ≤ length (now out)) × RunsIn r (now list) ⌝ }
     ensures { λ n. ⌜ Printed 0 (printReply r (runsOf r (now (list .entry)))) (now (out .entry))

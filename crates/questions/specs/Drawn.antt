@@ -1,5 +1,5 @@
--- The plan that the code draws up: which subject a place stands for, which rule a bit, and what the plan's words say
--- of the rules (`Drawn`). Such a plan stands for the rules (`stands`).
+-- The plan that the code draws up: which subject a place stands for, which rule a bit, and what the plan's
+-- words say of the rules (`Drawn`). Such a plan stands for the rules (`stands`).
 use mathlib.Core.Path.{_≡_}
 use Prim.Native.Nat.{ℕ, suc, _+_, _*_, _-_, _/_, _%_, _<_}
 use mathlib.Core.Bool.{Bool, true, false, not, _&&_, _||_}
@@ -35,7 +35,8 @@ among U v = ltb (indexOf v U) (length U)
 
 -- with the subject on the left of a rule U has the one on its right, and none twice
 pub record Subjects (rules : List Rule) (U : List ℕ) : Type 0 where
-  pub named : (r : Rule) → Mem r rules → among U (r .left .subject) ≡ true → isStar (r .right .subject) ≡ false →
+  pub named : (r : Rule) → Mem r rules → among U (r .left .subject) ≡ true →
+      isStar (r .right .subject) ≡ false →
       among U (r .right .subject) ≡ true
   pub apart : (i : ℕ) → i < length U → indexOf (getD U i 0) U ≡ i
   pub some : 0 < length U
@@ -75,7 +76,12 @@ module _ (U : List ℕ) where
 
   -- the access on the left of a rule, from its place
   abbrev pub accessOf : (ℕ → Rule) → ℕ → ℕ → Access
-  accessOf rule i p = record { subject = getD U (p / modes) 0; mode = suc (p % modes); object = rule i .left .object }
+  accessOf rule i p = record {
+    subject = getD U (p / modes) 0;
+    mode = suc (p % modes);
+    object =
+        rule i .left .object;
+  }
 
   -- what the rule looks for at a place where it looks
   abbrev pub soughtAt : Rule → ℕ → Pattern

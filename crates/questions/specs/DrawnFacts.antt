@@ -1,5 +1,6 @@
--- A plan that is drawn up as `Drawn` says stands for the rules of its stratum (`stands`); its rules lead from places
--- in use to such (`drawn-fit`), and the right sides of rules from accesses that count to such (`drawn-inward`).
+-- A plan that is drawn up as `Drawn` says stands for the rules of its stratum (`stands`); its rules lead from
+-- places in use to such (`drawn-fit`), and the right sides of rules from accesses that count to such
+-- (`drawn-inward`).
 use mathlib.Core.Path.{_≡_, refl, sym, ap, ap₂, _∙_}
 use Prim.Native.Nat.{ℕ, suc, _+_, _*_, _-_, _/_, _%_, _<_, _≤_}
 use mathlib.Core.Bool.{Bool, true, false, not, _&&_, _||_, Bool·beq, true≢false}
@@ -26,12 +27,18 @@ use Rattle.sweep.specs.Progress.{Has}
 use Rattle.questions.specs.Operators.{sense, sense-differs}
 use Rattle.questions.specs.Table.{Bits, Node, Inward, truth, rightIn, snap}
 use Rattle.questions.specs.Planned.{bits, derivedAt, Stands}
-use Rattle.questions.specs.Drawn.{indexOf, among, Subjects, Numbering, Shaped, counted, placeOf, subjectCode, leads, accessOf, soughtAt, activeAt, freshAt, Direct, Drawn}
-use Rattle.questions.specs.Places.{Coordinate, side, aimed, looked, side-in, aimed-below, look-there, lead-there, stand-there, look-back, subject-coordinate, subject-low, mode-coordinate, mode-low, place-subject, place-mode, place-whole, place-below, subject-below, mode-below, listed, proper, place-in, at-place}
+use Rattle.questions.specs.Drawn.{indexOf, among, Subjects, Numbering, Shaped, counted, placeOf}
+use Rattle.questions.specs.Drawn.{subjectCode, leads, accessOf, soughtAt, activeAt, freshAt, Direct}
+use Rattle.questions.specs.Drawn.{Drawn}
+use Rattle.questions.specs.Places.{Coordinate, side, aimed, looked, side-in, aimed-below, look-there}
+use Rattle.questions.specs.Places.{lead-there, stand-there, look-back, subject-coordinate, subject-low}
+use Rattle.questions.specs.Places.{mode-coordinate, mode-low, place-subject, place-mode, place-whole}
+use Rattle.questions.specs.Places.{place-below, subject-below, mode-below, listed, proper, place-in}
+use Rattle.questions.specs.Places.{at-place}
 use Rattle.questions.specs.Feeding.{mask-rule, mask-number, fed}
 
--- a rule that can be about the access, is of the stratum and looks at the place derives if the gate and its right
--- side let it
+-- a rule that can be about the access, is of the stratum and looks at the place derives if the gate and its
+-- right side let it
 asked : (active looks was wants led inside level now right : Bool) → active ≡ led && inside && level →
     led ≡ true → level ≡ true → looks ≡ true → was ≡ now → wants ≡ right →
     active && looks && was && wants ≡ inside && now && right
@@ -55,7 +62,8 @@ module _ (base : Base) (U : List ℕ) (number : Rule → ℕ) (rule : ℕ → Ru
   right-listed : (r : Rule) → Mem r rules → leads U r ≡ true →
       isStar (r .right .subject) || among U (r .right .subject) ≡ true
   right-listed r m l = cases (isStar (r .right .subject)) (λ e. rw e) (λ e.
-      let a : among U (r .left .subject) ≡ true = or-cases (isStar (r .left .subject)) (among U (r .left .subject)) l
+      let a : among U (r .left .subject) ≡ true = or-cases (isStar (r .left .subject))
+      (among U (r .left .subject)) l
       (λ s. absurd (true≢false (sym s ∙ shaped r m .subjects ∙ e))) (λ a. a) in
       rw e (subjects-ok .named r m a e))
 
@@ -129,7 +137,8 @@ module _ (base : Base) (U : List ℕ) (number : Rule → ℕ) (rule : ℕ → Ru
     mode-in : (i p : ℕ) → i < length rules → aimed-mode i p < modes
     mode-in i p h =
         let m = rule i .left .mode in
-        aimed-below mode-coordinate m (p % modes) (mode-low m (shaped (rule i) (numbering .ruled i h .0) .left))
+        aimed-below mode-coordinate m (p % modes) (mode-low m
+        (shaped (rule i) (numbering .ruled i h .0) .left))
         (mode-below p)
 
     pub drawn-fit : (i p : ℕ) → i < length rules → p < length U * modes → aim pl i p < length U * modes
@@ -210,7 +219,8 @@ module _ (base : Base) (U : List ℕ) (number : Rule → ℕ) (rule : ℕ → Ru
             ),
           )
 
-      left-origin : leads U (rule i) ≡ true → looks i p ≡ true → placeOf U (rightOf (rule i) (leftAt i p) .access) ≡ p
+      left-origin : leads U (rule i) ≡ true → looks i p ≡ true →
+          placeOf U (rightOf (rule i) (leftAt i p) .access) ≡ p
       unfolding rightOf
       left-origin a e =
           let r = rule i in
@@ -244,7 +254,8 @@ module _ (base : Base) (U : List ℕ) (number : Rule → ℕ) (rule : ℕ → Ru
             let y = rightOf r x .access in
             let p = placeOf U y in
             let a = accessOf U rule j p in
-            let z : a ≡ y = at-place U y (drawn-inward r x n) (rule j .left .object) (feeds-object (rule j) r g) in
+            let z : a ≡ y = at-place U y (drawn-inward r x n) (rule j .left .object)
+            (feeds-object (rule j) r g) in
             let s : Access → Bool = standsFor base (rule j) in
             let d = and-true (counted U a && s a) (truth base t (rule j) a) (h p j e) .0 in
             ap s (sym z) ∙ and-true (counted U a) (s a) d .1
@@ -258,7 +269,8 @@ module _ (base : Base) (U : List ℕ) (number : Rule → ℕ) (rule : ℕ → Ru
             let i = number r in
             let p = placeOf U (rightOf r x .access) in
             let w = numbering .numbered r (n .0) in
-            let f : getD (pl .feed) i 0 ≡ feedersOf rules r = drawn .feed i (w .0) ∙ ap (feedersOf rules) (w .1) in
+            let f : getD (pl .feed) i 0 ≡ feedersOf rules r = drawn .feed i (w .0)
+            ∙ ap (feedersOf rules) (w .1) in
             let d : bit i (getD direct p 0) ≡ anyb (fits (rightOf r x)) (live t auths) =
             fit i p (w .0) (place-in U (rightOf r x .access) (drawn-inward r x n))
             ∙ ap (λ (q : Rule). anyb (fits (soughtAt U q p)) (live t auths)) (w .1)
@@ -266,7 +278,8 @@ module _ (base : Base) (U : List ℕ) (number : Rule → ℕ) (rule : ℕ → Ru
             let e = ap (λ (m : ℕ). not (eqb (bitAnd word m) 0)) f
             ∙ fed rules number rule numbering base r x word stood in
             let g : bit i (pl .stage .negating) ≡ negates r =
-            ap (λ (m : ℕ). bit i m) (drawn .negating) ∙ mask-number rules number rule numbering negates r (n .0) in
+            ap (λ (m : ℕ). bit i m) (drawn .negating)
+            ∙ mask-number rules number rule numbering negates r (n .0) in
             ap₂ (λ (a b : Bool). not (Bool·beq a b)) (ap₂ (λ (a b : Bool). a || b) d e) g
             ∙ sense-differs (r .operator) (rightIn base (table T) t r x)
 
@@ -276,22 +289,26 @@ module _ (base : Base) (U : List ℕ) (number : Rule → ℕ) (rule : ℕ → Ru
         node-gives e =
             let i = number r in
             let p = placeOf U (rightOf r x .access) in
-            let a : bit i (pl .stage .active) ≡ activeAt U rules t k r = ap (λ (m : ℕ). bit i m) (drawn .active)
+            let a : bit i (pl .stage .active) ≡ activeAt U rules t k r =
+            ap (λ (m : ℕ). bit i m) (drawn .active)
             ∙ mask-number rules number rule numbering (activeAt U rules t k) r (n .0) in
             let f : bit i (pl .stage .fresh) ≡ freshAt t r =
-            ap (λ (m : ℕ). bit i m) (drawn .fresh) ∙ mask-number rules number rule numbering (freshAt t) r (n .0) in
+            ap (λ (m : ℕ). bit i m) (drawn .fresh)
+            ∙ mask-number rules number rule numbering (freshAt t) r (n .0) in
             let b : bit i (getD before (aim pl i p) 0) ≡ table before r x =
             ap (λ (q : ℕ). bit i (getD before q 0)) (node-aim r x n) in
             asked (bit i (pl .stage .active)) (looks i p)
             (bit i (pl .stage .fresh) || bit i (getD before (aim pl i p) 0))
             (wantsBy (linkOf pl i .feed) (linkOf pl i .negating) word (getD direct p 0) i)
-            (leads U r) (inInterval (r .interval) t) (eqb (stratum rules r) k) (freshAt t r || table before r x)
+            (leads U r) (inInterval (r .interval) t) (eqb (stratum rules r) k)
+            (freshAt t r || table before r x)
             (sense (r .operator) (rightIn base (table T) t r x))
             a (node-leads r x n) (eq-true (stratum rules r) k e) (node-looks r x n)
             (ap₂ (λ (a b : Bool). a || b) f b) node-wants
 
       -- a rule that derives by the plan is of the stratum, and stands for an access whose right side is there
-      given : (T : List ℕ) (i p : ℕ) → i < length rules → p < length U * modes → gives pl before direct T i p ≡ true →
+      given : (T : List ℕ) (i p : ℕ) → i < length rules → p < length U * modes →
+          gives pl before direct T i p ≡ true →
           (r : Rule) × (x : Access) × Node base (counted U) r x × (stratum rules r ≡ k) × (number r ≡ i)
           × (placeOf U (rightOf r x .access) ≡ p)
       given T i p h l e =
@@ -325,5 +342,6 @@ module _ (base : Base) (U : List ℕ) (number : Rule → ℕ) (rule : ℕ → Ru
         node-aim r x n,
       );
       test = λ T h r x n e. node-gives before direct fit T h r x n e;
-      only = λ T h i p l m e. given before direct fit T i p (rw (drawn .count) at l) (rw (drawn .used) at m) e;
+      only = λ T h i p l m e. given before direct fit T i p (rw (drawn .count) at l)
+          (rw (drawn .used) at m) e;
     }

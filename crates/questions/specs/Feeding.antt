@@ -1,6 +1,6 @@
--- Words of bits that stand for rules: the masks of tests; two words have a bit in common exactly if their `bitAnd` is
--- not 0; and a word has a rule in common with those that feed a rule exactly if one of its rules derives what that
--- rule looks for (`fed`).
+-- Words of bits that stand for rules: the masks of tests; two words have a bit in common exactly if their
+-- `bitAnd` is not 0; and a word has a rule in common with those that feed a rule exactly if one of its rules
+-- derives what that rule looks for (`fed`).
 use mathlib.Core.Path.{_≡_, sym, ap, _∙_}
 use Prim.Native.Nat.{ℕ, suc, _/_, _%_, _^_, _<_, min}
 use native.Mathlib.Nat.{pow-succ', div-one, div-div-eq-div-mul, min-le-left, min-le-right}
@@ -11,7 +11,8 @@ use lib.Arith.{bin-ind}
 use lib.Bits.{bitAnd}
 use lib.Dec.{eqb}
 use lib.ListN.{length, drop}
-use Rattle.foundation.specs.Tests.{cases, agree, eq-true, true-eq, false-eq, ne-false, not-true, and-true, and-intro}
+use Rattle.foundation.specs.Tests.{cases, agree, eq-true, true-eq, false-eq, ne-false, not-true, and-true}
+use Rattle.foundation.specs.Tests.{and-intro}
 use Rattle.foundation.specs.Lists.{anyb, Mem, any-mem, mem-any}
 use Rattle.model.specs.declared.Rule.{Rule}
 use Rattle.model.specs.declared.Access.{Access}
@@ -52,7 +53,8 @@ in-common a b i e f = ap not (ne-false (bitAnd a b) 0 (λ z.
 
 -- ---- the rules of a word
 
-module _ (rules : List Rule) (number : Rule → ℕ) (rule : ℕ → Rule) (numbering : Numbering rules number rule) where
+module _ (rules : List Rule) (number : Rule → ℕ) (rule : ℕ → Rule)
+    (numbering : Numbering rules number rule) where
   -- the bit of a rule in the mask of a test
   pub mask-rule : (f : Rule → Bool) (i : ℕ) → i < length rules → bit i (maskOf f rules) ≡ f (rule i)
   mask-rule f i h = mask-nth f rules i (rule i) (drop (suc i) rules) (numbering .nth i h)
@@ -60,8 +62,8 @@ module _ (rules : List Rule) (number : Rule → ℕ) (rule : ℕ → Rule) (numb
   pub mask-number : (f : Rule → Bool) (r : Rule) → Mem r rules → bit (number r) (maskOf f rules) ≡ f r
   mask-number f r m = let w = numbering .numbered r m in mask-rule f (number r) (w .0) ∙ ap f (w .1)
 
-  -- Where each rule of a word that feeds r stands for the access that r looks for, one of them feeds r exactly if one
-  -- derives what r looks for
+  -- Where each rule of a word that feeds r stands for the access that r looks for, one of them feeds r
+  -- exactly if one derives what r looks for
   module _ (base : Base) (r : Rule) (x : Access) (word : ℕ)
       (stood : (j : ℕ) → bit j word ≡ true → feeds (rule j) r ≡ true →
       standsFor base (rule j) (rightOf r x .access) ≡ true) where

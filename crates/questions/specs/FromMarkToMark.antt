@@ -1,6 +1,6 @@
--- From mark to mark. What was derived at the mark before was derived at the instant before (`before-next`), so that
--- the table of one mark serves the next (`before-mark`). With every stratum swept the table is right (`all-right`),
--- and what holds, and the answer to MAY, are read off it (`answer`, `may-answer`).
+-- From mark to mark. What was derived at the mark before was derived at the instant before (`before-next`),
+-- so that the table of one mark serves the next (`before-mark`). With every stratum swept the table is right
+-- (`all-right`), and what holds, and the answer to MAY, are read off it (`answer`, `may-answer`).
 use mathlib.Core.Path.{_≡_, sym, ap₂, _∙_, subst}
 use Prim.Native.Nat.{ℕ, suc, _*_, _-_, _≤_, _<_}
 use native.Mathlib.Omega.{arith}

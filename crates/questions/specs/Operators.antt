@@ -1,5 +1,5 @@
--- The operators from one instant to the next: what an operator allows at an instant follows from what it allowed at
--- the instant before, and from the right side now (`operate-first`, `operate-step`).
+-- The operators from one instant to the next: what an operator allows at an instant follows from what it
+-- allowed at the instant before, and from the right side now (`operate-first`, `operate-step`).
 use mathlib.Core.Path.{_≡_, refl}
 use Prim.Native.Nat.{ℕ, suc, _≤_}
 use native.Mathlib.Omega.{arith}
@@ -79,8 +79,8 @@ operate-back WheneverNot f g a u t l h e = absurd (false≢true l)
 operate-back Unless f g a u t l h e =
     all-always a u (λ v. not (g v)) (λ v p q. always-all a t (λ v. not (g v)) e v p (omega arith))
 
--- and the right side is now as it wants, read as c: what holds by c is no less than what holds by the right side that
--- it looks at, and for a negating operator the same
+-- and the right side is now as it wants, read as c: what holds by c is no less than what holds by the right
+-- side that it looks at, and for a negating operator the same
 pub operate-now : (o : Operator) (f g : ℕ → Bool) (c : Bool) (a t : ℕ) → a ≤ t → (f t ≡ true → c ≡ true) →
     (negating o ≡ true → g t ≡ c) → operate always o f g a t ≡ true → sense o c ≡ true
 operate-now Whenever f g c a t h p q e = p e
@@ -88,7 +88,8 @@ operate-now AsLongAs f g c a t h p q e = p (always-all a t f e t h (omega arith)
 operate-now WheneverNot f g c a t h p q e = rw (q refl) at e
 operate-now Unless f g c a t h p q e = rw (q refl) at (always-all a t (λ u. not (g u)) e t h (omega arith))
 
--- a right side b that is held no less than a, and for a negating operator the same, is as the operator wants if a is
+-- a right side b that is held no less than a, and for a negating operator the same, is as the operator wants
+-- if a is
 pub sense-more : (o : Operator) (a b : Bool) → (a ≡ true → b ≡ true) → (negating o ≡ true → a ≡ b) →
     sense o a ≡ true → sense o b ≡ true
 sense-more Whenever a b p q e = p e

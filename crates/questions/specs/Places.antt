@@ -1,5 +1,6 @@
--- A place has two coordinates, the index of a subject and that of a mode. What the codes of a rule's two sides say of
--- the places where it looks and derives is shown for one coordinate (`Coordinate`), which serves for both.
+-- A place has two coordinates, the index of a subject and that of a mode. What the codes of a rule's two
+-- sides say of the places where it looks and derives is shown for one coordinate (`Coordinate`), which serves
+-- for both.
 use mathlib.Core.Path.{_≡_, sym, ap, _∙_}
 use Prim.Native.Nat.{ℕ, suc, _+_, _*_, _-_, _/_, _%_, _≤_, _<_}
 use native.Mathlib.Omega.{arith}
@@ -7,7 +8,8 @@ use mathlib.Core.Bool.{Bool, true, false, _||_}
 use mathlib.Core.List.{List, [], _∷_}
 use lib.Dec.{eqb, leb}
 use lib.ListN.{length, getD}
-use Rattle.foundation.specs.Tests.{pick, cases, eq-true, true-eq, ne-false, le-true, true-le, and-true, and-intro, or-true-right}
+use Rattle.foundation.specs.Tests.{pick, cases, eq-true, true-eq, ne-false, le-true, true-le, and-true}
+use Rattle.foundation.specs.Tests.{and-intro, or-true-right}
 use Rattle.model.specs.declared.Access.{Access}
 use Rattle.model.specs.Ranges.{isMode}
 use Rattle.model.specs.Stratification.{isStar}
@@ -16,8 +18,8 @@ use Rattle.questions.specs.Drawn.{indexOf, among, counted, placeOf, subj
 
 -- ---- one coordinate
 
--- The values that `is` picks have the indices below `size`, and `value` leads back. The code of such a value in a
--- rule is its index, and that of the star is `star`, which is no index
+-- The values that `is` picks have the indices below `size`, and `value` leads back. The code of such a value
+-- in a rule is its index, and that of the star is `star`, which is no index
 pub record Coordinate (is : ℕ → Bool) (index value code : ℕ → ℕ) (size star : ℕ) : Type 0 where
   pub below : (v : ℕ) → is v ≡ true → index v < size
   pub back : (v : ℕ) → is v ≡ true → value (index v) ≡ v
@@ -107,7 +109,8 @@ index-back v (u ∷ us) h = cases (eqb u v)
 pub subject-low : (U : List ℕ) → 0 < length U → (s : ℕ) → isStar s ≡ false → subjectCode U s < length U
 subject-low U h s e = cases (among U s) (λ i. rw (e, i) (index-below s U i)) (λ i. rw (e, i) h)
 
-module _ (U : List ℕ) (apart : (i : ℕ) → i < length U → indexOf (getD U i 0) U ≡ i) (few : length U ≤ subjects) where
+module _ (U : List ℕ) (apart : (i : ℕ) → i < length U → indexOf (getD U i 0) U ≡ i)
+    (few : length U ≤ subjects) where
   pub subject-coordinate :
       Coordinate (among U) (λ v. indexOf v U) (λ j. getD U j 0) (subjectCode U) (length U) subjects
   subject-coordinate = record {
@@ -176,7 +179,8 @@ module _ (U : List ℕ) (x : Access) (e : counted U x ≡ true) where
   mode-in = mode-coordinate .below (x .mode) proper
 
   pub place-in : placeOf U x < length U * modes
-  place-in = place-below (length U) (indexOf (x .subject) U) (x .mode - 1) (index-below (x .subject) U listed) mode-in
+  place-in = place-below (length U) (indexOf (x .subject) U) (x .mode - 1)
+      (index-below (x .subject) U listed) mode-in
 
   pub at-place : (o : ℕ) → o ≡ x .object →
       record { subject = getD U (placeOf U x / modes) 0; mode = suc (placeOf U x % modes); object = o } ≡ x

@@ -1,6 +1,6 @@
--- The sweep in numbers does the sweep of the theory: where the plan, its words and places stand for the rules of
--- stratum k at t (`Stands`), the smallest table, which `settle` of the crate `sweep` leaves, is right below stratum
--- k + 1 (`stratum-right`).
+-- The sweep in numbers does the sweep of the theory: where the plan, its words and places stand for the rules
+-- of stratum k at t (`Stands`), the smallest table, which `settle` of the crate `sweep` leaves, is right
+-- below stratum k + 1 (`stratum-right`).
 use mathlib.Core.Path.{_≡_, sym, ap, ap₂, _∙_}
 use Prim.Native.Nat.{ℕ, suc, _*_, _≤_, _<_}
 use mathlib.Core.Bool.{Bool, true, _&&_}
@@ -18,15 +18,16 @@ use Rattle.model.specs.Rules.{standsFor, rightOf}
 use Rattle.questions.specs.Table.{Bits, truth, snap, Node, Inward, Before, Sound, RightBelow}
 use Rattle.questions.specs.Stratum.{set-right, swept}
 
--- `number` and `place` say which number a rule has and which place an access; `rule` and `access` lead back, from a
--- rule's number, and for the access a place, to the rule and the access of its left side there
+-- `number` and `place` say which number a rule has and which place an access; `rule` and `access` lead back,
+-- from a rule's number, and for the access a place, to the rule and the access of its left side there
 module _ (base : Base) (D : Access → Bool) (t : ℕ)
     (number : Rule → ℕ) (place : Access → ℕ) (rule : ℕ → Rule) (access : ℕ → ℕ → Access) where
   -- the bits that a table stands for
   abbrev pub bits : List ℕ → Bits
   bits T r x = bit (number r) (getD T (place x) 0)
 
-  -- the bits that may be set: of rules that stand for an access that counts, and derive their left side for it
+  -- the bits that may be set: of rules that stand for an access that counts, and derive their left side for
+  -- it
   abbrev pub derivedAt : ℕ → ℕ → Bool
   derivedAt p i =
       let r = rule i in
@@ -37,13 +38,16 @@ module _ (base : Base) (D : Access → Bool) (t : ℕ)
   abbrev pub origin : Rule → Access → ℕ
   origin r x = place (rightOf r x .access)
 
-  -- The plan stands for the rules of stratum k at t. What a table says is asked only of tables that say nothing wrong
+  -- The plan stands for the rules of stratum k at t. What a table says is asked only of tables that say
+  -- nothing wrong
   pub record Stands (P : Bits) (k : ℕ) (pl : Plan) (before direct : List ℕ) : Type 0 where
     pub back : (r : Rule) (x : Access) → Node base D r x →
         (rule (number r) ≡ r) × (access (number r) (place x) ≡ x)
-    -- a rule of the stratum is one of the plan, and leads from the place of its right side to that of its left side
+    -- a rule of the stratum is one of the plan, and leads from the place of its right side to that of its
+    -- left side
     pub seen : (r : Rule) (x : Access) → Node base D r x → stratum (base .rules) r ≡ k →
-        (number r < pl .stage .rules) × (origin r x < pl .stage .used) × (aim pl (number r) (origin r x) ≡ place x)
+        (number r < pl .stage .rules) × (origin r x < pl .stage .used)
+        × (aim pl (number r) (origin r x) ≡ place x)
     -- it derives now by the plan where it does by the theory
     pub test : (T : List ℕ) → Has T derivedAt → (r : Rule) (x : Access) → Node base D r x →
         stratum (base .rules) r ≡ k →

@@ -1,13 +1,14 @@
 -- Which authorizations a question rests on. What holds of an access that counts is the same by two lists of
--- authorizations that are alike for the right sides of the rules and for what is asked (`holds-alike`); so is what a
--- test keeps of a list, if it keeps all that fits (`kept-fits`).
+-- authorizations that are alike for the right sides of the rules and for what is asked (`holds-alike`); so is
+-- what a test keeps of a list, if it keeps all that fits (`kept-fits`).
 use mathlib.Core.Path.{_≡_, refl, sym, ap, _∙_}
 use Prim.Native.Nat.{ℕ, zero, suc, _*_}
 use mathlib.Core.Bool.{Bool, true, false, not, _&&_, _||_}
 use mathlib.Core.List.{List, [], _∷_}
 use lib.Dec.{ltb, eqb}
 use lib.ListN.{length}
-use Rattle.foundation.specs.Tests.{cases, agree, must-fail, le-true, and-true, and-intro, and-mono, or-cases, or-intro-left, or-true-right}
+use Rattle.foundation.specs.Tests.{cases, agree, must-fail, le-true, and-true, and-intro, and-mono, or-cases}
+use Rattle.foundation.specs.Tests.{or-intro-left, or-true-right}
 use Rattle.foundation.specs.Lists.{anyb, keepIf, Mem, any-mem, mem-any}
 use Rattle.foundation.specs.Closure.{iter}
 use Rattle.foundation.specs.Intervals.{inInterval, always, always-mono}
@@ -19,7 +20,8 @@ use Rattle.model.specs.declared.Access.{Access}
 use Rattle.model.specs.Base.{Base}
 use Rattle.model.specs.Support.{live}
 use Rattle.model.specs.Stratification.{stratum}
-use Rattle.model.specs.Rules.{Pattern, Fact, fact, fits, standsFor, derivesFor, rightOf, operate, holdsBy, rightBy}
+use Rattle.model.specs.Rules.{Pattern, Fact, fact, fits, standsFor, derivesFor, rightOf, operate, holdsBy}
+use Rattle.model.specs.Rules.{rightBy}
 use Rattle.model.specs.Rules.{derives, enough, derivedBelow, holds}
 use Rattle.model.specs.SideFacts.{derives-stands}
 use Rattle.model.specs.RightFacts.{right-mono, right-own}
@@ -91,7 +93,8 @@ module _ (base : Base) (D : Access → Bool) (inward : Inward base D) where
 
   -- a part of what is derived, for accesses that count
   abbrev Within : (Fact → Bool) → (Fact → Bool) → Type 0
-  Within S Q = (r : Rule) (x : Access) → Node base D r x → (t : ℕ) → S (fact r x t) ≡ true → Q (fact r x t) ≡ true
+  Within S Q = (r : Rule) (x : Access) → Node base D r x → (t : ℕ) → S (fact r x t) ≡ true →
+      Q (fact r x t) ≡ true
 
   -- of an access that counts no less holds by more facts
   held-more : (A B : List Authorization) (S Q : Fact → Bool) → Within S Q → (t : ℕ) (p : Pattern) →
@@ -110,7 +113,8 @@ module _ (base : Base) (D : Access → Bool) (inward : Inward base D) where
       (and-intro (derivesFor (by B) p r) (Q (fact r (p .access) t)) (w .0)
       (h r (p .access) (m .1, d, derives-stands base p r (w .0)) t (w .1)))))
 
-  held-same : (A B : List Authorization) (S Q : Fact → Bool) → Within S Q → Within Q S → (t : ℕ) (p : Pattern) →
+  held-same : (A B : List Authorization) (S Q : Fact → Bool) → Within S Q → Within Q S →
+      (t : ℕ) (p : Pattern) →
       D (p .access) ≡ true → direct A t p ≡ direct B t p →
       holdsBy always (by A) S t p ≡ holdsBy always (by B) Q t p
   held-same A B S Q h k t p d q = agree (holdsBy always (by A) S t p) (holdsBy always (by B) Q t p)
@@ -134,7 +138,8 @@ module _ (base : Base) (D : Access → Bool) (inward : Inward base D) where
         sym (closed (by B) k y (n .0)) ∙ rw (le-true (suc v) k (below-stratum (by B) k y b)) b
 
     -- a rule of the stratum derives by B what it derives by A, if B's stratum has the facts S
-    module _ (S : Fact → Bool) (h : Within S (below B (suc k))) (r : Rule) (x : Access) (n : Node base D r x) where
+    module _ (S : Fact → Bool) (h : Within S (below B (suc k))) (r : Rule) (x : Access)
+        (n : Node base D r x) where
       abbrev p : Pattern
       p = rightOf r x
 
@@ -156,7 +161,8 @@ module _ (base : Base) (D : Access → Bool) (inward : Inward base D) where
           let LA = holdsBy always (by A) (below A k) u in
           let LB = holdsBy always (by B) (below B k) u in
           right-own LA LB LA LB p
-          (held-same A B (below A k) (below B k) lower-within lower-within-2 u p (inward r x n) (alike r x n u))
+          (held-same A B (below A k) (below B k) lower-within lower-within-2 u p (inward r x n)
+          (alike r x n u))
 
       derived-more : (t : ℕ) → derives always (by A) (below A k) S (fact r x t) ≡ true →
           derives always (by B) (below B k) (below B (suc k)) (fact r x t) ≡ true

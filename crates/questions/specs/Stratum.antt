@@ -1,13 +1,14 @@
--- The sweep of one stratum. In a table that says nothing wrong and is right below stratum k, the bit of a rule of
--- stratum k that derives now may be set (`set-right`); once none is left to set, the table is right below stratum
--- k + 1 (`swept`).
+-- The sweep of one stratum. In a table that says nothing wrong and is right below stratum k, the bit of a
+-- rule of stratum k that derives now may be set (`set-right`); once none is left to set, the table is right
+-- below stratum k + 1 (`swept`).
 use mathlib.Core.Path.{_≡_, refl, sym, _∙_, subst}
 use Prim.Native.Nat.{ℕ, zero, suc, _*_, _-_, _≤_, _<_}
 use native.Mathlib.Omega.{arith}
 use mathlib.Core.Bool.{Bool, true, not, _&&_, _||_}
 use lib.Dec.{ltb, eqb}
 use lib.ListN.{length}
-use Rattle.foundation.specs.Tests.{pick, cases, agree, le-false, true-eq, eq-true, and-true, and-intro, or-cases, or-intro-left, or-true-right}
+use Rattle.foundation.specs.Tests.{pick, cases, agree, le-false, true-eq, eq-true, and-true, and-intro}
+use Rattle.foundation.specs.Tests.{or-cases, or-intro-left, or-true-right}
 use Rattle.foundation.specs.Lists.{anyb, Mem, any-mem, mem-any}
 use Rattle.foundation.specs.Closure.{iter}
 use Rattle.foundation.specs.Intervals.{inInterval, inInterval-true, always}
@@ -17,13 +18,17 @@ use Rattle.model.specs.Base.{Base}
 use Rattle.model.specs.Support.{live}
 use Rattle.model.specs.Stratification.{negating, stratified, stratum}
 use Rattle.model.specs.StratificationFacts.{feeder-below}
-use Rattle.model.specs.Rules.{Pattern, Fact, fact, fits, standsFor, derivesFor, rightOf, operate, holdsBy, rightBy, derives, enough, derivedBelow, holds}
+use Rattle.model.specs.Rules.{Pattern, Fact, fact, fits, standsFor, derivesFor, rightOf, operate, holdsBy}
+use Rattle.model.specs.Rules.{rightBy, derives, enough, derivedBelow, holds}
 use Rattle.model.specs.SideFacts.{derives-stands}
 use Rattle.model.specs.RightFacts.{right-mono, right-cong}
 use Rattle.model.specs.HoldsFacts.{below-stratum, rounds, rounds-below}
-use Rattle.model.specs.HoldsLaws.{StrictlyFed, strictly-fed, right-settled, settled-at, holds-fit, holds-law, strictly-settled}
+use Rattle.model.specs.HoldsLaws.{StrictlyFed, strictly-fed, right-settled, settled-at, holds-fit, holds-law}
+use Rattle.model.specs.HoldsLaws.{strictly-settled}
 use Rattle.questions.specs.Operators.{lasting, sense, operate-back, operate-now, sense-more}
-use Rattle.questions.specs.Table.{Bits, asFacts, gate, truth, heldIn, rightIn, snap, Node, Inward, Before, Sound, RightBelow, ClosedAt, gate-first, instant-before, now-law}
+use Rattle.questions.specs.Table.{Bits, asFacts, gate, truth, heldIn, rightIn, snap, Node, Inward}
+use Rattle.questions.specs.Table.{Before, Sound, RightBelow, ClosedAt, gate-first, instant-before}
+use Rattle.questions.specs.Table.{now-law}
 
 -- from more facts about the rules at hand no less holds
 holds-more : (base : Base) (S Q : Fact → Bool) (t : ℕ) (p : Pattern) →

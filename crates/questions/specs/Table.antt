@@ -1,5 +1,5 @@
--- A table says, for one instant, which rule derives its left side for which access. What the rules derive at an
--- instant is what they make of it and of what they derived at the instant before (`now-law`).
+-- A table says, for one instant, which rule derives its left side for which access. What the rules derive at
+-- an instant is what they make of it and of what they derived at the instant before (`now-law`).
 use mathlib.Core.Path.{_≡_, sym, ap, _∙_, subst}
 use Prim.Native.Nat.{ℕ, suc, _-_, _≤_, _<_}
 use native.Mathlib.Omega.{arith}
@@ -28,9 +28,11 @@ Bits = Rule → Access → Bool
 abbrev pub asFacts : Bits → Fact → Bool
 asFacts X x = X (x .rule) (x .access)
 
--- P is what was derived at the instant before: the rule derives now, if its right side is as the operator wants
+-- P is what was derived at the instant before: the rule derives now, if its right side is as the operator
+-- wants
 abbrev pub gate : Bits → ℕ → Bits
-gate P t r x = inInterval (r .interval) t && (not (lasting (r .operator)) || eqb t (r .interval .start) || P r x)
+gate P t r x = inInterval (r .interval) t && (not (lasting (r .operator)) || eqb t (r .interval .start)
+    || P r x)
 
 module _ (base : Base) where
   -- what the rules do derive at t
@@ -89,7 +91,8 @@ pub gate-first : (P : Bits) (t : ℕ) (r : Rule) (x : Access) → eqb t (r .inte
 gate-first P t r x e = rw (e, or-true (not (lasting (r .operator))))
 
 -- behind the rule's start there is an instant before, and the rule has it
-pub instant-before : (r : Rule) (t : ℕ) → inInterval (r .interval) t ≡ true → eqb t (r .interval .start) ≡ false →
+pub instant-before : (r : Rule) (t : ℕ) → inInterval (r .interval) t ≡ true →
+    eqb t (r .interval .start) ≡ false →
     (suc (t - 1) ≡ t) × (r .interval .start ≤ t - 1) × (inInterval (r .interval) (t - 1) ≡ true)
 instant-before r t i e =
     let d = false-eq t (r .interval .start) e in
@@ -121,7 +124,8 @@ module _ (base : Base) where
     abbrev was : Bool
     was = not (lasting (r .operator)) || eqb t (r .interval .start) || P r x
 
-    -- behind the rule's start the table P says what the operator allowed at the instant before, if it looks back
+    -- behind the rule's start the table P says what the operator allowed at the instant before, if it looks
+    -- back
     looked : inInterval (r .interval) t ≡ true → eqb t (r .interval .start) ≡ false → (u : ℕ) → suc u ≡ t →
         not (lasting (r .operator)) || allowed u ≡ was
     looked i e u q =

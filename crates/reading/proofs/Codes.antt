@@ -24,7 +24,8 @@ module _ {A : Type 0} (f : ℕ → A) where
   abbrev pub meaning : List (List ℕ × ℕ) → List (List ℕ × A)
   meaning ws = map (λ (w : List ℕ × ℕ). (w .0, f (w .1))) ws
 
-  pub one-of-codes : (ws : List (List ℕ × ℕ)) (s : List ℕ) → allb (λ (w : List ℕ × ℕ). not (eqb (w .1) 0)) ws ≡ true →
+  pub one-of-codes : (ws : List (List ℕ × ℕ)) (s : List ℕ) →
+      allb (λ (w : List ℕ × ℕ). not (eqb (w .1) 0)) ws ≡ true →
       oneOf (meaning ws) s ≡ decoded (codeOf ws s)
   one-of-codes [] s e = refl
   one-of-codes (w ∷ ws) s e =

@@ -1,4 +1,5 @@
--- The fields from a place on: the first one, what is read of it, and readers one after the other. Assumes nothing.
+-- The fields from a place on: the first one, what is read of it, and readers one after the other. Assumes
+-- nothing.
 use mathlib.Core.Path.{_≡_, refl, sym, ap, _∙_}
 use Prim.Native.Nat.{ℕ, suc, _+_, _-_, _≤_, _<_}
 use native.Mathlib.Numerals.{add-one}
@@ -9,7 +10,8 @@ use mathlib.Core.Option.{Option, none, some, Option·some-ne-none}
 use lib.Dec.{leb, eqb}
 use lib.ListN.{length, take, drop, getD, length-drop}
 use lib.Seq.{drop-cons, drop-drop}
-use Rattle.foundation.specs.Tests.{cases, pick, le-true, le-false, true-le, false-le, ne-false, true-eq, false-eq}
+use Rattle.foundation.specs.Tests.{cases, pick, le-true, le-false, true-le, false-le, ne-false, true-eq}
+use Rattle.foundation.specs.Tests.{false-eq}
 use Rattle.model.specs.Text.{space, split, extend, field, read, whole, Line, orUnreadable}
 use Rattle.reading.specs.Fields.{fieldsLeft, fieldLength, part, told, reading, Reads, Bounded}
 
@@ -28,7 +30,8 @@ left-gone s at h = rw (le-false at (length s) h)
 left-drop : (s : List ℕ) (at k : ℕ) → at ≤ length s → fieldsLeft (drop at s) k ≡ fieldsLeft s (at + k)
 left-drop s at k h = cases (leb (at + k) (length s))
     (λ e. let l = true-le (at + k) (length s) e in
-    left-here (drop at s) k (rw length-drop (omega arith)) ∙ rw (drop-drop k at s) (sym (left-here s (at + k) l)))
+    left-here (drop at s) k (rw length-drop (omega arith))
+    ∙ rw (drop-drop k at s) (sym (left-here s (at + k) l)))
     (λ e. let l = false-le (at + k) (length s) e in
     left-gone (drop at s) k (rw length-drop (omega arith)) ∙ sym (left-gone s (at + k) l))
 
@@ -61,7 +64,8 @@ pub length-more : (s : List ℕ) (i : ℕ) → i < length s → eqb (getD s i 0)
     fieldLength (drop i s) ≡ suc (fieldLength (drop (i + 1) s))
 length-more s i h e = rw (add-one, drop-cons s i 0 h, e)
 
-pub length-end : (s : List ℕ) (i : ℕ) → i < length s → eqb (getD s i 0) space ≡ true → fieldLength (drop i s) ≡ 0
+pub length-end : (s : List ℕ) (i : ℕ) → i < length s → eqb (getD s i 0) space ≡ true →
+    fieldLength (drop i s) ≡ 0
 length-end s i h e = rw (drop-cons s i 0 h, e)
 
 -- ---- what is read
@@ -80,20 +84,25 @@ field-is : {A : Type 0} (r : List ℕ → Option A) (s : List ℕ) (at from to :
     (next : ℕ) → Bounded s at from to → r [] ≡ none → r (part s from to) ≡ told known a →
     next ≡ pick known (to + 1) (length s + 2) → field r (fieldsLeft s at) ≡ reading s a next
 field-is r s at from to true a next b z e n = cases (leb at (length s))
-    (λ h. rw (b .here (true-le at (length s) h), e, field, n) (sym (reads-on s a (to + 1) (omega (arith, b .high)))))
+    (λ h. rw (b .here (true-le at (length s) h), e, field, n)
+    (sym (reads-on s a (to + 1) (omega (arith, b .high)))))
     (λ h. let same = b .gone (false-le at (length s) h) in
     let none-left : to - from ≡ 0 = omega arith in
     let empty : part s from to ≡ [] = rw none-left in
     absurd (Option·some-ne-none a (sym e ∙ ap r empty ∙ z)))
 field-is r s at from to false a next b z e n = rw n (cases (leb at (length s))
-    (λ h. rw (b .here (true-le at (length s) h), e, field) (sym (reads-none s a (length s + 2) (omega arith))))
+    (λ h. rw (b .here (true-le at (length s) h), e, field)
+    (sym (reads-none s a (length s + 2) (omega arith))))
     (λ h. rw (left-gone s at (false-le at (length s) h)) (sym (reads-none s a (length s + 2) (omega arith)))))
 
 -- one field, read by its bytes
 pub field-read : {A : Type 0} (r : List ℕ → Option A) (s : List ℕ) (at from to : ℕ) (known : Bool) (a : A)
     (next : ℕ) → Bounded s at from to → r [] ≡ none → r (part s from to) ≡ told known a →
     next ≡ pick known (to + 1) (length s + 2) → Reads s (field r (fieldsLeft s at)) a next
-field-read r s at from to known a next b z e n = record { says = field-is r s at from to known a next b z e n }
+field-read r s at from to known a next b z e n = record {
+  says =
+      field-is r s at from to known a next b z e n;
+}
 
 -- one reader after the other, where the second can read nothing from no field
 pub goes-on : {A B : Type 0} {got : Option (A × List (List ℕ))}
@@ -116,12 +125,15 @@ pub read-last : {A B : Type 0} {got : Option (A × List (List ℕ))} (f : A → 
     Reads s got a n → Reads s (elim got [ none ↦ none | some r ↦ some (f (r .0), r .1) ]) (f a) n
 read-last f {s} {a} {n} e = record {
   says = cases (leb n (length s + 1))
-      (λ h. let l = true-le n (length s + 1) h in rw (e .says ∙ reads-on s a n l) (sym (reads-on s (f a) n l)))
-      (λ h. let l = false-le n (length s + 1) h in rw (e .says ∙ reads-none s a n l) (sym (reads-none s (f a) n l)));
+      (λ h. let l = true-le n (length s + 1) h in rw (e .says ∙ reads-on s a n l)
+      (sym (reads-on s (f a) n l)))
+      (λ h. let l = false-le n (length s + 1) h in
+      rw (e .says ∙ reads-none s a n l) (sym (reads-none s (f a) n l)));
 }
 
 -- no field is left exactly behind the last one
-pub whole-reading : {A : Type 0} (s : List ℕ) (a : A) (n : ℕ) → whole (reading s a n) ≡ told (eqb n (length s + 1)) a
+pub whole-reading : {A : Type 0} (s : List ℕ) (a : A) (n : ℕ) →
+    whole (reading s a n) ≡ told (eqb n (length s + 1)) a
 whole-reading s a n = cases (leb n (length s))
     (λ h. let l = true-le n (length s) h in
     let more = ne-false n (length s + 1) (λ e. omega arith) in

@@ -1,4 +1,5 @@
--- `Laws` has the laws of the fields from a place on, `Numbers` those of digits, and `Codes` those of fixed words.
+-- `Laws` has the laws of the fields from a place on, `Numbers` those of digits, and `Codes` those of fixed
+-- words.
 pub mod Codes
 pub mod Laws
 pub mod Numbers

@@ -9,8 +9,8 @@ use lib.ListN.{length, take, drop}
 use Rattle.foundation.specs.Tests.{pick}
 use Rattle.model.specs.Text.{space, split}
 
--- A place is where the next field starts. Behind the last field it is one more than the length; it is more than that
--- where a field could not be read, and nothing can be read from there.
+-- A place is where the next field starts. Behind the last field it is one more than the length; it is more
+-- than that where a field could not be read, and nothing can be read from there.
 unfoldable pub fieldsLeft : List ℕ → ℕ → List (List ℕ)
 fieldsLeft s at = let parts = split space (drop at s) in pick (leb at (length s)) parts []
 
@@ -32,11 +32,12 @@ unfoldable pub reading : {A : Type 0} → List ℕ → A → ℕ → Option (A �
 reading s a next = told (leb next (length s + 1)) (a, fieldsLeft s next)
 
 -- what a reader got of the fields at a place: this value and this next place
-pub record Reads {A : Type 0} (s : List ℕ) (got : Option (A × List (List ℕ))) (a : A) (next : ℕ) : Type 0 where
+pub record Reads {A : Type 0} (s : List ℕ) (got : Option (A × List (List ℕ))) (a : A)
+    (next : ℕ) : Type 0 where
   pub says : got ≡ reading s a next
 
--- a field starts at one index and ends at another: the first of those from the place on, or an empty one if none is
--- left
+-- a field starts at one index and ends at another: the first of those from the place on, or an empty one if
+-- none is left
 pub record Bounded (s : List ℕ) (at from to : ℕ) : Type 0 where
   pub low : from ≤ to
   pub high : to ≤ length s

@@ -1,6 +1,7 @@
-// The fields of a line, each read at a place. What is read comes with the next place: behind the last field that is
-// one more than the length, and where a field could not be read one more again, from where nothing can be read. So a
-// line is read field by field with no test, and whether all of it could be read shows at its last place.
+// The fields of a line, each read at a place. What is read comes with the next place: behind the last field
+// that is one more than the length, and where a field could not be read one more again, from where nothing
+// can be read. So a line is read field by field with no test, and whether all of it could be read shows at
+// its last place.
 ghost use mathlib.Core.Path.{_≡_};
 ghost use Prim.Native.Nat.{_≤_, _<_, _+_, _-_};
 ghost use lib.ListN.{length, drop};
@@ -96,7 +97,8 @@ fn behind(s: &[u8], to: usize, known: bool) -> usize
 // The number at a place.
 pub fn number_at(s: &[u8], at: usize) -> NumberAt
     requires { ⌜ length (now s) ≤ 96 ⌝ }
-    ensures { λ r. ⌜ Reads (now (s .entry)) (field number (fieldsLeft (now (s .entry)) at)) (r .value) (r .next) ⌝ }
+    ensures { λ r. ⌜ Reads (now (s .entry)) (field number (fieldsLeft (now (s .entry)) at)) (r .value)
+        (r .next) ⌝ }
 {
     let f = field_at(s, at);
     let from = f.from;
@@ -111,7 +113,8 @@ pub fn number_at(s: &[u8], at: usize) -> NumberAt
 // The instant at a place.
 pub fn instant_at(s: &[u8], at: usize) -> NumberAt
     requires { ⌜ length (now s) ≤ 96 ⌝ }
-    ensures { λ r. ⌜ Reads (now (s .entry)) (field instant (fieldsLeft (now (s .entry)) at)) (r .value) (r .next) ⌝ }
+    ensures { λ r. ⌜ Reads (now (s .entry)) (field instant (fieldsLeft (now (s .entry)) at)) (r .value)
+        (r .next) ⌝ }
 {
     let f = field_at(s, at);
     let from = f.from;
@@ -126,7 +129,8 @@ pub fn instant_at(s: &[u8], at: usize) -> NumberAt
 // The number or star at a place.
 pub fn term_at(s: &[u8], at: usize) -> TermAt
     requires { ⌜ length (now s) ≤ 96 ⌝ }
-    ensures { λ r. ⌜ Reads (now (s .entry)) (field term (fieldsLeft (now (s .entry)) at)) (r .value) (r .next) ⌝ }
+    ensures { λ r. ⌜ Reads (now (s .entry)) (field term (fieldsLeft (now (s .entry)) at)) (r .value)
+        (r .next) ⌝ }
 {
     let f = field_at(s, at);
     let from = f.from;
@@ -142,7 +146,8 @@ pub fn term_at(s: &[u8], at: usize) -> TermAt
 // The grant option at a place.
 pub fn option_at(s: &[u8], at: usize) -> FlagAt
     requires { ⌜ length (now s) ≤ 96 ⌝ }
-    ensures { λ r. ⌜ Reads (now (s .entry)) (field option (fieldsLeft (now (s .entry)) at)) (r .value) (r .next) ⌝ }
+    ensures { λ r. ⌜ Reads (now (s .entry)) (field option (fieldsLeft (now (s .entry)) at)) (r .value)
+        (r .next) ⌝ }
 {
     let f = field_at(s, at);
     let from = f.from;
@@ -157,7 +162,8 @@ pub fn option_at(s: &[u8], at: usize) -> FlagAt
 // The sign at a place.
 fn sign_at(s: &[u8], at: usize) -> FlagAt
     requires { ⌜ length (now s) ≤ 96 ⌝ }
-    ensures { λ r. ⌜ Reads (now (s .entry)) (field sign (fieldsLeft (now (s .entry)) at)) (r .value) (r .next) ⌝ }
+    ensures { λ r. ⌜ Reads (now (s .entry)) (field sign (fieldsLeft (now (s .entry)) at)) (r .value)
+        (r .next) ⌝ }
 {
     let f = field_at(s, at);
     let from = f.from;
@@ -189,7 +195,8 @@ pub fn option_term_at(s: &[u8], at: usize) -> OptionAt
 // The operator at a place.
 pub fn operator_at(s: &[u8], at: usize) -> NumberAt
     requires { ⌜ length (now s) ≤ 96 ⌝ }
-    ensures { λ r. ⌜ Reads (now (s .entry)) (field operator (fieldsLeft (now (s .entry)) at)) (r .value) (r .next) ⌝ }
+    ensures { λ r. ⌜ Reads (now (s .entry)) (field operator (fieldsLeft (now (s .entry)) at)) (r .value)
+        (r .next) ⌝ }
 {
     let f = field_at(s, at);
     let from = f.from;

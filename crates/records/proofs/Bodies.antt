@@ -14,7 +14,8 @@ use Rattle.model.specs.SoundnessFacts.{sound-tests, sound-bytes}
 use Rattle.encoding.specs.declared.Counts.{Counts}
 use Rattle.encoding.specs.Format.{countsOf, administratorsAt, referrersAt, authorizationsAt, rulesAt}
 use Rattle.encoding.proofs.FormatFacts.{decoded-objects, decoded-administrators, decoded-referrers}
-use Rattle.encoding.proofs.FormatFacts.{decoded-authorizations, decoded-rules, decoded-lengths, decoded-counts}
+use Rattle.encoding.proofs.FormatFacts.{decoded-authorizations, decoded-rules, decoded-lengths}
+use Rattle.encoding.proofs.FormatFacts.{decoded-counts}
 use Rattle.encoding.proofs.Contents.{Within, within}
 use Rattle.records.specs.declared.Body.{Body}
 use Rattle.records.specs.declared.Body.the-variants.{Heading, Objects, Administrators, Referrers}

@@ -1,5 +1,5 @@
--- What `recordsAnswer` says to a caller: which numbers it refuses with (`records-refuses`), and that a list of
--- 10,240 numbers takes any body whole (`whole-body`).
+-- What `recordsAnswer` says to a caller: which numbers it refuses with (`records-refuses`), and that a list
+-- of 10,240 numbers takes any body whole (`whole-body`).
 use mathlib.Core.Path.{_≡_, refl, _∙_}
 use mathlib.Core.Logic.{_≢_, inl, inr}
 use mathlib.Core.Bool.{Bool, true, false, not}

@@ -14,7 +14,8 @@ use Rattle.model.specs.Base.{Base, controls}
 use Rattle.model.specs.Requests.{NEW, GRANT, DENY, REVOKEP, REVOKEN, ADDRULE, GRANTADM, REVOKEADM, GRANTREF}
 use Rattle.model.specs.Requests.{REVOKEREF, is, grants, newHead, newRule}
 use Rattle.model.specs.Means.{plainly}
-use Rattle.model.specs.Step.{namesObject, namesMode, namesInterval, ruleTermsIn, outOfRange, notSupported, isGap}
+use Rattle.model.specs.Step.{namesObject, namesMode, namesInterval, ruleTermsIn, outOfRange, notSupported}
+use Rattle.model.specs.Step.{isGap}
 use Rattle.model.specs.Soundness.{intervalIn, ruleIn}
 use Rattle.model.specs.FitsFacts.{RuleFits, rule-fits}
 use Rattle.model.specs.StepFacts.{in-range}
@@ -58,12 +59,14 @@ grant-in q r e =
     let t = in-range q r in
     record {
       object = upper 1 128 (q .object) (asked-passes (namesObject q) (between 1 128 (q .object))
-          (names-of (NEW ∷ GRANT ∷ DENY ∷ REVOKEP ∷ REVOKEN ∷ GRANTADM ∷ REVOKEADM ∷ GRANTREF ∷ REVOKEREF ∷ []) q e refl refl)
+          (names-of (NEW ∷ GRANT ∷ DENY ∷ REVOKEP ∷ REVOKEN ∷ GRANTADM ∷ REVOKEADM ∷ GRANTREF ∷ REVOKEREF
+          ∷ []) q e refl refl)
           (t _ (inr (inr (inr (inl refl))))));
       mode = upper 1 8 (q .mode) (asked-passes (namesMode q) (between 1 8 (q .mode))
           (names-of (GRANT ∷ DENY ∷ REVOKEP ∷ REVOKEN ∷ []) q e refl refl)
           (t _ (inr (inr (inr (inr (inr (inl refl))))))));
-      requester = upper 1 1023 (q .requester) (not-false (between 1 1023 (q .requester)) (t _ (inr (inr (inl refl)))));
+      requester = upper 1 1023 (q .requester) (not-false (between 1 1023 (q .requester))
+          (t _ (inr (inr (inl refl)))));
     }
 
 -- ADDRULE's rule, under the label 1, fits its bytes, and so does the number of its operator
@@ -109,7 +112,8 @@ pub in-control : (b : Base) (q : Request) → grants q ≡ true → controls b (
 in-control b q e f = rw (e, f)
 
 -- the gaps under the new authorization are what row 9 asks for
-pub uncovered-is : (b : Base) (q : Request) → grants q ≡ true → controls b (q .object) (q .requester) ≡ false →
+pub uncovered-is : (b : Base) (q : Request) → grants q ≡ true →
+    controls b (q .object) (q .requester) ≡ false →
     (r : Gap) → GapIs (b .authorizations) (newHead (suc (b .last)) q) (q .interval) r → UncoveredIs b q r
 uncovered-is b q e f (At t) g =
     ((λ k. e k && not (f k) && not (g .some k)), (λ k. g .within k && not (g .bare k)))

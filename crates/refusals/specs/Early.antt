@@ -1,5 +1,6 @@
--- Rows 3 to 12 of the table of refusals, and what the code answers of them. Row 13 is asked of the effect. The code
--- asks them in four parts: those before row 9, row 9, which gives an instant too, those behind it, and row 12.
+-- Rows 3 to 12 of the table of refusals, and what the code answers of them. Row 13 is asked of the effect.
+-- The code asks them in four parts: those before row 9, row 9, which gives an instant too, those behind it,
+-- and row 12.
 use mathlib.Core.Path.{_≡_, refl, sym, _∙_}
 use mathlib.Core.Logic.{_≢_, inl}
 use Prim.Native.Nat.{ℕ}
@@ -13,7 +14,8 @@ use Rattle.model.specs.declared.Request.{Request}
 use Rattle.model.specs.Base.{Base}
 use Rattle.model.specs.Means.{plainly}
 use Rattle.model.specs.Step.{Row, row, firstNumber, outOfRange, behindClock, badInterval, noObject, noLabel}
-use Rattle.model.specs.Step.{notPermitted, notSupported, isGap, alreadyThere, notHeld, notStratified, full, refusal}
+use Rattle.model.specs.Step.{notPermitted, notSupported, isGap, alreadyThere, notHeld, notStratified, full}
+use Rattle.model.specs.Step.{refusal}
 use Rattle.model.specs.StepFacts.{Numbered, numbered, first-none, first-append, first-all}
 use Rattle.refusals.specs.declared.Early.{Early}
 use Rattle.refusals.specs.declared.Early.the-variants.{Passed, Number, Uncovered}
@@ -71,7 +73,8 @@ unfolding orElse
 chain-after [] up n = cases (eqb n 0) (λ z. rw z (true-eq n 0 z)) (λ z. rw z)
 chain-after (r ∷ rest) up n = cases (eqb n 0)
     (λ z. cases (r .given)
-    (λ e. rw (z, e) (chain-after rest (up .1) (r .number) ∙ rw (ne-false (r .number) 0 (λ y. omega (arith, up .0)))))
+    (λ e. rw (z, e) (chain-after rest (up .1) (r .number)
+    ∙ rw (ne-false (r .number) 0 (λ y. omega (arith, up .0)))))
     (λ e. rw (z, e) (chain-after rest (up .1) n ∙ rw z)))
     (λ z. rw z (chain-after rest (up .1) n ∙ rw z))
 
@@ -124,7 +127,8 @@ module _ (b : Base) (q : Request) where
   pub before-stands : (n : ℕ) → n ≡ firstNumber (rowsBeforeCover b q) → n ≢ 0 →
       saysOf b q (firstNumber (rowsBeforeStrata b q)) (Number n)
   before-stands n e f = (
-    stands (rowsBeforeCover b q) (row 9 (notSupported plainly b q) ∷ rowsBehindCover b q) before-numbered n (sym e) f,
+    stands (rowsBeforeCover b q) (row 9 (notSupported plainly b q) ∷ rowsBehindCover b q) before-numbered n
+        (sym e) f,
     f,
     (λ z. not-nine (rowsBeforeCover b q) refl (sym e ∙ z)),
   )
@@ -136,7 +140,8 @@ module _ (b : Base) (q : Request) where
       ∙ rw e
 
   pub behind-stands : (n : ℕ) → firstNumber (rowsBeforeCover b q) ≡ 0 → notSupported plainly b q ≡ false →
-      n ≡ firstNumber (rowsBehindCover b q) → n ≢ 0 → saysOf b q (firstNumber (rowsBeforeStrata b q)) (Number n)
+      n ≡ firstNumber (rowsBehindCover b q) → n ≢ 0 →
+      saysOf b q (firstNumber (rowsBeforeStrata b q)) (Number n)
   behind-stands n z g e f = (
     cover-decides false z g ∙ sym e,
     f,
@@ -144,7 +149,8 @@ module _ (b : Base) (q : Request) where
   )
 
   -- a row that applies before row 12 stands, and where none does, row 12 decides
-  pub early-stands : (n : ℕ) → n ≢ 0 → firstNumber (rowsBeforeStrata b q) ≡ n → firstNumber (earlyRows b q) ≡ n
+  pub early-stands : (n : ℕ) → n ≢ 0 → firstNumber (rowsBeforeStrata b q) ≡ n →
+      firstNumber (earlyRows b q) ≡ n
   early-stands n f e = stands (rowsBeforeStrata b q) (row 12 (notStratified b q) ∷ []) strata-numbered n e f
 
   pub early-last : (x : Bool) → firstNumber (rowsBeforeStrata b q) ≡ 0 → notStratified b q ≡ x →
@@ -153,5 +159,6 @@ module _ (b : Base) (q : Request) where
 
   -- row 13 behind all of these
   pub refusal-early : refusal plainly b q
-      ≡ pick (eqb (firstNumber (earlyRows b q)) 0) (pick (full plainly b q) 13 0) (firstNumber (earlyRows b q))
+      ≡ pick (eqb (firstNumber (earlyRows b q)) 0) (pick (full plainly b q) 13 0)
+      (firstNumber (earlyRows b q))
   refusal-early = first-append (earlyRows b q) (row 13 (full plainly b q) ∷ []) early-numbered

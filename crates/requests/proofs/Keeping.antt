@@ -1,5 +1,5 @@
--- Kinds by their numbers. A request that the table lets pass is of one of twelve, and one that withdraws no instants
--- of one of eight.
+-- Kinds by their numbers. A request that the table lets pass is of one of twelve, and one that withdraws no
+-- instants of one of eight.
 use mathlib.Core.Path.{_≡_, refl}
 use mathlib.Core.Logic.{_⊎_, inl, ⊎-elim}
 use Prim.Native.Nat.{ℕ, zero, suc, _+_, _≤_, _<_}

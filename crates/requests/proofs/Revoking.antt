@@ -240,12 +240,14 @@ module _ (s : List ℕ) (q : Request) (p : Passed s q) (k : is q (REVOKEADM ∷ 
       ≡ encode (withAdministrators (without (q .object) (q .subject) (decode s .administrators)) (decode s)))
     where
       pub removed-holds :
-          Holds (withAdministrators (without (q .object) (q .subject) (decode s .administrators)) (decode s)) s₁
+          Holds (withAdministrators (without (q .object) (q .subject) (decode s .administrators)) (decode s))
+          s₁
       removed-holds =
           let W = written-sound s (p .sound) in
           let t : Privilege → Bool = λ x. not (isPrivilege (q .object) (q .subject) x) in
           holds (withAdministrators (without (q .object) (q .subject) (old .administrators)) old) s₁
-          (fits-privileges Administrators (without (q .object) (q .subject) (old .administrators)) old (W .fits)
+          (fits-privileges Administrators (without (q .object) (q .subject) (old .administrators)) old
+          (W .fits)
           (omega (arith, kept-length t (old .administrators), W .fits .counts .administrators))
           (λ x m. W .fits .administrators x (kept t (old .administrators) x m .0))) e₁
 

@@ -1,6 +1,6 @@
--- What a request does that rows 3 to 12 let pass: row 13 is asked of its effect, and either refuses it or leaves the
--- effect's bytes (`Carried`). `passed-answered`, `number-answered`, `uncovered-answered` and `unsound-answered` make
--- the library's answer of it.
+-- What a request does that rows 3 to 12 let pass: row 13 is asked of its effect, and either refuses it or
+-- leaves the effect's bytes (`Carried`). `passed-answered`, `number-answered`, `uncovered-answered` and
+-- `unsound-answered` make the library's answer of it.
 use mathlib.Core.Path.{_≡_, refl, sym, ap, _∙_}
 use mathlib.Core.Logic.{_≢_}
 use mathlib.Core.Bool.{Bool, true, false, not}
@@ -31,7 +31,8 @@ pub record Passed (s : List ℕ) (q : Request) : Type 0 where
 
 -- the reply r, and the bytes s′ that are left in the place of s
 pub record Carried (s : List ℕ) (q : Request) (r : Reply) (s′ : List ℕ) : Type 0 where
-  pub reply : r ≡ pick (full plainly (decode s) q) (Refused 13) (accepting (decode s) q (effect plainly (decode s) q))
+  pub reply : r ≡ pick (full plainly (decode s) q) (Refused 13)
+      (accepting (decode s) q (effect plainly (decode s) q))
   pub bytes : s′ ≡ pick (full plainly (decode s) q) s (encode (effect plainly (decode s) q))
 
 -- an answer that the library gives, and a reply that shows as its reply and fits the base
@@ -47,7 +48,8 @@ answered-by s q r s′ e f = record {
 
 module _ (s : List ℕ) (q : Request) (e : soundBytes s ≡ true) where
   accepts : refusal plainly (decode s) q ≡ 0 → request s q
-      ≡ answering (accepting (decode s) q (effect plainly (decode s) q)) (encode (effect plainly (decode s) q))
+      ≡ answering (accepting (decode s) q (effect plainly (decode s) q))
+      (encode (effect plainly (decode s) q))
   accepts z =
       let w = sound-bytes s e in
       ap (λ (x : List ℕ). request x q) (sym (w .0)) ∙ request-accepted (decode s) q (w .1) z
@@ -60,7 +62,8 @@ module _ (s : List ℕ) (q : Request) (e : soundBytes s ≡ true) where
       ∙ (λ i. answering (Refused (h i)) (w .0 i))
 
   -- refused by one of rows 3 to 12
-  early-refuses : (n : ℕ) → firstNumber (earlyRows (decode s) q) ≡ n → n ≢ 0 → request s q ≡ answering (Refused n) s
+  early-refuses : (n : ℕ) → firstNumber (earlyRows (decode s) q) ≡ n → n ≢ 0 →
+      request s q ≡ answering (Refused n) s
   early-refuses n h z = refuses n
       (refusal-early (decode s) q
       ∙ ap (λ (m : ℕ). pick (eqb m 0) (pick (full plainly (decode s) q) 13 0) m) h
@@ -68,10 +71,12 @@ module _ (s : List ℕ) (q : Request) (e : soundBytes s ≡ true) where
       z
 
   pub number-answered : (n : ℕ) → earlyIs (decode s) q (Number n) → Answered s q (Refused n) s
-  number-answered n i = answered-by s q (Refused n) s (early-refuses n (i .0) (i .1)) (ap not (ne-false n 9 (i .2)))
+  number-answered n i = answered-by s q (Refused n) s (early-refuses n (i .0) (i .1))
+      (ap not (ne-false n 9 (i .2)))
 
   pub uncovered-answered : (t : ℕ) → earlyIs (decode s) q (Uncovered t) → Answered s q (Unsupported t) s
-  uncovered-answered t i = answered-by s q (Unsupported t) s (early-refuses 9 (i .0) (λ z. omega arith)) (i .1)
+  uncovered-answered t i = answered-by s q (Unsupported t) s (early-refuses 9 (i .0) (λ z. omega arith))
+      (i .1)
 
 -- ---- on bytes that are not
 
@@ -101,9 +106,11 @@ module _ (s : List ℕ) (q : Request) (p : Passed s q) where
       r ≡ pick x (Refused 13) (accepting (decode s) q (effect plainly (decode s) q)) →
       s′ ≡ pick x s (encode (effect plainly (decode s) q)) → Answered s q r s′
   carried-answered true f r s′ e h = rw (e, h)
-      (answered-by s q (Refused 13) s (refuses s q (p .sound) 13 (room-refusal true f) (λ z. omega arith)) refl)
+      (answered-by s q (Refused 13) s (refuses s q (p .sound) 13 (room-refusal true f) (λ z. omega arith))
+      refl)
   carried-answered false f r s′ e h = rw (e, h)
-      (answered-by s q (accepting (decode s) q (effect plainly (decode s) q)) (encode (effect plainly (decode s) q))
+      (answered-by s q (accepting (decode s) q (effect plainly (decode s) q))
+      (encode (effect plainly (decode s) q))
       (accepts s q (p .sound) (room-refusal false f)) refl)
 
   pub passed-answered : (r : Reply) (s′ : List ℕ) → Carried s q r s′ → Answered s q r s′

@@ -1,5 +1,5 @@
--- The bodies of a sound base as they are lent: what a question needs of them (`bodies`), and that its answers are those
--- of the base (`may-decoded`, `when-decoded`).
+-- The bodies of a sound base as they are lent: what a question needs of them (`bodies`), and that its answers
+-- are those of the base (`may-decoded`, `when-decoded`).
 use mathlib.Core.Path.{_≡_, refl, sym, ap, ap₂, _∙_, subst}
 use mathlib.Core.Logic.{inl, inr}
 use Prim.Native.Nat.{ℕ, _*_, _≤_}

@@ -1,5 +1,5 @@
--- The authorizations that matter to a question: those to a subject that counts that are for the access asked, or fit
--- the right side of a rule. MAY and WHEN are the same by these alone (`may-kept`, `when-kept`).
+-- The authorizations that matter to a question: those to a subject that counts that are for the access asked,
+-- or fit the right side of a rule. MAY and WHEN are the same by these alone (`may-kept`, `when-kept`).
 use mathlib.Core.Path.{_≡_, refl, sym, ap, ap₂, _∙_, subst}
 use Prim.Native.Nat.{ℕ, suc, _*_, _≤_, _<_}
 use native.Mathlib.Omega.{arith}
@@ -7,7 +7,8 @@ use mathlib.Core.Bool.{Bool, true, false, not, _&&_, _||_, Bool·beq}
 use mathlib.Core.List.{List, [], _∷_}
 use lib.Dec.{eqb}
 use lib.ListN.{length}
-use Rattle.foundation.specs.Tests.{le-true, true-eq, and-true, and-intro, and-four, or-intro-left, or-true-right}
+use Rattle.foundation.specs.Tests.{le-true, true-eq, and-true, and-intro, and-four, or-intro-left}
+use Rattle.foundation.specs.Tests.{or-true-right}
 use Rattle.foundation.specs.Lists.{anyb, keepIf, kept, Mem, mem-any}
 use Rattle.foundation.specs.Intervals.{always, maximal}
 use Rattle.model.specs.declared.Head.{Head}
@@ -64,12 +65,14 @@ module _ (U : List ℕ) (base : Base) (inward : Inward base (counted U)) (x : Ac
   asked-matters false a e =
       let h = a .head in
       let d = fits (asked x true) h in
-      and-intro (among U (h .subject)) (isFor x h || anyb (fitsRight h) rules) (to-counted (asked x false) there a e)
+      and-intro (among U (h .subject)) (isFor x h || anyb (fitsRight h) rules)
+      (to-counted (asked x false) there a e)
       (or-intro-left (isFor x h) (anyb (fitsRight h) rules) (or-intro-left (fits (asked x false) h) d e))
   asked-matters true a e =
       let h = a .head in
       let g = fits (asked x false) h in
-      and-intro (among U (h .subject)) (isFor x h || anyb (fitsRight h) rules) (to-counted (asked x true) there a e)
+      and-intro (among U (h .subject)) (isFor x h || anyb (fitsRight h) rules)
+      (to-counted (asked x true) there a e)
       (or-intro-left (isFor x h) (anyb (fitsRight h) rules) (or-true-right g (fits (asked x true) h) e))
 
   right-matters : (r : Rule) (y : Access) → Node base (counted U) r y → (a : Authorization) →
@@ -110,7 +113,8 @@ module _ (U : List ℕ) (base : Base) (inward : Inward base (counted U)) (x : Ac
 -- ---- bodies
 
 -- the k authorizations of the body `kept` are those of xs that pass, of which there are na
-pub record Kept (keep : Authorization → Bool) (xs : List Authorization) (na k : ℕ) (kept : List ℕ) : Type 0 where
+pub record Kept (keep : Authorization → Bool) (xs : List Authorization) (na k : ℕ)
+    (kept : List ℕ) : Type 0 where
   pub few : k ≤ na
   pub those : authorizationsIn k kept ≡ keepIf keep xs
 
@@ -131,7 +135,8 @@ asked-counts U x a first some =
     (le-true (suc (indexOf (x .subject) U)) (length U) (omega (arith, first)))
     (and-true i m (and-true (i && m) (isObject (x .object)) a .0) .1)
 
-pub narrowed : (lines : List ℕ) (na : ℕ) (body : List ℕ) (n : ℕ) (x : Access) (k : ℕ) (kept U : List ℕ) (m : ℕ) →
+pub narrowed : (lines : List ℕ) (na : ℕ) (body : List ℕ) (n : ℕ) (x : Access) (k : ℕ) (kept U : List ℕ)
+    (m : ℕ) →
     Grounds lines na body n → accessIn x ≡ true → Gathered (x .subject) (rulesIn n body) m U →
     Kept (matters U (rulesIn n body) x) (authorizationsIn na lines) na k kept → na * 24 ≤ length kept →
     Narrowed lines na body n x k kept

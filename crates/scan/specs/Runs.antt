@@ -1,5 +1,5 @@
--- The maximal intervals where a test holds, written down from left to right: what is in the list when an instant is
--- reached (`Reached`), and when it has been asked there (`Asked`).
+-- The maximal intervals where a test holds, written down from left to right: what is in the list when an
+-- instant is reached (`Reached`), and when it has been asked there (`Asked`).
 use mathlib.Core.Path.{_≡_, refl, sym, ap, _∙_, subst}
 use Prim.Native.Nat.{ℕ, suc, _+_, _*_, _-_, _≤_, _<_}
 use native.Mathlib.Omega.{arith}
@@ -67,7 +67,8 @@ module _ (f : ℕ → Bool) (e : ℕ) where
     }
 
     -- an interval opens
-    pub opens : w .inside ≡ false → f t ≡ true → Asked t (record { count = w .count; inside = true; from = t }) list
+    pub opens : w .inside ≡ false → f t ≡ true → Asked t
+        (record { count = w .count; inside = true; from = t }) list
     opens o a =
         let l = r .listed in
         let p : pick (w .inside) (w .from) t ≡ t = ap (λ (b : Bool). pick b (w .from) t) o in
@@ -192,7 +193,8 @@ module _ (f : ℕ → Bool) (e : ℕ) where
         (w .count ≡ length (maximal 0 e f)) × (take (2 * w .count) list ≡ words (maximal 0 e f))
     complete-none o =
         complete (w .count) list
-        (subst (λ (k : ℕ). Listed (w .count) k list) (ap (λ (b : Bool). pick b (w .from) (suc e)) o) (r .listed))
+        (subst (λ (k : ℕ). Listed (w .count) k list) (ap (λ (b : Bool). pick b (w .from) (suc e)) o)
+        (r .listed))
 
 -- ---- one more pair in a list
 

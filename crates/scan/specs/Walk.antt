@@ -1,5 +1,5 @@
--- A walk from mark to mark over the bodies of a base: MAY's answer is read off the table (`read`), does not change before
--- the next mark (`steady`), and WHEN has no more intervals than fit (`most`).
+-- A walk from mark to mark over the bodies of a base: MAY's answer is read off the table (`read`), does not
+-- change before the next mark (`steady`), and WHEN has no more intervals than fit (`most`).
 use mathlib.Core.Path.{_≡_, refl, sym, ap, ap₂, _∙_, subst}
 use mathlib.Core.Logic.{inl, inr}
 use Prim.Native.Nat.{ℕ, zero, suc, _+_, _*_, _-_, _≤_, _<_}
@@ -9,7 +9,8 @@ use mathlib.Core.List.{List, [], _++_}
 use lib.Bits.{bitAnd}
 use lib.Dec.{leb, eqb}
 use lib.ListN.{length, take, getD}
-use Rattle.foundation.specs.Tests.{le-true, true-le, eq-true, ne-false, and-true, and-intro, or-true-right, or-false}
+use Rattle.foundation.specs.Tests.{le-true, true-le, eq-true, ne-false, and-true, and-intro, or-true-right}
+use Rattle.foundation.specs.Tests.{or-false}
 use Rattle.foundation.specs.Lists.{anyb}
 use Rattle.foundation.specs.declared.Interval.{Interval}
 use Rattle.foundation.specs.Closure.{iter}
@@ -22,7 +23,8 @@ use Rattle.model.specs.Ranges.{isSubject, isMode, isObject, lastInstant}
 use Rattle.model.specs.Base.{Base}
 use Rattle.model.specs.Encoding.{authorizationOf, ruleOf}
 use Rattle.model.specs.Support.{live}
-use Rattle.model.specs.Rules.{Pattern, Fact, fits, holdsBy, round, enough, derivedBelow, holds, asked, may, when}
+use Rattle.model.specs.Rules.{Pattern, Fact, fits, holdsBy, round, enough, derivedBelow, holds, asked, may}
+use Rattle.model.specs.Rules.{when}
 use Rattle.model.specs.Rules.{standsFor, derivesFor, mayWith}
 use Rattle.model.specs.Answers.{accessIn, words}
 use Rattle.model.specs.Means.{marks}
@@ -131,7 +133,8 @@ module _ (lines : List ℕ) (na : ℕ) (body : List ℕ) (n : ℕ) where
   abbrev pub whenIn : Access → List Interval
   whenIn x = when (baseIn lines na body n) x
 
-  -- the answer r is read off a table that says what the rules derive at t, whose first subject is that of the access
+  -- the answer r is read off a table that says what the rules derive at t, whose first subject is that of the
+  -- access
   abbrev pub ReadOff : List ℕ → Access → ℕ → Bool → Type 0
   ReadOff T x t r = (U L S F M P K : List ℕ) (l g top : ℕ) → Prepared lines na body n U L S F M P K l g top →
       At lines na body n U t T → indexOf (x .subject) U ≡ 0 → r ≡ mayIn x t
@@ -146,7 +149,8 @@ module _ (lines : List ℕ) (na : ℕ) (body : List ℕ) (n : ℕ) where
       let there : counted U x ≡ true = and-intro (among U (x .subject)) (isMode (x .mode))
       (le-true (suc (indexOf (x .subject) U)) (length U) (omega (arith, first, ready .listed .some))) moded in
       let place : placeOf U x ≡ x .mode - 1 = omega (arith, first) in
-      e ∙ ap (λ (p : ℕ). let word = getD T p 0 in heldBy word x t false && not (heldBy word x t true)) (sym place)
+      e ∙ ap (λ (p : ℕ). let word = getD T p 0 in heldBy word x t false && not (heldBy word x t true))
+      (sym place)
       ∙ read-off lines na body n U L S F M P K l g top ready t T at x there
 
   -- between marks the answer does not change
@@ -172,7 +176,13 @@ module _ (lines : List ℕ) (na : ℕ) (body : List ℕ) (n : ℕ) where
       × (take (2 * r) list ≡ words (maximal 0 lastInstant (λ t. mayIn x t))) → length list ≡ 2200 →
       Listing (whenIn x) r list
   unfolding when
-  listing x r list h k e z = record { count = e .0; few = omega (arith, e .0, most x h k); there = e .1; size = z }
+  listing x r list h k e z = record {
+    count = e .0;
+    few = omega (arith, e .0, most x h k);
+    there =
+        e .1;
+    size = z;
+  }
 
   -- the next mark is behind t, and none is behind 2^32
   pub ahead : (t m : ℕ) → m ≡ next t (marks (authorizationsIn na lines) (rulesIn n body)) 4294967296 →

@@ -12,7 +12,8 @@ use crate::Track;
 // Puts an interval behind the first c of the list.
 fn put_run(list: &mut [u32; 2200], c: usize, from: u32, to: u32)
     requires { ⌜ (c < 1100) × (length (now list) ≡ 2200) ⌝ }
-    ensures { λ _. ⌜ (take (2 * suc c) (now (list .exit)) ≡ take (2 * c) (now (list .entry)) ++ (from ∷ to ∷ []))
+    ensures { λ _. ⌜ (take (2 * suc c) (now (list .exit)) ≡ take (2 * c) (now (list .entry))
+        ++ (from ∷ to ∷ []))
         × (length (now (list .exit)) ≡ 2200) ⌝ }
 {
     list[2 * c] = from;

@@ -35,7 +35,8 @@ fn is_held(
     negative: bool,
     t: u32,
 ) -> bool
-    requires { ⌜ (na * 24 ≤ length (now lines)) × (n * 28 ≤ length (now body)) × (n ≤ 64) × (x .object < 65536) ⌝ }
+    requires { ⌜ (na * 24 ≤ length (now lines)) × (n * 28 ≤ length (now body)) × (n ≤ 64)
+        × (x .object < 65536) ⌝ }
     ensures { λ r. ⌜ r ≡ heldBy (now (lines .entry)) na (now (body .entry)) n word x t negative ⌝ }
 {
     if word & derivers(body, n, x.object as u16, negative) != 0 {
@@ -54,7 +55,8 @@ fn verdict(
     x: Access,
     t: u32,
 ) -> bool
-    requires { ⌜ (na * 24 ≤ length (now lines)) × (n * 28 ≤ length (now body)) × (n ≤ 64) × (accessIn x ≡ true) ⌝ }
+    requires { ⌜ (na * 24 ≤ length (now lines)) × (n * 28 ≤ length (now body)) × (n ≤ 64)
+        × (accessIn x ≡ true) ⌝ }
     ensures { λ r. ⌜ ReadOff (now (lines .entry)) na (now (body .entry)) n (now (table .entry)) x t r ⌝ }
 {
     let word = table[x.mode as usize - 1];
@@ -156,10 +158,12 @@ fn scan(
     x: Access,
     runs: &mut [u32; 2200],
 ) -> usize
-    requires { ⌜ Prepared (now lines) na (now body) n (take (o .subjects) (now u)) (now levels) (now sides) (now feed)
+    requires { ⌜ Prepared (now lines) na (now body) n (take (o .subjects) (now u)) (now levels) (now sides)
+        (now feed)
         (now masks) (now spots) (now looks) (o .lead) (o .negating) (o .top) ⌝ }
     requires { ⌜ (length (take (o .subjects) (now u)) ≡ o .subjects)
-        × (indexOf (x .subject) (take (o .subjects) (now u)) ≡ 0) × (accessIn x ≡ true) × (length (now runs) ≡ 2200) ⌝ }
+        × (indexOf (x .subject) (take (o .subjects) (now u)) ≡ 0) × (accessIn x ≡ true)
+        × (length (now runs) ≡ 2200) ⌝ }
     ensures { λ r. ⌜ Listing (whenIn (now (lines .entry)) na (now (body .entry)) n x) r (now (runs .exit)) ⌝ }
 {
     let mut before = [0u64; 520];
@@ -201,7 +205,8 @@ fn scan(
     finish(runs, w, 4294967295)
 }
 
-// Writes the maximal intervals where MAY says yes, by the bodies of the authorizations and rules; how many they are.
+// Writes the maximal intervals where MAY says yes, by the bodies of the authorizations and rules; how many
+// they are.
 fn runs_in(
     lines: &[u8],
     na: usize,

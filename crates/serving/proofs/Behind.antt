@@ -12,7 +12,8 @@ use Rattle.serving.specs.Turns.{Kept}
 use Rattle.serving.specs.Stream.{Feeds, feeds-none, feeds-then}
 use Rattle.serving.specs.Steps.{Steps}
 
--- what the borrow checker says of a buffer whose end came back: it is the end that was lent, behind the same front
+-- what the borrow checker says of a buffer whose end came back: it is the end that was lent, behind the same
+-- front
 pub end-back : (out ys : List ℕ) (n : ℕ) → n ≤ length out →
     take n out ++ (ys ++ drop (length out - n) (drop n out)) ≡ take n out ++ ys
 end-back out ys n h =

@@ -53,7 +53,8 @@ pub record Walks (len : ℕ) (line₀ piece : List ℕ) (from n i : ℕ) (line :
   pub kept : (pending : List ℕ) → Kept pending len line₀ →
       (p : List ℕ) × Kept p n line × (p ++ before (drop i piece) ≡ pending ++ before (drop from piece))
 
-pub walk-start : (len : ℕ) (line piece : List ℕ) (from : ℕ) → from ≤ length piece → len ≤ 97 → length line ≡ 97 →
+pub walk-start : (len : ℕ) (line piece : List ℕ) (from : ℕ) → from ≤ length piece → len ≤ 97 →
+    length line ≡ 97 →
     Walks len line piece from len from line
 walk-start len line piece from h f z = record {
   low = omega arith;
@@ -69,7 +70,8 @@ module _ {len : ℕ} {line₀ piece : List ℕ} {from n i : ℕ} {line : List �
     (w : Walks len line₀ piece from n i line) where
   -- a byte that is no newline is one more of the line
   pub walk-byte : (n′ : ℕ) (line′ : List ℕ) → i < length piece → eqb (getD piece i 0) newline ≡ false →
-      ((p : List ℕ) → Kept p n line → Kept (p ++ (getD piece i 0 ∷ [])) n′ line′) → n′ ≤ 97 → length line′ ≡ 97 →
+      ((p : List ℕ) → Kept p n line → Kept (p ++ (getD piece i 0 ∷ [])) n′ line′) → n′ ≤ 97 →
+      length line′ ≡ 97 →
       Walks len line₀ piece from n′ (i + 1) line′
   walk-byte n′ line′ h e more f z =
       let c = getD piece i 0 in

@@ -1,5 +1,5 @@
--- The line that a piece of input ends or goes on with, and what is kept of it: `Took` is what one walk through a
--- piece does. What is kept is read as the whole line would be: `kept-reads`.
+-- The line that a piece of input ends or goes on with, and what is kept of it: `Took` is what one walk
+-- through a piece does. What is kept is read as the whole line would be: `kept-reads`.
 use mathlib.Core.Path.{_≡_, refl, sym, ap, _∙_}
 use Prim.Native.Nat.{ℕ, _≤_, _<_}
 use native.Mathlib.Omega.{arith}
@@ -31,8 +31,8 @@ abbrev pub behind : List ℕ → List ℕ
 behind [] = []
 behind (c ∷ s) = let r = behind s in pick (eqb c newline) s r
 
--- a piece was taken from `from` on up to the end of a line, or to its own: where it has come to, and what is kept of
--- that line
+-- a piece was taken from `from` on up to the end of a line, or to its own: where it has come to, and what is
+-- kept of that line
 pub record Took (pending piece : List ℕ) (from : ℕ) (r : Reached) (line′ : List ℕ) : Type 0 where
   pub ended : r .ended ≡ ends (drop from piece)
   pub rest : drop (r .at) piece ≡ behind (drop from piece)
@@ -94,7 +94,8 @@ pub kept-reads : {pending : List ℕ} {len : ℕ} {line : List ℕ} → Kept pen
 kept-reads {pending} k = ap readLine (k .front) ∙ front-reads pending
 
 -- so that the answer to what is kept is the answer to the line
-pub kept-turned : {pending : List ℕ} {len : ℕ} {line s : List ℕ} {n : ℕ} {out s′ : List ℕ} → Kept pending len line →
+pub kept-turned : {pending : List ℕ} {len : ℕ} {line s : List ℕ} {n : ℕ} {out s′ : List ℕ} →
+    Kept pending len line →
     Turned s (take len line) n out s′ → Turned s pending n out s′
 kept-turned {s = s} k t =
     let e = ap (byteTurn s) (kept-reads k) in

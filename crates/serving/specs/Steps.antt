@@ -1,5 +1,5 @@
--- One step through a piece of input, as the program takes it: what is printed, and what is left of the piece, are
--- what `feed` says.
+-- One step through a piece of input, as the program takes it: what is printed, and what is left of the piece,
+-- are what `feed` says.
 use mathlib.Core.Path.{_≡_, refl, sym, ap, _∙_, subst}
 use Prim.Native.Nat.{ℕ, _≤_, _<_}
 use native.Mathlib.Omega.{arith}
@@ -12,11 +12,12 @@ use Rattle.model.specs.Text.{newline}
 use Rattle.serving.specs.declared.pieces.Reached.{Reached}
 use Rattle.serving.specs.declared.steps.Stepped.{Stepped}
 use Rattle.serving.specs.Turns.{Turned, Kept}
-use Rattle.serving.specs.Pieces.{Took, before, before-all, before-behind, before-none, kept-turned, kept-none}
+use Rattle.serving.specs.Pieces.{Took, before, before-all, before-behind, before-none, kept-turned}
+use Rattle.serving.specs.Pieces.{kept-none}
 use Rattle.serving.specs.Stream.{finish, finishBytes, Feeds, feed-line, feed-goes-on}
 
--- a step from the place `from` of a piece, on the bytes s, behind the bytes of a line: `left` are those of the line
--- that is not ended yet.
+-- a step from the place `from` of a piece, on the bytes s, behind the bytes of a line: `left` are those of
+-- the line that is not ended yet.
 pub record Steps (s pending piece : List ℕ) (from : ℕ) (r : Stepped) (s′ line′ out : List ℕ) : Type 0 where
   pub left : List ℕ
   pub kept : Kept left (r .len) line′
@@ -27,7 +28,8 @@ pub record Steps (s pending piece : List ℕ) (from : ℕ) (r : Stepped) (s′ l
   pub further : from < length piece → from < r .at
 
 -- a line was answered
-pub step-ended : {s pending piece : List ℕ} {from : ℕ} {r : Reached} {line′ : List ℕ} {n : ℕ} {out s′ : List ℕ} →
+pub step-ended : {s pending piece : List ℕ} {from : ℕ} {r : Reached} {line′ : List ℕ} {n : ℕ}
+    {out s′ : List ℕ} →
     Took pending piece from r line′ → r .ended ≡ true → Turned s (take (r .len) line′) n out s′ →
     24001 ≤ length out → Steps s pending piece from (record { n = n; len = 0; at = r .at }) s′ line′ out
 step-ended {s} {pending} {piece} {from} {r} {line′} {n} {out} {s′} k e t room =
@@ -39,7 +41,8 @@ step-ended {s} {pending} {piece} {from} {r} {line′} {n} {out} {s′} k e t roo
       feeds = record {
         done = before w ++ (newline ∷ []);
         parts = append-snoc (before w) newline (drop (r .at) piece)
-            ∙ ap (λ (v : List ℕ). before w ++ (newline ∷ v)) (k .rest) ∙ sym (before-behind w (sym (k .ended) ∙ e));
+            ∙ ap (λ (v : List ℕ). before w ++ (newline ∷ v)) (k .rest)
+            ∙ sym (before-behind w (sym (k .ended) ∙ e));
         fed = feed-line s pending (before w) (before-none w) ∙ rw (u .text, u .bytes);
       };
       sound = t .sound;
@@ -78,7 +81,8 @@ finish-none s [] k e = (refl, refl)
 finish-none s (c ∷ p) k e = absurd (omega (arith, k .count))
 
 -- of any other line there is one, and it is answered
-pub finish-line : (s pending : List ℕ) {len : ℕ} {line : List ℕ} {n : ℕ} {out s′ : List ℕ} → Kept pending len line →
+pub finish-line : (s pending : List ℕ) {len : ℕ} {line : List ℕ} {n : ℕ} {out s′ : List ℕ} →
+    Kept pending len line →
     0 < len → Turned s (take len line) n out s′ →
     (take n out ≡ finish s pending) × (s′ ≡ finishBytes s pending)
 finish-line s [] k h t = absurd (omega (arith, k .count))

@@ -1,5 +1,6 @@
--- A session whose input comes in pieces: wherever it is cut, there are the bytes of the base and the line that is not
--- ended yet (`Feeds`). At the end of the input the text is that of the session over all of it (`stream-session`).
+-- A session whose input comes in pieces: wherever it is cut, there are the bytes of the base and the line
+-- that is not ended yet (`Feeds`). At the end of the input the text is that of the session over all of it
+-- (`stream-session`).
 use mathlib.Core.Path.{_≡_, refl, sym, ap, _∙_}
 use Prim.Native.Nat.{ℕ}
 use mathlib.Core.Bool.{true, false, true≢false}
@@ -15,7 +16,8 @@ use Rattle.laws.specs.SessionFacts.{session-bytes}
 use Rattle.serving.specs.Turns.{turnOf, replyText}
 use Rattle.serving.specs.Pieces.{ends}
 
--- what a piece has led to: the text that was printed, the bytes of the base, and the line that is not ended yet
+-- what a piece has led to: the text that was printed, the bytes of the base, and the line that is not ended
+-- yet
 pub record Fed : Type 0 where
   pub text : List ℕ
   pub lent : List ℕ
@@ -79,9 +81,13 @@ pub feed-line : (s pending l : List ℕ) → ends l ≡ false →
     feed s pending (l ++ (newline ∷ []))
     ≡ record { text = replyText s (pending ++ l); lent = turnOf s (pending ++ l) .lent; pending = [] }
 feed-line s pending l e =
-    feed-append s pending l (newline ∷ []) ∙ rw (feed-goes-on s pending l e, append-nil (replyText s (pending ++ l)))
+    feed-append s pending l (newline ∷ []) ∙ rw (
+      feed-goes-on s pending l e,
+      append-nil (replyText s (pending ++ l)),
+    )
 
--- all of `input` but `rest` was fed: `text` was printed, the bytes are s′, and `left` is the line that is not ended
+-- all of `input` but `rest` was fed: `text` was printed, the bytes are s′, and `left` is the line that is not
+-- ended
 pub record Feeds (s pending input rest text s′ left : List ℕ) : Type 0 where
   pub done : List ℕ
   pub parts : done ++ rest ≡ input
@@ -100,7 +106,12 @@ module _ {s pending input rest text s′ left : List ℕ} (f : Feeds s pending i
 
   -- input that comes behind it is still to be fed
   pub feeds-more : (more : List ℕ) → rest ≡ [] → Feeds s pending (input ++ more) more text s′ left
-  feeds-more more e = record { done = f .done; parts = ap (λ (v : List ℕ). v ++ more) (through e); fed = f .fed }
+  feeds-more more e = record {
+    done = f .done;
+    parts = ap (λ (v : List ℕ). v ++ more) (through e);
+    fed =
+        f .fed;
+  }
 
   -- what was printed comes first of all that is to be printed
   pub feeds-front : ending (feed s pending input) ≡ text ++ ending (feed s′ left rest)

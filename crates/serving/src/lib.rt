@@ -1,4 +1,5 @@
-// A session, line by line, over the bytes of a base that is known to be sound. Input comes in pieces of any size.
+// A session, line by line, over the bytes of a base that is known to be sound. Input comes in pieces of any
+// size.
 mod lines;
 mod pieces;
 mod steps;

@@ -6,8 +6,8 @@ ghost use lib.ListN.{length};
 ghost use Rattle.serving.specs.Turns.{Kept};
 ghost use Rattle.serving.specs.Pieces.{Took};
 
-// Where a piece has come to: how many bytes of the line are kept, the place in the piece, and whether a line has
-// ended there.
+// Where a piece has come to: how many bytes of the line are kept, the place in the piece, and whether a line
+// has ended there.
 pub struct Reached {
     pub len: usize,
     pub at: usize,
@@ -27,8 +27,8 @@ fn keep(line: &mut [u8; 97], len: usize, c: u8) -> usize
     len + 1
 }
 
-// Takes the bytes of a piece from `from` on up to the next newline, or all; keeps the first 97 of the line that they
-// belong to, which tell that it is too long.
+// Takes the bytes of a piece from `from` on up to the next newline, or all; keeps the first 97 of the line
+// that they belong to, which tell that it is too long.
 pub fn take_line(line: &mut [u8; 97], len: usize, piece: &[u8], from: usize) -> Reached
     requires { ⌜ (from ≤ length (now piece)) × (len ≤ 97) × (length (now line) ≡ 97) ⌝ }
     ensures { λ r. ⌜ ((pending : List ℕ) → Kept pending len (now (line .entry)) →

@@ -11,7 +11,8 @@ ghost use Rattle.serving.specs.Steps.{Steps};
 use crate::pieces::take_line;
 use crate::turns::serve_line;
 
-// Where a step has come to: how many bytes it printed, how many of the line are kept, and the place in the piece.
+// Where a step has come to: how many bytes it printed, how many of the line are kept, and the place in the
+// piece.
 pub struct Stepped {
     pub n: usize,
     pub len: usize,
@@ -21,7 +22,8 @@ pub struct Stepped {
 // Answers the line in the first `len` bytes.
 fn serve_front(s: &mut [u8], line: &[u8], len: usize, out: &mut [u8]) -> usize
     requires { ⌜ (soundBytes (now s) ≡ true) × (24001 ≤ length (now out)) × (len ≤ length (now line)) ⌝ }
-    ensures { λ n. ⌜ Turned (now (s .entry)) (take len (now (line .entry))) n (now (out .exit)) (now (s .exit))
+    ensures { λ n. ⌜ Turned (now (s .entry)) (take len (now (line .entry))) n (now (out .exit))
+        (now (s .exit))
         × (length (now (out .exit)) ≡ length (now (out .entry))) ⌝ }
 {
     serve_line(s, &line[..len], out)
@@ -60,9 +62,11 @@ pub fn serve_piece_step(
     }
 }
 
-// At the end of the input answers the line that is not ended, if it has a byte; gives how many bytes it printed.
+// At the end of the input answers the line that is not ended, if it has a byte; gives how many bytes it
+// printed.
 pub fn serve_end(s: &mut [u8], line: &[u8; 97], len: usize, out: &mut [u8]) -> usize
-    requires { ⌜ (soundBytes (now s) ≡ true) × (24001 ≤ length (now out)) × (len ≤ 97) × (length (now line) ≡ 97) ⌝ }
+    requires { ⌜ (soundBytes (now s) ≡ true) × (24001 ≤ length (now out)) × (len ≤ 97)
+        × (length (now line) ≡ 97) ⌝ }
     ensures { λ n. ⌜ ((pending : List ℕ) → Kept pending len (now (line .entry)) →
         (take n (now (out .exit)) ≡ finish (now (s .entry)) pending)
         × (now (s .exit) ≡ finishBytes (now (s .entry)) pending))

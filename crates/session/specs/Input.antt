@@ -1,6 +1,6 @@
--- What the program has done with its input: which bytes of the base and which line are there, and the digests of the
--- bytes that were read and of those that were handed to be written. That a read gives what was sent, and that what is
--- handed over is written, is left to trust.
+-- What the program has done with its input: which bytes of the base and which line are there, and the digests
+-- of the bytes that were read and of those that were handed to be written. That a read gives what was sent,
+-- and that what is handed over is written, is left to trust.
 use mathlib.Core.Path.{_≡_, refl, sym, ap, _∙_, subst}
 use Prim.Native.Nat.{ℕ, suc, _+_, _*_, _%_, _≤_, _<_}
 use mathlib.Core.Bool.{true}
@@ -19,7 +19,8 @@ use Rattle.theorems.specs.Orders.{orders, demand3-text}
 use Rattle.serving.specs.declared.steps.Stepped.{Stepped}
 use Rattle.serving.specs.Turns.{Kept}
 use Rattle.serving.specs.Stream.{Fed, feed, finish, finishBytes, ending, Feeds}
-use Rattle.serving.specs.Stream.{feeds-none, feeds-all, feeds-more, feeds-front, feeds-then, stream-session, stream-base}
+use Rattle.serving.specs.Stream.{feeds-none, feeds-all, feeds-more, feeds-front, feeds-then, stream-session}
+use Rattle.serving.specs.Stream.{stream-base}
 use Rattle.serving.specs.Steps.{Steps}
 use Rattle.session.specs.declared.Going.{Going}
 
@@ -27,8 +28,8 @@ use Rattle.session.specs.declared.Going.{Going}
 abbrev pub Ready : List ℕ → List ℕ → ℕ → List ℕ → Type 0
 Ready s line len out = (soundBytes s ≡ true) × (24001 ≤ length out) × (len ≤ 97) × (length line ≡ 97)
 
--- The digest of bytes, going on from that of bytes before them: every byte and its place bear on it. 4294967291 is the
--- largest prime below 2 ^ 32
+-- The digest of bytes, going on from that of bytes before them: every byte and its place bear on it.
+-- 4294967291 is the largest prime below 2 ^ 32
 abbrev pub mixed : ℕ → ℕ → ℕ
 mixed sent byte = (sent * 257 + byte + 1) % 4294967291
 
@@ -56,8 +57,8 @@ pub record Read (input : List ℕ) (r : Going) : Type 0 where
   pub seen : r .seen ≡ digest 0 input
   pub asked : r .got ≡ pos 0 → 0 < r .reads
 
--- of `input`, behind the line `pending`, all but `rest` is answered: the bytes of the base are s′, `left` is the line
--- that is not ended yet, and its first bytes are kept; `text` was handed to be written
+-- of `input`, behind the line `pending`, all but `rest` is answered: the bytes of the base are s′, `left` is
+-- the line that is not ended yet, and its first bytes are kept; `text` was handed to be written
 pub record Answers (s pending input rest : List ℕ) (sent len sent′ : ℕ) (s′ line′ : List ℕ) : Type 0 where
   pub text : List ℕ
   pub left : List ℕ
@@ -163,7 +164,8 @@ module _ {s pending : List ℕ} where
     left = b .left;
     feeds = feeds-then (a .feeds) (b .feeds);
     kept = b .kept;
-    handed = b .handed ∙ ap (λ (n : ℕ). digest n (b .text)) (a .handed) ∙ digest-twice sent (a .text) (b .text);
+    handed = b .handed ∙ ap (λ (n : ℕ). digest n (b .text)) (a .handed)
+        ∙ digest-twice sent (a .text) (b .text);
   }
 
   -- a step from the place `at` of a piece on
@@ -197,7 +199,8 @@ module _ {s pending : List ℕ} where
         all = b .all;
       }
 
-  module _ {input s′ line′ : List ℕ} {g : Going} (w : Read input g) (a : Answered s pending input 0 g s′ line′) where
+  module _ {input s′ line′ : List ℕ} {g : Going} (w : Read input g)
+      (a : Answered s pending input 0 g s′ line′) where
     -- the end of the input was answered
     pub served-ended : {r : Going} {s″ : List ℕ} → g .ok ≡ true → g .got ≡ pos 0 → Unread g r →
         s″ ≡ finishBytes s′ (a .answers .left) → r .sent ≡ digest (g .sent) (finish s′ (a .answers .left)) →
@@ -242,10 +245,12 @@ module _ {s pending : List ℕ} where
         }
 
 -- from an empty base and no line on
-pub served-run : {s input s′ : List ℕ} {r : Going} → s ≡ encode emptyBase → Served s [] input r s′ → Ran input r s′
+pub served-run : {s input s′ : List ℕ} {r : Going} → s ≡ encode emptyBase → Served s [] input r s′ →
+    Ran input r s′
 served-run {s} {input} {s′} {r} z w =
     let e : ending (feed s [] input) ≡ session input = rw z (stream-session input) in
-    let b : finishBytes (feed s [] input .lent) (feed s [] input .pending) ≡ bytesAfter input = rw z (stream-base input) in
+    let b : finishBytes (feed s [] input .lent) (feed s [] input .pending) ≡ bytesAfter input =
+    rw z (stream-base input) in
     record {
       read = w .read;
       ended = λ p q. w .ended p q .1 ∙ ap (digest 0) e;

@@ -12,15 +12,16 @@ ghost use Rattle.model.specs.Base.{emptyBase};
 ghost use Rattle.model.specs.Encoding.{encode};
 ghost use Rattle.serving.specs.Turns.{Kept};
 ghost use Rattle.serving.specs.Stream.{finish, finishBytes};
-ghost use Rattle.session.specs.Input.{Ready, mixed, digest, arrived, Fetched, Unread, Answered, Served, Ran};
+ghost use Rattle.session.specs.Input.{Ready, mixed, digest, arrived, Fetched, Unread, Answered, Served};
+ghost use Rattle.session.specs.Input.{Ran};
 use libc::STDERR_FILENO;
 use libc::STDIN_FILENO;
 use libc::STDOUT_FILENO;
 use model::BASE_BYTES;
 
-// How many bytes are kept of the line that is not ended yet, the digest of the bytes that were handed to be written,
-// that of the bytes that were read, how many reads there were, what the last one answered, and whether every write
-// worked.
+// How many bytes are kept of the line that is not ended yet, the digest of the bytes that were handed to be
+// written, that of the bytes that were read, how many reads there were, what the last one answered, and
+// whether every write worked.
 struct Going {
     len: usize,
     sent: u32,
@@ -43,7 +44,8 @@ fn mix(sent: u32, byte: u8) -> u32
     ((sent as u64 * 257 + byte as u64 + 1) % 4294967291) as u32
 }
 
-// The digest with some bytes more. Contracts tell by it which bytes were read, and which were handed to be written.
+// The digest with some bytes more. Contracts tell by it which bytes were read, and which were handed to be
+// written.
 fn mix_all(sent: u32, bytes: &[u8]) -> u32
     ensures { λ r. ⌜ r ≡ digest sent (now (bytes .entry)) ⌝ }
 {
@@ -70,7 +72,8 @@ fn put(bytes: &[u8], sent: u32) -> Written
 // Reads a piece into the front of `buf`. All that the program reads goes through here.
 fn fetch(g: Going, buf: &mut [u8]) -> Going
     requires { ⌜ g .reads < 18446744073709551615 ⌝ }
-    ensures { λ r. ⌜ Fetched g (now (buf .exit)) r × (r .len ≡ g .len) × (r .sent ≡ g .sent) × (r .ok ≡ g .ok) ⌝ }
+    ensures { λ r. ⌜ Fetched g (now (buf .exit)) r × (r .len ≡ g .len) × (r .sent ≡ g .sent)
+        × (r .ok ≡ g .ok) ⌝ }
 {
     let got = libc::read(STDIN_FILENO, buf);
     let n = io::count(got, buf);
@@ -85,7 +88,8 @@ fn fetch(g: Going, buf: &mut [u8]) -> Going
     }
 }
 
-// Answers the lines that end in a piece of input, and writes the replies, as many at a time as there is room for.
+// Answers the lines that end in a piece of input, and writes the replies, as many at a time as there is room
+// for.
 fn serve_piece(s: &mut [u8], line: &mut [u8; 97], g: Going, piece: &[u8], out: &mut [u8]) -> Going
     requires { ⌜ Ready (now s) (now line) (g .len) (now out) ⌝ }
     ensures { λ r. ⌜ ((pending : List ℕ) → Kept pending (g .len) (now (line .entry)) →
@@ -171,9 +175,9 @@ fn has_ended(g: Going) -> bool
     g.ok & (g.got == 0)
 }
 
-// Answers line after line until the input ends, or a read or a write fails, and then the end of the input, if it is
-// one. A proved loop has to end, and nothing says that the input does: so it ends after a number of reads that no run
-// uses up.
+// Answers line after line until the input ends, or a read or a write fails, and then the end of the input, if
+// it is one. A proved loop has to end, and nothing says that the input does: so it ends after a number of
+// reads that no run uses up.
 fn serve_input(
     s: &mut [u8],
     line: &mut [u8; 97],

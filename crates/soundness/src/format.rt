@@ -45,7 +45,8 @@ pub fn rules_clean(s: &[u8], n: usize) -> bool
     true
 }
 
-// Bytes of any length have the format: the length, the counts, the heading, the records and the zeros behind them.
+// Bytes of any length have the format: the length, the counts, the heading, the records and the zeros behind
+// them.
 pub fn format_fits(s: &[u8]) -> bool
     ensures { λ r. ⌜ r ≡ formatFits (now (s .entry)) ⌝ }
 {

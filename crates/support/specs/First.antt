@@ -1,4 +1,5 @@
--- The first instant of a stretch that passes a test: `first-of` says what it is, and `first-is` that nothing else is.
+-- The first instant of a stretch that passes a test: `first-of` says what it is, and `first-is` that nothing
+-- else is.
 use mathlib.Core.Path.{_≡_, sym, ap, _∙_}
 use Prim.Native.Nat.{ℕ, zero, suc, _+_, _-_, _≤_, _<_}
 use native.Mathlib.Omega.{arith}
@@ -28,7 +29,8 @@ from-is g zero s d r e l h b t = omega arith
 from-is g (suc n) s d r e l h b t = cases (leb (suc s) r)
     (λ k. let m = true-le (suc s) r k in
     rw (b s (omega arith) m) (from-is g n (suc s) d r (omega arith) m h (λ u p k. b u (omega arith) k) t))
-    (λ k. let m = false-le (suc s) r k in let q : r ≡ s = omega arith in rw (rw q at (t (omega arith))) (sym q))
+    (λ k. let m = false-le (suc s) r k in let q : r ≡ s = omega arith in
+    rw (rw q at (t (omega arith))) (sym q))
 
 pub first-is : (g : ℕ → Bool) (a b r : ℕ) → First g a b r → first g a b ≡ r
 unfolding first
@@ -50,9 +52,16 @@ from-of g (suc n) s d e = cases (g s)
       here = λ h. q;
     }))
     (λ q. let f = from-of g n (suc s) d (omega arith) in
-    rw q (record { low = omega (arith, f .low); high = f .high; before = λ u p k. at u p k q f; here = f .here }))
+    rw q (record {
+      low = omega (arith, f .low);
+      high = f .high;
+      before = λ u p k. at u p k q f;
+      here =
+          f .here;
+    }))
   where
-    at : (u : ℕ) → s ≤ u → u < firstFrom g (suc s) n d → g s ≡ false → First g (suc s) d (firstFrom g (suc s) n d) →
+    at : (u : ℕ) → s ≤ u → u < firstFrom g (suc s) n d → g s ≡ false →
+        First g (suc s) d (firstFrom g (suc s) n d) →
         g u ≡ false
     at u p k q f = cases (leb (suc s) u)
         (λ j. f .before u (true-le (suc s) u j) k)

@@ -1,5 +1,5 @@
--- What the first uncovered instant says in the model's words: of the gaps under a new authorization (`gap-is`), and
--- of the support of one that is there (`hop-gap`).
+-- What the first uncovered instant says in the model's words: of the gaps under a new authorization
+-- (`gap-is`), and of the support of one that is there (`hop-gap`).
 use mathlib.Core.Path.{_≡_, refl, sym, ap, _∙_, subst}
 use Prim.Native.Nat.{ℕ, suc, _+_, _≤_, _<_}
 use native.Mathlib.Omega.{arith}
@@ -10,7 +10,8 @@ use Rattle.foundation.specs.Tests.{pick, cases, agree, not-true, not-false, le-
 use Rattle.foundation.specs.Tests.{true-le, false-le}
 use Rattle.foundation.specs.Lists.{anyb, allb, any-cong}
 use Rattle.foundation.specs.declared.Interval.{Interval}
-use Rattle.foundation.specs.Intervals.{inInterval, inInterval-in, none?, always, always-all, all-always, always-cong}
+use Rattle.foundation.specs.Intervals.{inInterval, inInterval-in, none?, always, always-all, all-always}
+use Rattle.foundation.specs.Intervals.{always-cong}
 use Rattle.model.specs.declared.Head.{Head}
 use Rattle.model.specs.declared.Authorization.{Authorization}
 use Rattle.model.specs.Support.{supports, supported, live, coveredFor, gaps}
@@ -40,7 +41,8 @@ module _ (a e : ℕ) (f : ℕ → Bool) where
       (λ z. z)
       (λ z. let k = false-le (e + 1) fails z in
       let r = first-of (λ t. not (f t)) a (e + 1) (not-past a (e + 1) (λ t. not (f t)) k) in
-      absurd (false≢true (sym (not-true (f fails) (r .here k)) ∙ always-all a e f h fails (r .low) (omega arith)))))
+      absurd (false≢true (sym (not-true (f fails) (r .here k))
+      ∙ always-all a e f h fails (r .low) (omega arith)))))
       (λ h. let k = true-le (e + 1) fails h in
       all-always a e f (λ t p q.
       not-false (f t) (first-of (λ t. not (f t)) a (e + 1) (omega arith) .before t p (omega arith))))
@@ -79,8 +81,8 @@ abbrev pub GapIs : List Authorization → Head → Interval → Gap → Type 0
 GapIs xs h i (At t) = Earliest xs h i t
 GapIs xs h i None = none? (gaps xs h i) ≡ true
 
--- what is said of the answer to what is wanted: it is the first uncovered instant, and so what the model says of any
--- head for which that is wanted
+-- what is said of the answer to what is wanted: it is the first uncovered instant, and so what the model says
+-- of any head for which that is wanted
 pub record FirstGap (w : Want) (xs : List Authorization) (i : Interval) (r : Gap) : Type 0 where
   pub first : r ≡ gapOf (gapIn w xs (i .start) (i .end + 1)) (i .end + 1)
   pub model : (h : Head) → w ≡ wantOf h → GapIs xs h i r
@@ -121,7 +123,8 @@ pub first-gap-is : (w : Want) (xs : List Authorization) (i : Interval) (r : Gap)
 first-gap-is w xs i r e = record {
   first = e;
   model = λ h q. subst (GapIs xs h i)
-      (sym (e ∙ ap (λ (v : Want). gapOf (gapIn v xs (i .start) (i .end + 1)) (i .end + 1)) q)) (gap-is xs h i);
+      (sym (e ∙ ap (λ (v : Want). gapOf (gapIn v xs (i .start) (i .end + 1)) (i .end + 1)) q))
+      (gap-is xs h i);
 }
 
 -- ---- the support of an authorization that is there
@@ -136,13 +139,16 @@ abbrev pub everHop : (Head → Bool) → List Authorization → Authorization �
 everHop root xs a = always (a .interval .start) (a .interval .end) (hop root xs (a .head))
 
 -- for which the first gap is asked, unless the grantor is a root
-pub hop-gap : (root : Head → Bool) (xs : List Authorization) (a : Authorization) (b : Bool) → root (a .head) ≡ b →
+pub hop-gap : (root : Head → Bool) (xs : List Authorization) (a : Authorization) (b : Bool) →
+    root (a .head) ≡ b →
     everHop root xs a
-    ≡ b || leb (a .interval .end + 1) (gapIn (wantOf (a .head)) xs (a .interval .start) (a .interval .end + 1))
+    ≡ b || leb (a .interval .end + 1) (gapIn (wantOf (a .head)) xs (a .interval .start)
+    (a .interval .end + 1))
 unfolding coveredFor
 hop-gap root xs a true r =
     all-always (a .interval .start) (a .interval .end) (hop root xs (a .head)) (λ t p q. rw r)
 hop-gap root xs a false r =
-    always-cong (a .interval .start) (a .interval .end) (hop root xs (a .head)) (coveredBy (wantOf (a .head)) xs)
+    always-cong (a .interval .start) (a .interval .end) (hop root xs (a .head))
+    (coveredBy (wantOf (a .head)) xs)
     (λ t. rw r (covered-by xs (a .head) t))
     ∙ always-first (a .interval .start) (a .interval .end) (coveredBy (wantOf (a .head)) xs)

@@ -1,10 +1,11 @@
--- The bits of words: which are set where one more is set, that the word is larger then, and which two words have in
--- common; and what the bits of a place's candidates say (`looker-bit`).
+-- The bits of words: which are set where one more is set, that the word is larger then, and which two words
+-- have in common; and what the bits of a place's candidates say (`looker-bit`).
 use mathlib.Core.Path.{_≡_, refl, sym, ap, ap₂, _∙_}
 use mathlib.Core.Bool.{Bool, true, false, not, Bool·beq, true≢false, false≢true}
 use mathlib.Core.List.{List}
 use Prim.Native.Nat.{ℕ, zero, suc, _+_, _*_, _-_, _/_, _%_, _^_, _≤_, _<_, min, max}
-use native.Mathlib.Nat.{mod-eq-of-lt, pow-succ', one-mul, max-le, max-eq-left, max-eq-right, max-zero, min-le-left}
+use native.Mathlib.Nat.{mod-eq-of-lt, pow-succ', one-mul, max-le, max-eq-left, max-eq-right, max-zero}
+use native.Mathlib.Nat.{min-le-left}
 use native.Mathlib.Nat.{div-self, div-one, zero-div, div-eq-of-lt, div-div-eq-div-mul}
 use native.Mathlib.Omega.{arith}
 use native.Mathlib.Numerals.{one-add}

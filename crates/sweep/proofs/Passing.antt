@@ -1,4 +1,5 @@
--- The look at one place, the turns of the loops of `pass` and `sweep`, and a stage with no active rule (`idle`).
+-- The look at one place, the turns of the loops of `pass` and `sweep`, and a stage with no active rule
+-- (`idle`).
 use mathlib.Core.Path.{_≡_, refl, sym, ap, _∙_, subst}
 use mathlib.Core.Bool.{Bool, true, false, _||_, true≢false, false≢true}
 use mathlib.Core.List.{List, [], _∷_}
@@ -11,7 +12,8 @@ use lib.Seq.{getD-set-same, getD-set-other}
 use Rattle.foundation.specs.Tests.{cases, true-eq, false-eq, or-cases, or-none}
 use Rattle.model.specs.Encoding.{bit}
 use Rattle.sweep.specs.Sweep.{places, Plan}
-use Rattle.sweep.specs.Progress.{wordBound, Shut, total, Ready, Looking, Candidates, Visit, Looked, Pass}
+use Rattle.sweep.specs.Progress.{wordBound, Shut, total, Ready, Looking, Candidates, Visit, Looked}
+use Rattle.sweep.specs.Progress.{Pass}
 use Rattle.sweep.specs.Progress.{Settling, Smallest, left}
 use Rattle.sweep.proofs.Laws.{bit-none, bit-both}
 use Rattle.sweep.proofs.Turn.{given}
@@ -40,8 +42,10 @@ module _ (pl : Plan) (before direct : List ℕ) where
     grown = omega arith;
   }
 
-  pub seen : (T₀ D₀ : List ℕ) (p : ℕ) (b : Bool) (T D : List ℕ) → Ready pl before direct T₀ D₀ → p < pl .stage .used →
-      Visit pl before direct T₀ (set D₀ p 0) p (pl .stage .rules) b T D → Looked pl before direct T₀ D₀ p b T D
+  pub seen : (T₀ D₀ : List ℕ) (p : ℕ) (b : Bool) (T D : List ℕ) → Ready pl before direct T₀ D₀ →
+      p < pl .stage .used →
+      Visit pl before direct T₀ (set D₀ p 0) p (pl .stage .rules) b T D →
+      Looked pl before direct T₀ D₀ p b T D
   seen T₀ D₀ p b T D y h v = record {
     ready = record {
       few = y .few;
@@ -150,9 +154,11 @@ module _ (pl : Plan) (before direct : List ℕ) where
   }
 
   -- where no rule is active, no bit is to be set
-  pub idle : (T D : List ℕ) → pl .stage .active ≡ 0 → Ready pl before direct T D → Smallest pl before direct T T
+  pub idle : (T D : List ℕ) → pl .stage .active ≡ 0 → Ready pl before direct T D →
+      Smallest pl before direct T T
   idle T D e y = record {
-    shut = λ p h r k f. absurd (false≢true (sym (ap (bit r) e ∙ bit-none r) ∙ given pl before direct T r p f .0));
+    shut = λ p h r k f. absurd (false≢true (sym (ap (bit r) e ∙ bit-none r)
+        ∙ given pl before direct T r p f .0));
     above = λ p r f. f;
     within = λ Q h k. h;
     size = y .size;

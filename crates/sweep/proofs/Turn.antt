@@ -1,5 +1,5 @@
--- The loop of `visit`: its start, the rules that it passes over, and a turn, where one rule more has looked at the
--- place.
+-- The loop of `visit`: its start, the rules that it passes over, and a turn, where one rule more has looked
+-- at the place.
 use mathlib.Core.Path.{_≡_, refl, sym, ap, _∙_, subst}
 use mathlib.Core.Bool.{Bool, true, false, not, _&&_, _||_, true≢false, false≢true}
 use mathlib.Core.List.{List, [], _∷_}
@@ -131,7 +131,8 @@ module _ (pl : Plan) (before direct T₀ D₀ : List ℕ) (p : ℕ) where
       grow i j e = cases (eqb i q)
           (λ k. let m = true-eq i q k in
           subst (λ (x : ℕ). bit j (getD T′ x 0) ≡ true) (sym m)
-          (ap (bit j) at-q ∙ bit-kept (getD T q 0) (2 ^ r) j (subst (λ (x : ℕ). bit j (getD T x 0) ≡ true) m e)))
+          (ap (bit j) at-q ∙ bit-kept (getD T q 0) (2 ^ r) j
+          (subst (λ (x : ℕ). bit j (getD T x 0) ≡ true) m e)))
           (λ k. ap (bit j) (away i (false-eq i q k)) ∙ e)
 
       -- a place whose flag is clear is not the target, and its flag was clear
@@ -148,7 +149,8 @@ module _ (pl : Plan) (before direct T₀ D₀ : List ℕ) (p : ℕ) where
       stay : (i k : ℕ) → (i ≡ q → ⊥) → Shut pl before direct T k i → Shut pl before direct T′ k i
       stay i k n z j h e =
           let same =
-          ap (λ (x : ℕ). firesBy (linkOf pl j) (getD before (aim pl j i) 0) x (getD direct i 0) j i) (away i n) in
+          ap (λ (x : ℕ). firesBy (linkOf pl j) (getD before (aim pl j i) 0) x (getD direct i 0) j i)
+          (away i n) in
           grow (aim pl j i) j (z j h (sym same ∙ e))
 
       larger : total T < total T′
@@ -188,7 +190,8 @@ module _ (pl : Plan) (before direct T₀ D₀ : List ℕ) (p : ℕ) where
 
           at-place : bit j w ≡ true → Q q j ≡ true
           at-place e = cases (eqb j r)
-              (λ x. subst (λ (z : ℕ). Q q z ≡ true) (sym (true-eq j r x)) (k T (v .above) g r p hr hp (fired .0)))
+              (λ x. subst (λ (z : ℕ). Q q z ≡ true) (sym (true-eq j r x))
+              (k T (v .above) g r p hr hp (fired .0)))
               (λ x. g q j (bit-only (getD T q 0) r j e (false-eq j r x)))
 
       moved : Visit pl before direct T₀ D₀ p (r + 1) (hit || true) T′ D′
@@ -207,7 +210,8 @@ module _ (pl : Plan) (before direct T₀ D₀ : List ℕ) (p : ℕ) where
 
     -- ---- either way
 
-    after : (b : Bool) (T″ D″ : List ℕ) → b ≡ setsBy (linkOf pl r) before direct T r p → T″ ≡ pick b (set T q w) T →
+    after : (b : Bool) (T″ D″ : List ℕ) → b ≡ setsBy (linkOf pl r) before direct T r p →
+        T″ ≡ pick b (set T q w) T →
         D″ ≡ pick b (set D q 1) D → Visit pl before direct T₀ D₀ p (r + 1) (hit || b) T″ D″
     after true T″ D″ s e f = rw (e, f) (moved (sym s))
     after false T″ D″ s e f = rw (e, f) (unmoved (sym s))

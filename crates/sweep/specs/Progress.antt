@@ -63,14 +63,16 @@ Candidates pl p c =
     (r : ℕ) → r < pl .stage .rules → bit r (pl .stage .active) ≡ true →
     looksBy (linkOf pl r .rsubject) (linkOf pl r .rmode) p ≡ true → bit r c ≡ true
 
--- One rule tried at place p: b says whether it set its bit, and T and D are the table and the flags after that
+-- One rule tried at place p: b says whether it set its bit, and T and D are the table and the flags after
+-- that
 pub record Tried (k : Link) (before direct T₀ D₀ : List ℕ) (r p : ℕ) (b : Bool) (T D : List ℕ) : Type 0 where
   pub result : b ≡ setsBy k before direct T₀ r p
   pub table : T ≡ pick b (set T₀ (target k p) (bitOr (getD T₀ (target k p) 0) (2 ^ r))) T₀
   pub flags : D ≡ pick b (set D₀ (target k p) 1) D₀
 
 -- place p looked at for the first r rules: T and D were T₀ and D₀ when its flag was cleared
-pub record Visit (pl : Plan) (before direct T₀ D₀ : List ℕ) (p r : ℕ) (hit : Bool) (T D : List ℕ) : Type 0 where
+pub record Visit (pl : Plan) (before direct T₀ D₀ : List ℕ) (p r : ℕ) (hit : Bool)
+    (T D : List ℕ) : Type 0 where
   pub size : length T ≡ places
   pub flags : length D ≡ places
   pub words : (i : ℕ) → getD T i 0 < wordBound
@@ -84,7 +86,8 @@ pub record Visit (pl : Plan) (before direct T₀ D₀ : List ℕ) (p r : ℕ) (h
   pub grown : total T₀ ≤ total T
 
 -- place p looked at, if its flag was set
-pub record Looked (pl : Plan) (before direct T₀ D₀ : List ℕ) (p : ℕ) (hit : Bool) (T D : List ℕ) : Type 0 where
+pub record Looked (pl : Plan) (before direct T₀ D₀ : List ℕ) (p : ℕ) (hit : Bool)
+    (T D : List ℕ) : Type 0 where
   pub ready : Ready pl before direct T D
   pub above : Above T₀ T
   pub within : Within pl before direct T₀ T

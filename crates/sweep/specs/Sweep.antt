@@ -1,5 +1,5 @@
--- One stratum at one mark, in numbers: a place is a subject of the question with a mode, a table has a word for each
--- place, and bit r of a word says that rule r derives its left side there.
+-- One stratum at one mark, in numbers: a place is a subject of the question with a mode, a table has a word
+-- for each place, and bit r of a word says that rule r derives its left side there.
 use Prim.Native.Nat.{ℕ, _+_, _*_, _/_, _%_}
 use mathlib.Core.Bool.{Bool, not, _&&_, _||_, Bool·beq}
 use mathlib.Core.List.{List}
@@ -15,7 +15,8 @@ use Rattle.sweep.specs.declared.Link.{Link}
 
 -- ---- places. The layout is here alone: all else takes `places`, `looksBy` and `targetBy`
 
--- the subjects of a question, and the modes; as the code of a rule's subject or mode the number itself is the star
+-- the subjects of a question, and the modes; as the code of a rule's subject or mode the number itself is the
+-- star
 abbrev pub subjects : ℕ
 subjects = 65
 
@@ -29,7 +30,8 @@ places = subjects * modes
 abbrev pub looksBy : ℕ → ℕ → ℕ → Bool
 looksBy s m p = (eqb s subjects || eqb s (p / modes)) && (eqb m modes || eqb m (p % modes))
 
--- a rule looks at p whose codes are at the start of l: of its right side the subject is first, and the mode third
+-- a rule looks at p whose codes are at the start of l: of its right side the subject is first, and the mode
+-- third
 abbrev pub looksFrom : ℕ → List ℕ → Bool
 looksFrom p l = looksBy (getD l 0 0) (getD l 2 0) p
 
@@ -49,8 +51,9 @@ targetBy s m p = pick (eqb s subjects) (p / modes) s * modes + pick (eqb m modes
 abbrev pub target : Link → ℕ → ℕ
 target k p = targetBy (k .lsubject) (k .lmode) p
 
--- The right side of rule r is as the rule wants, at a place where the rules derive w and authorizations fit the right
--- sides of the rules in d: held by an authorization or by a rule that feeds r, or not held, for a negating rule
+-- The right side of rule r is as the rule wants, at a place where the rules derive w and authorizations fit
+-- the right sides of the rules in d: held by an authorization or by a rule that feeds r, or not held, for a
+-- negating rule
 abbrev pub wantsBy : ℕ → Bool → ℕ → ℕ → ℕ → Bool
 wantsBy feed negating w d r = not (Bool·beq (bit r d || not (eqb (bitAnd w feed) 0)) negating)
 
@@ -68,8 +71,8 @@ setsBy k before direct table r p =
 
 -- ---- all rules
 
--- the stage; for each rule the codes of its sides, four a rule: right subject, left subject, right mode, left mode;
--- and for each rule the rules that can feed it
+-- the stage; for each rule the codes of its sides, four a rule: right subject, left subject, right mode, left
+-- mode; and for each rule the rules that can feed it
 pub record Plan : Type 0 where
   pub stage : Stage
   pub sides : List ℕ

@@ -1,9 +1,7 @@
-// What the rules of one stratum derive at one mark: the smallest table that has in it what is known already, and out
-// of which no rule of the stratum leads.
-//
-// A place is a subject that matters to the question, with a mode. A table has a word for each place, and bit r of it
-// says that rule r derives its left side there. A rule leads from the place of its right side to that of its left
-// side.
+// What the rules of one stratum derive at one mark: the smallest table that has in it what is known already,
+// and out of which no rule of the stratum leads.  A place is a subject that matters to the question, with a
+// mode. A table has a word for each place, and bit r of it says that rule r derives its left side there. A
+// rule leads from the place of its right side to that of its left side.
 ghost use mathlib.Core.Path.{_≡_};
 ghost use mathlib.Core.Bool.{true};
 ghost use Prim.Native.Nat.{ℕ, _+_, _*_, _^_, _≤_, _<_};
@@ -11,21 +9,23 @@ ghost use lib.ListN.{getD, set};
 ghost use lib.Bits.{bitOr};
 ghost use Rattle.foundation.specs.Tests.{pick};
 ghost use Rattle.model.specs.Encoding.{bit};
-ghost use Rattle.sweep.specs.Sweep.{places, looksBy, lookersOf, targetBy, wantsBy, target, plan, linkOf, aim};
-ghost use Rattle.sweep.specs.Progress.{Ready, Looking, Candidates, Tried, Visit, Looked, Pass, Smallest};
+ghost use Rattle.sweep.specs.Sweep.{places, looksBy, lookersOf, targetBy, wantsBy, target, plan};
+ghost use Rattle.sweep.specs.Sweep.{linkOf, aim};
+ghost use Rattle.sweep.specs.Progress.{Ready, Looking, Candidates, Tried, Visit, Looked, Pass};
+ghost use Rattle.sweep.specs.Progress.{Smallest};
 use rules::next_bit;
 
-// The subjects of a question, the modes, and each subject with each mode. As the code of a subject or a mode of a
-// rule, the number itself is the star.
+// The subjects of a question, the modes, and each subject with each mode. As the code of a subject or a mode
+// of a rule, the number itself is the star.
 const SUBJECTS: usize = 65;
 
 const MODES: usize = 8;
 
 const PLACES: usize = SUBJECTS * MODES;
 
-// One stratum at one mark: how many places are in use, how many rules there are, and as bits which of them are
-// active, of the stratum and at the mark; which are fresh, for they look at nothing before the mark; and which are
-// negating.
+// One stratum at one mark: how many places are in use, how many rules there are, and as bits which of them
+// are active, of the stratum and at the mark; which are fresh, for they look at nothing before the mark; and
+// which are negating.
 pub struct Stage {
     pub used: usize,
     pub rules: usize,
@@ -34,8 +34,8 @@ pub struct Stage {
     pub negating: u64,
 }
 
-// One rule at one mark: the codes of the subjects and modes of its sides, as bits the rules that can feed it, and
-// whether it is active, fresh and negating.
+// One rule at one mark: the codes of the subjects and modes of its sides, as bits the rules that can feed it,
+// and whether it is active, fresh and negating.
 pub struct Link {
     pub rsubject: u8,
     pub lsubject: u8,
@@ -80,7 +80,8 @@ fn either(t: bool, a: usize, b: usize) -> usize
     b
 }
 
-// The place where a rule derives its left side, with the codes s and m, seen from the place p of its right side.
+// The place where a rule derives its left side, with the codes s and m, seen from the place p of its right
+// side.
 fn target_of(s: u8, m: u8, p: usize) -> usize
     requires { ⌜ p < places ⌝ }
     ensures { λ q. ⌜ q ≡ targetBy s m p ⌝ }
@@ -130,8 +131,8 @@ pub fn draw_looks(sides: &[u8; 256], n: usize, used: usize, looks: &mut [u64; PL
     }
 }
 
-// Whether the right side of rule r is as the rule wants, at a place where the rules derive w and authorizations fit
-// the right sides of the rules in d.
+// Whether the right side of rule r is as the rule wants, at a place where the rules derive w and
+// authorizations fit the right sides of the rules in d.
 fn wanted(feed: u64, negating: bool, w: u64, d: u64, r: u32) -> bool
     requires { ⌜ r < 64 ⌝ }
     ensures { λ b. ⌜ b ≡ wantsBy feed negating w d r ⌝ }
@@ -162,8 +163,8 @@ fn link_of(g: Stage, sides: &[u8; 256], feed: &[u64; 64], r: usize) -> Link
     }
 }
 
-// One rule at one place: sets its bit at its target, if it derives now and the bit is not set. Most rules that do not
-// set it have it set already, or find their right side not as they want it.
+// One rule at one place: sets its bit at its target, if it derives now and the bit is not set. Most rules
+// that do not set it have it set already, or find their right side not as they want it.
 fn step(
     k: Link,
     before: &[u64; PLACES],
@@ -215,7 +216,8 @@ fn try_rule(
 ) -> bool
     requires { ⌜ (r < 64) × (p < places) × (aim (plan g (now sides) (now feed)) r p < places) ⌝ }
     ensures { λ b. ⌜
-        Tried (linkOf (plan g (now (sides .entry)) (now (feed .entry))) r) (now (before .entry)) (now (direct .entry))
+        Tried (linkOf (plan g (now (sides .entry)) (now (feed .entry))) r) (now (before .entry))
+        (now (direct .entry))
         (now (table .entry)) (now (changed .entry)) r p b (now (table .exit)) (now (changed .exit))
         ⌝ }
 {
@@ -223,8 +225,8 @@ fn try_rule(
     step(k, before, direct, table, changed, r, p)
 }
 
-// Looks at place p for the rules in c; whether a bit was set. The other rules do not look at the place, or are not
-// active.
+// Looks at place p for the rules in c; whether a bit was set. The other rules do not look at the place, or
+// are not active.
 fn visit(
     g: Stage,
     sides: &[u8; 256],
@@ -243,7 +245,8 @@ fn visit(
         ⌝ }
     ensures { λ b. ⌜
         Visit (plan g (now (sides .entry)) (now (feed .entry))) (now (before .entry)) (now (direct .entry))
-        (now (table .entry)) (set (now (changed .entry)) p 0) p (g .rules) b (now (table .exit)) (now (changed .exit))
+        (now (table .entry)) (set (now (changed .entry)) p 0) p (g .rules) b (now (table .exit))
+        (now (changed .exit))
         ⌝ }
 {
     changed[p] = 0;

@@ -33,7 +33,8 @@ suffices s line out h =
     (text-answer s line out ∙ has-room s l out (omega arith) (omega (arith, turn-most s l)))
 
 -- nor is one of 16 bytes where the line is a request: none is carried out whose reply is not told
-pub request-told : (s line out : List ℕ) (q : Request) → readLine line ≡ order q → shortestBuffer ≤ length out →
+pub request-told : (s line out : List ℕ) (q : Request) → readLine line ≡ order q →
+    shortestBuffer ≤ length out →
     textAnswer s line out .refusal ≡ 0
 request-told s line out q e h =
     ap (λ (w : Written). w .refusal)

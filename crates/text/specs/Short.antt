@@ -1,5 +1,5 @@
--- The replies to requests and to MAY are short: with its newline none is longer than 16 bytes. Those to WHEN fit the
--- list of 1,100 pairs.
+-- The replies to requests and to MAY are short: with its newline none is longer than 16 bytes. Those to WHEN
+-- fit the list of 1,100 pairs.
 use mathlib.Core.Path.{_≡_, refl}
 use mathlib.Core.Bool.{Bool, true, false, not}
 use mathlib.Core.List.{List, [], _∷_, _++_}
@@ -25,7 +25,8 @@ use Rattle.model.specs.Encoding.{encode, decode}
 use Rattle.model.specs.FitsFacts.{counts-fit}
 use Rattle.model.specs.Soundness.{sound, soundBytes}
 use Rattle.model.specs.SoundnessFacts.{sound-tests, sound-bytes}
-use Rattle.model.specs.Answers.{Answer, answering, refusing, shown, requestTable, mayTable, whenTable, mayReply}
+use Rattle.model.specs.Answers.{Answer, answering, refusing, shown, requestTable, mayTable, whenTable}
+use Rattle.model.specs.Answers.{mayReply}
 use Rattle.model.specs.Answers.{words, request, mayAnswer, whenAnswer}
 use Rattle.model.specs.Text.{decimal, printReply}
 use Rattle.model.specs.Session.{runsOf}
@@ -104,7 +105,8 @@ shown-text Yes runs = refl
 shown-text No runs = refl
 shown-text (Runs n) runs = refl
 
-refused-short : (rows : List Row) → allb (λ r. ltb (r .number) 100) rows ≡ true → Short (Refused (firstNumber rows))
+refused-short : (rows : List Row) → allb (λ r. ltb (r .number) 100) rows ≡ true →
+    Short (Refused (firstNumber rows))
 refused-short rows e =
     omega (arith, true-le (suc (firstNumber rows)) 100 (first-all (λ n. ltb n 100) rows refl e))
 
@@ -119,7 +121,8 @@ accepting-short s q z =
     let kept : sound after ≡ true = effect-sound (decode s) q (sound-bytes s (passed .0) .1) (passed .1) in
     (label (labels q) refl (passed .1), counts-fit after (sound-tests after kept .counts) .authorizations)
   where
-    label : (x : Bool) → labels q ≡ x → refusal plainly (decode s) q ≡ 0 → pick x (suc (decode s .last)) 0 < 65536
+    label : (x : Bool) → labels q ≡ x → refusal plainly (decode s) q ≡ 0 →
+        pick x (suc (decode s .last)) 0 < 65536
     label true e z = omega (arith, label-left (decode s) q (accepted (decode s) q z) e)
     label false e z = omega arith
 
@@ -152,7 +155,8 @@ when-fits s x list =
     let runs = when (decode s) x in
     let n = length runs in
     let rows = whenTable (decode s) x (length list / 2) n in
-    by-rows (row 2 (not (soundBytes s)) ∷ rows) (refusing list) (answering (Runs n) (words runs ++ drop (2 * n) list))
+    by-rows (row 2 (not (soundBytes s)) ∷ rows) (refusing list)
+    (answering (Runs n) (words runs ++ drop (2 * n) list))
     (λ (a : Answer). RunsFit (a .reply) (a .lent)) tt
     (λ z. (
       omega (arith, length-append (words runs) (drop (2 * n) list), words-length runs),

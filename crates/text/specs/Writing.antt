@@ -53,7 +53,13 @@ module _ (s : List ℕ) (l : Line) (out : List ℕ) where
   abbrev pub answering : Written
   answering =
       let text = turnText (byteTurn s l) ++ (newline ∷ []) in
-      record { refusal = 0; count = length text; lent = byteTurn s l .lent; out = text ++ drop (length text) out }
+      record {
+        refusal = 0;
+        count = length text;
+        lent = byteTurn s l .lent;
+        out =
+            text ++ drop (length text) out;
+      }
 
   unfoldable pub answerTo : Written
   answerTo = refusedOr rows refusing answering
@@ -66,7 +72,8 @@ module _ (s : List ℕ) (l : Line) (out : List ℕ) where
 
   -- a buffer of fewer than 16 bytes
   pub too-short : length out < shortestBuffer → answerTo ≡ refusing 13
-  too-short h = refused-rows (or-intro-left (ltb (length out) shortestBuffer) _ (le-true (suc (length out)) 16 h))
+  too-short h = refused-rows (or-intro-left (ltb (length out) shortestBuffer) _
+      (le-true (suc (length out)) 16 h))
 
   -- a buffer that has no room for the text and its newline
   pub no-room : length out ≤ length (turnText (byteTurn s l)) → answerTo ≡ refusing 13

@@ -1,4 +1,5 @@
-// One line of text over a lent base, its reply as text in a lent buffer: what a database, a queue or a script calls.
+// One line of text over a lent base, its reply as text in a lent buffer: what a database, a queue or a script
+// calls.
 ghost use mathlib.Core.Path.{_≡_};
 ghost use mathlib.Core.List.{[]};
 ghost use Prim.Native.Nat.{_≤_, _<_};
@@ -24,7 +25,8 @@ pub struct TextReply {
 // Writes a reply and a newline at the front of a buffer that they fit.
 fn put_line(out: &mut [u8], r: Reply, list: &[u32]) -> TextReply
     requires { ⌜ (length (printReply r (runsOf r (now list))) < length (now out)) × RunsFit r (now list) ⌝ }
-    ensures { λ w. ⌜ Wrote (printReply r (runsOf r (now (list .entry)))) (now (out .entry)) (now (out .exit)) w ⌝ }
+    ensures { λ w. ⌜ Wrote (printReply r (runsOf r (now (list .entry)))) (now (out .entry))
+        (now (out .exit)) w ⌝ }
 {
     let n = printing::put_reply(out, r, list);
     out[n] = 10;
@@ -78,9 +80,9 @@ fn text_when(base: &[u8], x: Access, out: &mut [u8]) -> TextReply
     put_line(out, r, &list)
 }
 
-// Answers one line of text, which has no newline, on a base of any bytes: the reply's text with its newline stands
-// at the front of the buffer after it, and the rest of the buffer is as it was. A buffer that is too short is refused
-// with 13, before a request is carried out; 24,001 bytes always suffice.
+// Answers one line of text, which has no newline, on a base of any bytes: the reply's text with its newline
+// stands at the front of the buffer after it, and the rest of the buffer is as it was. A buffer that is too
+// short is refused with 13, before a request is carried out; 24,001 bytes always suffice.
 pub fn text(base: &mut [u8], line: &[u8], out: &mut [u8]) -> TextReply
     ensures { λ w. ⌜ written w (now (base .exit)) (now (out .exit))
         ≡ textAnswer (now (base .entry)) (now (line .entry)) (now (out .entry)) ⌝ }

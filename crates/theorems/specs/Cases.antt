@@ -1,5 +1,5 @@
--- The twelve cases of 01 ("Session S" and "More pairs to prove") as one table of text in and text out, and one
--- theorem over its rows about the definitions: `twelve`.
+-- The twelve cases of 01 ("Session S" and "More pairs to prove") as one table of text in and text out, and
+-- one theorem over its rows about the definitions: `twelve`.
 use mathlib.Core.Path.{_≡_, refl, sym, ap₂, _∙_, subst}
 use mathlib.Core.Logic.{inl, inr}
 use Prim.Native.Nat.{ℕ, zero, suc}
@@ -119,10 +119,12 @@ table =
 -- computed once over the whole table, by asking at marks
 abbrev Passes : List Case → Type 0
 Passes [] = Unit {0}
-Passes (c ∷ rest) = (transcript (atMarks 64) (readAtMarks 64) (lines (c .input)) emptyBase ≡ c .output) × Passes rest
+Passes (c ∷ rest) = (transcript (atMarks 64) (readAtMarks 64) (lines (c .input)) emptyBase ≡ c .output)
+    × Passes rest
 
 computed : Passes table
-unfolding iter reaches cyclic rankIn rank prepend next walk supports supportedIn supported coveredFor feeds precedes
+unfolding iter reaches cyclic rankIn rank prepend next walk supports supportedIn supported coveredFor feeds
+    precedes
     weight stratified holds stratum derivedBelow mayWith keepAt leaveAt restrictAt gapsAt alwaysAt mayAtMarks
     whenAtMarks decimal readLine fits standsFor derivesFor rightOf takes affects
 computed = (refl, (refl, (refl, (refl, (refl, (refl, (refl, (refl, (refl, (refl, (refl, (refl, tt))))))))))))
@@ -131,12 +133,14 @@ at : (cs : List Case) → Passes cs → (c : Case) → Mem c cs →
     transcript (atMarks 64) (readAtMarks 64) (lines (c .input)) emptyBase ≡ c .output
 at [] p c m = absurd (m .lower)
 at (d ∷ cs) p c (inl e) =
-    subst (λ (x : Case). transcript (atMarks 64) (readAtMarks 64) (lines (x .input)) emptyBase ≡ x .output) (sym e) (p .0)
+    subst (λ (x : Case). transcript (atMarks 64) (readAtMarks 64) (lines (x .input)) emptyBase ≡ x .output)
+    (sym e) (p .0)
 at (d ∷ cs) p c (inr m) = at cs (p .1) c m
 
 -- THEOREM 10: every row of the table is what the definitions say
 pub twelve : (c : Case) → Mem c table → session (c .input) ≡ c .output
 unfolding session
 twelve c m =
-    ap₂ (λ (M : Means) (Q : Questions). transcript M Q (lines (c .input)) emptyBase) (same-means 64) (same-questions 64)
+    ap₂ (λ (M : Means) (Q : Questions). transcript M Q (lines (c .input)) emptyBase) (same-means 64)
+    (same-questions 64)
     ∙ at table computed c m

@@ -1,5 +1,5 @@
--- DEMAND 3, in the order of the request's own words: `demand3`. The words `after`, `Given`, `Stands`, `Behind` and
--- `Survives` are in the model's Survival.
+-- DEMAND 3, in the order of the request's own words: `demand3`. The words `after`, `Given`, `Stands`,
+-- `Behind` and `Survives` are in the model's Survival.
 use mathlib.Core.Path.{_≡_, subst}
 use mathlib.Core.Logic.{_↔_, ⊎-elim}
 use Prim.Native.Nat.{ℕ, suc}
@@ -24,15 +24,17 @@ use Rattle.theorems.specs.Labels.{one-place}
 
 -- what demand 3 says of a list of requests and the bytes s after it
 pub record Demand3 (qs : List Request) (s : List ℕ) : Type 0 where
-  -- "each instant of an accepted grant or denial remains exactly if its giver has neither taken it back nor lost the
-  -- meter's administration since, and if after that and every later accepted request it had a chain behind it"; "what
-  -- remains stands ... with its giver, receiver, meter, mode, sign, option and time": the head h
+  -- "each instant of an accepted grant or denial remains exactly if its giver has neither taken it back nor
+  -- lost the meter's administration since, and if after that and every later accepted request it had a chain
+  -- behind it"; "what remains stands ... with its giver, receiver, meter, mode, sign, option and time": the
+  -- head h
   pub instants : {earlier : List Request} {g : Request} {later : List Request} {h : Head} {t : ℕ} →
       Given qs earlier g later h t →
       let next = after (earlier ++ (g ∷ [])) in
       Stands (decode s) h t ↔ (Behind (decode next) h t × Survives h t later next)
   -- "in lines of its own label": a label has one place in the list
-  pub own-label : {earlier earlier′ : List Request} {g g′ : Request} {later later′ : List Request} {h h′ : Head}
+  pub own-label : {earlier earlier′ : List Request} {g g′ : Request} {later later′ : List Request}
+      {h h′ : Head}
       {t t′ : ℕ} →
       Given qs earlier g later h t → Given qs earlier′ g′ later′ h′ t′ → h .label ≡ h′ .label →
       (earlier ≡ earlier′) × (g ≡ g′) × (later ≡ later′)
@@ -40,7 +42,8 @@ pub record Demand3 (qs : List Request) (s : List ℕ) : Type 0 where
   pub lines : decode s .authorizations ≡ linesOf (ledger qs .entries)
   -- "and the base is sound"
   pub base-sound : soundBytes s ≡ true
-  -- "and has no other lines": whatever stands was given by a request of the list (by one, as `own-label` says)
+  -- "and has no other lines": whatever stands was given by a request of the list (by one, as `own-label`
+  -- says)
   pub no-other : {h : Head} {t : ℕ} → Stands (decode s) h t →
       (earlier : List Request) × (g : Request) × (later : List Request) × Given qs earlier g later h t
 

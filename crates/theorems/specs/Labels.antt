@@ -1,5 +1,5 @@
--- Labels: of two accepted requests the later one has the greater label (`labels-differ`), so that a label has one
--- place in a list (`one-place`).
+-- Labels: of two accepted requests the later one has the greater label (`labels-differ`), so that a label has
+-- one place in a list (`one-place`).
 use mathlib.Core.Path.{_≡_, refl, sym, ap, ap₂, _∙_, subst}
 use mathlib.Core.Logic.{_⊎_, inl, inr, _≢_, ⊎-elim}
 use Prim.Native.Nat.{ℕ, suc, _≤_, _<_}

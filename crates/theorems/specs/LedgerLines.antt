@@ -1,5 +1,6 @@
--- After every list of requests from the empty base, wild kinds and numbers included, the bytes are sound and their
--- authorizations are exactly the maximal intervals of the ledger's entries (theorem 8): `ledger-lines` at the end.
+-- After every list of requests from the empty base, wild kinds and numbers included, the bytes are sound and
+-- their authorizations are exactly the maximal intervals of the ledger's entries (theorem 8): `ledger-lines`
+-- at the end.
 use mathlib.Core.Path.{_≡_, refl, sym, ap, ap₂, _∙_, subst, subst₂}
 use mathlib.Core.Logic.{_≢_}
 use Prim.Native.Nat.{ℕ, suc, _≤_}
@@ -18,7 +19,8 @@ use Rattle.model.specs.Ranges.{lastInstant, isInstant}
 use Rattle.model.specs.Base.{Base, emptyBase}
 use Rattle.model.specs.Support.{supported, live, rootIn, root}
 use Rattle.model.specs.Withdrawal.{authorization, restrict}
-use Rattle.model.specs.Requests.{grants, labels, withdraws, objectsAfter, administratorsAfter, newHead, takes, leave}
+use Rattle.model.specs.Requests.{grants, labels, withdraws, objectsAfter, administratorsAfter, newHead, takes}
+use Rattle.model.specs.Requests.{leave}
 use Rattle.model.specs.Requests.{rootAfter}
 use Rattle.model.specs.Means.{plainly}
 use Rattle.model.specs.Step.{refusal, effect}
@@ -28,7 +30,8 @@ use Rattle.model.specs.EncodingFacts.{decode-encode, encode-sound, empty-sound}
 use Rattle.model.specs.Soundness.{sound, soundBytes}
 use Rattle.model.specs.SoundnessFacts.{Sound, sound-tests}
 use Rattle.model.specs.Answers.{Answer, requests}
-use Rattle.model.specs.Ledger.{Entry, entry, Ledger, emptyLedger, standing, keepEntries, settle, newEntry, enter}
+use Rattle.model.specs.Ledger.{Entry, entry, Ledger, emptyLedger, standing, keepEntries, settle, newEntry}
+use Rattle.model.specs.Ledger.{enter}
 use Rattle.model.specs.Ledger.{follow, ledger, linesOf}
 use Rattle.laws.specs.LedgerFacts.{Framed, framed-keep, framed-append, live-lines, keep-lines}
 use Rattle.laws.specs.LedgerFacts.{restrict-settle, keep-all, linesOf-append, linesOf-one}
@@ -116,7 +119,8 @@ module _ (b : Base) (a : Ledger) (q : Request) (s : Sound b) (g : Accepted b q) 
       ∙ settled after (a .entries ++ newEntry a q) (sound-after b q s g) f (new-lines w)))
 
   -- a withdrawal enters nothing, and restricts what it leaves
-  withdrawn : withdraws q ≡ true → after .authorizations ≡ linesOf (settle (root after) (taken ++ newEntry a q))
+  withdrawn : withdraws q ≡ true → after .authorizations
+      ≡ linesOf (settle (root after) (taken ++ newEntry a q))
   unfolding leave
   withdrawn w =
       let none : newEntry a q ≡ [] = rw (is-apart q withdrawalKinds grantKinds refl w) in
@@ -136,7 +140,8 @@ module _ (b : Base) (a : Ledger) (q : Request) (s : Sound b) (g : Accepted b q) 
     administrators = ap (administratorsAfter q) (agrees .administrators);
     last = ap (λ (n : ℕ). pick (labels q) (suc n) n) (agrees .last);
     lines = after-lines ∙ ap (λ (r : Head → Bool). linesOf (settle r (taken ++ newEntry a q))) (sym roots);
-    framed = framed-keep _ (taken ++ newEntry a q) (framed-append taken (newEntry a q) taken-framed new-framed);
+    framed = framed-keep _ (taken ++ newEntry a q)
+        (framed-append taken (newEntry a q) taken-framed new-framed);
   }
 
 -- ---- a list of requests

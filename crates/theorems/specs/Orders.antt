@@ -1,6 +1,7 @@
--- DEMAND 3 ABOUT THE TEXT SESSION: for every input of bytes, questions and lines that cannot be read included, it
--- holds of the requests among the lines and of the base's bytes after the session: `demand3-text`. These are the
--- bytes that `byteSession` passes from line to line; it prints what the session prints (`session-bytes`).
+-- DEMAND 3 ABOUT THE TEXT SESSION: for every input of bytes, questions and lines that cannot be read
+-- included, it holds of the requests among the lines and of the base's bytes after the session:
+-- `demand3-text`. These are the bytes that `byteSession` passes from line to line; it prints what the session
+-- prints (`session-bytes`).
 use mathlib.Core.Path.{_≡_, refl, sym, ap, _∙_, subst}
 use Prim.Native.Nat.{ℕ}
 use mathlib.Core.List.{List, [], _∷_, _++_}

@@ -1,5 +1,5 @@
--- The base after a list of requests: it is sound, its bytes are what the list leaves of an empty base's, and a reply
--- `Done` over those bytes says that the table lets the request pass and which label it takes.
+-- The base after a list of requests: it is sound, its bytes are what the list leaves of an empty base's, and
+-- a reply `Done` over those bytes says that the table lets the request pass and which label it takes.
 use mathlib.Core.Path.{_≡_, refl, sym, ap, _∙_, subst}
 use mathlib.Core.Logic.{_≢_}
 use Prim.Native.Nat.{ℕ, suc, _≤_}
@@ -62,7 +62,8 @@ pub play-append : (xs ys : List Request) (b : Base) → play (xs ++ ys) b ≡ pl
 play-append [] ys b = refl
 play-append (x ∷ xs) ys b = play-append xs ys (step b x .base)
 
-request-step : (b : Base) (q : Request) → sound b ≡ true → request (encode b) q .lent ≡ encode (step b q .base)
+request-step : (b : Base) (q : Request) → sound b ≡ true →
+    request (encode b) q .lent ≡ encode (step b q .base)
 request-step b q s = cases (eqb (refusal plainly b q) 0)
     (λ e. let z = true-eq (refusal plainly b q) 0 e in
     ap (λ (x : Answer). x .lent) (request-accepted b q s z) ∙ ap encode (sym (base-accepted b q z)))
@@ -70,7 +71,8 @@ request-step b q s = cases (eqb (refusal plainly b q) 0)
     ap (λ (x : Answer). x .lent) (request-refused b q s n) ∙ ap encode (sym (base-refused b q n)))
 
 -- the bytes after a list encode the base after it
-pub requests-play : (qs : List Request) (b : Base) → sound b ≡ true → requests qs (encode b) ≡ encode (play qs b)
+pub requests-play : (qs : List Request) (b : Base) → sound b ≡ true →
+    requests qs (encode b) ≡ encode (play qs b)
 requests-play [] b s = refl
 requests-play (q ∷ qs) b s =
     ap (requests qs) (request-step b q s) ∙ requests-play qs (step b q .base) (step-sound b q s)

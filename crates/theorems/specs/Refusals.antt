@@ -1,5 +1,5 @@
--- Which numbers each public function refuses with, and that a refusal leaves what was lent (demand 1): one theorem a
--- function, each an instance of `refused`.
+-- Which numbers each public function refuses with, and that a refusal leaves what was lent (demand 1): one
+-- theorem a function, each an instance of `refused`.
 use mathlib.Core.Path.{_≡_, refl, sym, ap, _∙_, subst}
 use mathlib.Core.Logic.{_≢_, inl, inr, ⊎-elim}
 use Prim.Native.Nat.{ℕ, _*_, _/_}
@@ -21,7 +21,8 @@ use Rattle.model.specs.Step.{Row, row, firstNumber, refusedOr, accepting, effec
 use Rattle.model.specs.StepFacts.{first-given, answered, turned-away}
 use Rattle.model.specs.Encoding.{size, encode, decode}
 use Rattle.model.specs.Soundness.{soundBytes}
-use Rattle.model.specs.Answers.{Answer, answering, refusing, refusalNumber, shown, create, requestTable, request}
+use Rattle.model.specs.Answers.{Answer, answering, refusing, refusalNumber, shown, create, requestTable}
+use Rattle.model.specs.Answers.{request}
 use Rattle.model.specs.Answers.{Answered, mayTable, whenTable, words, mayReply, mayAnswer, whenAnswer}
 use Rattle.model.specs.Text.{Line, order, asksMay, asksWhen, unreadable}
 use Rattle.model.specs.Session.{whenList, byteTurn}
@@ -38,7 +39,8 @@ refused {A} rows refuse answer number as-refused as-answered n = cases (eqb (fir
     let w = first-given rows k in
     let given : number (refusedOr rows refuse answer) ≡ w .0 .number =
     ap number same ∙ as-refused (firstNumber rows) ∙ sym (w .3) in (
-      subst (λ (x : ℕ). Mem x (map (λ r. r .number) rows)) (sym given) (mem-map (λ r. r .number) rows (w .0) (w .1)),
+      subst (λ (x : ℕ). Mem x (map (λ r. r .number) rows)) (sym given)
+          (mem-map (λ r. r .number) rows (w .0) (w .1)),
       same,
     ))
 
@@ -66,7 +68,8 @@ pub request-refuses : (s : List ℕ) (q : Request) → refusalNumber (request s 
 unfolding request
 request-refuses s q n =
     let after = effect plainly (decode s) q in
-    let w = refused (requestTable s q) (refusing s) (answering (accepting (decode s) q after) (encode after)) number
+    let w = refused (requestTable s q) (refusing s)
+    (answering (accepting (decode s) q after) (encode after)) number
     (λ k. refl) refl n in
     (w .0, kept (request s q) s (firstNumber (requestTable s q)) (w .1))
 
@@ -83,8 +86,10 @@ may-refuses s q n =
     answers true = refl
     answers false = refl
 
-pub when-refuses : (s : List ℕ) (x : Access) (list : List ℕ) → refusalNumber (whenAnswer s x list .reply) ≢ 0 →
-    Mem (refusalNumber (whenAnswer s x list .reply)) (2 ∷ 3 ∷ 6 ∷ 13 ∷ []) × (whenAnswer s x list .lent ≡ list)
+pub when-refuses : (s : List ℕ) (x : Access) (list : List ℕ) →
+    refusalNumber (whenAnswer s x list .reply) ≢ 0 →
+    Mem (refusalNumber (whenAnswer s x list .reply)) (2 ∷ 3 ∷ 6 ∷ 13 ∷ [])
+    × (whenAnswer s x list .lent ≡ list)
 unfolding whenAnswer
 when-refuses s x list n =
     let runs = when (decode s) x in

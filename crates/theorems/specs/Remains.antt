@@ -1,6 +1,6 @@
--- An instant of an accepted grant or denial remains in the bytes after a list exactly if a chain was behind it right
--- after that request, and it survives the later ones (theorem 9): `remains`. What stands after a list was given by
--- one of its requests: `origin`.
+-- An instant of an accepted grant or denial remains in the bytes after a list exactly if a chain was behind
+-- it right after that request, and it survives the later ones (theorem 9): `remains`. What stands after a
+-- list was given by one of its requests: `origin`.
 use mathlib.Core.Path.{_≡_, refl, sym, ap, _∙_, subst}
 use mathlib.Core.Logic.{_≢_, _⊎_, inl, inr, _↔_, ⊎-elim}
 use Prim.Native.Nat.{ℕ, suc, _≤_}
@@ -27,7 +27,8 @@ use Rattle.model.specs.Answers.{Answer, refusalNumber, request}
 use Rattle.model.specs.Soundness.{sound}
 use Rattle.model.specs.SoundnessFacts.{Sound, sound-tests}
 use Rattle.model.specs.SupportFacts.{live-last, live-old, live-new, chain-more}
-use Rattle.model.specs.Survival.{Gives, grant, denial, after, Given, TakesBack, LosesAdministration, Stands, Behind}
+use Rattle.model.specs.Survival.{Gives, grant, denial, after, Given, TakesBack, LosesAdministration, Stands}
+use Rattle.model.specs.Survival.{Behind}
 use Rattle.model.specs.Survival.{Survives, end, refused, accepted}
 use Rattle.model.specs.SurvivalFacts.{taken}
 use Rattle.laws.specs.Kinds.{grantKinds, labelKinds, is-kinds}
@@ -40,7 +41,8 @@ use Rattle.laws.specs.Restriction.{withdrawn-all}
 use Rattle.laws.specs.Preservation.{sound-after, effect-sound}
 use Rattle.laws.specs.RequestFacts.{request-accepted, done-passes, number-refused, refused-number}
 use Rattle.theorems.specs.PlayFacts.{base-accepted, base-refused, step-sound, baseAfter, after-sound}
-use Rattle.theorems.specs.PlayFacts.{after-bytes, after-base, after-one, after-more, done-accepted, done-label}
+use Rattle.theorems.specs.PlayFacts.{after-bytes, after-base, after-one, after-more, done-accepted}
+use Rattle.theorems.specs.PlayFacts.{done-label}
 
 -- ---- one accepted request
 
@@ -110,7 +112,8 @@ module _ (b : Base) (q : Request) (s : Sound b) (g : Accepted b q) (h : Head) (t
 
 module _ (h : Head) (t : ℕ) where
   -- what stands after a list, and has a label from before it, stood before and survived
-  survived : (later : List Request) (b : Base) → sound b ≡ true → h .label ≤ b .last → Stands (play later b) h t →
+  survived : (later : List Request) (b : Base) → sound b ≡ true → h .label ≤ b .last →
+      Stands (play later b) h t →
       Stands b h t × Survives h t later (encode b)
   survived [] b s l m = (m, end)
   survived (q ∷ later) b s l m = cases (eqb (refusal plainly b q) 0)
@@ -123,11 +126,13 @@ module _ (h : Head) (t : ℕ) where
       let w = stood b q k g h t l (p .0) in
       let none : ¬ (TakesBack q h t ⊎ LosesAdministration q h) =
       λ x. true≢false (sym (taken b q g h t (w .0) .1 x) ∙ w .1) in
-      let bytes : request (encode b) q .lent ≡ encode c = ap (λ (a : Answer). a .lent) (request-accepted b q s z) in
+      let bytes : request (encode b) q .lent ≡ encode c =
+      ap (λ (a : Answer). a .lent) (request-accepted b q s z) in
       let base : decode (request (encode b) q .lent) ≡ c =
       ap decode bytes ∙ decode-encode c (effect-sound b q s z) in (
         w .0,
-        accepted (ap (λ (a : Answer). a .reply) (request-accepted b q s z)) (λ x. none (inl x)) (λ x. none (inr x))
+        accepted (ap (λ (a : Answer). a .reply) (request-accepted b q s z)) (λ x. none (inl x))
+            (λ x. none (inr x))
             (subst (λ (d : Base). Behind d h t) (sym base) (behind b q k g h t (p .0)))
             (subst (λ (x : List ℕ). Survives h t later x) (sym bytes) (p .1)),
       ))
@@ -136,7 +141,8 @@ module _ (h : Head) (t : ℕ) where
       (p .0, refused (refused-number b q s n) (p .1)))
 
   -- what stands and survives the list stands after it
-  surviving : (later : List Request) (b : Base) → sound b ≡ true → Stands b h t → (x : List ℕ) → x ≡ encode b →
+  surviving : (later : List Request) (b : Base) → sound b ≡ true → Stands b h t → (x : List ℕ) →
+      x ≡ encode b →
       Survives h t later x → Stands (play later b) h t
   surviving [] b s m x i end = m
   surviving (q ∷ later) b s m x i (refused n v) =
@@ -151,7 +157,8 @@ module _ (h : Head) (t : ℕ) where
       let base : decode (request x q .lent) ≡ c = ap decode bytes ∙ decode-encode c (effect-sound b q s z) in
       let untouched : takes q h t ≡ false =
       cases (takes q h t) (λ e. absurd (⊎-elim back lost (taken b q g h t m .0 e))) (λ e. e) in
-      let still = stands b q (sound-tests b s) g h t m untouched (subst (λ (d : Base). Behind d h t) base chain) in
+      let still = stands b q (sound-tests b s) g h t m untouched
+      (subst (λ (d : Base). Behind d h t) base chain) in
       subst (λ (c : Base). Stands (play later c) h t) (sym (base-accepted b q z))
       (surviving later c (effect-sound b q s z) still (request x q .lent) bytes v)
 
@@ -188,7 +195,8 @@ module _ (h : Head) (t : ℕ) where
           }))
           (entered b q (sound-tests b s) (passed b q z) h t
           (subst (λ (c : Base). Stands c h t) (base-accepted b q z) n)))
-          (λ e. inl (subst (λ (c : Base). Stands c h t) (base-refused b q (false-eq (refusal plainly b q) 0 e)) n))
+          (λ e. inl (subst (λ (c : Base). Stands c h t)
+          (base-refused b q (false-eq (refusal plainly b q) 0 e)) n))
 
       later-on : Entered qs (step b q .base) → Stands b h t ⊎ Entered (q ∷ qs) b
       later-on w = inr (record {
@@ -223,7 +231,8 @@ fresh : (b : Base) (g : Request) (t : ℕ) → grants g ≡ true → inInterval 
     Stands (effect plainly b g) (newHead (suc (b .last)) g) t
 fresh b g t e i = rw (granted-authorizations b g e) (live-new t (b .authorizations) (newAuthorization b g) i)
 
-given-label : (b : Base) (g : Request) → grants g ≡ true → newHead (suc (b .last)) g .label ≤ effect plainly b g .last
+given-label : (b : Base) (g : Request) → grants g ≡ true →
+    newHead (suc (b .last)) g .label ≤ effect plainly b g .last
 given-label b g e = rw (is-kinds g grantKinds labelKinds refl e) (omega arith)
 
 module _ (qs earlier : List Request) (g : Request) (later : List Request) (h : Head) (t : ℕ)
@@ -248,8 +257,8 @@ module _ (qs earlier : List Request) (g : Request) (later : List Request) (h : H
   inside = and-intro (leb (g .interval .start) t) (leb t (g .interval .end))
       (le-true (g .interval .start) t (given .starts)) (le-true t (g .interval .end) (given .ends))
 
-  -- An instant that a grant or denial of the list gives remains in the bytes after the list exactly if a chain was
-  -- behind it after that request, and it survives the later ones
+  -- An instant that a grant or denial of the list gives remains in the bytes after the list exactly if a
+  -- chain was behind it after that request, and it survives the later ones
   pub remains :
       let s = after (earlier ++ (g ∷ [])) in
       Stands (decode (after qs)) h t ↔ (Behind (decode s) h t × Survives h t later s)
@@ -259,7 +268,8 @@ module _ (qs earlier : List Request) (g : Request) (later : List Request) (h : H
       let s′ = effect-sound base g s passes in
       let l : h .label ≤ b .last =
       subst (λ (k : Head). k .label ≤ b .last) (sym given-head) (given-label base g is-grant) in
-      let now : Stands b h t = subst (λ (k : Head). Stands b k t) (sym given-head) (fresh base g t is-grant inside) in
+      let now : Stands b h t = subst (λ (k : Head). Stands b k t) (sym given-head)
+      (fresh base g t is-grant inside) in
       let now-behind = behind base g (sound-tests base s) (passed base g passes) h t now in
       let next : decode (after (earlier ++ (g ∷ []))) ≡ b =
       after-base (earlier ++ (g ∷ [])) ∙ after-one earlier g passes in

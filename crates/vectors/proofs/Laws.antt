@@ -1,6 +1,5 @@
--- The line that begins at a place of a text, found byte by byte; the lines of a text, one after the other; and a
--- transcript's walk, which says at each line what it says of all lines.
--- Assumes nothing.
+-- The line that begins at a place of a text, found byte by byte; the lines of a text, one after the other;
+-- and a transcript's walk, which says at each line what it says of all lines. Assumes nothing.
 use mathlib.Core.Path.{_≡_, refl, sym, ap, ap₂, _∙_}
 use Prim.Native.Nat.{ℕ, suc, _+_, _-_, _≤_, _<_}
 use native.Mathlib.Numerals.{add-one}
@@ -61,7 +60,8 @@ module _ {text : List ℕ} {from i : ℕ} (w : Walks text from i) where
         low = omega arith;
         high = omega arith;
         line = w .line ∙ ap (λ (r : List ℕ). take k (drop from text) ++ r) b
-            ∙ rw (add-one i, n, more) (sym (append-snoc (take k (drop from text)) c (before (drop (suc i) text))));
+            ∙ rw (add-one i, n, more) (sym (append-snoc (take k (drop from text)) c
+            (before (drop (suc i) text))));
         rest = w .rest ∙ ap behind d ∙ rw (e, add-one i);
       }
 
@@ -119,7 +119,8 @@ with-last a b x m n = agree (eqList a (take m b) && eqb (getD b m 0) x) (eqList 
     ap (take m) (sym q) ∙ take-append-le m a (x ∷ []) (omega arith) ∙ take-all m a (omega arith) in
     let last : getD b m 0 ≡ x =
     ap (λ (s : List ℕ). getD s m 0) (sym q) ∙ rw (← l) (last-of a x) in
-    and-intro (eqList a (take m b)) (eqb (getD b m 0) x) (rw front (eqList-refl a)) (eq-true (getD b m 0) x last))
+    and-intro (eqList a (take m b)) (eqb (getD b m 0) x) (rw front (eqList-refl a))
+    (eq-true (getD b m 0) x last))
   where
     last-of : (a : List ℕ) (x : ℕ) → getD (a ++ (x ∷ [])) (length a) 0 ≡ x
     last-of [] x = refl
@@ -144,7 +145,8 @@ module _ (s line : List ℕ) where
         sound = ap soundBytes z ∙ encode-sound emptyBase empty-sound;
       }
 
-  pub leads-asks : {n : ℕ} {out s′ : List ℕ} → opens line ≡ false → asks line ≡ true → Turned s (body line) n out s′ →
+  pub leads-asks : {n : ℕ} {out s′ : List ℕ} → opens line ≡ false → asks line ≡ true →
+      Turned s (body line) n out s′ →
       Leads s line n s′ out
   leads-asks o a t = record {
     stages = ap₂ {C = Stage} (λ (b w : List ℕ). stage b w) (t .bytes) (t .text)
@@ -188,8 +190,8 @@ lines-front (c ∷ s) h = cases (ends (c ∷ s))
 
 -- ---- the walk through a transcript
 
--- the lines before the place `at` stand, and what is said of all lines is said of those from there on, where the base
--- has the bytes s and n bytes of `out` are owed
+-- the lines before the place `at` stand, and what is said of all lines is said of those from there on, where
+-- the base has the bytes s and n bytes of `out` are owed
 pub record Goes (text s out : List ℕ) (n count at title : ℕ) : Type 0 where
   pub agreed : agrees fresh (lines text) ≡ agrees (stage s (take n out)) (lines (drop at text))
   pub stood : standing fresh (lines text) ≡ count + standing (stage s (take n out)) (lines (drop at text))
@@ -276,7 +278,8 @@ module _ {text s out : List ℕ} {n count at title : ℕ} (w : Goes text s out n
       }
 
 -- and so does the end of the text
-pub goes-end : {text s out : List ℕ} {n count at title : ℕ} → Goes text s out n count at title → at ≡ length text →
+pub goes-end : {text s out : List ℕ} {n count at title : ℕ} → Goes text s out n count at title →
+    at ≡ length text →
     24001 ≤ length out →
     Checks text (record { good = eqb n 0; lines = count; n = n; at = at; title = title }) out
 goes-end {text} {s} {out} {n} {count} {at} w e room =

@@ -1,5 +1,5 @@
--- What the contracts of the program `vectors` say: the place of a line in a text (`Spans`), what a line leads to
--- (`Leads`), and how far a transcript stands (`Checks`).
+-- What the contracts of the program `vectors` say: the place of a line in a text (`Spans`), what a line leads
+-- to (`Leads`), and how far a transcript stands (`Checks`).
 use mathlib.Core.Path.{_≡_}
 use Prim.Native.Nat.{ℕ, _-_, _≤_, _<_}
 use mathlib.Core.Bool.{true}
@@ -27,8 +27,8 @@ pub record Leads (s line : List ℕ) (n : ℕ) (s′ out : List ℕ) : Type 0 wh
   pub few : n ≤ 24001
   pub sound : soundBytes s′ ≡ true
 
--- a transcript was checked: the verdict, how many lines stand, the reply that is owed behind them, the lines that are
--- left there, and the bounds that a message needs
+-- a transcript was checked: the verdict, how many lines stand, the reply that is owed behind them, the lines
+-- that are left there, and the bounds that a message needs
 pub record Checks (text : List ℕ) (r : Checked) (out : List ℕ) : Type 0 where
   pub agreed : r .good ≡ agrees fresh (lines text)
   pub count : r .lines ≡ standing fresh (lines text)

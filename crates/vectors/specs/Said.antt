@@ -1,6 +1,6 @@
--- What a transcript that agrees says: in each case the replies are those of the model's session, on an empty base, to
--- the lines of the case (`case-said`, and `case-behind` for the cases behind a title). For lines and replies in turn
--- that is `pairs-said`.
+-- What a transcript that agrees says: in each case the replies are those of the model's session, on an empty
+-- base, to the lines of the case (`case-said`, and `case-behind` for the cases behind a title). For lines and
+-- replies in turn that is `pairs-said`.
 use mathlib.Core.Path.{_≡_, refl, sym, ap, _∙_}
 use Prim.Native.Nat.{ℕ}
 use native.Mathlib.Omega.{arith}
@@ -18,7 +18,8 @@ use Rattle.model.specs.Text.{newline, space, printReply}
 use Rattle.model.specs.Session.{transcript, byteTranscript}
 use Rattle.laws.specs.SessionFacts.{same-transcript}
 use Rattle.serving.specs.Turns.{turnOf, replyText}
-use Rattle.vectors.specs.Transcripts.{marked, opens, asks, tells, body, Stage, stage, fresh, stands, next}
+use Rattle.vectors.specs.Transcripts.{marked, opens, asks, tells, body, Stage, stage, fresh, stands}
+use Rattle.vectors.specs.Transcripts.{next}
 use Rattle.vectors.specs.Transcripts.{agrees}
 
 -- ---- a case
@@ -95,14 +96,16 @@ module _ (g : Stage) (l : List ℕ) (rest : List (List ℕ)) (s : stands g l ≡
       let t = one-mark 62 60 l refl a in
       let x = turnOf (g .base) (body l) in
       rw (o, a, t, stands-other g l t s)
-      (sym (append-assoc (printReply (x .reply) (x .runs)) (newline ∷ []) (byteTranscript (asked rest) (x .lent)))
+      (sym (append-assoc (printReply (x .reply) (x .runs)) (newline ∷ [])
+      (byteTranscript (asked rest) (x .lent)))
       ∙ ap (λ (h : Stage). answers h rest) (sym (next-asks g l o a)) ∙ more)
 
   said-other : opens l ≡ false → asks l ≡ false → answers g (l ∷ rest) ≡ told (l ∷ rest)
   said-other o a =
       let m = ap (λ (h : Stage). answers h rest) (sym (next-other g l o a)) ∙ more in
       cases (tells l)
-      (λ t. rw (o, a, t) (rw (← stands-told g l t s) (ap (λ (r : List ℕ). (body l ++ (newline ∷ [])) ++ r) m)))
+      (λ t. rw (o, a, t) (rw (← stands-told g l t s)
+      (ap (λ (r : List ℕ). (body l ++ (newline ∷ [])) ++ r) m)))
       (λ t. rw (o, a, t, stands-other g l t s) m)
 
 case-bytes : (g : Stage) (ls : List (List ℕ)) → agrees g ls ≡ true → answers g ls ≡ told ls
@@ -114,12 +117,15 @@ case-bytes g (l ∷ rest) e =
     (λ o. said-opens g l rest (p .0) m o)
     (λ o. cases (asks l) (λ a. said-asks g l rest (p .0) m o a) (λ a. said-other g l rest (p .0) m o a))
 
--- the replies that a transcript tells before its next title are those of the model's session to the lines there
-pub case-said : (ls : List (List ℕ)) → agrees fresh ls ≡ true → transcript plainly asDefined (asked ls) emptyBase ≡ told ls
+-- the replies that a transcript tells before its next title are those of the model's session to the lines
+-- there
+pub case-said : (ls : List (List ℕ)) → agrees fresh ls ≡ true →
+    transcript plainly asDefined (asked ls) emptyBase ≡ told ls
 case-said ls e = sym (same-transcript (asked ls) emptyBase empty-sound) ∙ case-bytes fresh ls e
 
 -- and behind every title a case begins of which the same holds
-pub case-behind : (g : Stage) (front : List (List ℕ)) (title : List ℕ) (rest : List (List ℕ)) → opens title ≡ true →
+pub case-behind : (g : Stage) (front : List (List ℕ)) (title : List ℕ) (rest : List (List ℕ)) →
+    opens title ≡ true →
     agrees g (front ++ (title ∷ rest)) ≡ true → agrees fresh rest ≡ true
 case-behind g [] title rest o e =
     let p = and-true (stands g title) (agrees (next g title) rest) e in
@@ -159,13 +165,23 @@ has-mark c d l = rw (le-true 2 (length (c ∷ space ∷ l)) (omega arith)) (and-
 exchanged-asked : (xs : List Exchange) → asked (exchanged xs) ≡ inputs xs
 exchanged-asked [] = refl
 exchanged-asked (x ∷ xs) =
-    rw (has-mark 62 35 (x .input), has-mark 62 62 (x .input), has-mark 60 35 (x .reply), has-mark 60 62 (x .reply))
+    rw (
+      has-mark 62 35 (x .input),
+      has-mark 62 62 (x .input),
+      has-mark 60 35 (x .reply),
+      has-mark 60 62 (x .reply),
+    )
     (ap (λ (ls : List (List ℕ)). x .input ∷ ls) (exchanged-asked xs))
 
 exchanged-told : (xs : List Exchange) → told (exchanged xs) ≡ replies xs
 exchanged-told [] = refl
 exchanged-told (x ∷ xs) =
-    rw (has-mark 62 35 (x .input), has-mark 62 60 (x .input), has-mark 60 35 (x .reply), has-mark 60 60 (x .reply))
+    rw (
+      has-mark 62 35 (x .input),
+      has-mark 62 60 (x .input),
+      has-mark 60 35 (x .reply),
+      has-mark 60 60 (x .reply),
+    )
     (ap (λ (t : List ℕ). (x .reply ++ (newline ∷ [])) ++ t) (exchanged-told xs))
 
 pub pairs-said : (xs : List Exchange) → agrees fresh (exchanged xs) ≡ true →

@@ -1,6 +1,6 @@
--- Stored sessions, as the program `vectors` reads them. A transcript is lines: `# title` opens a case on an empty
--- base, `> line` is a line of the session, `< reply` is what the line before it must get, an empty line parts cases.
--- Any other line is a fault. What a transcript that agrees says of the model is in Said.
+-- Stored sessions, as the program `vectors` reads them. A transcript is lines: `# title` opens a case on an
+-- empty base, `> line` is a line of the session, `< reply` is what the line before it must get, an empty line
+-- parts cases. Any other line is a fault. What a transcript that agrees says of the model is in Said.
 use Prim.Native.Nat.{ℕ, suc}
 use mathlib.Core.Bool.{Bool, _&&_, _||_}
 use mathlib.Core.List.{List, [], _∷_, _++_}
@@ -55,7 +55,8 @@ stands g l = pick (tells l)
 -- what is owed of a reply is owed once; a new case forgets the base of the one before
 unfoldable pub next : Stage → List ℕ → Stage
 next g l = pick (opens l) fresh
-    (pick (asks l) (stage (turnOf (g .base) (body l) .lent) (replyText (g .base) (body l))) (stage (g .base) []))
+    (pick (asks l) (stage (turnOf (g .base) (body l) .lent) (replyText (g .base) (body l)))
+    (stage (g .base) []))
 
 -- every line stands, and no reply is owed at the end
 abbrev pub agrees : Stage → List (List ℕ) → Bool

@@ -1,5 +1,6 @@
-// The program `vectors`: runs stored sessions, the files that its arguments name, and compares every reply. It writes
-// one line for each file that stands, and for any other the first line that does not, and what was answered.
+// The program `vectors`: runs stored sessions, the files that its arguments name, and compares every reply.
+// It writes one line for each file that stands, and for any other the first line that does not, and what was
+// answered.
 mod checks;
 mod lines;
 mod messages;

@@ -45,8 +45,8 @@ pub fn stands(line: &[u8], owed: &[u8]) -> bool
     (owed.len() == 0) & ((line.len() == 0) | (marked(line, b'#') | marked(line, b'>')))
 }
 
-// What a line leads to: a new case empties the base, a line of the session is answered on it. Gives how many bytes of
-// `out` are the reply that is owed then.
+// What a line leads to: a new case empties the base, a line of the session is answered on it. Gives how many
+// bytes of `out` are the reply that is owed then.
 pub fn advance(s: &mut [u8], line: &[u8], out: &mut [u8]) -> usize
     requires { ⌜ (soundBytes (now s) ≡ true) × (24001 ≤ length (now out)) ⌝ }
     ensures { λ n. ⌜ Leads (now (s .entry)) (now (line .entry)) n (now (s .exit)) (now (out .exit))

@@ -5,7 +5,8 @@ use native.Mathlib.Omega.{arith}
 use mathlib.Core.Bool.{Bool, true, false, _&&_}
 use mathlib.Core.List.{List, _∷_}
 use lib.Dec.{leb, ltb}
-use Rattle.foundation.specs.Tests.{pick, cases, le-true, true-le, false-le, and-true, and-intro, or-true-right}
+use Rattle.foundation.specs.Tests.{pick, cases, le-true, true-le, false-le, and-true, and-intro}
+use Rattle.foundation.specs.Tests.{or-true-right}
 use Rattle.foundation.specs.Tests.{or-intro-left}
 use Rattle.foundation.specs.Intervals.{inInterval, inInterval-true, inInterval-in}
 use Rattle.model.specs.declared.Authorization.{Authorization}

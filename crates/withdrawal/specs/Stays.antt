@@ -36,14 +36,16 @@ keep-cons r a xs = refl
 
 -- ---- keeping twice is keeping once
 
-keep-keep : (r q : Head → ℕ → Bool) (xs : List Authorization) → keep q (keep r xs) ≡ keep (λ h t. r h t && q h t) xs
+keep-keep : (r q : Head → ℕ → Bool) (xs : List Authorization) →
+    keep q (keep r xs) ≡ keep (λ h t. r h t && q h t) xs
 unfolding keep
 keep-keep r q [] = refl
 keep-keep r q (a ∷ xs) =
     keep-append q (pieces (a .head) (intervalsOf r a)) (keep r xs)
     ∙ ap₂ (λ (x y : List Authorization). x ++ y)
     (keep-pieces q (a .head) (intervalsOf r a)
-    ∙ ap (pieces (a .head)) (refine-maximal (a .interval .start) (a .interval .end) (r (a .head)) (q (a .head))))
+    ∙ ap (pieces (a .head)) (refine-maximal (a .interval .start) (a .interval .end) (r (a .head))
+    (q (a .head))))
     (keep-keep r q xs)
 
 -- ---- what covers
@@ -85,7 +87,8 @@ module _ (root : Head → Bool) (p : Head → ℕ → Bool) (xs : List Authoriza
   swap false b c = refl
 
   -- an instant stays exactly if it is not taken out, and the grantor is a root or covered there by what stays
-  pub stays-step : (h : Head) (t : ℕ) → stays h t ≡ p h t && (root h || coveredBy (wantOf h) (keep stays xs) t)
+  pub stays-step : (h : Head) (t : ℕ) → stays h t ≡ p h t
+      && (root h || coveredBy (wantOf h) (keep stays xs) t)
   unfolding stays
   stays-step h t = ap (λ (b : Bool). p h t && b)
       (supported-step root (live t (keep p xs)) h
@@ -94,7 +97,8 @@ module _ (root : Head → Bool) (p : Head → ℕ → Bool) (xs : List Authoriza
       ∙ any-keepIf (λ k. supports k h && supported root (live t (keep p xs)) k) (λ k. p k t) (live t xs)
       ∙ any-cong (λ k. p k t && (supports k h && supported root (live t (keep p xs)) k))
       (λ k. stays k t && wanted (wantOf h) k) (live t xs)
-      (λ k. rw (supports-wanted k h) (swap (p k t) (wanted (wantOf h) k) (supported root (live t (keep p xs)) k)))
+      (λ k. rw (supports-wanted k h) (swap (p k t) (wanted (wantOf h) k)
+      (supported root (live t (keep p xs)) k)))
       ∙ sym (covered-keep (wantOf h) stays xs t)))
 
 -- ---- what was granted before a time
@@ -115,7 +119,8 @@ module _ (r : Head → ℕ → Bool) where
   unfolding left
   left-after T a h = ap (pieces (a .head)) (sym (maximal-unique (a .interval .start) (a .interval .end)
       (upTo T r (a .head)) 0 [] tt
-      (λ t. rw (le-false (suc (a .head .granted)) T (omega arith)) (sym (and-false (inInterval (a .interval) t))))))
+      (λ t. rw (le-false (suc (a .head .granted)) T (omega arith))
+      (sym (and-false (inInterval (a .interval) t))))))
 
   -- for an authorization granted by T, what was granted later covers nothing
   pub covered-upTo : (w : Want) (T : ℕ) (xs : List Authorization) (t : ℕ) → w .before ≤ T →

@@ -1,5 +1,5 @@
--- The maximal intervals of a stretch, whose end is not in it: taken one after the other (`to-next`, `to-none`), and
--- of a stretch with another one taken out (`to-parts`).
+-- The maximal intervals of a stretch, whose end is not in it: taken one after the other (`to-next`,
+-- `to-none`), and of a stretch with another one taken out (`to-parts`).
 use mathlib.Core.Path.{_≡_, refl, sym, ap, _∙_}
 use Prim.Native.Nat.{ℕ, suc, _+_, _-_, _≤_, _<_, min, max}
 use native.Mathlib.Omega.{arith}
@@ -10,8 +10,10 @@ use Rattle.foundation.specs.Tests.{cases, le-true, le-false, true-le, false-le,
 use Rattle.foundation.specs.Tests.{and-intro}
 use Rattle.foundation.specs.Tests.{and-false, and-assoc, or-and}
 use Rattle.foundation.specs.declared.Interval.{Interval}
-use Rattle.foundation.specs.Intervals.{interval, inInterval, inInterval-in, inInterval-above, covered, Separate}
-use Rattle.foundation.specs.Intervals.{separate-weaken, unique, maximalFrom, maximalFrom-no, maximalFrom-separate}
+use Rattle.foundation.specs.Intervals.{interval, inInterval, inInterval-in, inInterval-above, covered}
+use Rattle.foundation.specs.Intervals.{Separate}
+use Rattle.foundation.specs.Intervals.{separate-weaken, unique, maximalFrom, maximalFrom-no}
+use Rattle.foundation.specs.Intervals.{maximalFrom-separate}
 use Rattle.foundation.specs.Intervals.{maximalFrom-covered, within, within-in, within-above, maximal}
 use Rattle.foundation.specs.Intervals.{maximal-separate, maximal-covered}
 use Rattle.laws.specs.LedgerFacts.{separate-append, covered-append}
@@ -37,7 +39,8 @@ behind-stretch a b t h = rw (le-false (suc t) b (omega arith)) (and-false (leb a
 
 -- what a test of a stretch says
 pub stretch-true : (a b t : ℕ) → inStretch a b t ≡ true → (a ≤ t) × (t < b)
-stretch-true a b t e = let p = and-true (leb a t) (ltb t b) e in (true-le a t (p .0), true-le (suc t) b (p .1))
+stretch-true a b t e = let p = and-true (leb a t) (ltb t b) e in
+    (true-le a t (p .0), true-le (suc t) b (p .1))
 
 -- ---- what they are
 
@@ -72,7 +75,8 @@ interval-to a e f = to-unique a (e + 1) f a (maximal a e f) (maximal-separate a 
         (λ q. let k = false-le t e q in rw (q, le-false (suc t) (e + 1) (omega arith)))
 
 -- tests that agree there
-pub to-same : (a b : ℕ) (f g : ℕ → Bool) → ((t : ℕ) → a ≤ t → t < b → f t ≡ g t) → maximalTo a b f ≡ maximalTo a b g
+pub to-same : (a b : ℕ) (f g : ℕ → Bool) → ((t : ℕ) → a ≤ t → t < b → f t ≡ g t) →
+    maximalTo a b f ≡ maximalTo a b g
 to-same a b f g h = to-unique a b g a (maximalTo a b f) (to-separate a b f)
     (λ t. to-covered a b f t ∙ cases (inStretch a b t)
     (λ e. let p = stretch-true a b t e in rw (e, h t (p .0) (p .1)))
@@ -117,7 +121,8 @@ module _ (a b : ℕ) (f : ℕ → Bool) (on off : ℕ) (F : First f a b on) (k :
   to-next =
       let m = on-off in
       let e : suc (suc (off - 1)) ≡ suc off = omega arith in
-      sym (to-unique a b f a (interval on (off - 1) ∷ maximalTo off b f) (F .low, omega arith, rw e others-separate)
+      sym (to-unique a b f a (interval on (off - 1) ∷ maximalTo off b f)
+      (F .low, omega arith, rw e others-separate)
       (λ t. rw (to-covered off b f t) (cases (ltb t on)
       (λ q. low t (true-le (suc t) on q))
       (λ q. let y = false-le (suc t) on q in cases (ltb t off)
@@ -126,7 +131,8 @@ module _ (a b : ℕ) (f : ℕ → Bool) (on off : ℕ) (F : First f a b on) (k :
     where
       low : (t : ℕ) → t < on →
           inInterval (interval on (off - 1)) t || (inStretch off b t && f t) ≡ inStretch a b t && f t
-      low t y = let m = on-off in rw (below-stretch off b t (omega arith), le-false on t y) (sym (cases (leb a t)
+      low t y = let m = on-off in rw (below-stretch off b t (omega arith), le-false on t y)
+          (sym (cases (leb a t)
           (λ p. rw (F .before t (true-le a t p) y) (and-false (inStretch a b t)))
           (λ p. rw p)))
 
@@ -134,20 +140,29 @@ module _ (a b : ℕ) (f : ℕ → Bool) (on off : ℕ) (F : First f a b on) (k :
           inInterval (interval on (off - 1)) t || (inStretch off b t && f t) ≡ inStretch a b t && f t
       mid t y x =
           let lo = F .low in let hi = G .high in
-          rw (inInterval-in (interval on (off - 1)) t y (omega arith), in-stretch a b t (omega arith) (omega arith))
+          rw (
+            inInterval-in (interval on (off - 1)) t y (omega arith),
+            in-stretch a b t (omega arith)
+                (omega arith),
+          )
           (sym (not-false (f t) (G .before t y x)))
 
       high : (t : ℕ) → off ≤ t →
           inInterval (interval on (off - 1)) t || (inStretch off b t && f t) ≡ inStretch a b t && f t
       high t x =
           let lo = F .low in let m = on-off in
-          rw (inInterval-above (interval on (off - 1)) t (omega arith), le-true off t x, le-true a t (omega arith))
+          rw (
+            inInterval-above (interval on (off - 1)) t (omega arith),
+            le-true off t x,
+            le-true a t (omega arith),
+          )
 
 -- ---- the instants x to y taken out
 
 module _ (s e x y : ℕ) (f : ℕ → Bool) (gap : y < e → x < y) where
   -- an instant stands in one of the two parts
-  parts-in : (t : ℕ) → inStretch s (min e x) t || inStretch (max s y) e t ≡ inStretch s e t && not (inStretch x y t)
+  parts-in : (t : ℕ) → inStretch s (min e x) t || inStretch (max s y) e t ≡ inStretch s e t
+      && not (inStretch x y t)
   parts-in t = cases (ltb t x)
       (λ p. let p' = true-le (suc t) x p in rw (below-stretch x y t p') (early p'))
       (λ p. let p' = false-le (suc t) x p in rw (behind-stretch s (min e x) t (omega arith)) (cases (ltb t y)
@@ -173,24 +188,33 @@ module _ (s e x y : ℕ) (f : ℕ → Bool) (gap : y < e → x < y) where
             behind-stretch s e t (omega arith),
           )))
           (λ u. let u' = false-le s t u in
-          rw (below-stretch s (min e x) t u', below-stretch (max s y) e t (omega arith), below-stretch s e t u'))
+          rw (
+            below-stretch s (min e x) t u',
+            below-stretch (max s y) e t (omega arith),
+            below-stretch s e t u',
+          ))
 
       -- behind y the second
       late : y ≤ t → false || inStretch (max s y) e t ≡ inStretch s e t && true
       late q = cases (leb s t)
           (λ u. let u' = true-le s t u in rw (u, le-true (max s y) t (omega arith)) (sym (and-yes (ltb t e))))
-          (λ u. let u' = false-le s t u in rw (below-stretch s e t u', below-stretch (max s y) e t (omega arith)))
+          (λ u. let u' = false-le s t u in rw (
+            below-stretch s e t u',
+            below-stretch (max s y) e t (omega arith),
+          ))
 
   parts-separate : Separate s (maximalTo s (min e x) f ++ maximalTo (max s y) e f)
   parts-separate = cases (leb e y)
       (λ p. let p' = true-le e y p in
-      rw (to-past (max s y) e f (omega arith), append-nil (maximalTo s (min e x) f)) (to-separate s (min e x) f))
+      rw (to-past (max s y) e f (omega arith), append-nil (maximalTo s (min e x) f))
+      (to-separate s (min e x) f))
       (λ p. let p' = gap (false-le e y p) in cases (leb x s)
       (λ q. let q' = true-le x s q in
       rw (to-past s (min e x) f (omega arith))
       (separate-weaken (maximalTo (max s y) e f) s (max s y) (omega arith) (to-separate (max s y) e f)))
       (λ q. let q' = false-le x s q in
-      separate-append (maximalTo s (min e x) f) (maximalTo (max s y) e f) s (x - 1) (to-separate s (min e x) f)
+      separate-append (maximalTo s (min e x) f) (maximalTo (max s y) e f) s (x - 1)
+      (to-separate s (min e x) f)
       (λ t c. let r = first-part t c in omega arith) (omega arith)
       (separate-weaken (maximalTo (max s y) e f) (suc (suc (x - 1))) (max s y) (omega arith)
       (to-separate (max s y) e f))))
@@ -204,7 +228,8 @@ module _ (s e x y : ℕ) (f : ℕ → Bool) (gap : y < e → x < y) where
   -- what is left of the intervals is what the two parts have
   pub to-parts : maximalTo s (min e x) f ++ maximalTo (max s y) e f
       ≡ maximalTo s e (λ t. not (inStretch x y t) && f t)
-  to-parts = to-unique s e (λ t. not (inStretch x y t) && f t) s (maximalTo s (min e x) f ++ maximalTo (max s y) e f)
+  to-parts = to-unique s e (λ t. not (inStretch x y t) && f t) s
+      (maximalTo s (min e x) f ++ maximalTo (max s y) e f)
       parts-separate
       (λ t. covered-append (maximalTo s (min e x) f) (maximalTo (max s y) e f) t
       ∙ rw (to-covered s (min e x) f t, to-covered (max s y) e f t)

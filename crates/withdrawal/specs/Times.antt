@@ -1,5 +1,5 @@
--- The times that a round covers: from T on up to one behind the least that stands behind a later one, so that what
--- was granted then stands in the order of its times (`end-ordered`).
+-- The times that a round covers: from T on up to one behind the least that stands behind a later one, so that
+-- what was granted then stands in the order of its times (`end-ordered`).
 use mathlib.Core.Path.{_≡_, refl, ap}
 use mathlib.Core.Logic.{inl, inr}
 use Prim.Native.Nat.{ℕ, _+_, _≤_, _<_, min}
@@ -20,7 +20,8 @@ among T U a = inStretch T U (a .head .granted)
 abbrev pub InTime : ℕ → ℕ → List Authorization → Type 0
 InTime T U [] = Unit {0}
 InTime T U (a ∷ xs) =
-    (among T U a ≡ true → (k : Authorization) → Mem k xs → among T U k ≡ true → a .head .granted ≤ k .head .granted)
+    (among T U a ≡ true → (k : Authorization) → Mem k xs → among T U k ≡ true →
+    a .head .granted ≤ k .head .granted)
     × InTime T U xs
 
 -- the earlier of d and one behind g, if g is not before T and stands behind the later time `top`
@@ -84,7 +85,8 @@ end-above T (a ∷ xs) top d h =
     end-above T xs (raiseOf T g top) (pullOf T g top d) (pull-above T g top d h)
 
 -- no time behind a later one is before the end but the least
-end-early : (T : ℕ) (xs : List Authorization) (top d : ℕ) (k : Authorization) → Mem k xs → T ≤ k .head .granted →
+end-early : (T : ℕ) (xs : List Authorization) (top d : ℕ) (k : Authorization) → Mem k xs →
+    T ≤ k .head .granted →
     k .head .granted < top → endOf T xs top d ≤ k .head .granted + 1
 unfolding endOf
 end-early T [] top d k m h z = absurd (m .lower)

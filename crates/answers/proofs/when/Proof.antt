@@ -20,4 +20,5 @@ when-sound-requires c κs =
 
 pub when-spec : {M : Type 1} → statement M
 when-spec =
-    tie.close (tie.spec (λ c κs. search needs) returns when-sound-requires (λ c. search needs) (λ c. search needs))
+    tie.close (tie.spec (λ c κs. search needs) returns when-sound-requires (λ c. search needs)
+    (λ c. search needs))

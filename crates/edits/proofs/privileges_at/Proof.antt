@@ -12,5 +12,6 @@ returns-3 c = rw (c .before .enum-told3 .given .1) (c .referrers-at .ensures)
 pub privileges-at-spec : {M : Type 1} → statement M
 privileges-at-spec =
     tie.close
-    (tie.spec (λ c. search needs) (λ c. search needs) (λ c κs. search needs) (λ c. search needs) (λ c κs. search needs)
+    (tie.spec (λ c. search needs) (λ c. search needs) (λ c κs. search needs) (λ c. search needs)
+    (λ c κs. search needs)
     (λ c. search needs) returns-2 returns-3)

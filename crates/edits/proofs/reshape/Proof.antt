@@ -9,7 +9,8 @@ use Rattle.edits.proofs.reshape.Tie as tie
 returns : tie.Need-returns
 returns c =
     c .before .before .put-counts .ensures
-    ∙ ap (splice 12 (contentsOf (c .before .before .before .before .before .before .before .before .before .args .c)))
+    ∙ ap (splice 12 (contentsOf
+    (c .before .before .before .before .before .before .before .before .before .args .c)))
     (c .before .before .before .before .before .before .resize .ensures)
 
 pub reshape-spec : {M : Type 1} → statement M

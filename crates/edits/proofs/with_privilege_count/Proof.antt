@@ -14,4 +14,5 @@ returns-3 c = rw (c .enum-told3 .given .1)
 
 pub with-privilege-count-spec : {M : Type 1} → statement M
 with-privilege-count-spec =
-    tie.close (tie.spec (λ c. search needs) (λ c. search needs) (λ c. search needs) returns returns-2 returns-3)
+    tie.close (tie.spec (λ c. search needs) (λ c. search needs)
+    (λ c. search needs) returns returns-2 returns-3)

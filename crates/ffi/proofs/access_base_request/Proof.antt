@@ -1,4 +1,5 @@
--- `access_base_request`: the request that base's function answers is the one that the numbers say, field by field.
+-- `access_base_request`: the request that base's function answers is the one that the numbers say, field by
+-- field.
 use borrow.Author.Needs.{needs}
 use mathlib.Core.Path.{subst}
 use denote.Ref.{now}
@@ -57,5 +58,6 @@ pub access-base-request-spec : {M : Type 1} → statement M
 access-base-request-spec =
     tie.close
     (tie.spec (λ c κs. search needs) (λ c κs. search needs) (λ c κs. search needs) (λ c κs. search needs)
-    (λ c κs. search needs) (λ c κs. search needs) (λ c κs. search needs) (λ c κs. search needs) (λ c. search needs)
+    (λ c κs. search needs) (λ c κs. search needs) (λ c κs. search needs) (λ c κs. search needs)
+    (λ c. search needs)
     returns)

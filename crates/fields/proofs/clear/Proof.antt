@@ -23,7 +23,8 @@ loop-again : tie.Need-loop-again Inv-loop μ-loop
 loop-again c = (
   search needs,
   simp length-set (search needs),
-  ap (λ (l : List ℕ). set l (c .before .loop .i) 0) (c .before .loop .inv .2) ∙ fill-more (c .before .loop .i) 0 (now (c .before .before .args .s)) (search needs),
+  ap (λ (l : List ℕ). set l (c .before .loop .i) 0) (c .before .loop .inv .2)
+      ∙ fill-more (c .before .loop .i) 0 (now (c .before .before .args .s)) (search needs),
 )
 
 returns : tie.Need-returns Inv-loop μ-loop
@@ -35,5 +36,6 @@ returns c =
 pub clear-spec : {M : Type 1} → statement M
 clear-spec =
     tie.close
-    (tie.spec Inv-loop μ-loop loop-holds (λ c. search needs) (λ c. search needs) (λ c. search needs) loop-again (λ c. search needs)
+    (tie.spec Inv-loop μ-loop loop-holds (λ c. search needs) (λ c. search needs)
+    (λ c. search needs) loop-again (λ c. search needs)
     returns)

@@ -38,11 +38,13 @@ returns c =
     let a = c .before .before .args in
     let l = c .before .loop in
     let e : l .i ≡ a .n = omega arith in
-    let n : length (take (a .n) (now (a .src))) ≡ a .n = length-take-le (a .n) (now (a .src)) (c .before .before .pre .1) in
+    let n : length (take (a .n) (now (a .src))) ≡ a .n =
+    length-take-le (a .n) (now (a .src)) (c .before .before .pre .1) in
     l .inv .2 ∙ rw (e, n)
 
 pub copy-spec : {M : Type 1} → statement M
 copy-spec =
     tie.close
-    (tie.spec Inv-loop μ-loop loop-holds (λ c. search needs) (λ c. search needs) (λ c. search needs) (λ c. search needs)
+    (tie.spec Inv-loop μ-loop loop-holds (λ c. search needs) (λ c. search needs) (λ c. search needs)
+    (λ c. search needs)
     (λ c. search needs) loop-again (λ c. search needs) returns)

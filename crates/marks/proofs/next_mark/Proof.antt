@@ -16,7 +16,8 @@ returns c =
     c .next-in2 .ensures
     ∙ ap (next (a .t) ls) (c .before .next-in .ensures)
     ∙ sym (next-append (a .t) ls rs 4294967296)
-    ∙ (λ i. next (a .t) (sym (lines-marks (a .n) (now (a .lines))) i ++ sym (rules-marks (a .k) (now (a .rules))) i)
+    ∙ (λ i. next (a .t) (sym (lines-marks (a .n) (now (a .lines))) i
+    ++ sym (rules-marks (a .k) (now (a .rules))) i)
     4294967296)
 
 pub next-mark-spec : {M : Type 1} → statement M

@@ -1,4 +1,5 @@
--- `decimal_length` meets its contract: at each turn the digits of what is left, and those passed, are the number's.
+-- `decimal_length` meets its contract: at each turn the digits of what is left, and those passed, are the
+-- number's.
 use borrow.Author.Needs.{needs}
 use native.Mathlib.Omega.{arith}
 use mathlib.Core.Path.{_≡_, ap, _∙_}

@@ -44,5 +44,6 @@ pub more-length-spec : {M : Type 1} → statement M
 more-length-spec =
     tie.close
     (tie.spec Inv-loop μ-loop (λ c. search needs) (λ c. search needs) (λ c. search needs) (λ c. search needs)
-    (λ c. search needs) (λ c. search needs) (λ c. search needs) (λ c. search needs) (λ c κs. search needs) add-k
+    (λ c. search needs) (λ c. search needs) (λ c. search needs) (λ c. search needs)
+    (λ c κs. search needs) add-k
     add-k-2 (λ c. search needs) (λ c. search needs) loop-again returns)

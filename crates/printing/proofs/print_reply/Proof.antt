@@ -10,8 +10,10 @@ use Rattle.printing.proofs.print_reply.Tie as tie
 put-reply-requires : tie.Need-put-reply-requires
 put-reply-requires c κs =
     let c₀ = c .before .before .before in
-    let a = c₀ .args in
-    (omega (arith, reply-most (a .r) (now (a .list)) (c₀ .pre .1)), fit-in (a .r) (now (a .list)) (c₀ .pre .1))
+    let a = c₀ .args in (
+      omega (arith, reply-most (a .r) (now (a .list)) (c₀ .pre .1)),
+      fit-in (a .r) (now (a .list)) (c₀ .pre .1),
+    )
 
 returns : tie.Need-returns
 returns c =

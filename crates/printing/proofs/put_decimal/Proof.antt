@@ -1,5 +1,5 @@
--- `put_decimal` meets its contract: at each turn the digits of what is left, before those that are stored, are the
--- number's.
+-- `put_decimal` meets its contract: at each turn the digits of what is left, before those that are stored,
+-- are the number's.
 use borrow.Author.Needs.{needs}
 use native.Mathlib.Omega.{arith}
 use mathlib.Core.Path.{_≡_, refl, ap, _∙_}
@@ -23,7 +23,12 @@ abbrev μ-loop : tie.MeasureT-loop
 μ-loop out at n text₀ i₀ rest₀ text i rest = rest
 
 loop-holds : tie.Need-loop-holds Inv-loop μ-loop
-loop-holds c = (search needs, search needs, search needs, digits-start (c .before .args .n) (replicate 10 0) refl)
+loop-holds c = (
+  search needs,
+  search needs,
+  search needs,
+  digits-start (c .before .args .n) (replicate 10 0) refl,
+)
 
 -- a turn is taken where there is more than one digit
 turn : (c : tie.In-loop Inv-loop μ-loop) →
@@ -67,5 +72,6 @@ pub put-decimal-spec : {M : Type 1} → statement M
 put-decimal-spec =
     tie.close
     (tie.spec Inv-loop μ-loop loop-holds (λ c. search needs) (λ c. search needs) (λ c. search needs) sub-i
-    (λ c. search needs) loop-again (λ c. search needs) (λ c. search needs) (λ c. search needs) (λ c. search needs)
+    (λ c. search needs) loop-again (λ c. search needs) (λ c. search needs) (λ c. search needs)
+    (λ c. search needs)
     (λ c. search needs) part-put-bytes-end put-bytes-requires (λ c. search needs) returns)

@@ -30,7 +30,8 @@ record Room (c : tie.In-loop Inv-loop μ-loop) : Type 0 where
   same : length (c .before .loop .out) ≡ length (now (c .before .before .before .before .args .out))
   fits :
       c .before .before .before .before .args .at
-      + length (printMore (pairsOf (c .before .loop .i) (now (c .before .before .before .before .args .list))))
+      + length (printMore (pairsOf (c .before .loop .i)
+      (now (c .before .before .before .before .args .list))))
       ≤ length (now (c .before .before .before .before .args .out))
   next :
       c .before .loop .end + 1

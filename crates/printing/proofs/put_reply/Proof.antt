@@ -21,19 +21,22 @@ put-refused-requires c κs =
 put-bytes-requires : tie.Need-put-bytes-requires
 put-bytes-requires c κs =
     let s = c .before .before .before .before .before .before in
-    let w = ready (now (s .args .out)) (now (s .args .list)) (c .before .before .enum-told .given .1) (s .pre) in
+    let w = ready (now (s .args .out)) (now (s .args .list)) (c .before .before .enum-told .given .1)
+    (s .pre) in
     omega (arith, w .0)
 
 put-bytes-requires-2 : tie.Need-put-bytes-requires-2
 put-bytes-requires-2 c κs =
     let s = c .before .before .before .before .before .before in
-    let w = ready (now (s .args .out)) (now (s .args .list)) (c .before .before .enum-told2 .given .1) (s .pre) in
+    let w = ready (now (s .args .out)) (now (s .args .list)) (c .before .before .enum-told2 .given .1)
+    (s .pre) in
     omega (arith, w .0)
 
 put-bytes-requires-3 : tie.Need-put-bytes-requires-3
 put-bytes-requires-3 c κs =
     let s = c .before .before .before .before .before .before in
-    let w = ready (now (s .args .out)) (now (s .args .list)) (c .before .before .enum-told3 .given .1) (s .pre) in
+    let w = ready (now (s .args .out)) (now (s .args .list)) (c .before .before .enum-told3 .given .1)
+    (s .pre) in
     omega (arith, w .0)
 
 put-runs-requires : tie.Need-put-runs-requires
@@ -79,5 +82,6 @@ put-reply-spec =
     (λ c. search needs) (λ c. search needs) put-bytes-requires (λ c. search needs) (λ c. search needs)
     put-bytes-requires-2 (λ c. search needs) (λ c. search needs) put-bytes-requires-3 (λ c. search needs)
     (λ c. search needs) put-runs-requires (λ c. search needs) returns (λ c. search needs) returns-2
-    (λ c. search needs) returns-3 (λ c. search needs) returns-4 (λ c. search needs) returns-5 (λ c. search needs)
+    (λ c. search needs) returns-3 (λ c. search needs) returns-4 (λ c. search needs) returns-5
+    (λ c. search needs)
     returns-6)

@@ -37,7 +37,8 @@ returns c =
     let a = c₁ .before .before .before .args in
     let l = run-length (interval (a .start) (a .end)) in
     let m = length-append (printInstant (a .start)) (ascii "-") in
-    printed-then (printed-then (c₁ .put-instant .ensures) (omega arith) (c₂ .put-bytes .ensures)) (omega arith)
+    printed-then (printed-then (c₁ .put-instant .ensures) (omega arith) (c₂ .put-bytes .ensures))
+    (omega arith)
     (c₃ .put-instant2 .ensures)
 
 pub put-run-spec : {M : Type 1} → statement M

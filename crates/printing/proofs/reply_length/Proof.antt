@@ -19,7 +19,8 @@ add-result c = omega (arith, decimal-most (c .before .before .r .given .0 .0))
 
 add-result-2 : tie.Need-add-result-2
 add-result-2 c =
-    let r = c .before .before .before .r .given .0 in omega (arith, decimal-most (r .0), decimal-most (r .1 .0))
+    let r = c .before .before .before .r .given .0 in
+    omega (arith, decimal-most (r .0), decimal-most (r .1 .0))
 
 add-result-3 : tie.Need-add-result-3
 add-result-3 c = omega (arith, decimal-most (c .before .before .r2 .given .0 .0))

@@ -21,7 +21,8 @@ module _ {s : List ℕ} {q : Request} (a : Allowed keepingKinds s q) where
   allowed ks k = record { sound = a .sound; accepted = a .accepted; kind = k }
 
   -- the last of the eight, where it is none of the others
-  last-kind : (q .kind < 1) ⊎ (4 ≤ q .kind) → q .kind ≢ 1 → q .kind ≢ 7 → q .kind ≢ 8 → q .kind ≢ 9 → q .kind ≢ 11 →
+  last-kind : (q .kind < 1) ⊎ (4 ≤ q .kind) → q .kind ≢ 1 → q .kind ≢ 7 → q .kind ≢ 8 → q .kind ≢ 9 →
+      q .kind ≢ 11 →
       is q (REVOKEREF ∷ []) ≡ true
   last-kind far n₁ n₇ n₈ n₉ n₁₁ =
       let no : (k : ℕ) → q .kind ≢ k → eqb (q .kind) k ≡ false = ne-false (q .kind) in

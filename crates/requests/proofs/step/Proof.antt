@@ -49,5 +49,6 @@ returns-3 c =
 pub step-spec : {M : Type 1} → statement M
 step-spec =
     tie.close
-    (tie.spec (λ c κs. search needs) (λ c. search needs) (λ c. search needs) (λ c. search needs) carry-out-requires
+    (tie.spec (λ c κs. search needs) (λ c. search needs) (λ c. search needs)
+    (λ c. search needs) carry-out-requires
     (λ c. search needs) returns (λ c. search needs) returns-2 (λ c. search needs) returns-3)

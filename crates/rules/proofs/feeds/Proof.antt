@@ -36,5 +36,6 @@ returns-2 c =
 pub feeds-spec : {M : Type 1} → statement M
 feeds-spec =
     tie.close
-    (tie.spec returns (λ c κs. search needs) (λ c κs. search needs) (λ c κs. search needs) (λ c κs. search needs)
+    (tie.spec returns (λ c κs. search needs) (λ c κs. search needs) (λ c κs. search needs)
+    (λ c κs. search needs)
     (λ c κs. search needs) (λ c κs. search needs) returns-2)

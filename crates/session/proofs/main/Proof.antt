@@ -14,5 +14,6 @@ run-requires c κs =
 pub main-spec : {M : Type 1} → statement M
 main-spec =
     tie.close
-    (tie.spec (λ c. search needs) (λ c κs. search needs) (λ c. search needs) run-requires (λ c κs. search needs)
+    (tie.spec (λ c. search needs) (λ c κs. search needs) (λ c. search needs) run-requires
+    (λ c κs. search needs)
     (λ c. search needs))

@@ -51,4 +51,5 @@ returns c =
 pub mix-all-spec : {M : Type 1} → statement M
 mix-all-spec =
     tie.close
-    (tie.spec Inv-loop μ-loop loop-holds shared-slice-read-mix (λ c κs. search needs) add-i loop-less loop-again returns)
+    (tie.spec Inv-loop μ-loop loop-holds shared-slice-read-mix
+    (λ c κs. search needs) add-i loop-less loop-again returns)

@@ -13,7 +13,8 @@ use Rattle.model.specs.EncodingFacts.{sound-length}
 use Rattle.serving.specs.Turns.{Kept}
 use Rattle.serving.specs.Pieces.{kept-front}
 use Rattle.session.specs.declared.Going.{Going}
-use Rattle.session.specs.Input.{arrived, Read, Answered, digest-none, read-more, answers-none, answered-then}
+use Rattle.session.specs.Input.{arrived, Read, Answered, digest-none, read-more, answers-none}
+use Rattle.session.specs.Input.{answered-then}
 use Rattle.session.specs.Input.{served-ended, served-cut}
 use Rattle.session.proofs.serve_input.Statement.{statement}
 use Rattle.session.proofs.serve_input.Tie as tie
@@ -64,7 +65,11 @@ loop-less c =
     let n = t .before .before .before .before .before in
     let l = n .before .before .before in
     let test = and-true (n .before .before .goes-on .result) _ (n .if1 .taken) .1 in
-    omega (arith, t .serve-some .ensures .1 .reads, true-le (suc (l .loop .g .reads)) 18446744073709551615 test)
+    omega (
+      arith,
+      t .serve-some .ensures .1 .reads,
+      true-le (suc (l .loop .g .reads)) 18446744073709551615 test,
+    )
 
 loop-again : tie.Need-loop-again Inv-loop μ-loop
 loop-again c =
@@ -72,11 +77,13 @@ loop-again c =
     let n = t .before .before .before .before .before in
     let i = n .before .before .before .loop .inv in
     let e = t .serve-some .ensures in
-    let ok = n .before .before .goes-on .ensures (and-true (n .before .before .goes-on .result) _ (n .if1 .taken) .0) in
+    let ok = n .before .before .goes-on .ensures (and-true (n .before .before .goes-on .result) _
+    (n .if1 .taken) .0) in
     record {
       input = i .input ++ arrived (t .serve-some .result .got) (t .serve-some .last .1 .1 .1 .0);
       read = read-more (i .read) (e .1);
-      answered = λ q h. let a = i .answered q h in answered-then a ok (e .0 (a .answers .left) (a .answers .kept));
+      answered = λ q h. let a = i .answered q h in
+          answered-then a ok (e .0 (a .answers .left) (a .answers .kept));
       sound = e .3;
       few = e .2;
       size = e .0 _ (kept-front (i .few) (i .size)) .answers .kept .size;
@@ -93,7 +100,8 @@ serve-last-requires c κs =
 same-length : tie.Need-same-length Inv-loop μ-loop
 same-length c =
     let t = c .before .before .before .before in
-    let d = t .before .before .before .before .before .before .before .before .before .before .before .before .before in
+    let d = t .before .before .before .before .before .before .before .before .before .before .before .before
+    .before in
     sound-length _ (t .serve-last .ensures .2) ∙ sym (sound-length (now (d .args .s)) (d .pre .0))
 
 same-length-2 : tie.Need-same-length-2 Inv-loop μ-loop
@@ -137,7 +145,8 @@ returns-2 c =
     let i = c .before .before .before .before .before .loop .inv in
     let n = c .before .has-ended .ensures .1 in (
       i .input,
-      λ q h. served-cut (i .read) (i .answered q h) (λ ok zero. true≢false (sym (n ok zero) ∙ c .if2 .left)) (i .sound),
+      λ q h. served-cut (i .read) (i .answered q h) (λ ok zero. true≢false (sym (n ok zero) ∙ c .if2 .left))
+          (i .sound),
     )
 
 pub serve-input-spec : {M : Type 1} → statement M

@@ -18,7 +18,8 @@ use Rattle.session.specs.Input.{Answers, answers-none, answers-step}
 use Rattle.session.proofs.serve_piece.Statement.{statement}
 use Rattle.session.proofs.serve_piece.Tie as tie
 
-pub record Inv (s₀ line₀ : List ℕ) (len₀ sent₀ : ℕ) (piece out₀ s line out : List ℕ) (len sent at : ℕ) : Type 0 where
+pub record Inv (s₀ line₀ : List ℕ) (len₀ sent₀ : ℕ) (piece out₀ s line out : List ℕ)
+    (len sent at : ℕ) : Type 0 where
   pub answers : (pending : List ℕ) → Kept pending len₀ line₀ →
       Answers s₀ pending piece (drop at piece) sent₀ len sent s line
   pub sound : soundBytes s ≡ true

@@ -1,4 +1,5 @@
--- `draw_looks` meets its contract. The loop's invariant: the places before `p` hold the rules that look at them.
+-- `draw_looks` meets its contract. The loop's invariant: the places before `p` hold the rules that look at
+-- them.
 use native.Mathlib.Omega.{arith}
 use mathlib.Core.Path.{_≡_, refl, ap, _∙_}
 use Prim.Native.Nat.{_-_, _≤_}
@@ -14,7 +15,8 @@ use Rattle.sweep.proofs.draw_looks.Statement.{statement}
 use Rattle.sweep.proofs.draw_looks.Tie as tie
 
 abbrev Inv-loop : tie.InvT-loop
-Inv-loop sides n used looks₀ p₀ looks p = (p ≤ used) × (length looks ≡ places) × Filled p (lookersOf sides n) looks
+Inv-loop sides n used looks₀ p₀ looks p = (p ≤ used) × (length looks ≡ places)
+    × Filled p (lookersOf sides n) looks
 
 abbrev μ-loop : tie.MeasureT-loop
 μ-loop sides n used looks₀ p₀ looks p = used - p
@@ -29,7 +31,8 @@ loop-again c =
     let l = c .before .before .loop in (
       search needs,
       length-set (l .looks) (l .p) (c .lookers .result) ∙ l .inv .1,
-      fill-turn (lookersOf (now (a .sides)) (a .n)) (l .looks) (l .p) (c .lookers .result) (omega (arith, b .pre .1))
+      fill-turn (lookersOf (now (a .sides)) (a .n)) (l .looks) (l .p) (c .lookers .result)
+          (omega (arith, b .pre .1))
           (c .lookers .ensures) (l .inv .2),
     )
 

@@ -35,7 +35,8 @@ returns-2 : tie.Need-returns-2
 returns-2 c =
     let s = c .before .before in
     let a = s .args in
-    skipped (plan (a .g) (now (a .sides)) (now (a .feed))) (now (a .before)) (now (a .direct)) (now (a .table))
+    skipped (plan (a .g) (now (a .sides)) (now (a .feed))) (now (a .before)) (now (a .direct))
+    (now (a .table))
     (now (a .changed)) (a .p) (s .pre .1) (omega arith)
 
 pub look-spec : {M : Type 1} → statement M

@@ -42,7 +42,8 @@ loop-again c =
     let b = c .before .before .before .before in
     let a = b .before .args in
     let l = b .loop in
-    let turn = build-turn 4 codes (looksFrom (a .p)) (a .n) (now (a .sides)) (l .m) (l .r) (c .looks-at .result) in
+    let turn = build-turn 4 codes (looksFrom (a .p)) (a .n) (now (a .sides)) (l .m) (l .r)
+    (c .looks-at .result) in
     let e = c .looks-at .ensures ∙ sym (looks-from (now (a .sides)) (a .p) (l .r - 1)) in
     (search needs, turn (search needs) (l .inv .0) (l .inv .1) e)
 
@@ -56,5 +57,6 @@ pub lookers-spec : {M : Type 1} → statement M
 lookers-spec =
     tie.close
     (tie.spec Inv-loop μ-loop loop-holds (λ c. search needs) (λ c. search needs) mul-m (λ c. search needs)
-    (λ c. search needs) (λ c. search needs) (λ c κs. search needs) (λ c. search needs) add-m (λ c. search needs)
+    (λ c. search needs) (λ c. search needs) (λ c κs. search needs) (λ c. search needs) add-m
+    (λ c. search needs)
     loop-again returns)

@@ -21,7 +21,8 @@ loop-holds : tie.Need-loop-holds Inv-loop μ-loop
 loop-holds c =
     let a = c .args in (
       search needs,
-      pass-begin (plan (a .g) (now (a .sides)) (now (a .feed))) (now (a .before)) (now (a .direct)) (now (a .table))
+      pass-begin (plan (a .g) (now (a .sides)) (now (a .feed))) (now (a .before)) (now (a .direct))
+          (now (a .table))
           (now (a .changed)) (c .pre .0),
     )
 
@@ -35,7 +36,8 @@ loop-again c =
     let a = c .before .before .before .before .before .before .args in
     let l = c .before .before .before .before .before .loop in (
       search needs,
-      pass-turn (plan (a .g) (now (a .sides)) (now (a .feed))) (now (a .before)) (now (a .direct)) (now (a .table))
+      pass-turn (plan (a .g) (now (a .sides)) (now (a .feed))) (now (a .before)) (now (a .direct))
+          (now (a .table))
           (l .table) (l .changed) _ _ (l .p) (l .hit) (c .look .result) (l .inv .1) (c .look .ensures),
     )
 
@@ -50,4 +52,5 @@ returns c =
 pub pass-spec : {M : Type 1} → statement M
 pass-spec =
     tie.close
-    (tie.spec Inv-loop μ-loop loop-holds look-requires (λ c. search needs) (λ c. search needs) loop-again returns)
+    (tie.spec Inv-loop μ-loop loop-holds look-requires (λ c. search needs)
+    (λ c. search needs) loop-again returns)

@@ -32,7 +32,8 @@ module _ (k : Link) (before direct table : List ℕ) (r p : ℕ) where
   -- the tests of the code are the definition's
   sets-is : (q : ℕ) (l g y o : Bool) → q ≡ target k p → l ≡ looksBy (k .rsubject) (k .rmode) p →
       g ≡ bit r (getD before q 0) → y ≡ wantsBy (k .feed) (k .negating) (getD table p 0) (getD direct p 0) r →
-      o ≡ bit r (getD table q 0) → k .active && l && (k .fresh || g) && y && not o ≡ setsBy k before direct table r p
+      o ≡ bit r (getD table q 0) → k .active && l && (k .fresh || g) && y && not o
+      ≡ setsBy k before direct table r p
   sets-is q l g y o e₁ e₂ e₃ e₄ e₅ =
       let f₃ = e₃ ∙ ap (λ (j : ℕ). bit r (getD before j 0)) e₁ in
       let f₅ = e₅ ∙ ap (λ (j : ℕ). bit r (getD table j 0)) e₁ in
@@ -42,7 +43,8 @@ returns : tie.Need-returns
 returns c =
     let read = c .before in
     let a = read .before .before .before .args in
-    let e = ap (λ (q : ℕ). bit (a .r) (getD (now (a .table)) q 0)) (read .before .before .target-of .ensures) in
+    let e = ap (λ (q : ℕ). bit (a .r) (getD (now (a .table)) q 0))
+    (read .before .before .target-of .ensures) in
     record {
       result = set-already (a .k) (now (a .before)) (now (a .direct)) (now (a .table)) (a .r) (a .p)
           (sym (read .has-bit .ensures ∙ e) ∙ c .if1 .taken);
@@ -107,7 +109,8 @@ pub step-spec : {M : Type 1} → statement M
 step-spec =
     tie.close
     (tie.spec (λ c κs. search needs) (λ c. search needs) (λ c. search needs) (λ c. search needs)
-    (λ c κs. search needs) returns (λ c. search needs) (λ c. search needs) (λ c. search needs) (λ c. search needs)
+    (λ c κs. search needs) returns (λ c. search needs) (λ c. search needs) (λ c. search needs)
+    (λ c. search needs)
     (λ c κs. search needs) returns-2 (λ c κs. search needs) (λ c. search needs) (λ c. search needs)
     (λ c κs. search needs) (λ c κs. search needs) (λ c. search needs) (λ c. search needs) (λ c. search needs)
     returns-3 returns-4)

@@ -16,7 +16,8 @@ abbrev μ-loop : tie.MeasureT-loop
 loop-holds : tie.Need-loop-holds Inv-loop μ-loop
 loop-holds c =
     let a = c .args in
-    settle-begin (plan (a .g) (now (a .sides)) (now (a .feed))) (now (a .before)) (now (a .direct)) (now (a .table))
+    settle-begin (plan (a .g) (now (a .sides)) (now (a .feed))) (now (a .before)) (now (a .direct))
+    (now (a .table))
     (now (a .changed)) (c .pre .0)
 
 pass-requires : tie.Need-pass-requires Inv-loop μ-loop
@@ -28,21 +29,24 @@ loop-less : tie.Need-loop-less Inv-loop μ-loop
 loop-less c =
     let a = c .before .before .before .before .before .args in
     let l = c .before .before .before .before .loop in
-    settle-less (plan (a .g) (now (a .sides)) (now (a .feed))) (now (a .before)) (now (a .direct)) (l .table) _ _
+    settle-less (plan (a .g) (now (a .sides)) (now (a .feed))) (now (a .before)) (now (a .direct))
+    (l .table) _ _
     (l .again) (c .pass .result) (c .before .before .before .loop-test .taken) (c .pass .ensures)
 
 loop-again : tie.Need-loop-again Inv-loop μ-loop
 loop-again c =
     let a = c .before .before .before .before .before .args in
     let l = c .before .before .before .before .loop in
-    settle-turn (plan (a .g) (now (a .sides)) (now (a .feed))) (now (a .before)) (now (a .direct)) (now (a .table))
+    settle-turn (plan (a .g) (now (a .sides)) (now (a .feed))) (now (a .before)) (now (a .direct))
+    (now (a .table))
     (l .table) (l .changed) _ _ (l .again) (c .pass .result) (l .inv) (c .pass .ensures)
 
 returns : tie.Need-returns Inv-loop μ-loop
 returns c =
     let a = c .before .before .args in
     let l = c .before .loop in
-    settled (plan (a .g) (now (a .sides)) (now (a .feed))) (now (a .before)) (now (a .direct)) (now (a .table))
+    settled (plan (a .g) (now (a .sides)) (now (a .feed))) (now (a .before)) (now (a .direct))
+    (now (a .table))
     (l .table) (l .changed) (l .again) (c .loop-test .left) (l .inv)
 
 pub sweep-spec : {M : Type 1} → statement M

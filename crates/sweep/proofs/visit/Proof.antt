@@ -1,4 +1,5 @@
--- The loop has looked at place p for the first r rules (`Visit`): those that it passes over need no look (`skip`).
+-- The loop has looked at place p for the first r rules (`Visit`): those that it passes over need no look
+-- (`skip`).
 use native.Mathlib.Omega.{arith}
 use mathlib.Core.Path.{_≡_, subst}
 use mathlib.Core.Bool.{false, _||_}
@@ -31,9 +32,12 @@ loop-holds c =
     let pl = plan (a .g) (now (a .sides)) (now (a .feed)) in
     let k = c .next-bit .ensures in (
       k .1,
-      skip pl (now (a .before)) (now (a .direct)) (now (a .table)) (set (now (a .changed)) (a .p) 0) (a .p) (a .c)
-          (s .pre .2) (c .next-bit .result) (k .1) 0 (k .2) false (now (a .table)) (set (now (a .changed)) (a .p) 0)
-          (begin pl (now (a .before)) (now (a .direct)) (now (a .table)) (now (a .changed)) (a .p) (s .pre .1)),
+      skip pl (now (a .before)) (now (a .direct)) (now (a .table)) (set (now (a .changed)) (a .p) 0) (a .p)
+          (a .c)
+          (s .pre .2) (c .next-bit .result) (k .1) 0 (k .2) false (now (a .table))
+          (set (now (a .changed)) (a .p) 0)
+          (begin pl (now (a .before)) (now (a .direct)) (now (a .table)) (now (a .changed)) (a .p)
+          (s .pre .1)),
     )
 
 try-rule-requires : tie.Need-try-rule-requires Inv-loop μ-loop
@@ -74,7 +78,8 @@ loop-again c =
       skip pl (now (a .before)) (now (a .direct)) (now (a .table)) cleared (a .p) (a .c) (s .pre .2)
           (c .next-bit2 .result) (k .1) (l .r + 1) (k .2) (l .hit || b) _ _
           (turn pl (now (a .before)) (now (a .direct)) (now (a .table)) cleared (a .p) (s .pre .1 .few)
-          (s .pre .1 .fit) (s .pre .1 .inside) (s .pre .0) (l .r) (test .if1 .taken) (l .hit) (l .table) (l .changed)
+          (s .pre .1 .fit) (s .pre .1 .inside) (s .pre .0) (l .r) (test .if1 .taken) (l .hit) (l .table)
+          (l .changed)
           (l .inv .1) b _ _ (tried .try-rule .ensures)),
     )
 
@@ -84,10 +89,12 @@ returns c =
     let a = c .before .before .before .before .args in
     let e : l .r ≡ a .g .rules = omega (arith, c .if1 .left, l .inv .0) in
     subst (λ (k : ℕ). Visit (plan (a .g) (now (a .sides)) (now (a .feed))) (now (a .before)) (now (a .direct))
-    (now (a .table)) (set (now (a .changed)) (a .p) 0) (a .p) k (l .hit) (l .table) (l .changed)) e (l .inv .1)
+    (now (a .table)) (set (now (a .changed)) (a .p) 0) (a .p) k (l .hit) (l .table) (l .changed)) e
+    (l .inv .1)
 
 pub visit-spec : {M : Type 1} → statement M
 visit-spec =
     tie.close
-    (tie.spec Inv-loop μ-loop write-changed next-bit-requires loop-holds try-rule-requires add-r next-bit-requires-2
+    (tie.spec Inv-loop μ-loop write-changed next-bit-requires loop-holds try-rule-requires add-r
+    next-bit-requires-2
     loop-less loop-again returns)

@@ -14,8 +14,10 @@ use Rattle.text.proofs.text.Tie as tie
 
 -- what a line that can be read asks
 asked : (c : tie.After-known-told) → (let r = c .before .before .before in
-    askedOf (c .before .a .given .0 .0) ≡ readLine (now (r .before .before .before .before .before .args .line)))
-asked c = let r = c .before .before .before in sym (ap lineOf (c .before .a .given .1)) ∙ r .read-line .ensures
+    askedOf (c .before .a .given .0 .0) ≡ readLine
+    (now (r .before .before .before .before .before .args .line)))
+asked c = let r = c .before .before .before in sym (ap lineOf (c .before .a .given .1))
+    ∙ r .read-line .ensures
 
 returns : tie.Need-returns
 returns c =
@@ -33,7 +35,8 @@ returns-2 c =
     let a = e .before .before .before .before .args in
     let s = now (a .base) in
     let out = now (a .out) in
-    answers-line s (now (a .line)) out unreadable (sym (ap lineOf (t .enum-told .given .1)) ∙ r .read-line .ensures)
+    answers-line s (now (a .line)) out unreadable (sym (ap lineOf (t .enum-told .given .1))
+    ∙ r .read-line .ensures)
     (all-written s unreadable out (omega (arith, e .if1 .left))
     (omega (arith, e .if1 .left, short-length (Refused 1) [] (omega arith))) (u .put-short .ensures) refl)
 
@@ -70,4 +73,5 @@ text-spec =
     (tie.spec returns (λ c κs. search needs) (λ c. search needs) (λ c. search needs) (λ c κs. search needs)
     (λ c. search needs) returns-2 (λ c. search needs) (λ c κs. search needs) (λ c. search needs)
     (λ c κs. search needs) (λ c. search needs) (λ c κs. search needs) (λ c. search needs) (λ c. search needs)
-    returns-3 (λ c. search needs) (λ c. search needs) returns-4 (λ c. search needs) (λ c. search needs) returns-5)
+    returns-3 (λ c. search needs) (λ c. search needs) returns-4 (λ c. search needs)
+    (λ c. search needs) returns-5)

@@ -5,7 +5,9 @@ use Rattle.answers.proofs.asking.access_in.Statement.{statement}
 use Rattle.answers.proofs.asking.access_in.Tie as tie
 
 returns : tie.Need-returns
-returns c = λ k. c .before .before .subject-in .ensures k && c .before .mode-in .ensures k && c .object-in .ensures k
+returns c = λ k. c .before .before .subject-in .ensures k && c .before .mode-in .ensures k
+    && c .object-in .ensures k
 
 pub access-in-spec : {M : Type 1} → statement M
-access-in-spec = tie.close (tie.spec (λ c κs. search needs) (λ c κs. search needs) (λ c κs. search needs) returns)
+access-in-spec = tie.close (tie.spec (λ c κs. search needs) (λ c κs. search needs)
+    (λ c κs. search needs) returns)

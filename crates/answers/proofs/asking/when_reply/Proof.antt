@@ -23,4 +23,5 @@ returns-2 c =
 pub when-reply-spec : {M : Type 1} → statement M
 when-reply-spec =
     tie.close
-    (tie.spec returns (λ c. search needs) (λ c κs. search needs) (λ c. search needs) (λ c. search needs) returns-2)
+    (tie.spec returns (λ c. search needs) (λ c κs. search needs) (λ c. search needs)
+    (λ c. search needs) returns-2)

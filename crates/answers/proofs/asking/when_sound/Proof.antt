@@ -17,11 +17,13 @@ returns c =
     let a = d .args in
     let e = c .before .refusal-of .ensures in
     ap (refusing (now (a .list))) e
-    ∙ sym (when-refused (now (a .s)) (a .x) (now (a .list)) (d .pre) (λ z. omega (arith, c .if1 .taken, e, z)))
+    ∙ sym (when-refused (now (a .s)) (a .x) (now (a .list)) (d .pre)
+    (λ z. omega (arith, c .if1 .taken, e, z)))
 
 -- neither row applies
 passes : (c : tie.Else1) →
-    (let a = c .before .before .before .before .args in firstNumber (accessRows (decode (now (a .s))) (a .x)) ≡ 0)
+    (let a = c .before .before .before .before .args in
+    firstNumber (accessRows (decode (now (a .s))) (a .x)) ≡ 0)
 passes c = omega (arith, c .if1 .left, c .before .refusal-of .ensures)
 
 list-runs-requires : tie.Need-list-runs-requires
@@ -43,4 +45,5 @@ returns-2 c =
 pub when-sound-spec : {M : Type 1} → statement M
 when-sound-spec =
     tie.close
-    (tie.spec (λ c κs. search needs) returns list-runs-requires (λ c κs. search needs) (λ c. search needs) returns-2)
+    (tie.spec (λ c κs. search needs) returns list-runs-requires (λ c κs. search needs)
+    (λ c. search needs) returns-2)

@@ -27,4 +27,5 @@ returns c =
 
 pub authorization-of-spec : {M : Type 1} → statement M
 authorization-of-spec =
-    tie.close (tie.spec (λ c. search needs) (λ c. search needs) (λ c. search needs) (λ c. search needs) returns)
+    tie.close (tie.spec (λ c. search needs) (λ c. search needs) (λ c. search needs)
+    (λ c. search needs) returns)

@@ -10,4 +10,5 @@ returns c = λ k. record {
 }
 
 pub interval-at-spec : {M : Type 1} → statement M
-interval-at-spec = tie.close (tie.spec (λ c κs. search needs) (λ c. search needs) (λ c κs. search needs) returns)
+interval-at-spec = tie.close (tie.spec (λ c κs. search needs) (λ c. search needs)
+    (λ c κs. search needs) returns)

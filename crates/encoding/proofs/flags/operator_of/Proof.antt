@@ -16,7 +16,11 @@ returns-3 c = sym (ap operatorOf (c .match .keys3))
 
 returns-4 : tie.Need-returns-4
 returns-4 c =
-    simp (ne-eqb _ _ (c .match .rest .1), ne-eqb _ _ (c .match .rest .0 .1), ne-eqb _ _ (c .match .rest .0 .0 .1))
+    simp (
+      ne-eqb _ _ (c .match .rest .1),
+      ne-eqb _ _ (c .match .rest .0 .1),
+      ne-eqb _ _ (c .match .rest .0 .0 .1),
+    )
 
 pub operator-of-spec : {M : Type 1} → statement M
 operator-of-spec = tie.close (tie.spec returns returns-2 returns-3 returns-4)

@@ -1,5 +1,5 @@
--- `create` meets its contract: a buffer of another length is as it was, and one of the right length has an empty
--- base.
+-- `create` meets its contract: a buffer of another length is as it was, and one of the right length has an
+-- empty base.
 use mathlib.Core.Path.{_≡_, sym, ap, _∙_}
 use mathlib.Core.List.{List}
 use Prim.Native.Nat.{ℕ}
@@ -40,4 +40,5 @@ returns-2 c =
 pub create-spec : {M : Type 1} → statement M
 create-spec =
     tie.close
-    (tie.spec returns (λ c κs. search needs) (λ c κs. search needs) (λ c κs. search needs) (λ c. search needs) returns-2)
+    (tie.spec returns (λ c κs. search needs) (λ c κs. search needs) (λ c κs. search needs)
+    (λ c. search needs) returns-2)

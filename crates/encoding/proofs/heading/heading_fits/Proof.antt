@@ -12,7 +12,11 @@ use Rattle.encoding.proofs.heading.heading_fits.Statement.{statement}
 use Rattle.encoding.proofs.heading.heading_fits.Tie as tie
 
 put-contents-requires : tie.Need-put-contents-requires
-put-contents-requires c κs = (search needs, ap countsFit (c .counts-of .ensures) ∙ c .before .before .before .pre .1)
+put-contents-requires c κs = (
+  search needs,
+  ap countsFit (c .counts-of .ensures)
+      ∙ c .before .before .before .pre .1,
+)
 
 returns : tie.Need-returns
 returns c =
@@ -28,5 +32,7 @@ returns c =
 pub heading-fits-spec : {M : Type 1} → statement M
 heading-fits-spec =
     tie.close
-    (tie.spec (λ c. search needs) (λ c κs. search needs) put-contents-requires (λ c κs. search needs) (λ c κs. search needs)
-    (λ c. search needs) (λ c. search needs) (λ c. search needs) (λ c. search needs) (λ c κs. search needs) returns)
+    (tie.spec (λ c. search needs) (λ c κs. search needs) put-contents-requires (λ c κs. search needs)
+    (λ c κs. search needs)
+    (λ c. search needs) (λ c. search needs) (λ c. search needs) (λ c. search needs)
+    (λ c κs. search needs) returns)

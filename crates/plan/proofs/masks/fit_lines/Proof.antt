@@ -1,4 +1,5 @@
--- `fit_lines` meets its contract. The loop's invariant: the places before `j` hold their authorizations' masks.
+-- `fit_lines` meets its contract. The loop's invariant: the places before `j` hold their authorizations'
+-- masks.
 use native.Mathlib.Omega.{arith}
 use mathlib.Core.Path.{_≡_, refl, ap, _∙_}
 use mathlib.Core.List.{List}
@@ -20,7 +21,8 @@ abbrev maskAt : List ℕ → List ℕ → ℕ → ℕ → ℕ
 maskAt lines body n j = maskOf (fitsRight (authorizationAt lines j .head)) (rulesIn n body)
 
 abbrev Inv-loop : tie.InvT-loop
-Inv-loop lines na body n masks₀ j₀ masks j = (j ≤ na) × (length masks ≡ 1024) × Filled j (maskAt lines body n) masks
+Inv-loop lines na body n masks₀ j₀ masks j = (j ≤ na) × (length masks ≡ 1024)
+    × Filled j (maskAt lines body n) masks
 
 abbrev μ-loop : tie.MeasureT-loop
 μ-loop lines na body n masks₀ j₀ masks j = na - j

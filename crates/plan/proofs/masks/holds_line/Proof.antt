@@ -39,7 +39,8 @@ loop-again c =
     let p = asked (a .x) (a .negative) in (
       search needs,
       any-fails 24 authorizationOf (liveFits (a .t) p) (a .na) (now (a .lines)) (l .j) _ _ (search needs)
-          (c .before .is-held .ensures) (c .before .before .authorization-at .ensures) (c .if1 .left) (l .inv),
+          (c .before .is-held .ensures) (c .before .before .authorization-at .ensures) (c .if1 .left)
+          (l .inv),
     )
 
 returns-2 : tie.Need-returns-2 Inv-loop μ-loop
@@ -53,5 +54,6 @@ returns-2 c =
 pub holds-line-spec : {M : Type 1} → statement M
 holds-line-spec =
     tie.close
-    (tie.spec Inv-loop μ-loop loop-holds (λ c. search needs) (λ c κs. search needs) (λ c κs. search needs) returns
+    (tie.spec Inv-loop μ-loop loop-holds (λ c. search needs) (λ c κs. search needs)
+    (λ c κs. search needs) returns
     (λ c. search needs) (λ c. search needs) loop-again returns-2)

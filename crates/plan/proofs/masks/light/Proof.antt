@@ -1,4 +1,5 @@
--- `light` meets its contract. The loop's invariant: the words are those of the authorizations before the `j`-th.
+-- `light` meets its contract. The loop's invariant: the words are those of the authorizations before the
+-- `j`-th.
 use native.Mathlib.Omega.{arith}
 use mathlib.Core.Path.{_≡_, refl, sym, ap, subst, _∙_}
 use mathlib.Core.Logic.{⊎-elim}
@@ -29,7 +30,11 @@ loop-holds c =
 
 mul-direct : tie.Need-mul-direct Inv-loop μ-loop
 mul-direct c =
-    omega (arith, in-table (c .before .has-instant .result) (c .before .before .index .result) (c .if1 .taken))
+    omega (
+      arith,
+      in-table (c .before .has-instant .result) (c .before .before .index .result)
+          (c .if1 .taken),
+    )
 
 element-copy-out-direct : tie.Need-element-copy-out-direct Inv-loop μ-loop
 element-copy-out-direct c =
@@ -38,7 +43,11 @@ element-copy-out-direct c =
 mul-direct-3 : tie.Need-mul-direct-3 Inv-loop μ-loop
 mul-direct-3 c =
     let d = c .before .before in
-    omega (arith, in-table (d .before .has-instant .result) (d .before .before .index .result) (d .if1 .taken))
+    omega (
+      arith,
+      in-table (d .before .has-instant .result) (d .before .before .index .result)
+          (d .if1 .taken),
+    )
 
 element-write-direct : tie.Need-element-write-direct Inv-loop μ-loop
 element-write-direct c =

@@ -10,28 +10,33 @@ use lib.ListN.{length, take, replicate, getD-replicate, length-replicate}
 use Rattle.sweep.specs.declared.Stage.{Stage}
 use Rattle.sweep.specs.Sweep.{plan}
 use Rattle.sweep.specs.Progress.{Ready, Smallest}
-use Rattle.plan.specs.Strata.{Done, none-done, zeros-at, stage-is, stratum-ready, stratum-done, strata-done}
+use Rattle.plan.specs.Strata.{Done, none-done, zeros-at, stage-is, stratum-ready, stratum-done}
+use Rattle.plan.specs.Strata.{strata-done}
 use Rattle.plan.specs.Words.{direct-is}
 use Rattle.plan.proofs.strata.sweep_strata.Statement.{statement}
 use Rattle.plan.proofs.strata.sweep_strata.Tie as tie
 
 abbrev Inv-loop : tie.InvT-loop
-Inv-loop lines na body n u o levels sides feed masks spots looks t before direct table₀ changed₀ here new top k₀ table
+Inv-loop lines na body n u o levels sides feed masks spots looks t before direct table₀ changed₀ here new top
+    k₀ table
     changed k =
     (k ≤ suc (o .top)) × Done lines na body n (take (o .subjects) u) t k table
 
 abbrev μ-loop : tie.MeasureT-loop
-μ-loop lines na body n u o levels sides feed masks spots looks t before direct table₀ changed₀ here new top k₀ table
+μ-loop lines na body n u o levels sides feed masks spots looks t before direct table₀ changed₀ here new top k₀
+    table
     changed k = suc (o .top) - k
 
 light-requires : tie.Need-light-requires Inv-loop μ-loop
 light-requires c κs = let g = c .before .before .before .pre .0 .grounds in (g .lines-there, g .lines-few)
 
 living-requires : tie.Need-living-requires Inv-loop μ-loop
-living-requires c κs = let g = c .before .before .before .before .pre .0 .grounds in (g .rules-there, g .rules-few)
+living-requires c κs = let g = c .before .before .before .before .pre .0 .grounds in
+    (g .rules-there, g .rules-few)
 
 fresh-requires : tie.Need-fresh-requires Inv-loop μ-loop
-fresh-requires c κs = let g = c .before .before .before .before .before .before .pre .0 .grounds in (g .rules-there, g .rules-few)
+fresh-requires c κs = let g = c .before .before .before .before .before .before .pre .0 .grounds in
+    (g .rules-there, g .rules-few)
 
 loop-holds : tie.Need-loop-holds Inv-loop μ-loop
 loop-holds c =
@@ -58,7 +63,8 @@ level-requires c κs =
 
 settle-requires : tie.Need-settle-requires Inv-loop μ-loop
 settle-requires c κs =
-    let s = c .before .before .before .before .before .before .before .before .before .before .before .before .before .before .before .before in
+    let s = c .before .before .before .before .before .before .before .before .before .before .before .before
+    .before .before .before .before in
     let a = s .args in
     let l = c .before .before .before .before .before .before .before .loop in
     let lines = now (a .lines) in
@@ -70,15 +76,21 @@ settle-requires c κs =
     let M = now (a .masks) in
     let P = now (a .spots) in
     let K = now (a .looks) in
-    let w = c .before .before .before .before .before .before .before .before .before .before .before .living in
+    let w = c .before .before .before .before .before .before .before .before .before .before .before .living
+    in
     let f = c .before .before .before .before .before .before .before .before .before .fresh in
     let v = c .before .before .before .before .level in
-    let stage = stage-is lines (a .na) body (a .n) U L S F M P K (a .o .lead) (a .o .negating) (a .o .top) (s .pre .0)
-    (a .t) (l .k) (a .o .subjects) (w .result) (f .result) (v .result) (s .pre .1 .0) (w .ensures) (f .ensures)
+    let stage = stage-is lines (a .na) body (a .n) U L S F M P K (a .o .lead) (a .o .negating) (a .o .top)
+    (s .pre .0)
+    (a .t) (l .k) (a .o .subjects) (w .result) (f .result) (v .result) (s .pre .1 .0) (w .ensures)
+    (f .ensures)
     (v .ensures) in
-    let direct = c .before .before .before .before .before .before .before .before .before .before .before .before .light .last .1 .1 .1 .1 .1 .0 in (
-      subst (λ (g : Stage). Ready (plan g S F) (now (a .before)) direct (l .table) (replicate 520 1)) (sym stage)
-          (stratum-ready lines (a .na) body (a .n) U L S F M P K (a .o .lead) (a .o .negating) (a .o .top) (s .pre .0)
+    let direct = c .before .before .before .before .before .before .before .before .before .before .before
+    .before .light .last .1 .1 .1 .1 .1 .0 in (
+      subst (λ (g : Stage). Ready (plan g S F) (now (a .before)) direct (l .table) (replicate 520 1))
+          (sym stage)
+          (stratum-ready lines (a .na) body (a .n) U L S F M P K (a .o .lead) (a .o .negating) (a .o .top)
+          (s .pre .0)
           (a .t) (l .k) (now (a .before)) direct (l .table) (replicate 520 1) (l .inv .1)
           (length-replicate {A = ℕ} 520 1) (λ i h. getD-replicate {A = ℕ} 520 i 1 0 h)),
       λ r p h k e. s .pre .0 .looks r p h (omega (arith, s .pre .1 .0, k)) ∙ e,
@@ -86,15 +98,22 @@ settle-requires c κs =
 
 add-k : tie.Need-add-k Inv-loop μ-loop
 add-k c =
-    let s = c .before .before .before .before .before .before .before .before .before .before .before .before .before .before .before .before .before in
-    omega (arith, c .before .before .before .before .before .before .before .before .loop .inv .0, s .pre .0 .low, s .pre .0 .grounds .rules-few)
+    let s = c .before .before .before .before .before .before .before .before .before .before .before .before
+    .before .before .before .before .before in
+    omega (
+      arith,
+      c .before .before .before .before .before .before .before .before .loop .inv .0,
+      s .pre .0 .low,
+      s .pre .0 .grounds .rules-few,
+    )
 
 loop-less : tie.Need-loop-less Inv-loop μ-loop
 loop-less c = search needs
 
 loop-again : tie.Need-loop-again Inv-loop μ-loop
 loop-again c =
-    let s = c .before .before .before .before .before .before .before .before .before .before .before .before .before .before .before .before .before in
+    let s = c .before .before .before .before .before .before .before .before .before .before .before .before
+    .before .before .before .before .before in
     let a = s .args in
     let l = c .before .before .before .before .before .before .before .before .loop in
     let lines = now (a .lines) in
@@ -106,22 +125,30 @@ loop-again c =
     let M = now (a .masks) in
     let P = now (a .spots) in
     let K = now (a .looks) in
-    let w = c .before .before .before .before .before .before .before .before .before .before .before .before .living in
+    let w = c .before .before .before .before .before .before .before .before .before .before .before .before
+    .living in
     let f = c .before .before .before .before .before .before .before .before .before .before .fresh in
     let v = c .before .before .before .before .before .level in
-    let stage = stage-is lines (a .na) body (a .n) U L S F M P K (a .o .lead) (a .o .negating) (a .o .top) (s .pre .0)
-    (a .t) (l .k) (a .o .subjects) (w .result) (f .result) (v .result) (s .pre .1 .0) (w .ensures) (f .ensures)
+    let stage = stage-is lines (a .na) body (a .n) U L S F M P K (a .o .lead) (a .o .negating) (a .o .top)
+    (s .pre .0)
+    (a .t) (l .k) (a .o .subjects) (w .result) (f .result) (v .result) (s .pre .1 .0) (w .ensures)
+    (f .ensures)
     (v .ensures) in
-    let direct = c .before .before .before .before .before .before .before .before .before .before .before .before .before .light .last .1 .1 .1 .1 .1 .0 in
+    let direct = c .before .before .before .before .before .before .before .before .before .before .before
+    .before .before .light .last .1 .1 .1 .1 .1 .0 in
     let table = c .settle .last .1 .1 .1 .1 .1 .1 .0 in
-    let lit = direct-is lines (a .na) body (a .n) U L S F M P K (a .o .lead) (a .o .negating) (a .o .top) (s .pre .0)
-    (a .t) direct (c .before .before .before .before .before .before .before .before .before .before .before .before .before .light .ensures) in
+    let lit = direct-is lines (a .na) body (a .n) U L S F M P K (a .o .lead) (a .o .negating) (a .o .top)
+    (s .pre .0)
+    (a .t) direct (c .before .before .before .before .before .before .before .before .before .before .before
+    .before .before .light .ensures) in
     let next : suc (l .k) ≡ l .k + 1 = omega arith in
-    let t : l .k ≤ a .o .top = omega (arith, c .before .before .before .before .before .before .before .loop-test .taken) in
+    let t : l .k ≤ a .o .top =
+    omega (arith, c .before .before .before .before .before .before .before .loop-test .taken) in
     let h : l .k ≤ 2 * a .n = omega (arith, s .pre .0 .low) in (
       omega arith,
       subst (λ (k : ℕ). Done lines (a .na) body (a .n) U (a .t) k table) next
-          (stratum-done lines (a .na) body (a .n) U L S F M P K (a .o .lead) (a .o .negating) (a .o .top) (s .pre .0)
+          (stratum-done lines (a .na) body (a .n) U L S F M P K (a .o .lead) (a .o .negating) (a .o .top)
+          (s .pre .0)
           (a .t) (l .k) (now (a .before)) direct (l .table) table h (s .pre .1 .1) lit (l .inv .1)
           (subst (λ (g : Stage). Smallest (plan g S F) (now (a .before)) direct (l .table) table) stage
           (c .settle .ensures))),
@@ -134,10 +161,13 @@ returns c =
     let l = c .before .loop in
     let e : l .k ≡ suc (a .o .top) = omega (arith, l .inv .0, c .loop-test .left) in
     let U = take (a .o .subjects) (now (a .u)) in
-    strata-done (now (a .lines)) (a .na) (now (a .body)) (a .n) U (now (a .levels)) (now (a .sides)) (now (a .feed))
-    (now (a .masks)) (now (a .spots)) (now (a .looks)) (a .o .lead) (a .o .negating) (a .o .top) (s .pre .0) (a .t)
+    strata-done (now (a .lines)) (a .na) (now (a .body)) (a .n) U (now (a .levels)) (now (a .sides))
+    (now (a .feed))
+    (now (a .masks)) (now (a .spots)) (now (a .looks)) (a .o .lead) (a .o .negating) (a .o .top) (s .pre .0)
+    (a .t)
     (l .table)
-    (subst (λ (k : ℕ). Done (now (a .lines)) (a .na) (now (a .body)) (a .n) U (a .t) k (l .table)) e (l .inv .1))
+    (subst (λ (k : ℕ). Done (now (a .lines)) (a .na) (now (a .body)) (a .n) U (a .t) k (l .table)) e
+    (l .inv .1))
 
 pub sweep-strata-spec : {M : Type 1} → statement M
 sweep-strata-spec =

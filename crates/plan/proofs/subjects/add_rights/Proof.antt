@@ -1,5 +1,5 @@
--- `add_rights` meets its contract. The loop's invariant: what all rules bring to the subjects is what the rules from
--- the `i`-th on bring to those there are.
+-- `add_rights` meets its contract. The loop's invariant: what all rules bring to the subjects is what the
+-- rules from the `i`-th on bring to those there are.
 use borrow.Author.Needs.{needs}
 use native.Mathlib.Omega.{arith}
 use native.Mathlib.Numerals.{add-one}

@@ -26,4 +26,5 @@ returns-2 c =
 
 pub add-subject-spec : {M : Type 1} → statement M
 add-subject-spec =
-    tie.close (tie.spec known-requires returns (λ c. search needs) (λ c. search needs) (λ c. search needs) returns-2)
+    tie.close (tie.spec known-requires returns (λ c. search needs) (λ c. search needs)
+    (λ c. search needs) returns-2)

@@ -15,14 +15,20 @@ returns-2 : tie.Need-returns-2
 returns-2 c =
     let b = c .before .before .before in
     let U = take (b .args .m) (now (b .args .u)) in
-    rw (ne-false (b .args .v) 0 (c .before .before .if1 .left), lt-among U (b .args .v) (omega (arith, b .pre)))
+    rw (
+      ne-false (b .args .v) 0 (c .before .before .if1 .left),
+      lt-among U (b .args .v) (omega (arith, b .pre)),
+    )
     (c .before .index-of .ensures)
 
 returns-3 : tie.Need-returns-3
 returns-3 c =
     let b = c .before .before .before in
     let U = take (b .args .m) (now (b .args .u)) in
-    rw (ne-false (b .args .v) 0 (c .before .before .if1 .left), out-among U (b .args .v) (omega (arith, b .pre)))
+    rw (
+      ne-false (b .args .v) 0 (c .before .before .if1 .left),
+      out-among U (b .args .v) (omega (arith, b .pre)),
+    )
 
 pub code-of-spec : {M : Type 1} → statement M
 code-of-spec = tie.close (tie.spec returns (λ c κs. search needs) (λ c. search needs) returns-2 returns-3)

@@ -30,7 +30,8 @@ module _ (s : List ℕ) (k a b c d : ℕ) where
   four = set three (k + 3) d
 
   length-four : length four ≡ length s
-  length-four = length-set three (k + 3) d ∙ length-set two (k + 2) c ∙ length-set one (k + 1) b ∙ length-set s k a
+  length-four = length-set three (k + 3) d ∙ length-set two (k + 2) c ∙ length-set one (k + 1) b
+      ∙ length-set s k a
 
   keeps : (j : ℕ) → j < k → getD four j 0 ≡ getD s j 0
   keeps j h = getD-set-other three (k + 3) j d 0 (λ e. omega arith)

@@ -1,4 +1,5 @@
--- `index_of` meets its contract. The loop's invariant: the index is that in the rest from `i` on, and `i` more.
+-- `index_of` meets its contract. The loop's invariant: the index is that in the rest from `i` on, and `i`
+-- more.
 use mathlib.Core.Path.{_≡_, sym, ap, _∙_}
 use mathlib.Core.List.{[]}
 use Prim.Native.Nat.{_+_, _-_, _≤_}
@@ -50,5 +51,6 @@ returns-2 c =
 pub index-of-spec : {M : Type 1} → statement M
 index-of-spec =
     tie.close
-    (tie.spec Inv-loop μ-loop (λ c. search needs) (λ c. search needs) (λ c. search needs) returns (λ c. search needs)
+    (tie.spec Inv-loop μ-loop (λ c. search needs) (λ c. search needs) (λ c. search needs) returns
+    (λ c. search needs)
     (λ c. search needs) loop-again returns-2)

@@ -1,4 +1,5 @@
--- `place_lines` meets its contract. The loop's invariant: the places before `j` hold their authorizations' places.
+-- `place_lines` meets its contract. The loop's invariant: the places before `j` hold their authorizations'
+-- places.
 use borrow.Author.Needs.{needs}
 use native.Mathlib.Omega.{arith}
 use mathlib.Core.Path.{_≡_, refl, ap, _∙_}
@@ -57,5 +58,6 @@ returns c = λ j h. c .before .loop .inv .2 j (omega arith)
 pub place-lines-spec : {M : Type 1} → statement M
 place-lines-spec =
     tie.close
-    (tie.spec Inv-loop μ-loop loop-holds (λ c. search needs) (λ c κs. search needs) spot-requires (λ c. search needs)
+    (tie.spec Inv-loop μ-loop loop-holds (λ c. search needs) (λ c κs. search needs) spot-requires
+    (λ c. search needs)
     (λ c. search needs) (λ c. search needs) (λ c. search needs) loop-again returns)

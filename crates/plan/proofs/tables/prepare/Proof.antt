@@ -26,7 +26,12 @@ module _ (body : List ℕ) (n : ℕ) (L : List ℕ) (levels : Holds n body (stra
   few-levels s i h =
       let rules = rulesIn n body in
       let r = ruleAt body i in
-      omega (arith, levels i h, stratum-few rules s r (record-mem 28 ruleOf n body i h), length-records 28 ruleOf n body)
+      omega (
+        arith,
+        levels i h,
+        stratum-few rules s r (record-mem 28 ruleOf n body i h),
+        length-records 28 ruleOf n body,
+      )
 
   -- a bound of the numbers whose bits are set bounds the strata of the rules that pass
   high-levels : (p : Rule → Bool) (bits top : ℕ) → bits ≡ maskOf p (rulesIn n body) →
@@ -40,31 +45,51 @@ module _ (body : List ℕ) (n : ℕ) (L : List ℕ) (levels : Holds n body (stra
       omega (arith, h i (w .1) b, levels i (w .1), ap (stratum (rulesIn n body)) (w .2))
 
 mul-draw-looks : tie.Need-mul-draw-looks
-mul-draw-looks c = omega (arith, c .before .before .before .before .before .before .before .before .before .before .before .before .before .gather .ensures .few)
+mul-draw-looks c = omega (
+  arith,
+  c .before .before .before .before .before .before .before .before .before .before .before .before .before
+      .gather .ensures .few,
+)
 
 draw-looks-requires : tie.Need-draw-looks-requires
-draw-looks-requires c κs =
-    (c .before .before .before .before .before .before .before .before .before .before .before .before .before .before .before .before .before .before .pre .rules-few, omega (arith, c .before .before .before .before .before .before .before .before .before .before .before .before .before .before .gather .ensures .few))
+draw-looks-requires c κs = (
+  c .before .before .before .before .before .before .before .before .before .before .before .before .before
+      .before .before .before .before .before .pre .rules-few,
+  omega (
+    arith,
+    c .before .before .before .before .before .before .before .before .before .before
+        .before .before .before .before .gather .ensures .few,
+  ),
+)
 
 negating-requires : tie.Need-negating-requires
 negating-requires c κs =
-    let g = c .before .before .before .before .before .before .before .before .before .before .before .before .before .before .before .before .before .before .before .before .before .pre in
+    let g = c .before .before .before .before .before .before .before .before .before .before .before .before
+    .before .before .before .before .before .before .before .before .before .pre in
     (g .rules-there, g .rules-few)
 
 highest-requires : tie.Need-highest-requires
-highest-requires c κs = c .before .before .before .before .before .before .before .before .before .before .before .before .before .before .before .before .before .before .before .before .before .before .before .pre .rules-few
+highest-requires c κs =
+    c .before .before .before .before .before .before .before .before .before .before .before .before .before
+    .before .before .before .before .before .before .before .before .before .before .pre .rules-few
 
 returns : tie.Need-returns
 returns c =
-    let d = c .before .before .before .before .before .before .before .before .before .before .before .before .before .before .before .before .before .before .before .before .before .before .before .before in
+    let d = c .before .before .before .before .before .before .before .before .before .before .before .before
+    .before .before .before .before .before .before .before .before .before .before .before .before in
     let body = now (d .args .body) in
     let n = d .args .n in
-    let g = c .before .before .before .before .before .before .before .before .before .before .before .before .before .before .before .before .before .before .before .before .gather .ensures in
-    let m = c .before .before .before .before .before .before .before .before .before .before .before .before .before .before .before .before .before .before .before .before .gather .result in
-    let U = take m (c .before .before .before .before .before .before .before .before .before .before .before .before .before .before .before .before .before .before .before .before .gather .last .1 .1 .1 .0) in
-    let s = c .before .before .before .before .before .before .before .before .before .before .before .before .before .before .before .before .before .before .stratify in
+    let g = c .before .before .before .before .before .before .before .before .before .before .before .before
+    .before .before .before .before .before .before .before .before .gather .ensures in
+    let m = c .before .before .before .before .before .before .before .before .before .before .before .before
+    .before .before .before .before .before .before .before .before .gather .result in
+    let U = take m (c .before .before .before .before .before .before .before .before .before .before .before
+    .before .before .before .before .before .before .before .before .before .gather .last .1 .1 .1 .0) in
+    let s = c .before .before .before .before .before .before .before .before .before .before .before .before
+    .before .before .before .before .before .before .stratify in
     let L = s .last .1 .1 .0 in
-    let levels : Holds n body (stratum (rulesIn n body)) L = s .ensures .table (s .ensures .test ∙ d .pre .strata) in
+    let levels : Holds n body (stratum (rulesIn n body)) L =
+    s .ensures .table (s .ensures .test ∙ d .pre .strata) in
     let lead = c .before .before .before .leading in
     let top = c .highest in (
       record {
@@ -72,11 +97,15 @@ returns c =
         few = omega (arith, g .count, g .few);
         listed = g .listed;
         levels = levels;
-        sides = c .before .before .before .before .before .before .before .before .before .before .before .before .before .before .before .draw-sides .ensures;
-        feed = c .before .before .before .before .before .before .before .before .before .before .before .before .before .feeding .ensures;
-        masks = c .before .before .before .before .before .before .before .before .before .before .before .fit-lines .ensures;
+        sides = c .before .before .before .before .before .before .before .before .before .before .before
+            .before .before .before .before .draw-sides .ensures;
+        feed = c .before .before .before .before .before .before .before .before .before .before .before
+            .before .before .feeding .ensures;
+        masks = c .before .before .before .before .before .before .before .before .before .before .before
+            .fit-lines .ensures;
         spots = c .before .before .before .before .before .before .before .before .place-lines .ensures;
-        looks = λ r p h k. c .before .before .before .before .before .draw-looks .ensures r p h (omega (arith, g .count, k));
+        looks = λ r p h k. c .before .before .before .before .before .draw-looks .ensures r p h
+            (omega (arith, g .count, k));
         lead = lead .ensures;
         negating = c .before .before .negating .ensures;
         low = top .ensures .1 (2 * n) (few-levels body n L levels (d .pre .strata));

@@ -16,7 +16,8 @@ use Rattle.plan.proofs.walk.first_look.Statement.{statement}
 use Rattle.plan.proofs.walk.first_look.Tie as tie
 
 abbrev Inv-loop : tie.InvT-loop
-Inv-loop body n t a₀ i₀ a i = (i ≤ n) × (a ≤ t) × ((j : ℕ) → j < i → lasting (ruleAt body j .operator) ≡ true →
+Inv-loop body n t a₀ i₀ a i = (i ≤ n) × (a ≤ t) × ((j : ℕ) → j < i →
+    lasting (ruleAt body j .operator) ≡ true →
     a ≤ ruleAt body j .interval .start)
 
 abbrev μ-loop : tie.MeasureT-loop
@@ -30,14 +31,16 @@ loop-again c =
     let l = c .before .before .before .loop in
     let body = now (c .before .before .before .before .before .args .body) in
     let e = c .sooner .ensures in
-    let this : lasting (ruleAt body (l .i) .operator) ≡ true → c .sooner .result ≤ ruleAt body (l .i) .interval .start =
+    let this : lasting (ruleAt body (l .i) .operator) ≡ true →
+    c .sooner .result ≤ ruleAt body (l .i) .interval .start =
     subst (λ (r : Rule). lasting (r .operator) ≡ true → c .sooner .result ≤ r .interval .start)
     (c .before .rule-at .ensures) (e .1) in (
       search needs,
       omega (arith, e .0, l .inv .1),
       λ j h k. cases (eqb j (l .i))
           (λ q. let z = true-eq j (l .i) q in
-          subst (λ (j : ℕ). lasting (ruleAt body j .operator) ≡ true → c .sooner .result ≤ ruleAt body j .interval .start)
+          subst (λ (j : ℕ). lasting (ruleAt body j .operator) ≡ true →
+          c .sooner .result ≤ ruleAt body j .interval .start)
           (sym z) this k)
           (λ q. let z = false-eq j (l .i) q in omega (arith, e .0, l .inv .2 j (omega arith) k)),
     )
@@ -50,7 +53,8 @@ returns c =
       l .inv .1,
       λ q m k. let w = mem-record 28 ruleOf (a .n) (now (a .body)) q m in
           subst (λ (r : Rule). l .a ≤ r .interval .start) (sym (w .2))
-          (l .inv .2 (w .0) (omega (arith, w .1)) (ap (λ (r : Rule). lasting (r .operator)) (sym (w .2)) ∙ k)),
+          (l .inv .2 (w .0) (omega (arith, w .1)) (ap (λ (r : Rule). lasting (r .operator)) (sym (w .2))
+          ∙ k)),
     )
 
 pub first-look-spec : {M : Type 1} → statement M

@@ -15,11 +15,13 @@ use Rattle.plan.proofs.walk.go_to.Statement.{statement}
 use Rattle.plan.proofs.walk.go_to.Tie as tie
 
 abbrev Inv-loop : tie.InvT-loop
-Inv-loop lines na body n u o levels sides feed masks spots looks t table₀ direct₀ changed₀ a₀ table direct changed a =
+Inv-loop lines na body n u o levels sides feed masks spots looks t table₀ direct₀ changed₀ a₀ table direct
+    changed a =
     (a ≤ t) × At lines na body n (take (o .subjects) u) a table
 
 abbrev μ-loop : tie.MeasureT-loop
-μ-loop lines na body n u o levels sides feed masks spots looks t table₀ direct₀ changed₀ a₀ table direct changed a = t - a
+μ-loop lines na body n u o levels sides feed masks spots looks t table₀ direct₀ changed₀ a₀ table direct
+    changed a = t - a
 
 first-look-requires : tie.Need-first-look-requires Inv-loop μ-loop
 first-look-requires c κs = c .before .before .pre .0 .grounds .rules-there
@@ -32,7 +34,8 @@ derive-requires c κs =
       (
         s .pre .1,
         serves-first (now (a .lines)) (a .na) (now (a .body)) (a .n) (take (a .o .subjects) (now (a .u)))
-            (c .before .before .before .before .first-look .result) (replicate 520 0) (c .before .before .before .before .first-look .ensures .1),
+            (c .before .before .before .before .first-look .result) (replicate 520 0)
+            (c .before .before .before .before .first-look .ensures .1),
       ),
     )
 
@@ -40,7 +43,9 @@ loop-holds : tie.Need-loop-holds Inv-loop μ-loop
 loop-holds c = (c .before .before .before .before .before .first-look .ensures .0, c .derive .ensures)
 
 next-mark-requires : tie.Need-next-mark-requires Inv-loop μ-loop
-next-mark-requires c κs = let g = c .before .before .before .before .before .before .before .before .before .before .pre .0 .grounds in (g .lines-there, g .rules-there)
+next-mark-requires c κs = let g =
+    c .before .before .before .before .before .before .before .before .before .before .pre .0 .grounds in
+    (g .lines-there, g .rules-there)
 
 -- the next mark is behind a
 behind : (lines : List ℕ) (na : ℕ) (body : List ℕ) (n a m : ℕ) → a < 4294967296 →
@@ -59,20 +64,25 @@ up-to-requires c κs =
 
 derive-requires-2 : tie.Need-derive-requires-2 Inv-loop μ-loop
 derive-requires-2 c κs =
-    let s = c .before .before .before .before .before .before .before .before .before .before .before .before .before .before .before .before .before in
+    let s = c .before .before .before .before .before .before .before .before .before .before .before .before
+    .before .before .before .before .before in
     let a = s .args in
     let l = c .before .before .before .before .before .before .before .before .loop in
     let e = c .before .before .before .before .before .up-to .ensures in (
       s .pre .0,
       (
         s .pre .1,
-        serves-next (now (a .lines)) (a .na) (now (a .body)) (a .n) (take (a .o .subjects) (now (a .u))) (l .a)
-            (c .before .before .before .before .before .up-to .result) (l .table) (e .0) (omega (arith, e .1, c .before .before .before .before .before .before .next-mark .ensures)) (l .inv .1),
+        serves-next (now (a .lines)) (a .na) (now (a .body)) (a .n) (take (a .o .subjects) (now (a .u)))
+            (l .a)
+            (c .before .before .before .before .before .up-to .result) (l .table) (e .0)
+            (omega (arith, e .1, c .before .before .before .before .before .before .next-mark .ensures))
+            (l .inv .1),
       ),
     )
 
 loop-less : tie.Need-loop-less Inv-loop μ-loop
-loop-less c = let e = c .before .before .before .before .before .before .up-to .ensures in omega (arith, e .0, e .2)
+loop-less c = let e = c .before .before .before .before .before .before .up-to .ensures in
+    omega (arith, e .0, e .2)
 
 loop-again : tie.Need-loop-again Inv-loop μ-loop
 loop-again c = (c .before .before .before .before .before .before .up-to .ensures .2, c .derive2 .ensures)
@@ -82,7 +92,8 @@ returns c =
     let a = c .before .before .before .before .before .before .before .before .before .before .args in
     let l = c .before .loop in
     let e : l .a ≡ a .t = omega (arith, l .inv .0, c .loop-test .left) in
-    subst (λ (t : ℕ). At (now (a .lines)) (a .na) (now (a .body)) (a .n) (take (a .o .subjects) (now (a .u))) t
+    subst (λ (t : ℕ). At (now (a .lines)) (a .na) (now (a .body)) (a .n)
+    (take (a .o .subjects) (now (a .u))) t
     (l .table)) e (l .inv .1)
 
 pub go-to-spec : {M : Type 1} → statement M

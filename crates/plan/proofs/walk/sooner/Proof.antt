@@ -21,8 +21,14 @@ returns c =
 returns-2 : tie.Need-returns-2
 returns-2 c =
     let a = c .before .before .args in
-    let start = a .r .interval .start in
-    (omega arith, λ e. omega (arith, false-le (suc start) (a .a) (sym (rw (c .before .is-lasting .ensures ∙ e)) ∙ c .if1 .left)))
+    let start = a .r .interval .start in (
+      omega arith,
+      λ e. omega (
+        arith,
+        false-le (suc start) (a .a)
+            (sym (rw (c .before .is-lasting .ensures ∙ e)) ∙ c .if1 .left),
+      ),
+    )
 
 pub sooner-spec : {M : Type 1} → statement M
 sooner-spec = tie.close (tie.spec (λ c κs. search needs) returns returns-2)

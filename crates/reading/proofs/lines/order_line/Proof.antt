@@ -24,7 +24,12 @@ returns-4 c =
     let t4 = c .before in
     let e3 = t4 .before in
     let e2 = e3 .before in
-    rw (ne-eqb _ _ (e2 .before .if1 .left), ne-eqb _ _ (e2 .if2 .left), ne-eqb _ _ (e3 .if3 .left), t4 .if4 .taken)
+    rw (
+      ne-eqb _ _ (e2 .before .if1 .left),
+      ne-eqb _ _ (e2 .if2 .left),
+      ne-eqb _ _ (e3 .if3 .left),
+      t4 .if4 .taken,
+    )
     (c .label-line .ensures)
 
 returns-5 : tie.Need-returns-5

@@ -31,9 +31,11 @@ returns c =
     (sym (goes-on _ (time .instant-at .ensures) refl
     ∙ goes-on _ (who .number-at .ensures) refl
     ∙ goes-on _ (kind .kind-at .ensures)
-    (no-fields (kind .kind-at .result .value) (time .instant-at .result .value) (who .number-at .result .value))))
+    (no-fields (kind .kind-at .result .value) (time .instant-at .result .value)
+    (who .number-at .result .value))))
 
 pub request-line-spec : {M : Type 1} → statement M
 request-line-spec =
     tie.close
-    (tie.spec (λ c κs. search needs) (λ c κs. search needs) (λ c κs. search needs) (λ c κs. search needs) returns)
+    (tie.spec (λ c κs. search needs) (λ c κs. search needs) (λ c κs. search needs)
+    (λ c κs. search needs) returns)

@@ -8,8 +8,10 @@ use Rattle.reading.proofs.lines.rule_line.Tie as tie
 returns : tie.Need-returns
 returns c =
     finishes (c .finished .ensures) refl
-    (read-then _ (c .before .before .before .before .before .before .before .before .before .side-at .ensures) refl
-    (read-then _ (c .before .before .before .before .before .before .before .before .operator-at .ensures) refl
+    (read-then _ (c .before .before .before .before .before .before .before .before .before .side-at .ensures)
+    refl
+    (read-then _ (c .before .before .before .before .before .before .before .before .operator-at .ensures)
+    refl
     (read-then _ (c .before .before .before .before .before .before .before .side-at2 .ensures) refl
     (read-then _ (c .before .before .before .before .before .before .term-at .ensures) refl
     (read-then _ (c .before .before .before .before .before .option-term-at .ensures) refl

@@ -1,4 +1,5 @@
--- `end_of` meets its contract. The invariant: from i on as many bytes of the field are left as bring it to its end.
+-- `end_of` meets its contract. The invariant: from i on as many bytes of the field are left as bring it to
+-- its end.
 use mathlib.Core.Path.{_≡_, refl}
 use Prim.Native.Nat.{_+_, _-_, _≤_}
 use native.Mathlib.Omega.{arith}

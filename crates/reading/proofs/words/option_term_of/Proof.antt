@@ -10,7 +10,11 @@ returns c = rw (sym (c .before .same .ensures) ∙ c .if1 .taken)
 returns-2 : tie.Need-returns-2
 returns-2 c =
     let first = c .before .before .before in
-    rw (sym (first .before .same .ensures) ∙ first .if1 .left, sym (c .before .same2 .ensures) ∙ c .if2 .taken)
+    rw (
+      sym (first .before .same .ensures) ∙ first .if1 .left,
+      sym (c .before .same2 .ensures)
+          ∙ c .if2 .taken,
+    )
 
 returns-3 : tie.Need-returns-3
 returns-3 c =
@@ -25,5 +29,6 @@ returns-3 c =
 pub option-term-of-spec : {M : Type 1} → statement M
 option-term-of-spec =
     tie.close
-    (tie.spec (λ c. search needs) (λ c κs. search needs) returns (λ c. search needs) (λ c κs. search needs) returns-2
+    (tie.spec (λ c. search needs) (λ c κs. search needs) returns (λ c. search needs)
+    (λ c κs. search needs) returns-2
     (λ c. search needs) (λ c κs. search needs) returns-3)

@@ -1,5 +1,5 @@
--- `value_of` meets its contract. The invariant: the answer is that for the bytes from i on behind n, which i digits
--- make.
+-- `value_of` meets its contract. The invariant: the answer is that for the bytes from i on behind n, which i
+-- digits make.
 use mathlib.Core.Path.{_≡_, refl, sym, _∙_}
 use Prim.Native.Nat.{_-_, _^_, _≤_, _<_}
 use native.Mathlib.Nat.{pow-suc}
@@ -63,5 +63,6 @@ returns-2 c =
 pub value-of-spec : {M : Type 1} → statement M
 value-of-spec =
     tie.close
-    (tie.spec Inv-loop μ-loop loop-holds (λ c. search needs) returns mul-n digit-requires add-n (λ c. search needs)
+    (tie.spec Inv-loop μ-loop loop-holds (λ c. search needs) returns mul-n digit-requires add-n
+    (λ c. search needs)
     (λ c. search needs) loop-again returns-2)

@@ -12,11 +12,13 @@ returns c =
     let i = c .before .before .before .before in
     let m = i .before .before .before .before in
     let o = m .before .before .before .before in
-    (λ k. o .before .before .before .unknown-kind .ensures k || not (o .before .before .instant-in .ensures k) || not (o .before .subject-in .ensures k)
+    (λ k. o .before .before .before .unknown-kind .ensures k || not (o .before .before .instant-in .ensures k)
+    || not (o .before .subject-in .ensures k)
     || (o .names-object .ensures k && not (m .before .before .before .object-in .ensures k))
     || (m .before .before .names-subject .ensures k && not (m .before .subject-in2 .ensures k))
     || (m .names-mode .ensures k && not (i .before .before .before .mode-in .ensures k))
-    || (i .before .before .names-interval .ensures k && not (i .before .instant-in2 .ensures k && i .instant-in3 .ensures k))
+    || (i .before .before .names-interval .ensures k
+    && not (i .before .instant-in2 .ensures k && i .instant-in3 .ensures k))
     || (c .before .before .before .names-label .ensures k && not (c .before .before .label-in .ensures k))
     || (c .before .is-kind .ensures k && not (c .rule-terms-in .ensures k)))
     ∙ joined-any (rangeTests (o .before .before .before .before .before .args .q))

@@ -10,7 +10,8 @@ returns c =
     let s = c .before .before .before .before .before .before in
     let o = s .before .before .before .before .args .u .operator in
     λ k. s .before .side-terms-in .ensures k && s .side-terms-in2 .ensures k && (leb 1 o && leb o 4)
-    && c .before .before .before .subject-term-in .ensures k && c .before .before .stars-agree .ensures k && c .before .stars-agree2 .ensures k
+    && c .before .before .before .subject-term-in .ensures k && c .before .before .stars-agree .ensures k
+    && c .before .stars-agree2 .ensures k
     && c .option-fits .ensures k
 
 pub rule-terms-in-spec : {M : Type 1} → statement M

@@ -21,12 +21,14 @@ returns-2 c =
 returns-3 : tie.Need-returns-3
 returns-3 c =
     let a = c .before .before .before .before .before .before .args in
-    (λ t. c .before .owns .ensures t || c .refers .ensures t) ∙ there-referrer (decode (now (a .s))) (a .q) (c .before .before .if3 .taken)
+    (λ t. c .before .owns .ensures t || c .refers .ensures t)
+    ∙ there-referrer (decode (now (a .s))) (a .q) (c .before .before .if3 .taken)
 
 returns-4 : tie.Need-returns-4
 returns-4 c =
     let a = c .before .before .before .before .args in
-    there-none (decode (now (a .s))) (a .q) (c .before .before .if1 .left) (c .before .if2 .left) (c .if3 .left)
+    there-none (decode (now (a .s))) (a .q) (c .before .before .if1 .left) (c .before .if2 .left)
+    (c .if3 .left)
 
 pub already-there-spec : {M : Type 1} → statement M
 already-there-spec =

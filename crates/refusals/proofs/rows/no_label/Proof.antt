@@ -11,7 +11,8 @@ use Rattle.refusals.proofs.rows.no_label.Tie as tie
 returns : tie.Need-returns
 returns c =
     let a = c .before .before .before .args in
-    (λ t. not (c .has-authorization .ensures t)) ∙ label-revoke (decode (now (a .s))) (a .q) (c .before .if1 .taken)
+    (λ t. not (c .has-authorization .ensures t)) ∙ label-revoke (decode (now (a .s))) (a .q)
+    (c .before .if1 .taken)
 
 returns-2 : tie.Need-returns-2
 returns-2 c =

@@ -11,7 +11,8 @@ use Rattle.refusals.proofs.rows.no_object.Tie as tie
 returns : tie.Need-returns
 returns c =
     let a = c .before .before .before .before .before .before .before .before .args in
-    (λ t. not (c .before .exists .ensures t && c .exists2 .ensures t)) ∙ object-rule (decode (now (a .s))) (a .q) (c .before .before .before .before .before .if1 .taken)
+    (λ t. not (c .before .exists .ensures t && c .exists2 .ensures t))
+    ∙ object-rule (decode (now (a .s))) (a .q) (c .before .before .before .before .before .if1 .taken)
 
 returns-2 : tie.Need-returns-2
 returns-2 c =
@@ -31,5 +32,6 @@ returns-3 c =
 pub no-object-spec : {M : Type 1} → statement M
 no-object-spec =
     tie.close
-    (tie.spec (λ c κs. search needs) (λ c κs. search needs) returns (λ c κs. search needs) (λ c κs. search needs)
+    (tie.spec (λ c κs. search needs) (λ c κs. search needs) returns (λ c κs. search needs)
+    (λ c κs. search needs)
     (λ c κs. search needs) returns-2 returns-3)

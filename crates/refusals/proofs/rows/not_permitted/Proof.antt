@@ -4,7 +4,8 @@ use mathlib.Core.Path.{sym, _∙_}
 use mathlib.Core.Bool.{not}
 use denote.Ref.{now}
 use Rattle.model.specs.Encoding.{decode}
-use Rattle.refusals.proofs.ByKind.{permit-revoke, permit-drop, permit-rule, permit-privilege, permit-none}
+use Rattle.refusals.proofs.ByKind.{permit-revoke, permit-drop, permit-rule, permit-privilege}
+use Rattle.refusals.proofs.ByKind.{permit-none}
 use Rattle.refusals.proofs.rows.not_permitted.Statement.{statement}
 use Rattle.refusals.proofs.rows.not_permitted.Tie as tie
 
@@ -21,7 +22,8 @@ returns-2 c =
 returns-3 : tie.Need-returns-3
 returns-3 c =
     let a = c .before .before .before .before .before .before .before .before .args in
-    (λ t. not (c .may-rule .ensures t)) ∙ permit-rule (decode (now (a .s))) (a .q) (c .before .before .before .before .if3 .taken)
+    (λ t. not (c .may-rule .ensures t)) ∙ permit-rule (decode (now (a .s))) (a .q)
+    (c .before .before .before .before .if3 .taken)
 
 returns-4 : tie.Need-returns-4
 returns-4 c =
@@ -29,7 +31,8 @@ returns-4 c =
     let e = p .before in
     let a = e .before .before .before .before .args in
     (λ t. not (c .owns .ensures t))
-    ∙ permit-privilege (decode (now (a .s))) (a .q) (e .before .before .if1 .left) (e .before .if2 .left) (e .if3 .left)
+    ∙ permit-privilege (decode (now (a .s))) (a .q) (e .before .before .if1 .left) (e .before .if2 .left)
+    (e .if3 .left)
     (sym (p .is-privilege .ensures) ∙ c .before .if4 .taken)
 
 returns-5 : tie.Need-returns-5
@@ -37,7 +40,8 @@ returns-5 c =
     let p = c .before in
     let e = p .before in
     let a = e .before .before .before .before .args in
-    permit-none (decode (now (a .s))) (a .q) (e .before .before .if1 .left) (e .before .if2 .left) (e .if3 .left)
+    permit-none (decode (now (a .s))) (a .q) (e .before .before .if1 .left) (e .before .if2 .left)
+    (e .if3 .left)
     (sym (p .is-privilege .ensures) ∙ c .if4 .left)
 
 pub not-permitted-spec : {M : Type 1} → statement M

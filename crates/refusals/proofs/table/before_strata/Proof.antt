@@ -1,5 +1,5 @@
--- `refusals::table::before_strata`: what the rows before row 9 answer stands; where they answer nothing, row 9
--- decides, and where it does not apply, those behind it.
+-- `refusals::table::before_strata`: what the rows before row 9 answer stands; where they answer nothing, row
+-- 9 decides, and where it does not apply, those behind it.
 use borrow.Author.Needs.{needs}
 use mathlib.Core.Path.{_≡_, sym, _∙_, subst}
 use mathlib.Core.Bool.{true, false}
@@ -9,13 +9,15 @@ use Rattle.model.specs.Means.{plainly}
 use Rattle.model.specs.Step.{firstNumber, notSupported}
 use Rattle.support.specs.declared.Gap.the-variants.{At}
 use Rattle.refusals.specs.Asked.{UncoveredIs}
-use Rattle.refusals.specs.Early.{rowsBeforeCover, before-range, before-stands, cover-decides, behind-stands}
+use Rattle.refusals.specs.Early.{rowsBeforeCover, before-range, before-stands, cover-decides}
+use Rattle.refusals.specs.Early.{behind-stands}
 use Rattle.refusals.proofs.table.before_strata.Statement.{statement}
 use Rattle.refusals.proofs.table.before_strata.Tie as tie
 
 -- no row before row 9 applies
 passes : (c : tie.Else1) →
-    (let a = c .before .before .before .args in firstNumber (rowsBeforeCover (decode (now (a .s))) (a .q)) ≡ 0)
+    (let a = c .before .before .before .args in firstNumber (rowsBeforeCover (decode (now (a .s))) (a .q))
+    ≡ 0)
 passes c = sym (c .before .before-cover .ensures) ∙ c .if1 .left
 
 -- nor does row 9

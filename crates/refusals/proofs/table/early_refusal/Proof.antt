@@ -1,5 +1,5 @@
--- `refusals::table::early_refusal`: what the rows before row 12 answer stands, and where they answer nothing, row 12
--- decides.
+-- `refusals::table::early_refusal`: what the rows before row 12 answer stands, and where they answer nothing,
+-- row 12 decides.
 use borrow.Author.Needs.{needs}
 use mathlib.Core.Path.{_≡_, sym, _∙_, subst}
 use mathlib.Core.Bool.{true, false}
@@ -21,7 +21,8 @@ none c =
     let d = m .before .before in
     let b = decode (now (d .args .s)) in
     let q = d .args .q in
-    subst (saysOf b q (firstNumber (rowsBeforeStrata b q))) (c .enum-told .given .1) (m .before-strata .ensures)
+    subst (saysOf b q (firstNumber (rowsBeforeStrata b q))) (c .enum-told .given .1)
+    (m .before-strata .ensures)
 
 not-stratified-requires : tie.Need-not-stratified-requires
 not-stratified-requires c κs =
@@ -42,7 +43,8 @@ returns-2 c =
     let b = decode (now (d .args .s)) in
     let q = d .args .q in
     let says : saysOf b q (firstNumber (rowsBeforeStrata b q)) (Number _) =
-    subst (saysOf b q (firstNumber (rowsBeforeStrata b q))) (c .before .e .given .1) (m .before-strata .ensures) in
+    subst (saysOf b q (firstNumber (rowsBeforeStrata b q))) (c .before .e .given .1)
+    (m .before-strata .ensures) in
     (early-stands b q _ (says .1) (says .0), says .1, says .2)
 
 returns-3 : tie.Need-returns-3
@@ -52,7 +54,8 @@ returns-3 c =
     let b = decode (now (d .args .s)) in
     let q = d .args .q in
     let says : saysOf b q (firstNumber (rowsBeforeStrata b q)) (Uncovered _) =
-    subst (saysOf b q (firstNumber (rowsBeforeStrata b q))) (c .before .e2 .given .1) (m .before-strata .ensures) in
+    subst (saysOf b q (firstNumber (rowsBeforeStrata b q))) (c .before .e2 .given .1)
+    (m .before-strata .ensures) in
     (early-stands b q 9 (λ z. omega arith) (says .0), says .1)
 
 returns-4 : tie.Need-returns-4

@@ -18,12 +18,20 @@ cast-t4 c = let d = c .before .before in omega (arith, requester-most (d .args .
 cast-t5 : tie.Need-cast-t5
 cast-t5 c =
     let d = c .before .before .before in
-    omega (arith, subject-most (d .args .q) (d .pre .0) (is-kinds (d .args .q) kinds subjectKinds refl (d .pre .2)))
+    omega (
+      arith,
+      subject-most (d .args .q) (d .pre .0)
+          (is-kinds (d .args .q) kinds subjectKinds refl (d .pre .2)),
+    )
 
 cast-t6 : tie.Need-cast-t6
 cast-t6 c =
     let d = c .before .before .before .before in
-    omega (arith, object-most (d .args .q) (d .pre .0) (is-kinds (d .args .q) kinds objectKinds refl (d .pre .2)))
+    omega (
+      arith,
+      object-most (d .args .q) (d .pre .0)
+          (is-kinds (d .args .q) kinds objectKinds refl (d .pre .2)),
+    )
 
 cast-t7 : tie.Need-cast-t7
 cast-t7 c =

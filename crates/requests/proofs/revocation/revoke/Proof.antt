@@ -1,5 +1,5 @@
--- `remaining` tells whether row 13 applies (`carried-full`, `lines-left`); where it does not, the two edits make the
--- bytes of the effect (`effect-named`).
+-- `remaining` tells whether row 13 applies (`carried-full`, `lines-left`); where it does not, the two edits
+-- make the bytes of the effect (`effect-named`).
 use borrow.Author.Needs.{needs}
 use mathlib.Core.Path.{sym, ap, _∙_}
 use native.Mathlib.Omega.{arith}
@@ -7,7 +7,8 @@ use denote.Ref.{now}
 use Rattle.model.specs.Encoding.{encode, decode}
 use Rattle.edits.specs.Edits.{Written, written-sound}
 use Rattle.requests.proofs.Revoking.{Left, carried-full, lines-left, carried-done, replace-ready}
-use Rattle.requests.proofs.Revoking.{replaced-holds, clocked, named-withdraws, effect-named, named-objects}
+use Rattle.requests.proofs.Revoking.{replaced-holds, clocked, named-withdraws, effect-named}
+use Rattle.requests.proofs.Revoking.{named-objects}
 use Rattle.requests.proofs.Revoking.{named-administrators}
 use Rattle.requests.proofs.revocation.revoke.Statement.{statement}
 use Rattle.requests.proofs.revocation.revoke.Tie as tie
@@ -68,12 +69,15 @@ returns-2 c =
     let d = start p in
     let q = d .args .q in
     carried-done (now (d .args .s)) q (named-withdraws q (d .pre .1)) _ _ (left p) _
-    (clocked _ (base-written p) _ _ _ _ (left p) _ (r .replace-authorizations .ensures) _ _ (t .set-clock .ensures)
+    (clocked _ (base-written p) _ _ _ _ (left p) _ (r .replace-authorizations .ensures) _ _
+    (t .set-clock .ensures)
     ∙ ap encode (sym (effect-named (decode (now (d .args .s))) q (d .pre .1))))
 
 pub revoke-spec : {M : Type 1} → statement M
 revoke-spec =
     tie.close
-    (tie.spec (λ c. search needs) (λ c. search needs) remaining-requires (λ c. search needs) (λ c. search needs)
-    (λ c. search needs) returns (λ c. search needs) replace-authorizations-requires set-clock-requires cast-t22
+    (tie.spec (λ c. search needs) (λ c. search needs) remaining-requires (λ c. search needs)
+    (λ c. search needs)
+    (λ c. search needs) returns (λ c. search needs) replace-authorizations-requires set-clock-requires
+    cast-t22
     (λ c. search needs) returns-2)

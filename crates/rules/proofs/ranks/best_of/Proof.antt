@@ -58,7 +58,8 @@ returns c =
     let l = c .before in
     let a = l .before .args in
     let e : l .loop .e ≡ a .c = omega (arith, l .loop .inv .0) in
-    l .loop .inv .1 ∙ ap (λ (k : ℕ). bestOf k (λ k. getD (now (a .edges)) (a .at + k) 0) (now (a .l)) (a .own)) e
+    l .loop .inv .1 ∙ ap (λ (k : ℕ). bestOf k (λ k. getD (now (a .edges)) (a .at + k) 0) (now (a .l))
+    (a .own)) e
 
 pub best-of-spec : {M : Type 1} → statement M
 best-of-spec =

@@ -1,4 +1,5 @@
--- `rank_round` meets its contract. The loop's invariant: the places before `j` hold what the round puts there.
+-- `rank_round` meets its contract. The loop's invariant: the places before `j` hold what the round puts
+-- there.
 use borrow.Author.Needs.{needs}
 use native.Mathlib.Omega.{arith}
 use mathlib.Core.Path.{_≡_, _∙_}
@@ -61,7 +62,8 @@ returns c =
       l .loop .inv .1,
       λ s f rows own old i h.
           l .loop .inv .2 i (omega arith)
-          ∙ row-raised (a .n) s i (now (a .edges)) (getD (now (a .counts)) i 0) (rows i h) f (now (a .old)) old
+          ∙ row-raised (a .n) s i (now (a .edges)) (getD (now (a .counts)) i 0) (rows i h) f
+          (now (a .old)) old
           (getD (now (a .own)) i 0) (own i h),
     )
 

@@ -29,7 +29,8 @@ returns-2 c =
     let d = n .before .before in
     let a = d .before .args in
     rw (c .if2 .taken, not-false (d .feeds .result) (n .before .if1 .left))
-    at (by-tests (a .q) (a .r) (d .feeds .result) (n .negates .result) (d .feeds .ensures) (n .negates .ensures))
+    at (by-tests (a .q) (a .r) (d .feeds .result) (n .negates .result) (d .feeds .ensures)
+    (n .negates .ensures))
 
 returns-3 : tie.Need-returns-3
 returns-3 c =
@@ -37,7 +38,8 @@ returns-3 c =
     let d = n .before .before in
     let a = d .before .args in
     rw (c .if2 .left, not-false (d .feeds .result) (n .before .if1 .left))
-    at (by-tests (a .q) (a .r) (d .feeds .result) (n .negates .result) (d .feeds .ensures) (n .negates .ensures))
+    at (by-tests (a .q) (a .r) (d .feeds .result) (n .negates .result) (d .feeds .ensures)
+    (n .negates .ensures))
 
 pub step-spec : {M : Type 1} → statement M
 step-spec = tie.close (tie.spec (λ c κs. search needs) returns (λ c κs. search needs) returns-2 returns-3)

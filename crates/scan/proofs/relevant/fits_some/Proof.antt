@@ -44,5 +44,6 @@ returns-2 c =
 pub fits-some-spec : {M : Type 1} → statement M
 fits-some-spec =
     tie.close
-    (tie.spec Inv-loop μ-loop loop-holds (λ c. search needs) (λ c κs. search needs) (λ c κs. search needs) returns
+    (tie.spec Inv-loop μ-loop loop-holds (λ c. search needs) (λ c κs. search needs)
+    (λ c κs. search needs) returns
     (λ c. search needs) (λ c. search needs) loop-again returns-2)

@@ -62,4 +62,5 @@ returns-3 c =
 pub is-relevant-spec : {M : Type 1} → statement M
 is-relevant-spec =
     tie.close
-    (tie.spec (λ c κs. search needs) returns (λ c κs. search needs) returns-2 (λ c κs. search needs) returns-3)
+    (tie.spec (λ c κs. search needs) returns (λ c κs. search needs) returns-2
+    (λ c κs. search needs) returns-3)

@@ -1,5 +1,5 @@
--- `keep_lines` meets its contract. The loop's invariant: what is kept, and then what will be kept of those from the
--- `j`-th on, is what is kept of all.
+-- `keep_lines` meets its contract. The loop's invariant: what is kept, and then what will be kept of those
+-- from the `j`-th on, is what is kept of all.
 use borrow.Author.Needs.{needs}
 use native.Mathlib.Omega.{arith}
 use mathlib.Core.Path.{_≡_, refl, sym, ap, ap₂, _∙_}
@@ -75,7 +75,8 @@ loop-again c =
       search needs,
       p .put-if .kept .0 ∙ l .loop .inv .2,
       turn (test (now (a .u)) (a .m) (now (a .body)) (a .n) (a .x)) (a .na) (now (a .lines)) (l .loop .j)
-          (w .is-relevant .result) (d .authorization-at .result) (authorizationsIn (l .loop .k) (l .loop .kept)) _
+          (w .is-relevant .result) (d .authorization-at .result)
+          (authorizationsIn (l .loop .k) (l .loop .kept)) _
           (search needs) (w .is-relevant .ensures) (d .authorization-at .ensures) (p .put-if .ensures .1)
           ∙ l .loop .inv .3,
     )

@@ -14,11 +14,13 @@ returns c =
     let a = c .args in
     let l = now (a .list) in (
       pair-put l (a .c) (a .from) (a .to) (omega (arith, c .pre .0, c .pre .1)),
-      length-set (set l (2 * a .c) (a .from)) (2 * a .c + 1) (a .to) ∙ length-set l (2 * a .c) (a .from) ∙ c .pre .1,
+      length-set (set l (2 * a .c) (a .from)) (2 * a .c + 1) (a .to) ∙ length-set l (2 * a .c) (a .from)
+          ∙ c .pre .1,
     )
 
 pub put-run-spec : {M : Type 1} → statement M
 put-run-spec =
     tie.close
-    (tie.spec (λ c. search needs) (λ c. search needs) (λ c. search needs) (λ c. search needs) (λ c. search needs)
+    (tie.spec (λ c. search needs) (λ c. search needs) (λ c. search needs) (λ c. search needs)
+    (λ c. search needs)
     (λ c. search needs) (λ c. search needs) returns)

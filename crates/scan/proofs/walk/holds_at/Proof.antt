@@ -25,8 +25,10 @@ sub-holds-narrowed-2 : tie.Need-sub-holds-narrowed-2
 sub-holds-narrowed-2 c =
     let d = c .before .before .before .before .before .before in
     let n = c .before .before .before .before .counts-of in
-    ra-in (now (d .args .s)) (d .pre .0) (n .result) (n .ensures) (c .before .before .before .authorizations-at .result)
-    (c .before .before .rules-at .result) (c .before .before .before .authorizations-at .ensures) (c .before .before .rules-at .ensures)
+    ra-in (now (d .args .s)) (d .pre .0) (n .result) (n .ensures)
+    (c .before .before .before .authorizations-at .result)
+    (c .before .before .rules-at .result) (c .before .before .before .authorizations-at .ensures)
+    (c .before .before .rules-at .ensures)
 
 part-holds-narrowed-start-2 : tie.Need-part-holds-narrowed-start-2
 part-holds-narrowed-start-2 c = sub-holds-narrowed-2 c
@@ -36,8 +38,11 @@ holds-narrowed-requires c κs =
     let d = c .before .before .before .before .before .before .before .before in
     let n = c .before .before .before .before .before .before .counts-of in
     let l = c .before .before .before .before .before .authorizations-at in
-    let r = c .before .before .before .before .rules-at in
-    (bodies (now (d .args .s)) (d .pre .0) (n .result) (n .ensures) (l .result) (r .result) (l .ensures) (r .ensures), d .pre .1)
+    let r = c .before .before .before .before .rules-at in (
+      bodies (now (d .args .s)) (d .pre .0) (n .result) (n .ensures) (l .result) (r .result) (l .ensures)
+          (r .ensures),
+      d .pre .1,
+    )
 
 returns : tie.Need-returns
 returns c =

@@ -10,13 +10,15 @@ cast-subject c = let s = c .before .before .before in omega (arith, subject-fits
 
 verdict-requires : tie.Need-verdict-requires
 verdict-requires c κs =
-    let s = c .before .before .before .before .before .before .before .before .before .before .before .before .before .before .before .before .before .before .before .before .before in
+    let s = c .before .before .before .before .before .before .before .before .before .before .before .before
+    .before .before .before .before .before .before .before .before .before in
     let g = s .pre .0 in
     (g .lines-there, g .rules-there, g .rules-few, s .pre .1)
 
 returns : tie.Need-returns
 returns c =
-    let p = c .before .before .before .before .before .before .before .before .before .before .before .prepare .ensures in
+    let p = c .before .before .before .before .before .before .before .before .before .before .before .prepare
+    .ensures in
     c .verdict .ensures _ _ _ _ _ _ _ _ _ _ (p .0) (c .before .before .go-to .ensures) (p .2)
 
 pub holds-in-spec : {M : Type 1} → statement M

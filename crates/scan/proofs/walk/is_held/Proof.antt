@@ -9,14 +9,16 @@ returns : tie.Need-returns
 returns c =
     let a = c .before .before .before .before .before .args in
     let d = c .before .derivers in
-    held-rule (now (a .lines)) (a .na) (now (a .body)) (a .n) (a .word) (a .x) (a .t) (a .negative) (d .result)
+    held-rule (now (a .lines)) (a .na) (now (a .body)) (a .n) (a .word) (a .x) (a .t) (a .negative)
+    (d .result)
     (d .ensures) (c .if1 .taken)
 
 returns-2 : tie.Need-returns-2
 returns-2 c =
     let a = c .before .before .before .before .before .before .args in
     let d = c .before .before .derivers in
-    held-line (now (a .lines)) (a .na) (now (a .body)) (a .n) (a .word) (a .x) (a .t) (a .negative) (d .result)
+    held-line (now (a .lines)) (a .na) (now (a .body)) (a .n) (a .word) (a .x) (a .t) (a .negative)
+    (d .result)
     (c .holds-line .result) (d .ensures) (c .before .if1 .left) (c .holds-line .ensures)
 
 pub is-held-spec : {M : Type 1} → statement M

@@ -28,8 +28,10 @@ sub-runs-narrowed-2 : tie.Need-sub-runs-narrowed-2
 sub-runs-narrowed-2 c =
     let d = c .before .before .before .before .before .before in
     let n = c .before .before .before .before .counts-of in
-    ra-in (now (d .args .s)) (d .pre .0) (n .result) (n .ensures) (c .before .before .before .authorizations-at .result)
-    (c .before .before .rules-at .result) (c .before .before .before .authorizations-at .ensures) (c .before .before .rules-at .ensures)
+    ra-in (now (d .args .s)) (d .pre .0) (n .result) (n .ensures)
+    (c .before .before .before .authorizations-at .result)
+    (c .before .before .rules-at .result) (c .before .before .before .authorizations-at .ensures)
+    (c .before .before .rules-at .ensures)
 
 part-runs-narrowed-start-2 : tie.Need-part-runs-narrowed-start-2
 part-runs-narrowed-start-2 c = sub-runs-narrowed-2 c
@@ -40,7 +42,8 @@ runs-narrowed-requires c κs =
     let n = c .before .before .before .before .before .before .before .counts-of in
     let l = c .before .before .before .before .before .before .authorizations-at in
     let r = c .before .before .before .before .before .rules-at in (
-      bodies (now (d .args .s)) (d .pre .0) (n .result) (n .ensures) (l .result) (r .result) (l .ensures) (r .ensures),
+      bodies (now (d .args .s)) (d .pre .0) (n .result) (n .ensures) (l .result) (r .result) (l .ensures)
+          (r .ensures),
       d .pre .1,
       d .pre .2,
     )
@@ -51,7 +54,8 @@ returns c =
     let n = c .before .before .before .before .before .before .before .before .counts-of in
     let l = c .before .before .before .before .before .before .before .authorizations-at in
     let r = c .before .before .before .before .before .before .rules-at in
-    subst (λ (xs : List Interval). Listing xs (c .runs-narrowed .result) (c .runs-narrowed .last .1 .1 .1 .1 .1 .0))
+    subst (λ (xs : List Interval). Listing xs (c .runs-narrowed .result)
+    (c .runs-narrowed .last .1 .1 .1 .1 .1 .0))
     (when-decoded (now (d .args .s)) (d .pre .0) (n .result) (n .ensures) (l .result) (r .result) (l .ensures)
     (r .ensures) (d .args .x)) (c .runs-narrowed .ensures)
 
@@ -59,5 +63,6 @@ pub list-runs-spec : {M : Type 1} → statement M
 list-runs-spec =
     tie.close
     (tie.spec counts-of-requires (λ c κs. search needs) (λ c κs. search needs) sub-runs-narrowed
-    part-runs-narrowed-start (λ c. search needs) (λ c. search needs) sub-runs-narrowed-2 part-runs-narrowed-start-2
+    part-runs-narrowed-start (λ c. search needs) (λ c. search needs) sub-runs-narrowed-2
+    part-runs-narrowed-start-2
     (λ c. search needs) (λ c. search needs) runs-narrowed-requires returns)

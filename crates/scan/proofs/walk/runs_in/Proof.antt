@@ -10,7 +10,8 @@ cast-subject c = let s = c .before .before .before in omega (arith, subject-fits
 
 scan-requires : tie.Need-scan-requires
 scan-requires c κs =
-    let s = c .before .before .before .before .before .before .before .before .before .before .before .before .before .before .before .before .before .before .before in
+    let s = c .before .before .before .before .before .before .before .before .before .before .before .before
+    .before .before .before .before .before .before .before in
     let p = c .before .before .before .before .before .before .before .before .prepare .ensures in
     (p .0, (p .1, p .2, s .pre .1, s .pre .2))
 

@@ -16,13 +16,15 @@ use Rattle.scan.proofs.walk.scan.Statement.{statement}
 use Rattle.scan.proofs.walk.scan.Tie as tie
 
 abbrev Inv-loop : tie.InvT-loop
-Inv-loop lines na body n u o levels sides feed masks spots looks x runs₀ before₀ direct₀ table₀ changed₀ w₀ t₀ runs before direct
+Inv-loop lines na body n u o levels sides feed masks spots looks x runs₀ before₀ direct₀ table₀ changed₀ w₀ t₀
+    runs before direct
     table changed w t =
     (t ≤ 4294967296) × Serves lines na body n (take (o .subjects) u) t before
     × Reached (λ v. mayIn lines na body n x v) lastInstant t w runs × (length runs ≡ 2200)
 
 abbrev μ-loop : tie.MeasureT-loop
-μ-loop lines na body n u o levels sides feed masks spots looks x runs₀ before₀ direct₀ table₀ changed₀ w₀ t₀ runs before direct
+μ-loop lines na body n u o levels sides feed masks spots looks x runs₀ before₀ direct₀ table₀ changed₀ w₀ t₀
+    runs before direct
     table changed w t = 4294967296 - t
 
 loop-holds : tie.Need-loop-holds Inv-loop μ-loop
@@ -32,12 +34,14 @@ loop-holds c =
       omega arith,
       serves-first (now (a .lines)) (a .na) (now (a .body)) (a .n) (take (a .o .subjects) (now (a .u))) 0
           (replicate 520 0) (λ r m l. omega arith),
-      start (λ v. mayIn (now (a .lines)) (a .na) (now (a .body)) (a .n) (a .x) v) lastInstant (now (a .runs)) 0,
+      start (λ v. mayIn (now (a .lines)) (a .na) (now (a .body)) (a .n) (a .x) v) lastInstant
+          (now (a .runs)) 0,
       s .pre .1 .3,
     )
 
 derive-requires : tie.Need-derive-requires Inv-loop μ-loop
-derive-requires c κs = let s = c .before .before .before .before .before .before .before .before in (s .pre .0, (s .pre .1 .0, c .before .before .before .before .before .loop .inv .1))
+derive-requires c κs = let s = c .before .before .before .before .before .before .before .before in
+    (s .pre .0, (s .pre .1 .0, c .before .before .before .before .before .loop .inv .1))
 
 verdict-requires : tie.Need-verdict-requires Inv-loop μ-loop
 verdict-requires c κs =
@@ -47,11 +51,13 @@ verdict-requires c κs =
 
 note-requires : tie.Need-note-requires Inv-loop μ-loop
 note-requires c κs =
-    let s = c .before .before .before .before .before .before .before .before .before .before .before .before in
+    let s = c .before .before .before .before .before .before .before .before .before .before .before .before
+    in
     let a = s .args in
     let l = c .before .before .before .before .before .before .before .before .before .loop in
     let r = l .inv .2 in
-    let yes = c .before .verdict .ensures _ _ _ _ _ _ _ _ _ _ (s .pre .0) (c .before .before .before .derive .ensures) (s .pre .1 .1) in
+    let yes = c .before .verdict .ensures _ _ _ _ _ _ _ _ _ _ (s .pre .0)
+    (c .before .before .before .derive .ensures) (s .pre .1 .1) in
     let g = s .pre .0 .grounds in
     let f : ℕ → Bool = λ v. mayIn (now (a .lines)) (a .na) (now (a .body)) (a .n) (a .x) v in (
       (λ i y. (
@@ -66,33 +72,50 @@ note-requires c κs =
     )
 
 next-mark-requires : tie.Need-next-mark-requires Inv-loop μ-loop
-next-mark-requires c κs = let g = c .before .before .before .before .before .before .before .before .before .before .before .before .before .pre .0 .grounds in (g .lines-there, g .rules-there)
+next-mark-requires c κs = let g =
+    c .before .before .before .before .before .before .before .before .before .before .before .before .before
+    .pre .0 .grounds in (g .lines-there, g .rules-there)
 
 loop-less : tie.Need-loop-less Inv-loop μ-loop
 loop-less c =
-    let a = c .before .before .before .before .before .before .before .before .before .before .before .before .before .before .args in
+    let a = c .before .before .before .before .before .before .before .before .before .before .before .before
+    .before .before .args in
     let l = c .before .before .before .before .before .before .before .before .before .before .before .loop in
-    let h : l .t < 4294967296 = omega (arith, c .before .before .before .before .before .before .before .before .before .before .loop-test .taken) in
+    let h : l .t < 4294967296 =
     omega (
       arith,
-      ahead (now (a .lines)) (a .na) (now (a .body)) (a .n) (l .t) (c .next-mark .result) (c .next-mark .ensures) h,
+      c .before .before .before .before .before .before .before .before .before .before
+          .loop-test .taken,
+    ) in
+    omega (
+      arith,
+      ahead (now (a .lines)) (a .na) (now (a .body)) (a .n) (l .t) (c .next-mark .result)
+          (c .next-mark .ensures) h,
     )
 
 loop-again : tie.Need-loop-again Inv-loop μ-loop
 loop-again c =
-    let s = c .before .before .before .before .before .before .before .before .before .before .before .before .before .before in
+    let s = c .before .before .before .before .before .before .before .before .before .before .before .before
+    .before .before in
     let a = s .args in
     let l = c .before .before .before .before .before .before .before .before .before .before .before .loop in
     let m = c .next-mark .result in
-    let h : l .t < 4294967296 = omega (arith, c .before .before .before .before .before .before .before .before .before .before .loop-test .taken) in
+    let h : l .t < 4294967296 =
+    omega (
+      arith,
+      c .before .before .before .before .before .before .before .before .before .before
+          .loop-test .taken,
+    ) in
     let on = ahead (now (a .lines)) (a .na) (now (a .body)) (a .n) (l .t) m (c .next-mark .ensures) h in
     let at = c .before .before .before .before .before .derive .ensures in
     let yes = c .before .before .before .verdict .ensures _ _ _ _ _ _ _ _ _ _ (s .pre .0) at (s .pre .1 .1) in
     let f : ℕ → Bool = λ v. mayIn (now (a .lines)) (a .na) (now (a .body)) (a .n) (a .x) v in
     let noted = c .before .note .ensures in (
       on .1,
-      serves-next (now (a .lines)) (a .na) (now (a .body)) (a .n) (take (a .o .subjects) (now (a .u))) (l .t) m
-          (c .before .before .before .before .before .derive .last .1 .1 .1 .1 .1 .1 .1 .1 .1 .1 .1 .1 .1 .1 .1 .0) (on .0) (omega (arith, c .next-mark .ensures)) at,
+      serves-next (now (a .lines)) (a .na) (now (a .body)) (a .n) (take (a .o .subjects) (now (a .u)))
+          (l .t) m
+          (c .before .before .before .before .before .derive .last .1 .1 .1 .1 .1 .1 .1 .1 .1 .1 .1 .1 .1 .1
+          .1 .0) (on .0) (omega (arith, c .next-mark .ensures)) at,
       onward f lastInstant (l .t) m (c .before .note .result) _ (on .0)
           (steady (now (a .lines)) (a .na) (now (a .body)) (a .n) (a .x) (l .t) m (c .next-mark .ensures))
           (noted .0 f lastInstant (l .inv .2) yes (omega (arith, h))),
@@ -109,7 +132,8 @@ finish-requires c κs =
     let e : 4294967296 ≤ l .t = omega (arith, c .before .loop-test .left) in (
       (λ i. omega (
         arith,
-        fewer f lastInstant (l .t) (l .w) (l .runs) (l .inv .2) i (omega (arith, l .inv .0)) (λ h. absurd (omega arith)),
+        fewer f lastInstant (l .t) (l .w) (l .runs) (l .inv .2) i (omega (arith, l .inv .0))
+            (λ h. absurd (omega arith)),
         most (now (a .lines)) (a .na) (now (a .body)) (a .n) (a .x) (g .lines-few) (g .rules-few),
       )),
       l .inv .3,
@@ -123,7 +147,8 @@ returns c =
     let g = s .pre .0 .grounds in
     let f : ℕ → Bool = λ v. mayIn (now (a .lines)) (a .na) (now (a .body)) (a .n) (a .x) v in
     let e : l .t ≡ suc lastInstant = omega (arith, l .inv .0, c .before .before .loop-test .left) in
-    listing (now (a .lines)) (a .na) (now (a .body)) (a .n) (a .x) (c .finish .result) _ (g .lines-few) (g .rules-few)
+    listing (now (a .lines)) (a .na) (now (a .body)) (a .n) (a .x) (c .finish .result) _ (g .lines-few)
+    (g .rules-few)
     (c .finish .ensures .0 f (subst (λ (t : ℕ). Reached f lastInstant t (l .w) (l .runs)) e (l .inv .2)))
     (c .finish .ensures .1)
 

@@ -14,15 +14,22 @@ sub-word : tie.Need-sub-word
 sub-word c = let s = c .before .before .before in omega (arith, mode-fits (s .args .x) (s .pre .3))
 
 element-copy-out-word : tie.Need-element-copy-out-word
-element-copy-out-word c = let s = c .before .before .before in omega (arith, mode-fits (s .args .x) (s .pre .3))
+element-copy-out-word c = let s = c .before .before .before in
+    omega (arith, mode-fits (s .args .x) (s .pre .3))
 
 is-held-requires : tie.Need-is-held-requires
 is-held-requires c κs =
-    let s = c .before .before .before .before in (s .pre .0, s .pre .1, s .pre .2, object-fits (s .args .x) (s .pre .3))
+    let s = c .before .before .before .before in (
+      s .pre .0,
+      s .pre .1,
+      s .pre .2,
+      object-fits (s .args .x) (s .pre .3),
+    )
 
 is-held-requires-2 : tie.Need-is-held-requires-2
 is-held-requires-2 c κs =
-    let s = c .before .before .before .before .before .before in (s .pre .0, s .pre .1, s .pre .2, object-fits (s .args .x) (s .pre .3))
+    let s = c .before .before .before .before .before .before in
+    (s .pre .0, s .pre .1, s .pre .2, object-fits (s .args .x) (s .pre .3))
 
 returns : tie.Need-returns
 returns c =
@@ -32,7 +39,8 @@ returns c =
     let held = heldBy (now (a .lines)) (a .na) (now (a .body)) (a .n) word (a .x) (a .t) in
     read (now (a .lines)) (a .na) (now (a .body)) (a .n) (now (a .table)) (a .x) (a .t) _ (s .pre .3)
     (ap not (c .is-held2 .ensures)
-    ∙ ap (λ (b : Bool). b && not (held true)) (sym (c .before .if1 .taken) ∙ c .before .before .is-held .ensures))
+    ∙ ap (λ (b : Bool). b && not (held true)) (sym (c .before .if1 .taken)
+    ∙ c .before .before .is-held .ensures))
 
 returns-2 : tie.Need-returns-2
 returns-2 c =

@@ -119,7 +119,13 @@ loop-again c =
       few = e .1;
       size = e .2;
       room = e .4 ∙ i .room;
-      fits = omega (arith, k .few, length-drop (l .loop .g .n) (t .serve-behind .last .1 .1 .1 .1 .0), e .4, i .fits);
+      fits = omega (
+        arith,
+        k .few,
+        length-drop (l .loop .g .n) (t .serve-behind .last .1 .1 .1 .1 .0),
+        e .4,
+        i .fits,
+      );
       low = omega (arith, i .low, more);
       within = k .within;
       none = λ z. absurd (omega (arith, i .low, more, z));
@@ -154,5 +160,6 @@ returns-2 c =
 pub serve-lines-spec : {M : Type 1} → statement M
 serve-lines-spec =
     tie.close
-    (tie.spec Inv-loop μ-loop loop-holds sub-if2 same-length same-length-2 returns serve-behind-requires add-t9
+    (tie.spec Inv-loop μ-loop loop-holds sub-if2 same-length same-length-2 returns serve-behind-requires
+    add-t9
     loop-less loop-again same-length-3 same-length-4 returns-2)

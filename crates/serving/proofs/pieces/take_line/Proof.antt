@@ -1,4 +1,5 @@
--- `take_line` meets its contract. The invariant: from i on the same line is to be ended, and n bytes of it are kept.
+-- `take_line` meets its contract. The invariant: from i on the same line is to be ended, and n bytes of it
+-- are kept.
 use borrow.Author.Needs.{needs}
 use denote.Ref.{now}
 use Prim.Native.Nat.{_-_}
@@ -18,7 +19,8 @@ abbrev μ-loop : tie.MeasureT-loop
 loop-holds : tie.Need-loop-holds Inv-loop μ-loop
 loop-holds c =
     let a = c .before .args in
-    walk-start (a .len) (now (a .line)) (now (a .piece)) (a .from) (search needs) (search needs) (search needs)
+    walk-start (a .len) (now (a .line)) (now (a .piece)) (a .from) (search needs) (search needs)
+    (search needs)
 
 returns : tie.Need-returns Inv-loop μ-loop
 returns c =
@@ -40,5 +42,6 @@ returns-2 c =
 pub take-line-spec : {M : Type 1} → statement M
 take-line-spec =
     tie.close
-    (tie.spec Inv-loop μ-loop loop-holds (λ c. search needs) (λ c. search needs) returns (λ c κs. search needs)
+    (tie.spec Inv-loop μ-loop loop-holds (λ c. search needs) (λ c. search needs) returns
+    (λ c κs. search needs)
     (λ c. search needs) (λ c. search needs) loop-again returns-2)

@@ -17,4 +17,5 @@ returns c = c .before .before .before .before .serve-line .ensures
 pub serve-front-spec : {M : Type 1} → statement M
 serve-front-spec =
     tie.close
-    (tie.spec slice-aggregate-serve-line (λ c κs. search needs) (λ c. search needs) (λ c. search needs) returns)
+    (tie.spec slice-aggregate-serve-line (λ c κs. search needs) (λ c. search needs)
+    (λ c. search needs) returns)

@@ -23,4 +23,5 @@ returns-2 c =
 pub serve-piece-step-spec : {M : Type 1} → statement M
 serve-piece-step-spec =
     tie.close
-    (tie.spec (λ c κs. search needs) (λ c κs. search needs) (λ c. search needs) (λ c. search needs) returns returns-2)
+    (tie.spec (λ c κs. search needs) (λ c κs. search needs) (λ c. search needs)
+    (λ c. search needs) returns returns-2)

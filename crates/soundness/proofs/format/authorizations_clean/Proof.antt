@@ -37,7 +37,8 @@ loop-again c =
     let l = c .before .before .before .loop in (
       search needs,
       all-passes 24 authorizationClean itself (a .n) (now (a .s)) (l .i)
-          (c .before .authorization-clean .result) (c .before .authorization-clean .result) (search needs) refl
+          (c .before .authorization-clean .result) (c .before .authorization-clean .result)
+          (search needs) refl
           (c .before .authorization-clean .ensures) (not-false _ (c .if1 .left)) (l .inv),
     )
 

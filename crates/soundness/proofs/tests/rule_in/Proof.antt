@@ -4,7 +4,11 @@ use Rattle.soundness.proofs.tests.rule_in.Statement.{statement}
 use Rattle.soundness.proofs.tests.rule_in.Tie as tie
 
 returns : tie.Need-returns
-returns c = rw (c .before .before .before .before .before .side-in .ensures, c .before .before .before .before .side-in2 .ensures, c .interval-in .ensures)
+returns c = rw (
+  c .before .before .before .before .before .side-in .ensures,
+  c .before .before .before .before .side-in2 .ensures,
+  c .interval-in .ensures,
+)
 
 pub rule-in-spec : {M : Type 1} → statement M
 rule-in-spec =

@@ -9,7 +9,8 @@ use Rattle.vectors.proofs.checks.check.Tie as tie
 
 walk-requires : tie.Need-walk-requires
 walk-requires c κs = (
-  c .before .before .before .create .ensures .1 ∙ created (replicate 27936 0) (length-replicate {A = ℕ} 27936 0),
+  c .before .before .before .create .ensures .1 ∙ created (replicate 27936 0)
+      (length-replicate {A = ℕ} 27936 0),
   search needs,
 )
 

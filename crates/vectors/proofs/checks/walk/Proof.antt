@@ -113,5 +113,7 @@ pub walk-spec : {M : Type 1} → statement M
 walk-spec =
     tie.close
     (tie.spec Inv-loop μ-loop loop-holds line-at-requires (λ c. search needs) part-line-start part-line-end
-    slice-reshare-prefix-stands slice-aggregate-stands (λ c κs. search needs) same-length same-length-2 returns
-    (λ c κs. search needs) advance-requires add-lines loop-less loop-again same-length-3 same-length-4 returns-2)
+    slice-reshare-prefix-stands slice-aggregate-stands
+    (λ c κs. search needs) same-length same-length-2 returns
+    (λ c κs. search needs) advance-requires add-lines loop-less loop-again same-length-3 same-length-4
+    returns-2)

@@ -16,5 +16,6 @@ pub say-wrong-spec : {M : Type 1} → statement M
 say-wrong-spec =
     tie.close
     (tie.spec (λ c κs. search needs) (λ c. search needs) (λ c κs. search needs) (λ c. search needs)
-    (λ c κs. search needs) (λ c. search needs) (λ c κs. search needs) (λ c κs. search needs) (λ c κs. search needs)
+    (λ c κs. search needs) (λ c. search needs) (λ c κs. search needs) (λ c κs. search needs)
+    (λ c κs. search needs)
     slice-aggregate-say-answer (λ c κs. search needs) (λ c κs. search needs) (λ c. search needs))

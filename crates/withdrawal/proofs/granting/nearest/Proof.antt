@@ -16,7 +16,8 @@ use Rattle.withdrawal.proofs.granting.nearest.Statement.{statement}
 use Rattle.withdrawal.proofs.granting.nearest.Tie as tie
 
 -- what is answered, by what the test says of the authorization x that was read
-answer : (w : Want) (a d : ℕ) (x y : Authorization) (t : ℕ) (b : Bool) → x ≡ y → t ≡ max (x .interval .start) a →
+answer : (w : Want) (a d : ℕ) (x y : Authorization) (t : ℕ) (b : Bool) → x ≡ y →
+    t ≡ max (x .interval .start) a →
     leb t (x .interval .end) && ltb t d && wanted w (x .head) ≡ b → pick b t d ≡ nearOf w a d y
 unfolding nearOf
 answer w a d x y t b q z e =
@@ -29,7 +30,8 @@ returns c =
     let c₁ = c .before .before .before in
     let r = c₁ .before .before .before .authorization-at in
     let a = c₁ .before .before .before .before .before .args in
-    answer (a .w) (a .a) (a .d) (r .result) (authorizationOf (drop (a .at) (now (a .s)))) (c₁ .later .result) true
+    answer (a .w) (a .a) (a .d) (r .result) (authorizationOf (drop (a .at) (now (a .s))))
+    (c₁ .later .result) true
     (r .ensures) (c₁ .later .ensures) (rw (← c .before .may-support .ensures) (c .if1 .taken))
 
 returns-2 : tie.Need-returns-2
@@ -37,7 +39,8 @@ returns-2 c =
     let c₁ = c .before .before .before in
     let r = c₁ .before .before .before .authorization-at in
     let a = c₁ .before .before .before .before .before .args in
-    answer (a .w) (a .a) (a .d) (r .result) (authorizationOf (drop (a .at) (now (a .s)))) (c₁ .later .result) false
+    answer (a .w) (a .a) (a .d) (r .result) (authorizationOf (drop (a .at) (now (a .s))))
+    (c₁ .later .result) false
     (r .ensures) (c₁ .later .ensures) (rw (← c .before .may-support .ensures) (c .if1 .left))
 
 pub nearest-spec : {M : Type 1} → statement M
