@@ -215,6 +215,9 @@ class Sqlite:
     def runs(self, base, subject, mode, object_):
         return self.all("SELECT starts, ends FROM access_base_runs(?, ?, ?, ?)", base, subject, mode, object_)
 
+    def sheet(self, base, object_):
+        return self.one("SELECT access_base_sheet(?, ?)", base, object_)[0]
+
     def records(self, base, body):
         """The records of a body as dictionaries."""
         try:
@@ -337,6 +340,9 @@ class Postgres:
     def runs(self, base, subject, mode, object_):
         rows = self.all("SELECT lower(r), upper(r) FROM unnest(access_base.runs(%s, %s, %s, %s)) r", base, subject, mode, object_)
         return [(start, LAST if end is None else end - 1) for start, end in rows]
+
+    def sheet(self, base, object_):
+        return self.one("SELECT access_base.sheet(%s, %s)", base, object_)[0]
 
     def records(self, base, body):
         cursor = self.cursor(f"SELECT * FROM access_base.{body}(%s)", (base,))

@@ -223,6 +223,25 @@ class Store:
             for body, expected in read_here(base).items():
                 self.assertEqual([list(map(int, row.values())) for row in self.importer.records(base, body)], expected, body)
 
+    def test_sheet(self):
+        """The rights sheet after session S; of a meter without authorizations; refusals."""
+        lines = ["4 1 NEW 7", "4 1 NEW 8", "4 1 GRANTADM 7 5", "5 1 GRANT 1 7 2 50 200 y", "50 5 GRANT 1 7 2 80 150 y",
+                 "55 2 GRANT 1 7 3 55 180 y", "60 3 DENY 1 7 4 60 70", "61 1 REVOKEP 1 7 2 60 200", "61 1 DENY 8 7 1023 4294967294 inf"]
+        self.importer.new(self.name, 1, 0)
+        self.importer.put_as_written(self.name, lines)
+        base = self.importer.base(self.name)
+        self.assertEqual(self.importer.sheet(base, 7), "    1    1    2 1 + y         50         59\n"
+                                                       "    2    5    2 1 + y         80        150\n"
+                                                       "    3    2    3 1 + y         55         59\n"
+                                                       "    3    2    3 1 + y         80        150\n"
+                                                       "    5    1 1023 8 - n 4294967294        inf\n")
+        self.assertEqual(self.importer.sheet(base, 8), "")
+        for given, meter, refusal in ((base, 9, 6), (base, 0, 3), (base, 129, 3), (b"", 7, 2)):
+            with self.assertRaisesRegex(stores.Fault, f"refused {refusal}"):
+                self.importer.sheet(given, meter)
+        with self.assertRaisesRegex(stores.Fault, "within 0 to 4294967295"):
+            self.importer.sheet(base, 2**32)
+
     def test_now_from_the_clock(self):
         self.importer.new(self.name, 60, 1_500_000_000)
         self.importer.enrol(self.name, self.writer_role, 4)
@@ -658,6 +677,8 @@ class Command(unittest.TestCase):
         self.assertEqual(self.meters("ask", "s", "WHEN", "3", "1", "7"), "55-59 80-150\n")
         self.assertEqual(len(self.meters("journal", "s").splitlines()), 9)
         self.assertIn("authorizations: 4", self.meters("show", "s"))
+        self.assertEqual(len(self.meters("sheet", "s", "7").splitlines()), 4)
+        self.assertIn("refused 6", self.meters("sheet", "s", "8", status=1))
         self.assertIn("9 requests replayed", self.meters("check"))
         self.meters("export", "s", "s.base")
         self.meters("import", "t", "s.base")

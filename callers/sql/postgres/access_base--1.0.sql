@@ -24,6 +24,10 @@ CREATE FUNCTION runs(base bytea, subject bigint, mode bigint, object bigint) RET
   AS 'MODULE_PATHNAME', 'access_base_pg_runs' LANGUAGE C IMMUTABLE STRICT PARALLEL SAFE COST 500;
 COMMENT ON FUNCTION runs(bytea, bigint, bigint, bigint) IS 'WHEN: the instants where MAY says yes; a run to infinity has no upper bound';
 
+CREATE FUNCTION sheet(base bytea, object bigint) RETURNS text
+  AS 'MODULE_PATHNAME', 'access_base_pg_sheet' LANGUAGE C IMMUTABLE STRICT PARALLEL SAFE COST 500;
+COMMENT ON FUNCTION sheet(bytea, bigint) IS 'the rights sheet of an object: a row for each authorization on it';
+
 CREATE FUNCTION heading(
     base bytea, OUT clock bigint, OUT last_label int, OUT objects int, OUT administrators int, OUT referrers int,
     OUT authorizations int, OUT rules int) RETURNS SETOF record

@@ -118,6 +118,21 @@ Datum access_base_pg_may(PG_FUNCTION_ARGS)
     PG_RETURN_BOOL(r.number == 1);
 }
 
+PG_FUNCTION_INFO_V1(access_base_pg_sheet);
+Datum access_base_pg_sheet(PG_FUNCTION_ARGS)
+{
+    uint32 object = number_of(fcinfo, 1, "object");
+    bytea *base = lent_copy(fcinfo);
+    text *page = palloc(VARHDRSZ + ACCESS_BASE_SHEET_BYTES);
+    struct access_base_reply r =
+        access_base_write_report(BYTES(base), ACCESS_BASE_BYTES, object, VARDATA(page), ACCESS_BASE_SHEET_BYTES);
+    pfree(base);
+    if (r.refusal != ACCESS_BASE_DONE)
+        refuse(r.refusal);
+    SET_VARSIZE(page, VARHDRSZ + r.number);
+    PG_RETURN_TEXT_P(page);
+}
+
 /* One run as a range, half open, which is the canonical form; the last instant is infinity and has no bound. */
 static RangeType *range_of(TypeCacheEntry *type, uint32 first, uint32 last)
 {

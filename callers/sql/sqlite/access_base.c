@@ -5,6 +5,7 @@
  *   access_base_reply(base, line)              the reply to one line of the text session
  *   access_base_after(base, line)              the base after it
  *   access_base_may(base, subject, mode, object, instant)           1 or 0
+ *   access_base_sheet(base, object)            the rights sheet of a meter, as text
  *   access_base_runs(base, subject, mode, object)                   rows of starts, ends
  *   access_base_heading(base), _objects, _administrators, _referrers, _authorizations, _rules    rows
  *
@@ -202,6 +203,40 @@ static void may(sqlite3_context *context, int n, sqlite3_value **a)
         sqlite3_result_int(context, r.number == 1);
 }
 
+static void sheet(sqlite3_context *context, int n, sqlite3_value **a)
+{
+    size_t length;
+    uint32_t object;
+    const char *fault;
+    uint8_t *base;
+    char *page;
+    struct access_base_reply r;
+    (void)n;
+    if (!number_of(a[1], &object)) {
+        fail(context, NOT_A_NUMBER);
+        return;
+    }
+    base = lent_copy(a[0], &length, &fault);
+    if (base == NULL) {
+        fail(context, fault);
+        return;
+    }
+    page = sqlite3_malloc64(ACCESS_BASE_SHEET_BYTES);
+    if (page == NULL) {
+        sqlite3_free(base);
+        fail(context, NULL);
+        return;
+    }
+    r = access_base_write_report(base, length, object, page, ACCESS_BASE_SHEET_BYTES);
+    sqlite3_free(base);
+    if (r.refusal == ACCESS_BASE_DONE) {
+        sqlite3_result_text(context, page, (int)r.number, sqlite3_free);
+        return;
+    }
+    sqlite3_free(page);
+    refuse(context, r.refusal);
+}
+
 /* ---- table-valued functions: the heading, the five bodies, and behind them WHEN */
 
 #define RUNS LAYER_BODIES
@@ -397,7 +432,8 @@ int sqlite3_accessbase_init(sqlite3 *db, char **error, const sqlite3_api_routine
         int arguments;
         void (*call)(sqlite3_context *, int, sqlite3_value **);
     } functions[] = {{"access_base_empty", 0, empty}, {"access_base_is_sound", 1, is_sound},
-                     {"access_base_reply", 2, reply}, {"access_base_after", 2, after}, {"access_base_may", 5, may}};
+                     {"access_base_reply", 2, reply}, {"access_base_after", 2, after}, {"access_base_may", 5, may},
+                     {"access_base_sheet", 2, sheet}};
     static const uint32_t body[] = {0, 1, 2, 3, 4, 5, RUNS};
     int rc = SQLITE_OK;
     char name[64];
