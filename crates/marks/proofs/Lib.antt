@@ -1,2 +1,2 @@
--- `Laws` has the next mark, record by record.
-pub mod Laws
+-- `NextMarks` has the next mark, record by record.
+pub mod NextMarks

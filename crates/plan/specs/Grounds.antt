@@ -110,14 +110,15 @@ shape r e f =
 
 -- ---- the bodies
 
-pub grounds : (lines : List ℕ) (na : ℕ) (body : List ℕ) (n : ℕ) → na ≤ 1024 → na * 24 ≤ length lines →
+pub grounds : (lines : List ℕ) (total : ℕ) (body : List ℕ) (n : ℕ) → total ≤ 1024 →
+    total * 24 ≤ length lines →
     n ≤ 64 →
     n * 28 ≤ length body → stratified (rulesIn n body) ≡ true → chained rising (rulesIn n body) ≡ true →
-    allb authorizationIn (authorizationsIn na lines) ≡ true → allb ruleIn (rulesIn n body) ≡ true →
+    allb authorizationIn (authorizationsIn total lines) ≡ true → allb ruleIn (rulesIn n body) ≡ true →
     allb (λ r. Bool·beq (isStar (r .left .subject)) (isStar (r .right .subject))
     && Bool·beq (isStar (r .left .mode)) (isStar (r .right .mode))) (rulesIn n body) ≡ true →
-    Grounds lines na body n
-grounds lines na body n f₁ h₁ f₂ h₂ s o a r t = record {
+    Grounds lines total body n
+grounds lines total body n f₁ h₁ f₂ h₂ s o a r t = record {
   lines-few = f₁;
   lines-there = h₁;
   rules-few = f₂;
@@ -127,5 +128,5 @@ grounds lines na body n f₁ h₁ f₂ h₂ s o a r t = record {
       (all-mem (λ r. Bool·beq (isStar (r .left .subject)) (isStar (r .right .subject))
       && Bool·beq (isStar (r .left .mode)) (isStar (r .right .mode))) (rulesIn n body) t q m);
   numbering = numbers n body o;
-  moded = λ x m. mode-of x (all-mem authorizationIn (authorizationsIn na lines) a x m);
+  moded = λ x m. mode-of x (all-mem authorizationIn (authorizationsIn total lines) a x m);
 }

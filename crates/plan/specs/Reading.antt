@@ -26,12 +26,12 @@ use Rattle.questions.specs.Places.{at-place}
 use Rattle.questions.specs.Feeding.{common, in-common, mask-rule, mask-number}
 use Rattle.plan.specs.Scene.{numberIn, derivesOn, baseIn, Prepared, bitsOf, mayBeSet, At}
 
-module _ (lines : List ℕ) (na : ℕ) (body : List ℕ) (n : ℕ) (U L S F M P K : List ℕ) (l g top : ℕ)
-    (ready : Prepared lines na body n U L S F M P K l g top) (t : ℕ) (T : List ℕ)
-    (at : At lines na body n U t T)
+module _ (lines : List ℕ) (total : ℕ) (body : List ℕ) (n : ℕ) (U L S F M P K : List ℕ) (l g top : ℕ)
+    (ready : Prepared lines total body n U L S F M P K l g top) (t : ℕ) (T : List ℕ)
+    (at : At lines total body n U t T)
     (x : Access) (there : counted U x ≡ true) where
   abbrev base : Base
-  base = baseIn lines na body n
+  base = baseIn lines total body n
 
   abbrev rules : List Rule
   rules = rulesIn n body
@@ -45,7 +45,7 @@ module _ (lines : List ℕ) (na : ℕ) (body : List ℕ) (n : ℕ) (U L S F M P 
 
   module _ (negative : Bool) where
     abbrev derived : Rule → Bool
-    derived r = derivesFor base (asked x negative) r && bitsOf lines na body n U T r x
+    derived r = derivesFor base (asked x negative) r && bitsOf lines total body n U T r x
 
     -- what is asked of a rule's left side besides the subject and the mode
     on-object : (r : Rule) → derivesFor base (asked x negative) r ≡ true →
@@ -59,7 +59,7 @@ module _ (lines : List ℕ) (na : ℕ) (body : List ℕ) (n : ℕ) (U L S F M P 
     found e =
         let w = any-mem derived rules e in
         let r = w .0 in
-        let v = and-true (derivesFor base (asked x negative) r) (bitsOf lines na body n U T r x) (w .2) in
+        let v = and-true (derivesFor base (asked x negative) r) (bitsOf lines total body n U T r x) (w .2) in
         in-common word (maskOf (derivesOn (x .object) negative) rules) (numberIn rules r) (v .1)
         (mask-number rules (numberIn rules) (ruleAt body) (ready .grounds .numbering)
         (derivesOn (x .object) negative) r
@@ -86,7 +86,7 @@ module _ (lines : List ℕ) (na : ℕ) (body : List ℕ) (n : ℕ) (U L S F M P 
         (and-true c d (and-true (c && d) f (at .has (placeOf U x) i (w .1)) .0) .1) in
         let m = numbering .ruled i h in
         mem-any derived rules r (m .0)
-        (and-intro (derivesFor base (asked x negative) r) (bitsOf lines na body n U T r x)
+        (and-intro (derivesFor base (asked x negative) r) (bitsOf lines total body n U T r x)
         (derives-is base (asked x negative) r .1 (z, v .1, refl, refl))
         (ap (λ (j : ℕ). bit j word) (m .1) ∙ w .1))
 
@@ -95,13 +95,14 @@ module _ (lines : List ℕ) (na : ℕ) (body : List ℕ) (n : ℕ) (U L S F M P 
 
   -- an authorization for the access, or a rule that derives it
   abbrev pub held : Bool → Bool
-  held negative = anyb (fits (asked x negative)) (live t (authorizationsIn na lines)) || given negative
+  held negative = anyb (fits (asked x negative)) (live t (authorizationsIn total lines)) || given negative
 
-  pub read-off : held false && not (held true) ≡ may (baseIn lines na body n) x t
+  pub read-off : held false && not (held true) ≡ may (baseIn lines total body n) x t
   read-off =
-      let X = bitsOf lines na body n U T in
+      let X = bitsOf lines total body n U T in
       let both : (negative : Bool) → held negative ≡ heldIn base X t (asked x negative) =
-      λ negative. ap (λ (d : Bool). anyb (fits (asked x negative)) (live t (authorizationsIn na lines)) || d)
+      λ negative. ap (λ (d : Bool). anyb (fits (asked x negative)) (live t (authorizationsIn total lines))
+      || d)
       (sym (by-rule negative)) in
       ap₂ (λ (p q : Bool). p && not q) (both false) (both true)
       ∙ may-answer base (counted U) t X (at .right) x there

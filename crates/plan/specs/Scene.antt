@@ -69,9 +69,9 @@ pub record Gathered (subject : ℕ) (rules : List Rule) (m : ℕ) (U : List ℕ)
 
 -- the words at t: bit i at p says that an authorization there at t has bit i in its mask
 abbrev pub Lit : List ℕ → ℕ → List ℕ → List ℕ → ℕ → List ℕ → Type 0
-Lit lines na masks spots t direct =
+Lit lines total masks spots t direct =
     (i p : ℕ) → p < places →
-    bit i (getD direct p 0) ≡ anyBelow na (λ j. inInterval (authorizationAt lines j .interval) t
+    bit i (getD direct p 0) ≡ anyBelow total (λ j. inInterval (authorizationAt lines j .interval) t
     && eqb (getD spots j 0) p && bit i (getD masks j 0))
 
 -- ---- the scene
@@ -93,20 +93,20 @@ abbrev pub numberIn : List Rule → Rule → ℕ
 numberIn [] r = 0
 numberIn (q ∷ rest) r = let i = numberIn rest r in pick (eqb (q .label) (r .label)) 0 (suc i)
 
-module _ (lines : List ℕ) (na : ℕ) (body : List ℕ) (n : ℕ) where
+module _ (lines : List ℕ) (total : ℕ) (body : List ℕ) (n : ℕ) where
   abbrev pub baseIn : Base
-  baseIn = bareBase (authorizationsIn na lines) (rulesIn n body)
+  baseIn = bareBase (authorizationsIn total lines) (rulesIn n body)
 
   -- what soundness says of the two bodies
   pub record Grounds : Type 0 where
-    pub lines-few : na ≤ 1024
-    pub lines-there : na * 24 ≤ length lines
+    pub lines-few : total ≤ 1024
+    pub lines-there : total * 24 ≤ length lines
     pub rules-few : n ≤ 64
     pub rules-there : n * 28 ≤ length body
     pub strata : stratified (rulesIn n body) ≡ true
     pub shaped : (r : Rule) → Mem r (rulesIn n body) → Shaped r
     pub numbering : Numbering (rulesIn n body) (numberIn (rulesIn n body)) (ruleAt body)
-    pub moded : (a : Authorization) → Mem a (authorizationsIn na lines) → isMode (a .head .mode) ≡ true
+    pub moded : (a : Authorization) → Mem a (authorizationsIn total lines) → isMode (a .head .mode) ≡ true
 
   module _ (U : List ℕ) where
     -- the tables for the subjects U
@@ -117,9 +117,9 @@ module _ (lines : List ℕ) (na : ℕ) (body : List ℕ) (n : ℕ) where
       pub levels : Holds n body (stratum (rulesIn n body)) L
       pub sides : (i : ℕ) → i < n → Coded U (ruleAt body) S i
       pub feed : Holds n body (feedersOf (rulesIn n body)) F
-      pub masks : (j : ℕ) → j < na → getD M j 0 ≡ maskOf (fitsRight (authorizationAt lines j .head))
+      pub masks : (j : ℕ) → j < total → getD M j 0 ≡ maskOf (fitsRight (authorizationAt lines j .head))
           (rulesIn n body)
-      pub spots : (j : ℕ) → j < na → getD P j 0 ≡ spotOf U (authorizationAt lines j .head)
+      pub spots : (j : ℕ) → j < total → getD P j 0 ≡ spotOf U (authorizationAt lines j .head)
       pub looks : (r p : ℕ) → r < n → p < length U * modes →
           bit r (getD K p 0) ≡ looksBy (getD S (4 * r) 0) (getD S (4 * r + 2) 0) p
       pub lead : l ≡ maskOf (leads U) (rulesIn n body)

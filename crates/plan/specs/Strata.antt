@@ -27,13 +27,13 @@ use Rattle.questions.specs.DrawnFacts.{drawn-inward, drawn-fit, node-leads, sta
 use Rattle.plan.specs.Scene.{numberIn, livingAt, baseIn, Prepared, bitsOf, mayBeSet, Serves, At}
 use Rattle.plan.specs.Words.{mask-and, numbersIn, level-holds, bit-zero}
 
-module _ (lines : List ℕ) (na : ℕ) (body : List ℕ) (n : ℕ) (U : List ℕ) where
+module _ (lines : List ℕ) (total : ℕ) (body : List ℕ) (n : ℕ) (U : List ℕ) where
   -- what is known of the table once the strata below k are done
   pub record Done (t k : ℕ) (T : List ℕ) : Type 0 where
     pub size : length T ≡ places
     pub words : (i : ℕ) → getD T i 0 < wordBound
-    pub has : Has T (mayBeSet lines na body n U t)
-    pub right : RightBelow (baseIn lines na body n) (counted U) t k (bitsOf lines na body n U T)
+    pub has : Has T (mayBeSet lines total body n U t)
+    pub right : RightBelow (baseIn lines total body n) (counted U) t k (bitsOf lines total body n U T)
 
   -- an empty table is right before the first stratum
   pub none-done : (t : ℕ) (T : List ℕ) → length T ≡ places → ((i : ℕ) → getD T i 0 ≡ 0) → Done t 0 T
@@ -47,7 +47,7 @@ module _ (lines : List ℕ) (na : ℕ) (body : List ℕ) (n : ℕ) (U : List ℕ
       }
 
   -- where there are no rules, an empty table says what they derive
-  pub no-rules : (t : ℕ) (T : List ℕ) → n ≡ 0 → ((i : ℕ) → getD T i 0 ≡ 0) → At lines na body n U t T
+  pub no-rules : (t : ℕ) (T : List ℕ) → n ≡ 0 → ((i : ℕ) → getD T i 0 ≡ 0) → At lines total body n U t T
   no-rules t T e none = record {
     has = λ p i f. absurd (false≢true (sym (ap (bit i) (none p) ∙ bit-zero i) ∙ f));
     right = λ r x m. absurd (subst (λ (k : ℕ). Mem r (rulesIn k body)) e (m .0) .lower);
@@ -59,8 +59,8 @@ zeros-at zero i = refl
 zeros-at (suc n) zero = refl
 zeros-at (suc n) (suc i) = zeros-at n i
 
-module _ (lines : List ℕ) (na : ℕ) (body : List ℕ) (n : ℕ) (U L S F M P K : List ℕ) (l g top : ℕ)
-    (ready : Prepared lines na body n U L S F M P K l g top) where
+module _ (lines : List ℕ) (total : ℕ) (body : List ℕ) (n : ℕ) (U L S F M P K : List ℕ) (l g top : ℕ)
+    (ready : Prepared lines total body n U L S F M P K l g top) where
   -- the stage of stratum k at t
   abbrev pub stageAt : ℕ → ℕ → Stage
   stageAt t k = record {
@@ -86,7 +86,7 @@ module _ (lines : List ℕ) (na : ℕ) (body : List ℕ) (n : ℕ) (U L S F M P 
   }
 
   -- the sweep may start, every place being looked at
-  pub stratum-ready : (t k : ℕ) (before direct T D : List ℕ) → Done lines na body n U t k T →
+  pub stratum-ready : (t k : ℕ) (before direct T D : List ℕ) → Done lines total body n U t k T →
       length D ≡ places →
       ((i : ℕ) → i < places → getD D i 0 ≡ 1) → Ready (plan (stageAt t k) S F) before direct T D
   stratum-ready t k before direct T D d len ones =
@@ -94,7 +94,7 @@ module _ (lines : List ℕ) (na : ℕ) (body : List ℕ) (n : ℕ) (U L S F M P 
       record {
         few = ready .grounds .rules-few;
         inside = fits;
-        fit = λ r p h q. drawn-fit (baseIn lines na body n) U (numberIn (rulesIn n body)) (ruleAt body)
+        fit = λ r p h q. drawn-fit (baseIn lines total body n) U (numberIn (rulesIn n body)) (ruleAt body)
             (ready .listed) (ready .few) (ready .grounds .numbering) (ready .grounds .shaped)
             t k (plan (stageAt t k) S F) (drawn t k) r p (omega (arith, count)) q;
         size = d .size;
@@ -104,25 +104,27 @@ module _ (lines : List ℕ) (na : ℕ) (body : List ℕ) (n : ℕ) (U L S F M P 
       }
 
   -- what it leaves is right below stratum k + 1
-  pub stratum-done : (t k : ℕ) (before direct T₀ T : List ℕ) → k ≤ 2 * n → Serves lines na body n U t before →
-      Direct (authorizationsIn na lines) t U (rulesIn n body) (ruleAt body) direct →
-      Done lines na body n U t k T₀ →
-      Smallest (plan (stageAt t k) S F) before direct T₀ T → Done lines na body n U t (suc k) T
+  pub stratum-done : (t k : ℕ) (before direct T₀ T : List ℕ) → k ≤ 2 * n →
+      Serves lines total body n U t before →
+      Direct (authorizationsIn total lines) t U (rulesIn n body) (ruleAt body) direct →
+      Done lines total body n U t k T₀ →
+      Smallest (plan (stageAt t k) S F) before direct T₀ T → Done lines total body n U t (suc k) T
   stratum-done t k before direct T₀ T h was dir d z =
-      let base = baseIn lines na body n in
+      let base = baseIn lines total body n in
       let number = numberIn (rulesIn n body) in
       let rule = ruleAt body in
       let pl = plan (stageAt t k) S F in
       let gr = ready .grounds in
       let w = stratum-right base (counted U) t number (placeOf U) rule (accessOf U rule) (gr .strata)
       (drawn-inward base U number rule (ready .listed) (ready .few) (gr .numbering) (gr .shaped))
-      (bitsOf lines na body n U before) was k (omega (arith, count)) pl before direct
+      (bitsOf lines total body n U before) was k (omega (arith, count)) pl before direct
       (stands base U number rule (ready .listed) (ready .few) (gr .numbering) (gr .shaped) t k pl (drawn t k)
       before direct dir) T₀ (d .has) (d .right) T z in
       record { size = z .size; words = z .words; has = w .0; right = w .1 }
 
   -- after the highest stratum that a rule about these subjects has, all is right
-  pub strata-done : (t : ℕ) (T : List ℕ) → Done lines na body n U t (suc top) T → At lines na body n U t T
+  pub strata-done : (t : ℕ) (T : List ℕ) → Done lines total body n U t (suc top) T →
+      At lines total body n U t T
   strata-done t T d =
       let gr = ready .grounds in
       let rules = rulesIn n body in
@@ -130,7 +132,7 @@ module _ (lines : List ℕ) (na : ℕ) (body : List ℕ) (n : ℕ) (U L S F M P 
         has = d .has;
         right = λ r x o. d .right r x o (omega (
           arith,
-          ready .highest r (o .0) (node-leads (baseIn lines na body n) U (numberIn rules) (ruleAt body)
+          ready .highest r (o .0) (node-leads (baseIn lines total body n) U (numberIn rules) (ruleAt body)
               (ready .listed)
               (ready .few) (gr .numbering) (gr .shaped) r x o),
         ));

@@ -29,7 +29,7 @@ use Rattle.encoding.specs.Format.{authorizationsIn, rulesIn, ruleAt}
 use Rattle.foundation.specs.Masks.{maskOf, bit-le, bit-true, half, mask-lt, mask-at}
 use Rattle.rules.specs.Strata.{Holds}
 use Rattle.foundation.specs.Records.{length-records, place-zero, place-step, record-mem, mem-record}
-use Rattle.sweep.proofs.Laws.{or-digit, digit-le}
+use Rattle.sweep.proofs.BitLaws.{or-digit, digit-le}
 use Rattle.sweep.specs.Sweep.{subjects, modes}
 use Rattle.questions.specs.Drawn.{indexOf, among, Subjects, soughtAt, Direct}
 use Rattle.plan.specs.Scene.{anyBelow, authorizationAt, fitsRight, spotOf, Lit, Prepared}
@@ -267,17 +267,18 @@ spot-is U rules u few h m p l = agree _ _ there back
         rw a (eq-true (i * 8 + (h .mode - 1)) p (omega (arith, range .0)))
 
 -- bit i at p says that an authorization at t is what rule i looks for at p
-pub direct-is : (lines : List ℕ) (na : ℕ) (body : List ℕ) (n : ℕ) (U L S F M P K : List ℕ) (l g top : ℕ) →
-    Prepared lines na body n U L S F M P K l g top → (t : ℕ) (direct : List ℕ) → Lit lines na M P t direct →
-    Direct (authorizationsIn na lines) t U (rulesIn n body) (ruleAt body) direct
+pub direct-is : (lines : List ℕ) (total : ℕ) (body : List ℕ) (n : ℕ) (U L S F M P K : List ℕ) (l g top : ℕ) →
+    Prepared lines total body n U L S F M P K l g top → (t : ℕ) (direct : List ℕ) →
+    Lit lines total M P t direct →
+    Direct (authorizationsIn total lines) t U (rulesIn n body) (ruleAt body) direct
 unfolding fits
-direct-is lines na body n U L S F M P K l g top c t direct lit i p h k =
+direct-is lines total body n U L S F M P K l g top c t direct lit i p h k =
     lit i p (omega (arith, c .few))
-    ∙ below-cong na
+    ∙ below-cong total
     (λ j. inInterval (authorizationAt lines j .interval) t && eqb (getD P j 0) p && bit i (getD M j 0))
     (λ j. liveFits t sought (authorizationAt lines j)) each
-    ∙ sym (any-live t sought (authorizationsIn na lines)
-    ∙ any-records 24 authorizationOf (liveFits t sought) na lines)
+    ∙ sym (any-live t sought (authorizationsIn total lines)
+    ∙ any-records 24 authorizationOf (liveFits t sought) total lines)
   where
     sought : Pattern
     sought = soughtAt U (ruleAt body i) p
@@ -285,7 +286,7 @@ direct-is lines na body n U L S F M P K l g top c t direct lit i p h k =
     few : i < n
     few = rw (length-records 28 ruleOf n body) at h
 
-    each : (j : ℕ) → j < na →
+    each : (j : ℕ) → j < total →
         inInterval (authorizationAt lines j .interval) t && eqb (getD P j 0) p && bit i (getD M j 0)
         ≡ liveFits t sought (authorizationAt lines j)
     each j m =
@@ -295,7 +296,7 @@ direct-is lines na body n U L S F M P K l g top c t direct lit i p h k =
         let x : Bool = inInterval (a .interval) t in
         let y : Bool = eqb (getD P j 0) p in
         let z : Bool = bit i (getD M j 0) in
-        let moded = c .grounds .moded a (record-mem 24 authorizationOf na lines j m) in
+        let moded = c .grounds .moded a (record-mem 24 authorizationOf total lines j m) in
         let spot = ap (λ (v : ℕ). eqb v p) (c .spots j m)
         ∙ spot-is U (rulesIn n body) (c .listed) (c .few) d moded p k in
         let mask = ap (bit i) (c .masks j m) ∙ mask-at 28 ruleOf (fitsRight d) n body i few in

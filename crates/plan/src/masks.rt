@@ -160,14 +160,15 @@ fn fitted(h: Head, body: &[u8], n: usize) -> u64
 }
 
 // Puts into `masks`, for each authorization, the rules whose right side it fits.
-pub fn fit_lines(lines: &[u8], na: usize, body: &[u8], n: usize, masks: &mut [u64; 1024])
-    requires { ⌜ (na * 24 ≤ length (now lines)) × (na ≤ 1024) × (n * 28 ≤ length (now body)) × (n ≤ 64) ⌝ }
-    ensures { λ _. ⌜ ((j : ℕ) → j < na → getD (now (masks .exit)) j 0
+pub fn fit_lines(lines: &[u8], total: usize, body: &[u8], n: usize, masks: &mut [u64; 1024])
+    requires { ⌜ (total * 24 ≤ length (now lines)) × (total ≤ 1024) × (n * 28 ≤ length (now body))
+        × (n ≤ 64) ⌝ }
+    ensures { λ _. ⌜ ((j : ℕ) → j < total → getD (now (masks .exit)) j 0
         ≡ maskOf (fitsRight (authorizationAt (now (lines .entry)) j .head)) (rulesIn n (now (body .entry)))) ⌝ }
 {
     *masks = [0; 1024];
     let mut j = 0;
-    while j < na {
+    while j < total {
         let a = encoding::authorization_at(lines, j * 24);
         let h = a.head;
         masks[j] = fitted(h, body, n);
@@ -208,19 +209,19 @@ fn index(p: u16) -> usize
 // Puts into `direct`, for each place, the rules whose right side an authorization there fits that has t.
 pub fn light(
     lines: &[u8],
-    na: usize,
+    total: usize,
     masks: &[u64; 1024],
     spots: &[u16; 1024],
     t: u32,
     direct: &mut [u64; 520],
 )
-    requires { ⌜ (na * 24 ≤ length (now lines)) × (na ≤ 1024) ⌝ }
-    ensures { λ _. ⌜ Lit (now (lines .entry)) na (now (masks .entry)) (now (spots .entry)) t
+    requires { ⌜ (total * 24 ≤ length (now lines)) × (total ≤ 1024) ⌝ }
+    ensures { λ _. ⌜ Lit (now (lines .entry)) total (now (masks .entry)) (now (spots .entry)) t
         (now (direct .exit)) ⌝ }
 {
     *direct = [0; 520];
     let mut j = 0;
-    while j < na {
+    while j < total {
         let a = encoding::authorization_at(lines, j * 24);
         let i = a.interval;
         let p = index(spots[j]);
@@ -255,12 +256,13 @@ fn is_held(a: Authorization, x: Access, negative: bool, t: u32) -> bool
 }
 
 // Whether an authorization for an access, positive or a denial, has t.
-pub fn holds_line(lines: &[u8], na: usize, x: Access, negative: bool, t: u32) -> bool
-    requires { ⌜ na * 24 ≤ length (now lines) ⌝ }
-    ensures { λ r. ⌜ r ≡ anyb (fits (asked x negative)) (live t (authorizationsIn na (now (lines .entry)))) ⌝ }
+pub fn holds_line(lines: &[u8], total: usize, x: Access, negative: bool, t: u32) -> bool
+    requires { ⌜ total * 24 ≤ length (now lines) ⌝ }
+    ensures { λ r. ⌜ r ≡ anyb (fits (asked x negative))
+        (live t (authorizationsIn total (now (lines .entry)))) ⌝ }
 {
     let mut j = 0;
-    while j < na {
+    while j < total {
         if is_held(encoding::authorization_at(lines, j * 24), x, negative, t) {
             return true;
         }

@@ -14,7 +14,7 @@ use sweep::Stage;
 // The same where there are rules: stratum by stratum.
 fn sweep_strata(
     lines: &[u8],
-    na: usize,
+    total: usize,
     body: &[u8],
     n: usize,
     u: &[u16; 65],
@@ -31,15 +31,16 @@ fn sweep_strata(
     table: &mut [u64; 520],
     changed: &mut [u8; 520],
 )
-    requires { ⌜ Prepared (now lines) na (now body) n (take (o .subjects) (now u)) (now levels) (now sides)
+    requires { ⌜ Prepared (now lines) total (now body) n (take (o .subjects) (now u)) (now levels) (now sides)
         (now feed)
         (now masks) (now spots) (now looks) (o .lead) (o .negating) (o .top) ⌝ }
     requires { ⌜ (length (take (o .subjects) (now u)) ≡ o .subjects)
-        × Serves (now lines) na (now body) n (take (o .subjects) (now u)) t (now before) ⌝ }
-    ensures { λ _. ⌜ At (now (lines .entry)) na (now (body .entry)) n (take (o .subjects) (now (u .entry))) t
+        × Serves (now lines) total (now body) n (take (o .subjects) (now u)) t (now before) ⌝ }
+    ensures { λ _. ⌜ At (now (lines .entry)) total (now (body .entry)) n
+        (take (o .subjects) (now (u .entry))) t
         (now (table .exit)) ⌝ }
 {
-    light(lines, na, masks, spots, t, direct);
+    light(lines, total, masks, spots, t, direct);
     let here = o.lead & living(body, n, t);
     let new = fresh(body, n, t);
     *table = [0; 520];
@@ -63,7 +64,7 @@ fn sweep_strata(
 // no rule looks back from t. `direct` and `changed` are tables to work in.
 pub fn derive(
     lines: &[u8],
-    na: usize,
+    total: usize,
     body: &[u8],
     n: usize,
     u: &[u16; 65],
@@ -80,19 +81,20 @@ pub fn derive(
     table: &mut [u64; 520],
     changed: &mut [u8; 520],
 )
-    requires { ⌜ Prepared (now lines) na (now body) n (take (o .subjects) (now u)) (now levels) (now sides)
+    requires { ⌜ Prepared (now lines) total (now body) n (take (o .subjects) (now u)) (now levels) (now sides)
         (now feed)
         (now masks) (now spots) (now looks) (o .lead) (o .negating) (o .top) ⌝ }
     requires { ⌜ (length (take (o .subjects) (now u)) ≡ o .subjects)
-        × Serves (now lines) na (now body) n (take (o .subjects) (now u)) t (now before) ⌝ }
-    ensures { λ _. ⌜ At (now (lines .entry)) na (now (body .entry)) n (take (o .subjects) (now (u .entry))) t
+        × Serves (now lines) total (now body) n (take (o .subjects) (now u)) t (now before) ⌝ }
+    ensures { λ _. ⌜ At (now (lines .entry)) total (now (body .entry)) n
+        (take (o .subjects) (now (u .entry))) t
         (now (table .exit)) ⌝ }
 {
     *table = [0; 520];
     if n != 0 {
         sweep_strata(
             lines,
-            na,
+            total,
             body,
             n,
             u,

@@ -175,16 +175,16 @@ fn spot(u: &[u16; 65], m: usize, subject: u16, mode: u8) -> u16
 }
 
 // Puts the place of each authorization into `spots`.
-pub fn place_lines(lines: &[u8], na: usize, u: &[u16; 65], m: usize, spots: &mut [u16; 1024])
-    requires { ⌜ (na * 24 ≤ length (now lines)) × (na ≤ 1024) × (m ≤ 65) × (length (take m (now u)) ≡ m)
-        × ((a : Authorization) → Mem a (authorizationsIn na (now lines)) → isMode (a .head .mode) ≡ true) ⌝ }
-    ensures { λ _. ⌜ ((j : ℕ) → j < na →
+pub fn place_lines(lines: &[u8], total: usize, u: &[u16; 65], m: usize, spots: &mut [u16; 1024])
+    requires { ⌜ (total * 24 ≤ length (now lines)) × (total ≤ 1024) × (m ≤ 65) × (length (take m (now u)) ≡ m)
+        × ((a : Authorization) → Mem a (authorizationsIn total (now lines)) → isMode (a .head .mode) ≡ true) ⌝ }
+    ensures { λ _. ⌜ ((j : ℕ) → j < total →
         getD (now (spots .exit)) j 0
         ≡ spotOf (take m (now (u .entry))) (authorizationAt (now (lines .entry)) j .head)) ⌝ }
 {
     *spots = [0; 1024];
     let mut j = 0;
-    while j < na {
+    while j < total {
         let a = encoding::authorization_at(lines, j * 24);
         let h = a.head;
         spots[j] = spot(u, m, h.subject, h.mode);

@@ -14,7 +14,7 @@ use crate::subjects::place_lines;
 // Prepares the tables for a question about a subject.
 pub fn prepare(
     lines: &[u8],
-    na: usize,
+    total: usize,
     body: &[u8],
     n: usize,
     subject: u16,
@@ -26,8 +26,8 @@ pub fn prepare(
     spots: &mut [u16; 1024],
     looks: &mut [u64; 520],
 ) -> Outline
-    requires { ⌜ Grounds (now lines) na (now body) n ⌝ }
-    ensures { λ o. ⌜ Prepared (now (lines .entry)) na (now (body .entry)) n
+    requires { ⌜ Grounds (now lines) total (now body) n ⌝ }
+    ensures { λ o. ⌜ Prepared (now (lines .entry)) total (now (body .entry)) n
         (take (o .subjects) (now (u .exit)))
         (now (levels .exit)) (now (sides .exit)) (now (feed .exit)) (now (masks .exit)) (now (spots .exit))
         (now (looks .exit)) (o .lead) (o .negating) (o .top)
@@ -38,8 +38,8 @@ pub fn prepare(
     rules::stratify(body, n, levels);
     draw_sides(body, n, u, m, sides);
     rules::feeding(body, n, feed);
-    fit_lines(lines, na, body, n, masks);
-    place_lines(lines, na, u, m, spots);
+    fit_lines(lines, total, body, n, masks);
+    place_lines(lines, total, u, m, spots);
     sweep::draw_looks(sides, n, m * 8, looks);
     let lead = leading(body, n, u, m);
     Outline {

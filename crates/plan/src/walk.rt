@@ -57,7 +57,7 @@ fn up_to(m: u64, t: u32, a: u32) -> u32
 // Puts into `table` what the rules derive at t.
 pub fn go_to(
     lines: &[u8],
-    na: usize,
+    total: usize,
     body: &[u8],
     n: usize,
     u: &[u16; 65],
@@ -71,11 +71,12 @@ pub fn go_to(
     t: u32,
     table: &mut [u64; 520],
 )
-    requires { ⌜ Prepared (now lines) na (now body) n (take (o .subjects) (now u)) (now levels) (now sides)
+    requires { ⌜ Prepared (now lines) total (now body) n (take (o .subjects) (now u)) (now levels) (now sides)
         (now feed)
         (now masks) (now spots) (now looks) (o .lead) (o .negating) (o .top) ⌝ }
     requires { ⌜ length (take (o .subjects) (now u)) ≡ o .subjects ⌝ }
-    ensures { λ _. ⌜ At (now (lines .entry)) na (now (body .entry)) n (take (o .subjects) (now (u .entry))) t
+    ensures { λ _. ⌜ At (now (lines .entry)) total (now (body .entry)) n
+        (take (o .subjects) (now (u .entry))) t
         (now (table .exit)) ⌝ }
 {
     let mut before = [0u64; 520];
@@ -84,7 +85,7 @@ pub fn go_to(
     let mut a = first_look(body, n, t);
     derive(
         lines,
-        na,
+        total,
         body,
         n,
         u,
@@ -102,11 +103,11 @@ pub fn go_to(
         &mut changed,
     );
     while a < t {
-        let b = up_to(next_mark(lines, na, body, n, a), t, a);
+        let b = up_to(next_mark(lines, total, body, n, a), t, a);
         before = *table;
         derive(
             lines,
-            na,
+            total,
             body,
             n,
             u,

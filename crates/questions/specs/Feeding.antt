@@ -23,7 +23,7 @@ use Rattle.model.specs.Rules.{standsFor, derivesFor, rightOf}
 use Rattle.model.specs.SideFacts.{fit-feeds, feeds-fit}
 use Rattle.foundation.specs.Masks.{maskOf, mask-nth, mask-inside}
 use Rattle.rules.specs.Strata.{feedersOf}
-use Rattle.sweep.proofs.Laws.{and-digit, bit-none, bit-both}
+use Rattle.sweep.proofs.BitLaws.{and-digit, bit-none, bit-both}
 use Rattle.questions.specs.Drawn.{Numbering}
 
 -- ---- bits in common

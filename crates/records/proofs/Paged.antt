@@ -18,7 +18,7 @@ use Rattle.encoding.specs.Format.{countsOf}
 use Rattle.records.specs.declared.Body.{Body}
 use Rattle.records.specs.Records.{bodyOf, widthOf, rows, pageOf, paged, pageAnswer, recordsAnswer}
 use Rattle.records.specs.Pages.{bytesOf, numbersOf, countOf, startOf, joined, least}
-use Rattle.records.proofs.Bodies.{stored, rows-stored, rows-length}
+use Rattle.records.proofs.StoredRows.{stored, rows-stored, rows-length}
 use Rattle.records.proofs.Joined.{take-least, least-right, page-joined}
 
 module _ (s : List ℕ) (b : Body) (first : ℕ) (list : List ℕ) where

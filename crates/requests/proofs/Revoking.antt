@@ -46,7 +46,7 @@ use Rattle.withdrawal.specs.declared.Cut.{Cut}
 use Rattle.withdrawal.specs.declared.Put.{Put}
 use Rattle.withdrawal.specs.declared.Put.the-variants.{Full, Lines}
 use Rattle.withdrawal.specs.Cuts.{spared}
-use Rattle.withdrawal.specs.Bodies.{Result, Built}
+use Rattle.withdrawal.specs.Building.{Result, Built}
 use Rattle.withdrawal.specs.Link.{CutOf, withdrawn-is}
 use Rattle.effects.specs.Effects.{Allowed, dropsBy}
 use Rattle.effects.proofs.AllowedEffects.{Holds, holds, after-fits}

@@ -9,7 +9,7 @@ ghost use Rattle.model.specs.Means.{plainly};
 ghost use Rattle.model.specs.Step.{outOfRange, badInterval, effect};
 ghost use Rattle.edits.specs.Edits.{Written};
 ghost use Rattle.withdrawal.specs.Cuts.{CutOrdered};
-ghost use Rattle.withdrawal.specs.Bodies.{Room, Built};
+ghost use Rattle.withdrawal.specs.Building.{Room, Built};
 ghost use Rattle.withdrawal.specs.Link.{CutOf};
 ghost use Rattle.requests.specs.Carried.{Passed, Carried};
 use model::BASE_BYTES;

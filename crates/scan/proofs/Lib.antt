@@ -1,2 +1,2 @@
--- `Bodies` has what a question needs of the bodies of a base.
-pub mod Bodies
+-- `LentBodies` has what a question needs of the bodies of a base.
+pub mod LentBodies

@@ -112,18 +112,19 @@ module _ (U : List ℕ) (base : Base) (inward : Inward base (counted U)) (x : Ac
 
 -- ---- bodies
 
--- the k authorizations of the body `kept` are those of xs that pass, of which there are na
-pub record Kept (keep : Authorization → Bool) (xs : List Authorization) (na k : ℕ)
+-- the k authorizations of the body `kept` are those of xs that pass, of which there are total
+pub record Kept (keep : Authorization → Bool) (xs : List Authorization) (total k : ℕ)
     (kept : List ℕ) : Type 0 where
-  pub few : k ≤ na
+  pub few : k ≤ total
   pub those : authorizationsIn k kept ≡ keepIf keep xs
 
--- the k authorizations of `kept` serve a question for x instead of the na of `lines`
-pub record Narrowed (lines : List ℕ) (na : ℕ) (body : List ℕ) (n : ℕ) (x : Access) (k : ℕ) (kept : List ℕ) :
+-- the k authorizations of `kept` serve a question for x instead of the total of `lines`
+pub record Narrowed (lines : List ℕ) (total : ℕ) (body : List ℕ) (n : ℕ) (x : Access) (k : ℕ)
+    (kept : List ℕ) :
     Type 0 where
   pub grounds : Grounds kept k body n
-  pub same-may : (t : ℕ) → mayIn lines na body n x t ≡ mayIn kept k body n x t
-  pub same-when : whenIn lines na body n x ≡ whenIn kept k body n x
+  pub same-may : (t : ℕ) → mayIn lines total body n x t ≡ mayIn kept k body n x t
+  pub same-when : whenIn lines total body n x ≡ whenIn kept k body n x
 
 -- the access asked counts, its subject being the first of those that do
 pub asked-counts : (U : List ℕ) (x : Access) → accessIn x ≡ true → indexOf (x .subject) U ≡ 0 → 0 < length U →
@@ -135,15 +136,16 @@ asked-counts U x a first some =
     (le-true (suc (indexOf (x .subject) U)) (length U) (omega (arith, first)))
     (and-true i m (and-true (i && m) (isObject (x .object)) a .0) .1)
 
-pub narrowed : (lines : List ℕ) (na : ℕ) (body : List ℕ) (n : ℕ) (x : Access) (k : ℕ) (kept U : List ℕ)
+pub narrowed : (lines : List ℕ) (total : ℕ) (body : List ℕ) (n : ℕ) (x : Access) (k : ℕ) (kept U : List ℕ)
     (m : ℕ) →
-    Grounds lines na body n → accessIn x ≡ true → Gathered (x .subject) (rulesIn n body) m U →
-    Kept (matters U (rulesIn n body) x) (authorizationsIn na lines) na k kept → na * 24 ≤ length kept →
-    Narrowed lines na body n x k kept
-narrowed lines na body n x k bytes U m g a found w room =
+    Grounds lines total body n → accessIn x ≡ true → Gathered (x .subject) (rulesIn n body) m U →
+    Kept (matters U (rulesIn n body) x) (authorizationsIn total lines) total k kept →
+    total * 24 ≤ length kept →
+    Narrowed lines total body n x k kept
+narrowed lines total body n x k bytes U m g a found w room =
     let rules = rulesIn n body in
-    let auths = authorizationsIn na lines in
-    let base = baseIn lines na body n in
+    let auths = authorizationsIn total lines in
+    let base = baseIn lines total body n in
     let there = asked-counts U x a (found .first) (found .listed .some) in
     let inward = drawn-inward base U (numberIn rules) (ruleAt body) (found .listed)
     (omega (arith, found .count, found .few)) (g .numbering) (g .shaped) in

@@ -104,40 +104,42 @@ pub record Listing (intervals : List Interval) (n : ℕ) (list : List ℕ) : Typ
   pub there : take (2 * n) list ≡ words intervals
   pub size : length list ≡ 2200
 
-module _ (lines : List ℕ) (na : ℕ) (body : List ℕ) (n : ℕ) where
+module _ (lines : List ℕ) (total : ℕ) (body : List ℕ) (n : ℕ) where
   -- an authorization is for the access with that sign, or a rule of the word derives it
   abbrev pub heldBy : ℕ → Access → ℕ → Bool → Bool
   heldBy word x t negative =
-      anyb (fits (asked x negative)) (live t (authorizationsIn na lines))
+      anyb (fits (asked x negative)) (live t (authorizationsIn total lines))
       || not (eqb (bitAnd word (maskOf (derivesOn (x .object) negative) (rulesIn n body))) 0)
 
   pub held-rule : (word : ℕ) (x : Access) (t : ℕ) (negative : Bool) (d : ℕ) →
       d ≡ maskOf (derivesOn (x .object) negative) (rulesIn n body) → (bitAnd word d ≡ 0 → ⊥) →
       true ≡ heldBy word x t negative
   held-rule word x t negative d e h =
-      by-rule (anyb (fits (asked x negative)) (live t (authorizationsIn na lines))) word d
+      by-rule (anyb (fits (asked x negative)) (live t (authorizationsIn total lines))) word d
       (maskOf (derivesOn (x .object) negative) (rulesIn n body)) e h
 
   pub held-line : (word : ℕ) (x : Access) (t : ℕ) (negative : Bool) (d : ℕ) (r : Bool) →
       d ≡ maskOf (derivesOn (x .object) negative) (rulesIn n body) → bitAnd word d ≡ 0 →
-      r ≡ anyb (fits (asked x negative)) (live t (authorizationsIn na lines)) → r ≡ heldBy word x t negative
+      r ≡ anyb (fits (asked x negative)) (live t (authorizationsIn total lines)) →
+      r ≡ heldBy word x t negative
   held-line word x t negative d r e h q =
-      by-line (anyb (fits (asked x negative)) (live t (authorizationsIn na lines))) r word d
+      by-line (anyb (fits (asked x negative)) (live t (authorizationsIn total lines))) r word d
       (maskOf (derivesOn (x .object) negative) (rulesIn n body)) e h q
 
   -- MAY's answer by the authorizations and rules
   abbrev pub mayIn : Access → ℕ → Bool
-  mayIn x t = may (baseIn lines na body n) x t
+  mayIn x t = may (baseIn lines total body n) x t
 
   -- and WHEN's
   abbrev pub whenIn : Access → List Interval
-  whenIn x = when (baseIn lines na body n) x
+  whenIn x = when (baseIn lines total body n) x
 
   -- the answer r is read off a table that says what the rules derive at t, whose first subject is that of the
   -- access
   abbrev pub ReadOff : List ℕ → Access → ℕ → Bool → Type 0
-  ReadOff T x t r = (U L S F M P K : List ℕ) (l g top : ℕ) → Prepared lines na body n U L S F M P K l g top →
-      At lines na body n U t T → indexOf (x .subject) U ≡ 0 → r ≡ mayIn x t
+  ReadOff T x t r = (U L S F M P K : List ℕ) (l g top : ℕ) →
+      Prepared lines total body n U L S F M P K l g top →
+      At lines total body n U t T → indexOf (x .subject) U ≡ 0 → r ≡ mayIn x t
 
   pub read : (T : List ℕ) (x : Access) (t : ℕ) (r : Bool) → accessIn x ≡ true →
       (let word = getD T (x .mode - 1) 0 in r ≡ heldBy word x t false && not (heldBy word x t true)) →
@@ -151,27 +153,27 @@ module _ (lines : List ℕ) (na : ℕ) (body : List ℕ) (n : ℕ) where
       let place : placeOf U x ≡ x .mode - 1 = omega (arith, first) in
       e ∙ ap (λ (p : ℕ). let word = getD T p 0 in heldBy word x t false && not (heldBy word x t true))
       (sym place)
-      ∙ read-off lines na body n U L S F M P K l g top ready t T at x there
+      ∙ read-off lines total body n U L S F M P K l g top ready t T at x there
 
   -- between marks the answer does not change
   pub steady : (x : Access) (t m : ℕ) →
-      m ≡ next t (marks (authorizationsIn na lines) (rulesIn n body)) 4294967296 →
+      m ≡ next t (marks (authorizationsIn total lines) (rulesIn n body)) 4294967296 →
       (u : ℕ) → t ≤ u → u < m → mayIn x u ≡ mayIn x t
   steady x t m e u h k =
-      may-steady (baseIn lines na body n) x t u h
-      (next-clear t (marks (authorizationsIn na lines) (rulesIn n body)) 4294967296 u (omega (arith, e)))
+      may-steady (baseIn lines total body n) x t u h
+      (next-clear t (marks (authorizationsIn total lines) (rulesIn n body)) 4294967296 u (omega (arith, e)))
 
   -- no more intervals than there are authorizations and rules, and one
-  pub most : (x : Access) → na ≤ 1024 → n ≤ 64 → length (maximal 0 lastInstant (λ t. mayIn x t)) ≤ 1089
+  pub most : (x : Access) → total ≤ 1024 → n ≤ 64 → length (maximal 0 lastInstant (λ t. mayIn x t)) ≤ 1089
   unfolding when
   most x h k = omega (
     arith,
-    when-count (baseIn lines na body n) x,
-    length-records 24 authorizationOf na lines,
+    when-count (baseIn lines total body n) x,
+    length-records 24 authorizationOf total lines,
     length-records 28 ruleOf n body,
   )
 
-  pub listing : (x : Access) (r : ℕ) (list : List ℕ) → na ≤ 1024 → n ≤ 64 →
+  pub listing : (x : Access) (r : ℕ) (list : List ℕ) → total ≤ 1024 → n ≤ 64 →
       (r ≡ length (maximal 0 lastInstant (λ t. mayIn x t)))
       × (take (2 * r) list ≡ words (maximal 0 lastInstant (λ t. mayIn x t))) → length list ≡ 2200 →
       Listing (whenIn x) r list
@@ -185,13 +187,13 @@ module _ (lines : List ℕ) (na : ℕ) (body : List ℕ) (n : ℕ) where
   }
 
   -- the next mark is behind t, and none is behind 2^32
-  pub ahead : (t m : ℕ) → m ≡ next t (marks (authorizationsIn na lines) (rulesIn n body)) 4294967296 →
+  pub ahead : (t m : ℕ) → m ≡ next t (marks (authorizationsIn total lines) (rulesIn n body)) 4294967296 →
       t < 4294967296 → (t < m) × (m ≤ 4294967296)
   ahead t m e h =
-      let ms = marks (authorizationsIn na lines) (rulesIn n body) in
+      let ms = marks (authorizationsIn total lines) (rulesIn n body) in
       (omega (arith, e, next-above t ms 4294967296 h), bounded (next-is t 4294967296 ms))
     where
-      bounded : Found t 4294967296 (marks (authorizationsIn na lines) (rulesIn n body))
-          (next t (marks (authorizationsIn na lines) (rulesIn n body)) 4294967296) → m ≤ 4294967296
+      bounded : Found t 4294967296 (marks (authorizationsIn total lines) (rulesIn n body))
+          (next t (marks (authorizationsIn total lines) (rulesIn n body)) 4294967296) → m ≤ 4294967296
       bounded (inl q) = omega (arith, e, q)
       bounded (inr q) = omega (arith, e, q .2)

@@ -68,10 +68,10 @@ fn put_if(kept: &mut [u8], k: usize, a: Authorization, keep: bool) -> usize
     k
 }
 
-// Copies those of na authorizations that matter, m subjects counting; how many they are.
+// Copies those of total authorizations that matter, m subjects counting; how many they are.
 fn keep_lines(
     lines: &[u8],
-    na: usize,
+    total: usize,
     body: &[u8],
     n: usize,
     u: &[u16; 65],
@@ -79,14 +79,14 @@ fn keep_lines(
     x: Access,
     kept: &mut [u8],
 ) -> usize
-    requires { ⌜ (na * 24 ≤ length (now lines)) × (n * 28 ≤ length (now body)) × (m ≤ 65)
-        × (length (take m (now u)) ≡ m) × (na * 24 ≤ length (now kept)) ⌝ }
+    requires { ⌜ (total * 24 ≤ length (now lines)) × (n * 28 ≤ length (now body)) × (m ≤ 65)
+        × (length (take m (now u)) ≡ m) × (total * 24 ≤ length (now kept)) ⌝ }
     ensures { λ k. ⌜ Kept (matters (take m (now (u .entry))) (rulesIn n (now (body .entry))) x)
-        (authorizationsIn na (now (lines .entry))) na k (now (kept .exit)) ⌝ }
+        (authorizationsIn total (now (lines .entry))) total k (now (kept .exit)) ⌝ }
 {
     let mut k = 0;
     let mut j = 0;
-    while j < na {
+    while j < total {
         let a = encoding::authorization_at(lines, j * 24);
         k = put_if(kept, k, a, is_relevant(a, body, n, u, m, x));
         j += 1;
@@ -95,11 +95,19 @@ fn keep_lines(
 }
 
 // Copies the authorizations that matter to a question for an access; how many they are.
-pub fn narrow(lines: &[u8], na: usize, body: &[u8], n: usize, x: Access, kept: &mut [u8]) -> usize
-    requires { ⌜ Grounds (now lines) na (now body) n × (accessIn x ≡ true) × (na * 24 ≤ length (now kept)) ⌝ }
-    ensures { λ k. ⌜ Narrowed (now (lines .entry)) na (now (body .entry)) n x k (now (kept .exit)) ⌝ }
+pub fn narrow(
+    lines: &[u8],
+    total: usize,
+    body: &[u8],
+    n: usize,
+    x: Access,
+    kept: &mut [u8],
+) -> usize
+    requires { ⌜ Grounds (now lines) total (now body) n × (accessIn x ≡ true)
+        × (total * 24 ≤ length (now kept)) ⌝ }
+    ensures { λ k. ⌜ Narrowed (now (lines .entry)) total (now (body .entry)) n x k (now (kept .exit)) ⌝ }
 {
     let mut u = [0u16; 65];
     let m = gather(body, n, x.subject as u16, &mut u);
-    keep_lines(lines, na, body, n, &u, m, x, kept)
+    keep_lines(lines, total, body, n, &u, m, x, kept)
 }

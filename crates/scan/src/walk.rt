@@ -27,7 +27,7 @@ use plan::prepare;
 // Whether what the rules derive at t, or an authorization, is for the access, with that sign.
 fn is_held(
     lines: &[u8],
-    na: usize,
+    total: usize,
     body: &[u8],
     n: usize,
     word: u64,
@@ -35,41 +35,41 @@ fn is_held(
     negative: bool,
     t: u32,
 ) -> bool
-    requires { ⌜ (na * 24 ≤ length (now lines)) × (n * 28 ≤ length (now body)) × (n ≤ 64)
+    requires { ⌜ (total * 24 ≤ length (now lines)) × (n * 28 ≤ length (now body)) × (n ≤ 64)
         × (x .object < 65536) ⌝ }
-    ensures { λ r. ⌜ r ≡ heldBy (now (lines .entry)) na (now (body .entry)) n word x t negative ⌝ }
+    ensures { λ r. ⌜ r ≡ heldBy (now (lines .entry)) total (now (body .entry)) n word x t negative ⌝ }
 {
     if word & derivers(body, n, x.object as u16, negative) != 0 {
         return true;
     }
-    holds_line(lines, na, x, negative, t)
+    holds_line(lines, total, x, negative, t)
 }
 
 // Whether MAY says yes at t, `table` having what the rules derive there.
 fn verdict(
     lines: &[u8],
-    na: usize,
+    total: usize,
     body: &[u8],
     n: usize,
     table: &[u64; 520],
     x: Access,
     t: u32,
 ) -> bool
-    requires { ⌜ (na * 24 ≤ length (now lines)) × (n * 28 ≤ length (now body)) × (n ≤ 64)
+    requires { ⌜ (total * 24 ≤ length (now lines)) × (n * 28 ≤ length (now body)) × (n ≤ 64)
         × (accessIn x ≡ true) ⌝ }
-    ensures { λ r. ⌜ ReadOff (now (lines .entry)) na (now (body .entry)) n (now (table .entry)) x t r ⌝ }
+    ensures { λ r. ⌜ ReadOff (now (lines .entry)) total (now (body .entry)) n (now (table .entry)) x t r ⌝ }
 {
     let word = table[x.mode as usize - 1];
-    if is_held(lines, na, body, n, word, x, false, t) {
-        return !is_held(lines, na, body, n, word, x, true, t);
+    if is_held(lines, total, body, n, word, x, false, t) {
+        return !is_held(lines, total, body, n, word, x, true, t);
     }
     false
 }
 
 // Whether MAY says yes at t, by the bodies of the authorizations and rules.
-fn holds_in(lines: &[u8], na: usize, body: &[u8], n: usize, x: Access, t: u32) -> bool
-    requires { ⌜ Grounds (now lines) na (now body) n × (accessIn x ≡ true) ⌝ }
-    ensures { λ r. ⌜ r ≡ mayIn (now (lines .entry)) na (now (body .entry)) n x t ⌝ }
+fn holds_in(lines: &[u8], total: usize, body: &[u8], n: usize, x: Access, t: u32) -> bool
+    requires { ⌜ Grounds (now lines) total (now body) n × (accessIn x ≡ true) ⌝ }
+    ensures { λ r. ⌜ r ≡ mayIn (now (lines .entry)) total (now (body .entry)) n x t ⌝ }
 {
     let mut u = [0u16; 65];
     let mut levels = [0u16; 65];
@@ -81,7 +81,7 @@ fn holds_in(lines: &[u8], na: usize, body: &[u8], n: usize, x: Access, t: u32) -
     let subject = x.subject as u16;
     let o = prepare(
         lines,
-        na,
+        total,
         body,
         n,
         subject,
@@ -96,7 +96,7 @@ fn holds_in(lines: &[u8], na: usize, body: &[u8], n: usize, x: Access, t: u32) -
     let mut table = [0u64; 520];
     go_to(
         lines,
-        na,
+        total,
         body,
         n,
         &u,
@@ -110,16 +110,16 @@ fn holds_in(lines: &[u8], na: usize, body: &[u8], n: usize, x: Access, t: u32) -
         t,
         &mut table,
     );
-    verdict(lines, na, body, n, &table, x, t)
+    verdict(lines, total, body, n, &table, x, t)
 }
 
 // Whether MAY says yes at t, by those of the authorizations that matter.
-fn holds_narrowed(lines: &[u8], na: usize, body: &[u8], n: usize, x: Access, t: u32) -> bool
-    requires { ⌜ Grounds (now lines) na (now body) n × (accessIn x ≡ true) ⌝ }
-    ensures { λ r. ⌜ r ≡ mayIn (now (lines .entry)) na (now (body .entry)) n x t ⌝ }
+fn holds_narrowed(lines: &[u8], total: usize, body: &[u8], n: usize, x: Access, t: u32) -> bool
+    requires { ⌜ Grounds (now lines) total (now body) n × (accessIn x ≡ true) ⌝ }
+    ensures { λ r. ⌜ r ≡ mayIn (now (lines .entry)) total (now (body .entry)) n x t ⌝ }
 {
     let mut kept = [0u8; 24576];
-    let k = narrow(lines, na, body, n, x, &mut kept);
+    let k = narrow(lines, total, body, n, x, &mut kept);
     holds_in(&kept, k, body, n, x, t)
 }
 
@@ -144,7 +144,7 @@ pub fn holds_at(s: &[u8], x: Access, t: u32) -> bool
 // Writes the maximal intervals where MAY says yes, the tables being prepared; how many they are.
 fn scan(
     lines: &[u8],
-    na: usize,
+    total: usize,
     body: &[u8],
     n: usize,
     u: &[u16; 65],
@@ -158,13 +158,14 @@ fn scan(
     x: Access,
     runs: &mut [u32; 2200],
 ) -> usize
-    requires { ⌜ Prepared (now lines) na (now body) n (take (o .subjects) (now u)) (now levels) (now sides)
+    requires { ⌜ Prepared (now lines) total (now body) n (take (o .subjects) (now u)) (now levels) (now sides)
         (now feed)
         (now masks) (now spots) (now looks) (o .lead) (o .negating) (o .top) ⌝ }
     requires { ⌜ (length (take (o .subjects) (now u)) ≡ o .subjects)
         × (indexOf (x .subject) (take (o .subjects) (now u)) ≡ 0) × (accessIn x ≡ true)
         × (length (now runs) ≡ 2200) ⌝ }
-    ensures { λ r. ⌜ Listing (whenIn (now (lines .entry)) na (now (body .entry)) n x) r (now (runs .exit)) ⌝ }
+    ensures { λ r. ⌜ Listing (whenIn (now (lines .entry)) total (now (body .entry)) n x) r
+        (now (runs .exit)) ⌝ }
 {
     let mut before = [0u64; 520];
     let mut direct = [0u64; 520];
@@ -180,7 +181,7 @@ fn scan(
         let a = t as u32;
         derive(
             lines,
-            na,
+            total,
             body,
             n,
             u,
@@ -197,10 +198,10 @@ fn scan(
             &mut table,
             &mut changed,
         );
-        let yes = verdict(lines, na, body, n, &table, x, a);
+        let yes = verdict(lines, total, body, n, &table, x, a);
         w = note(runs, w, a, yes);
         before = table;
-        t = next_mark(lines, na, body, n, a);
+        t = next_mark(lines, total, body, n, a);
     }
     finish(runs, w, 4294967295)
 }
@@ -209,14 +210,15 @@ fn scan(
 // they are.
 fn runs_in(
     lines: &[u8],
-    na: usize,
+    total: usize,
     body: &[u8],
     n: usize,
     x: Access,
     runs: &mut [u32; 2200],
 ) -> usize
-    requires { ⌜ Grounds (now lines) na (now body) n × (accessIn x ≡ true) × (length (now runs) ≡ 2200) ⌝ }
-    ensures { λ r. ⌜ Listing (whenIn (now (lines .entry)) na (now (body .entry)) n x) r (now (runs .exit)) ⌝ }
+    requires { ⌜ Grounds (now lines) total (now body) n × (accessIn x ≡ true) × (length (now runs) ≡ 2200) ⌝ }
+    ensures { λ r. ⌜ Listing (whenIn (now (lines .entry)) total (now (body .entry)) n x) r
+        (now (runs .exit)) ⌝ }
 {
     let mut u = [0u16; 65];
     let mut levels = [0u16; 65];
@@ -228,7 +230,7 @@ fn runs_in(
     let subject = x.subject as u16;
     let o = prepare(
         lines,
-        na,
+        total,
         body,
         n,
         subject,
@@ -242,7 +244,7 @@ fn runs_in(
     );
     scan(
         lines,
-        na,
+        total,
         body,
         n,
         &u,
@@ -261,17 +263,18 @@ fn runs_in(
 // The same by those of the authorizations that matter.
 fn runs_narrowed(
     lines: &[u8],
-    na: usize,
+    total: usize,
     body: &[u8],
     n: usize,
     x: Access,
     runs: &mut [u32; 2200],
 ) -> usize
-    requires { ⌜ Grounds (now lines) na (now body) n × (accessIn x ≡ true) × (length (now runs) ≡ 2200) ⌝ }
-    ensures { λ r. ⌜ Listing (whenIn (now (lines .entry)) na (now (body .entry)) n x) r (now (runs .exit)) ⌝ }
+    requires { ⌜ Grounds (now lines) total (now body) n × (accessIn x ≡ true) × (length (now runs) ≡ 2200) ⌝ }
+    ensures { λ r. ⌜ Listing (whenIn (now (lines .entry)) total (now (body .entry)) n x) r
+        (now (runs .exit)) ⌝ }
 {
     let mut kept = [0u8; 24576];
-    let k = narrow(lines, na, body, n, x, &mut kept);
+    let k = narrow(lines, total, body, n, x, &mut kept);
     runs_in(&kept, k, body, n, x, runs)
 }
 

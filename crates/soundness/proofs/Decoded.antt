@@ -23,7 +23,7 @@ use Rattle.encoding.proofs.FormatFacts.{decoded-objects, decoded-administrators
 use Rattle.encoding.proofs.FormatFacts.{decoded-authorizations, decoded-rules, decoded-counts}
 use Rattle.soundness.specs.Parts.{objectsPart, privilegesPart, authorizationsPart, rulesPart}
 use Rattle.soundness.specs.Parts.{sound-parts}
-use Rattle.soundness.specs.Bodies.{baseOf, partsHold}
+use Rattle.soundness.specs.BodiesAsked.{baseOf, partsHold}
 use Rattle.lookup.proofs.SoundBodies.{rest-of}
 
 -- what the format says of the length and the counts

@@ -7,7 +7,7 @@ ghost use Rattle.model.specs.Encoding.{decode};
 ghost use Rattle.model.specs.Soundness.{sound};
 ghost use Rattle.encoding.specs.Format.{formatFits, privilegesIn, authorizationsIn, rulesIn};
 ghost use Rattle.soundness.specs.Parts.{objectsPart, privilegesPart, authorizationsPart, rulesPart};
-ghost use Rattle.soundness.specs.Bodies.{baseOf, BodiesFit, bodiesHold, partsHold};
+ghost use Rattle.soundness.specs.BodiesAsked.{baseOf, BodiesFit, bodiesHold, partsHold};
 use crate::bodies::authorizations_test_all;
 use crate::bodies::privileges_in;
 use crate::bodies::privileges_test_all;

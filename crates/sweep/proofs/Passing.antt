@@ -15,7 +15,7 @@ use Rattle.sweep.specs.Sweep.{places, Plan}
 use Rattle.sweep.specs.Progress.{wordBound, Shut, total, Ready, Looking, Candidates, Visit, Looked}
 use Rattle.sweep.specs.Progress.{Pass}
 use Rattle.sweep.specs.Progress.{Settling, Smallest, left}
-use Rattle.sweep.proofs.Laws.{bit-none, bit-both}
+use Rattle.sweep.proofs.BitLaws.{bit-none, bit-both}
 use Rattle.sweep.proofs.Turn.{given}
 
 total-bound : (l : List ℕ) (b : ℕ) → ((i : ℕ) → getD l i 0 < b) → total l ≤ length l * b

@@ -15,7 +15,7 @@ use Rattle.foundation.specs.Tests.{and-true, not-true, or-false, or-true}
 use Rattle.model.specs.Encoding.{bit}
 use Rattle.sweep.specs.Sweep.{places, looksBy, wantsBy, Plan, firesBy, setsBy, linkOf, aim, gives}
 use Rattle.sweep.specs.Progress.{wordBound, Shut, Has, Within, total, Ready, Candidates, Tried, Visit}
-use Rattle.sweep.proofs.Laws.{bit-same, bit-kept, bit-only, bit-more}
+use Rattle.sweep.proofs.BitLaws.{bit-same, bit-kept, bit-only, bit-more}
 
 total-set : (l : List ℕ) (i v : ℕ) → i < length l → total (set l i v) + getD l i 0 ≡ total l + v
 total-set [] i v h = absurd (omega arith)

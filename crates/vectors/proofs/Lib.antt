@@ -1,2 +1,2 @@
--- `Laws` has the laws of lines in a text, and of what a transcript's walk leaves to do.
-pub mod Laws
+-- `LineWalks` has the laws of lines in a text, and of what a transcript's walk leaves to do.
+pub mod LineWalks

@@ -1,3 +1,3 @@
 pub mod Transcripts
 pub mod Said
-pub mod Places
+pub mod LinePlaces

@@ -4,7 +4,7 @@ ghost use Prim.Native.Nat.{_≤_};
 ghost use lib.ListN.{length};
 ghost use Rattle.model.specs.Base.{emptyBase};
 ghost use Rattle.model.specs.Encoding.{encode};
-ghost use Rattle.vectors.specs.Places.{Checks};
+ghost use Rattle.vectors.specs.LinePlaces.{Checks};
 use crate::lines::line_at;
 use crate::stages::advance;
 use crate::stages::stands;

@@ -1,7 +1,7 @@
 // The lines of a text that is in memory whole.
 ghost use Prim.Native.Nat.{_≤_};
 ghost use lib.ListN.{length};
-ghost use Rattle.vectors.specs.Places.{Spans};
+ghost use Rattle.vectors.specs.LinePlaces.{Spans};
 
 // Where a line ends, and where the next one begins.
 pub struct Span {

@@ -1,7 +1,7 @@
 // What the program says of a file, on standard output.
 ghost use Prim.Native.Nat.{_≤_};
 ghost use lib.ListN.{length};
-ghost use Rattle.vectors.specs.Places.{Bounds};
+ghost use Rattle.vectors.specs.LinePlaces.{Bounds};
 use crate::checks::Checked;
 use crate::lines::line_at;
 use libc::STDOUT_FILENO;

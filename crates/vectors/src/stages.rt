@@ -10,7 +10,7 @@ ghost use Rattle.model.specs.Soundness.{soundBytes};
 ghost use Rattle.model.specs.Text.{newline};
 ghost use Rattle.vectors.specs.Transcripts.{marked as Transcripts·marked, stands as Transcripts·stands};
 ghost use Rattle.vectors.specs.Transcripts.{opens, body, stage};
-ghost use Rattle.vectors.specs.Places.{Leads};
+ghost use Rattle.vectors.specs.LinePlaces.{Leads};
 
 // Whether a line begins with a mark and a space.
 pub fn marked(line: &[u8], mark: u8) -> bool

@@ -2,7 +2,7 @@ pub mod Stretches
 pub mod Stays
 pub mod Cuts
 pub mod Nearest
-pub mod Bodies
+pub mod Building
 pub mod Parts
 pub mod Putting
 pub mod Times

@@ -21,7 +21,7 @@ use Rattle.withdrawal.specs.Stretches.{inStretch, maximalTo, to-same, to
 use Rattle.withdrawal.specs.Stretches.{to-parts, interval-to}
 use Rattle.withdrawal.specs.Stays.{wanted-before}
 use Rattle.withdrawal.specs.Cuts.{cutTakes, CutOrdered, behindAll, takenOf, taken-is, taken-gap}
-use Rattle.withdrawal.specs.Bodies.{covered-placed}
+use Rattle.withdrawal.specs.Building.{covered-placed}
 
 -- the grantor may grant at t: as a root, or covered by ys
 abbrev pub mayGrant : Bool → Want → List Authorization → ℕ → Bool

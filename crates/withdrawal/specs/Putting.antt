@@ -17,8 +17,9 @@ use Rattle.foundation.specs.Lists.{placed}
 use Rattle.withdrawal.specs.declared.Stretch.{Stretch}
 use Rattle.withdrawal.specs.declared.Put.{Put}
 use Rattle.withdrawal.specs.Stretches.{maximalTo}
-use Rattle.withdrawal.specs.Bodies.{Body, Holds, Makes, body-count, body-own, placed-none, placed-then}
-use Rattle.withdrawal.specs.Bodies.{length-placed}
+use Rattle.withdrawal.specs.Building.{Body, Holds, Makes, body-count, body-own, placed-none}
+use Rattle.withdrawal.specs.Building.{placed-then}
+use Rattle.withdrawal.specs.Building.{length-placed}
 use Rattle.withdrawal.specs.Parts.{mayGrant, piecesTo, partsOf, covered-pieces, pieces-same}
 use Rattle.withdrawal.specs.Parts.{pieces-past}
 use Rattle.withdrawal.specs.Parts.{pieces-end, pieces-next, pieces-off}

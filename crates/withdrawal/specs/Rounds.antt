@@ -27,7 +27,7 @@ use Rattle.withdrawal.specs.Stays.{left, keep-nil, keep-cons, covered-ke
 use Rattle.withdrawal.specs.Stays.{stays-step}
 use Rattle.withdrawal.specs.Stays.{upTo, left-before, left-after, covered-upTo, upTo-fewer}
 use Rattle.withdrawal.specs.Cuts.{spared, CutOrdered, behindAll, takenOf}
-use Rattle.withdrawal.specs.Bodies.{placed-none}
+use Rattle.withdrawal.specs.Building.{placed-none}
 use Rattle.withdrawal.specs.Parts.{partsOf, parts-left}
 use Rattle.withdrawal.specs.Turns.{pieceOf, leading, leading-left, inOf, byOf}
 use Rattle.withdrawal.specs.Times.{among, InTime}

@@ -22,7 +22,7 @@ use Rattle.withdrawal.specs.declared.Turn.the-variants.{Full, At}
 use Rattle.withdrawal.specs.Stretches.{stretch-true}
 use Rattle.withdrawal.specs.Stays.{left}
 use Rattle.withdrawal.specs.Cuts.{takenOf}
-use Rattle.withdrawal.specs.Bodies.{Body, body-count, placed-none, length-placed}
+use Rattle.withdrawal.specs.Building.{Body, body-count, placed-none, length-placed}
 use Rattle.withdrawal.specs.Parts.{partsOf}
 use Rattle.withdrawal.specs.Times.{among}
 

@@ -15,7 +15,7 @@ use Rattle.encoding.specs.Format.{authorizationsIn}
 use Rattle.withdrawal.specs.declared.Cut.{Cut}
 use Rattle.withdrawal.specs.Stays.{stays, restricted, upTo-none, upTo-all, upTo-fewer}
 use Rattle.withdrawal.specs.Cuts.{spared, CutOrdered, behindAll}
-use Rattle.withdrawal.specs.Bodies.{Body, Holds, Result, body-count, body-own, body-none, body-result}
+use Rattle.withdrawal.specs.Building.{Body, Holds, Result, body-count, body-own, body-none, body-result}
 use Rattle.withdrawal.specs.Times.{InTime}
 use Rattle.withdrawal.specs.Turns.{inOf, byOf}
 use Rattle.withdrawal.specs.Rounds.{Round, round-start, round-end, round-pos, round-turn, round-full}

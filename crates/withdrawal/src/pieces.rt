@@ -3,7 +3,7 @@ ghost use mathlib.Core.List.{_∷_, []};
 ghost use Prim.Native.Nat.{_+_, _≤_, _<_};
 ghost use Rattle.encoding.specs.Format.{authorizationsIn};
 ghost use Rattle.foundation.specs.Lists.{placed};
-ghost use Rattle.withdrawal.specs.Bodies.{Body, Holds, Room, Makes};
+ghost use Rattle.withdrawal.specs.Building.{Body, Holds, Room, Makes};
 ghost use Rattle.withdrawal.specs.Parts.{piecesTo, partsOf};
 use crate::Put;
 use crate::Stretch;

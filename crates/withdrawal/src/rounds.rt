@@ -11,7 +11,7 @@ ghost use Rattle.laws.specs.KeepFacts.{Sorted};
 ghost use Rattle.support.specs.Cover.{rootsIn};
 ghost use Rattle.encoding.specs.Format.{authorizationsIn};
 ghost use Rattle.withdrawal.specs.Cuts.{spared, CutOrdered};
-ghost use Rattle.withdrawal.specs.Bodies.{Body, Holds, Room, Makes, Built};
+ghost use Rattle.withdrawal.specs.Building.{Body, Holds, Room, Makes, Built};
 ghost use Rattle.withdrawal.specs.Times.{InTime, pullOf, raiseOf, endOf};
 ghost use Rattle.withdrawal.specs.Turns.{pieceOf, leading, inOf, byOf, Turns};
 ghost use Rattle.withdrawal.specs.Rounds.{stayers};

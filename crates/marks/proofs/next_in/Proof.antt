@@ -9,7 +9,7 @@ use Rattle.foundation.specs.declared.Interval.{Interval}
 use Rattle.foundation.specs.Marks.{next}
 use Rattle.marks.specs.Marks.{intervalAt, intervalMarks, sooner}
 use Rattle.foundation.specs.Records.{rest, rest-all, rest-end}
-use Rattle.marks.proofs.Laws.{turn, room, next-nil}
+use Rattle.marks.proofs.NextMarks.{turn, room, next-nil}
 use Rattle.marks.proofs.next_in.Statement.{statement}
 use Rattle.marks.proofs.next_in.Tie as tie
 

@@ -4,7 +4,7 @@ use mathlib.Core.List.{_++_}
 use denote.Ref.{now}
 use Rattle.foundation.specs.Marks.{next}
 use Rattle.marks.specs.Marks.{marksIn, lines-marks, rules-marks}
-use Rattle.marks.proofs.Laws.{next-append}
+use Rattle.marks.proofs.NextMarks.{next-append}
 use Rattle.marks.proofs.next_mark.Statement.{statement}
 use Rattle.marks.proofs.next_mark.Tie as tie
 

@@ -9,7 +9,7 @@ use borrow.Author.Needs.{needs}
 use borrow.Author.Tests.{le-leb, lt-leb}
 use Rattle.model.specs.Text.{readLine, anyLine, orUnreadable}
 use Rattle.reading.specs.Fields.{fieldsLeft, part, Bounded}
-use Rattle.reading.proofs.Laws.{left-here}
+use Rattle.reading.proofs.FieldReaders.{left-here}
 use Rattle.reading.proofs.read_line.Statement.{statement}
 use Rattle.reading.proofs.read_line.Tie as tie
 

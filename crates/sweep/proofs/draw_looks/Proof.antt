@@ -10,7 +10,7 @@ use Rattle.model.specs.Encoding.{bit}
 use Rattle.rules.specs.Strata.{Filled}
 use Rattle.rules.proofs.Rounds.{fill-turn}
 use Rattle.sweep.specs.Sweep.{places, lookersOf}
-use Rattle.sweep.proofs.Laws.{looker-bit}
+use Rattle.sweep.proofs.BitLaws.{looker-bit}
 use Rattle.sweep.proofs.draw_looks.Statement.{statement}
 use Rattle.sweep.proofs.draw_looks.Tie as tie
 

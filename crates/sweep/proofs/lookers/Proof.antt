@@ -7,7 +7,7 @@ use denote.Ref.{now}
 use borrow.Author.Needs.{needs}
 use Rattle.foundation.specs.Masks.{Built, build-start, build-room, build-turn, build-end}
 use Rattle.sweep.specs.Sweep.{codes, looksFrom}
-use Rattle.sweep.proofs.Laws.{looks-from}
+use Rattle.sweep.proofs.BitLaws.{looks-from}
 use Rattle.sweep.proofs.lookers.Statement.{statement}
 use Rattle.sweep.proofs.lookers.Tie as tie
 

@@ -1,4 +1,4 @@
-use Rattle.sweep.proofs.Laws.{differ-yes, differ-no}
+use Rattle.sweep.proofs.BitLaws.{differ-yes, differ-no}
 use borrow.Author.Needs.{needs}
 use Rattle.sweep.proofs.wanted.Statement.{statement}
 use Rattle.sweep.proofs.wanted.Tie as tie

@@ -21,11 +21,11 @@ abbrev maskAt : List ℕ → List ℕ → ℕ → ℕ → ℕ
 maskAt lines body n j = maskOf (fitsRight (authorizationAt lines j .head)) (rulesIn n body)
 
 abbrev Inv-loop : tie.InvT-loop
-Inv-loop lines na body n masks₀ j₀ masks j = (j ≤ na) × (length masks ≡ 1024)
+Inv-loop lines total body n masks₀ j₀ masks j = (j ≤ total) × (length masks ≡ 1024)
     × Filled j (maskAt lines body n) masks
 
 abbrev μ-loop : tie.MeasureT-loop
-μ-loop lines na body n masks₀ j₀ masks j = na - j
+μ-loop lines total body n masks₀ j₀ masks j = total - j
 
 loop-holds : tie.Need-loop-holds Inv-loop μ-loop
 loop-holds c = (search needs, refl, λ i h. absurd (omega arith))

@@ -12,25 +12,26 @@ use Rattle.plan.proofs.masks.holds_line.Statement.{statement}
 use Rattle.plan.proofs.masks.holds_line.Tie as tie
 
 abbrev Inv-loop : tie.InvT-loop
-Inv-loop lines na x negative t j₀ j = AnyFrom 24 authorizationOf (liveFits t (asked x negative)) na lines j
+Inv-loop lines total x negative t j₀ j = AnyFrom 24 authorizationOf
+    (liveFits t (asked x negative)) total lines j
 
 abbrev μ-loop : tie.MeasureT-loop
-μ-loop lines na x negative t j₀ j = na - j
+μ-loop lines total x negative t j₀ j = total - j
 
 loop-holds : tie.Need-loop-holds Inv-loop μ-loop
 loop-holds c =
     let a = c .before .args in
     let p = asked (a .x) (a .negative) in
-    (search needs, any-starts 24 authorizationOf (liveFits (a .t) p) (a .na) (now (a .lines)))
+    (search needs, any-starts 24 authorizationOf (liveFits (a .t) p) (a .total) (now (a .lines)))
 
 returns : tie.Need-returns Inv-loop μ-loop
 returns c =
     let a = c .before .before .before .before .before .before .args in
     let l = c .before .before .before .before .loop in
     let p = asked (a .x) (a .negative) in
-    any-passes 24 authorizationOf (liveFits (a .t) p) (a .na) (now (a .lines)) (l .j) _ _ (search needs)
+    any-passes 24 authorizationOf (liveFits (a .t) p) (a .total) (now (a .lines)) (l .j) _ _ (search needs)
     (c .before .is-held .ensures) (c .before .before .authorization-at .ensures) (c .if1 .taken) (l .inv)
-    ∙ sym (any-live (a .t) p (authorizationsIn (a .na) (now (a .lines))))
+    ∙ sym (any-live (a .t) p (authorizationsIn (a .total) (now (a .lines))))
 
 loop-again : tie.Need-loop-again Inv-loop μ-loop
 loop-again c =
@@ -38,7 +39,7 @@ loop-again c =
     let l = c .before .before .before .before .loop in
     let p = asked (a .x) (a .negative) in (
       search needs,
-      any-fails 24 authorizationOf (liveFits (a .t) p) (a .na) (now (a .lines)) (l .j) _ _ (search needs)
+      any-fails 24 authorizationOf (liveFits (a .t) p) (a .total) (now (a .lines)) (l .j) _ _ (search needs)
           (c .before .is-held .ensures) (c .before .before .authorization-at .ensures) (c .if1 .left)
           (l .inv),
     )
@@ -48,8 +49,8 @@ returns-2 c =
     let a = c .before .before .before .args in
     let l = c .before .loop in
     let p = asked (a .x) (a .negative) in
-    any-ends 24 authorizationOf (liveFits (a .t) p) (a .na) (now (a .lines)) (l .j) (search needs) (l .inv)
-    ∙ sym (any-live (a .t) p (authorizationsIn (a .na) (now (a .lines))))
+    any-ends 24 authorizationOf (liveFits (a .t) p) (a .total) (now (a .lines)) (l .j) (search needs) (l .inv)
+    ∙ sym (any-live (a .t) p (authorizationsIn (a .total) (now (a .lines))))
 
 pub holds-line-spec : {M : Type 1} → statement M
 holds-line-spec =

@@ -3,7 +3,7 @@ use mathlib.Core.Bool.{Bool·beq}
 use lib.Dec.{eqb}
 use borrow.Author.Needs.{needs}
 use Rattle.model.specs.Rules.{fits}
-use Rattle.plan.proofs.Laws.{any-option}
+use Rattle.plan.proofs.TableLaws.{any-option}
 use Rattle.plan.proofs.masks.is_for.Statement.{statement}
 use Rattle.plan.proofs.masks.is_for.Tie as tie
 

@@ -12,16 +12,16 @@ use borrow.Author.Needs.{needs}
 use Rattle.foundation.specs.Intervals.{inInterval}
 use Rattle.model.specs.declared.Authorization.{Authorization}
 use Rattle.plan.specs.Scene.{Lit}
-use Rattle.plan.proofs.Laws.{in-table, light-start, light-skip, light-turn}
+use Rattle.plan.proofs.TableLaws.{in-table, light-start, light-skip, light-turn}
 use Rattle.plan.proofs.masks.light.Statement.{statement}
 use Rattle.plan.proofs.masks.light.Tie as tie
 
 abbrev Inv-loop : tie.InvT-loop
-Inv-loop lines na masks spots t direct₀ j₀ direct j =
-    (j ≤ na) × (length direct ≡ 520) × Lit lines j masks spots t direct
+Inv-loop lines total masks spots t direct₀ j₀ direct j =
+    (j ≤ total) × (length direct ≡ 520) × Lit lines j masks spots t direct
 
 abbrev μ-loop : tie.MeasureT-loop
-μ-loop lines na masks spots t direct₀ j₀ direct j = na - j
+μ-loop lines total masks spots t direct₀ j₀ direct j = total - j
 
 loop-holds : tie.Need-loop-holds Inv-loop μ-loop
 loop-holds c =
@@ -83,7 +83,7 @@ returns : tie.Need-returns Inv-loop μ-loop
 returns c =
     let l = c .before .loop in
     let a = c .before .before .before .before .args in
-    let e : l .j ≡ a .na = omega (arith, l .inv .0) in
+    let e : l .j ≡ a .total = omega (arith, l .inv .0) in
     rw e at (l .inv .2)
 
 pub light-spec : {M : Type 1} → statement M

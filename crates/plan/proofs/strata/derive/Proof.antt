@@ -10,7 +10,7 @@ use Rattle.plan.proofs.strata.derive.Tie as tie
 returns-2 : tie.Need-returns-2
 returns-2 c =
     let a = c .before .before .before .before .args in
-    no-rules (now (a .lines)) (a .na) (now (a .body)) (a .n) (take (a .o .subjects) (now (a .u))) (a .t)
+    no-rules (now (a .lines)) (a .total) (now (a .body)) (a .n) (take (a .o .subjects) (now (a .u))) (a .t)
     (replicate 520 0) (omega arith) (λ i. zeros-at 520 i)
 
 pub derive-spec : {M : Type 1} → statement M

@@ -17,13 +17,15 @@ use Rattle.plan.proofs.strata.sweep_strata.Statement.{statement}
 use Rattle.plan.proofs.strata.sweep_strata.Tie as tie
 
 abbrev Inv-loop : tie.InvT-loop
-Inv-loop lines na body n u o levels sides feed masks spots looks t before direct table₀ changed₀ here new top
+Inv-loop lines total body n u o levels sides feed masks spots looks t before direct table₀ changed₀ here new
+    top
     k₀ table
     changed k =
-    (k ≤ suc (o .top)) × Done lines na body n (take (o .subjects) u) t k table
+    (k ≤ suc (o .top)) × Done lines total body n (take (o .subjects) u) t k table
 
 abbrev μ-loop : tie.MeasureT-loop
-μ-loop lines na body n u o levels sides feed masks spots looks t before direct table₀ changed₀ here new top k₀
+μ-loop lines total body n u o levels sides feed masks spots looks t before direct table₀ changed₀ here new top
+    k₀
     table
     changed k = suc (o .top) - k
 
@@ -42,7 +44,7 @@ loop-holds : tie.Need-loop-holds Inv-loop μ-loop
 loop-holds c =
     let a = c .before .before .before .before .before .before .before .before .args in (
       omega arith,
-      none-done (now (a .lines)) (a .na) (now (a .body)) (a .n) (take (a .o .subjects) (now (a .u))) (a .t)
+      none-done (now (a .lines)) (a .total) (now (a .body)) (a .n) (take (a .o .subjects) (now (a .u))) (a .t)
           (replicate 520 0) (length-replicate {A = ℕ} 520 0) (λ i. zeros-at 520 i),
     )
 
@@ -80,7 +82,7 @@ settle-requires c κs =
     in
     let f = c .before .before .before .before .before .before .before .before .before .fresh in
     let v = c .before .before .before .before .level in
-    let stage = stage-is lines (a .na) body (a .n) U L S F M P K (a .o .lead) (a .o .negating) (a .o .top)
+    let stage = stage-is lines (a .total) body (a .n) U L S F M P K (a .o .lead) (a .o .negating) (a .o .top)
     (s .pre .0)
     (a .t) (l .k) (a .o .subjects) (w .result) (f .result) (v .result) (s .pre .1 .0) (w .ensures)
     (f .ensures)
@@ -89,7 +91,7 @@ settle-requires c κs =
     .before .light .last .1 .1 .1 .1 .1 .0 in (
       subst (λ (g : Stage). Ready (plan g S F) (now (a .before)) direct (l .table) (replicate 520 1))
           (sym stage)
-          (stratum-ready lines (a .na) body (a .n) U L S F M P K (a .o .lead) (a .o .negating) (a .o .top)
+          (stratum-ready lines (a .total) body (a .n) U L S F M P K (a .o .lead) (a .o .negating) (a .o .top)
           (s .pre .0)
           (a .t) (l .k) (now (a .before)) direct (l .table) (replicate 520 1) (l .inv .1)
           (length-replicate {A = ℕ} 520 1) (λ i h. getD-replicate {A = ℕ} 520 i 1 0 h)),
@@ -129,7 +131,7 @@ loop-again c =
     .living in
     let f = c .before .before .before .before .before .before .before .before .before .before .fresh in
     let v = c .before .before .before .before .before .level in
-    let stage = stage-is lines (a .na) body (a .n) U L S F M P K (a .o .lead) (a .o .negating) (a .o .top)
+    let stage = stage-is lines (a .total) body (a .n) U L S F M P K (a .o .lead) (a .o .negating) (a .o .top)
     (s .pre .0)
     (a .t) (l .k) (a .o .subjects) (w .result) (f .result) (v .result) (s .pre .1 .0) (w .ensures)
     (f .ensures)
@@ -137,7 +139,7 @@ loop-again c =
     let direct = c .before .before .before .before .before .before .before .before .before .before .before
     .before .before .light .last .1 .1 .1 .1 .1 .0 in
     let table = c .settle .last .1 .1 .1 .1 .1 .1 .0 in
-    let lit = direct-is lines (a .na) body (a .n) U L S F M P K (a .o .lead) (a .o .negating) (a .o .top)
+    let lit = direct-is lines (a .total) body (a .n) U L S F M P K (a .o .lead) (a .o .negating) (a .o .top)
     (s .pre .0)
     (a .t) direct (c .before .before .before .before .before .before .before .before .before .before .before
     .before .before .light .ensures) in
@@ -146,8 +148,8 @@ loop-again c =
     omega (arith, c .before .before .before .before .before .before .before .loop-test .taken) in
     let h : l .k ≤ 2 * a .n = omega (arith, s .pre .0 .low) in (
       omega arith,
-      subst (λ (k : ℕ). Done lines (a .na) body (a .n) U (a .t) k table) next
-          (stratum-done lines (a .na) body (a .n) U L S F M P K (a .o .lead) (a .o .negating) (a .o .top)
+      subst (λ (k : ℕ). Done lines (a .total) body (a .n) U (a .t) k table) next
+          (stratum-done lines (a .total) body (a .n) U L S F M P K (a .o .lead) (a .o .negating) (a .o .top)
           (s .pre .0)
           (a .t) (l .k) (now (a .before)) direct (l .table) table h (s .pre .1 .1) lit (l .inv .1)
           (subst (λ (g : Stage). Smallest (plan g S F) (now (a .before)) direct (l .table) table) stage
@@ -161,12 +163,12 @@ returns c =
     let l = c .before .loop in
     let e : l .k ≡ suc (a .o .top) = omega (arith, l .inv .0, c .loop-test .left) in
     let U = take (a .o .subjects) (now (a .u)) in
-    strata-done (now (a .lines)) (a .na) (now (a .body)) (a .n) U (now (a .levels)) (now (a .sides))
+    strata-done (now (a .lines)) (a .total) (now (a .body)) (a .n) U (now (a .levels)) (now (a .sides))
     (now (a .feed))
     (now (a .masks)) (now (a .spots)) (now (a .looks)) (a .o .lead) (a .o .negating) (a .o .top) (s .pre .0)
     (a .t)
     (l .table)
-    (subst (λ (k : ℕ). Done (now (a .lines)) (a .na) (now (a .body)) (a .n) U (a .t) k (l .table)) e
+    (subst (λ (k : ℕ). Done (now (a .lines)) (a .total) (now (a .body)) (a .n) U (a .t) k (l .table)) e
     (l .inv .1))
 
 pub sweep-strata-spec : {M : Type 1} → statement M

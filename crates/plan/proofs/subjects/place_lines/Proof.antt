@@ -17,11 +17,12 @@ use Rattle.plan.proofs.subjects.place_lines.Statement.{statement}
 use Rattle.plan.proofs.subjects.place_lines.Tie as tie
 
 abbrev Inv-loop : tie.InvT-loop
-Inv-loop lines na u m spots₀ j₀ spots j =
-    (j ≤ na) × (length spots ≡ 1024) × Filled j (λ k. spotOf (take m u) (authorizationAt lines k .head)) spots
+Inv-loop lines total u m spots₀ j₀ spots j =
+    (j ≤ total) × (length spots ≡ 1024) × Filled j
+    (λ k. spotOf (take m u) (authorizationAt lines k .head)) spots
 
 abbrev μ-loop : tie.MeasureT-loop
-μ-loop lines na u m spots₀ j₀ spots j = na - j
+μ-loop lines total u m spots₀ j₀ spots j = total - j
 
 loop-holds : tie.Need-loop-holds Inv-loop μ-loop
 loop-holds c = (search needs, refl, λ i h. absurd (omega arith))
@@ -34,7 +35,8 @@ spot-requires c κs =
       search needs,
       b .pre .3,
       ap (λ (a : Authorization). isMode (a .head .mode)) (c .before .authorization-at .ensures)
-          ∙ b .pre .4 (authorizationAt s j) (record-mem 24 authorizationOf (b .args .na) s j (search needs)),
+          ∙ b .pre .4 (authorizationAt s j) (record-mem 24 authorizationOf (b .args .total) s j
+          (search needs)),
     )
 
 loop-again : tie.Need-loop-again Inv-loop μ-loop

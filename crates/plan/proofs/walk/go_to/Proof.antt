@@ -15,12 +15,12 @@ use Rattle.plan.proofs.walk.go_to.Statement.{statement}
 use Rattle.plan.proofs.walk.go_to.Tie as tie
 
 abbrev Inv-loop : tie.InvT-loop
-Inv-loop lines na body n u o levels sides feed masks spots looks t table₀ direct₀ changed₀ a₀ table direct
+Inv-loop lines total body n u o levels sides feed masks spots looks t table₀ direct₀ changed₀ a₀ table direct
     changed a =
-    (a ≤ t) × At lines na body n (take (o .subjects) u) a table
+    (a ≤ t) × At lines total body n (take (o .subjects) u) a table
 
 abbrev μ-loop : tie.MeasureT-loop
-μ-loop lines na body n u o levels sides feed masks spots looks t table₀ direct₀ changed₀ a₀ table direct
+μ-loop lines total body n u o levels sides feed masks spots looks t table₀ direct₀ changed₀ a₀ table direct
     changed a = t - a
 
 first-look-requires : tie.Need-first-look-requires Inv-loop μ-loop
@@ -33,7 +33,7 @@ derive-requires c κs =
       s .pre .0,
       (
         s .pre .1,
-        serves-first (now (a .lines)) (a .na) (now (a .body)) (a .n) (take (a .o .subjects) (now (a .u)))
+        serves-first (now (a .lines)) (a .total) (now (a .body)) (a .n) (take (a .o .subjects) (now (a .u)))
             (c .before .before .before .before .first-look .result) (replicate 520 0)
             (c .before .before .before .before .first-look .ensures .1),
       ),
@@ -48,16 +48,16 @@ next-mark-requires c κs = let g =
     (g .lines-there, g .rules-there)
 
 -- the next mark is behind a
-behind : (lines : List ℕ) (na : ℕ) (body : List ℕ) (n a m : ℕ) → a < 4294967296 →
-    m ≡ next a (marks (authorizationsIn na lines) (rulesIn n body)) 4294967296 → a < m
-behind lines na body n a m h e =
-    omega (arith, e, next-above a (marks (authorizationsIn na lines) (rulesIn n body)) 4294967296 h)
+behind : (lines : List ℕ) (total : ℕ) (body : List ℕ) (n a m : ℕ) → a < 4294967296 →
+    m ≡ next a (marks (authorizationsIn total lines) (rulesIn n body)) 4294967296 → a < m
+behind lines total body n a m h e =
+    omega (arith, e, next-above a (marks (authorizationsIn total lines) (rulesIn n body)) 4294967296 h)
 
 up-to-requires : tie.Need-up-to-requires Inv-loop μ-loop
 up-to-requires c κs =
     let a = c .before .before .before .before .before .before .before .before .before .before .before .args in
     let l = c .before .before .loop in (
-      behind (now (a .lines)) (a .na) (now (a .body)) (a .n) (l .a) (c .next-mark .result) (search needs)
+      behind (now (a .lines)) (a .total) (now (a .body)) (a .n) (l .a) (c .next-mark .result) (search needs)
           (c .next-mark .ensures),
       search needs,
     )
@@ -72,7 +72,7 @@ derive-requires-2 c κs =
       s .pre .0,
       (
         s .pre .1,
-        serves-next (now (a .lines)) (a .na) (now (a .body)) (a .n) (take (a .o .subjects) (now (a .u)))
+        serves-next (now (a .lines)) (a .total) (now (a .body)) (a .n) (take (a .o .subjects) (now (a .u)))
             (l .a)
             (c .before .before .before .before .before .up-to .result) (l .table) (e .0)
             (omega (arith, e .1, c .before .before .before .before .before .before .next-mark .ensures))
@@ -92,7 +92,7 @@ returns c =
     let a = c .before .before .before .before .before .before .before .before .before .before .args in
     let l = c .before .loop in
     let e : l .a ≡ a .t = omega (arith, l .inv .0, c .loop-test .left) in
-    subst (λ (t : ℕ). At (now (a .lines)) (a .na) (now (a .body)) (a .n)
+    subst (λ (t : ℕ). At (now (a .lines)) (a .total) (now (a .body)) (a .n)
     (take (a .o .subjects) (now (a .u))) t
     (l .table)) e (l .inv .1)
 

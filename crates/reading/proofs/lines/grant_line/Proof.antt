@@ -1,7 +1,7 @@
 -- `grant_line` meets its contract: six fields.
 use mathlib.Core.Path.{refl}
 use borrow.Author.Needs.{needs}
-use Rattle.reading.proofs.Laws.{finishes, read-then, read-last}
+use Rattle.reading.proofs.FieldReaders.{finishes, read-then, read-last}
 use Rattle.reading.proofs.lines.grant_line.Statement.{statement}
 use Rattle.reading.proofs.lines.grant_line.Tie as tie
 

@@ -1,7 +1,7 @@
 -- `interval_line` meets its contract: five fields.
 use mathlib.Core.Path.{refl}
 use borrow.Author.Needs.{needs}
-use Rattle.reading.proofs.Laws.{finishes, read-then, read-last}
+use Rattle.reading.proofs.FieldReaders.{finishes, read-then, read-last}
 use Rattle.reading.proofs.lines.interval_line.Statement.{statement}
 use Rattle.reading.proofs.lines.interval_line.Tie as tie
 

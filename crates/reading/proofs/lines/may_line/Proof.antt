@@ -1,7 +1,7 @@
 -- `may_line` meets its contract: four fields.
 use mathlib.Core.Path.{refl}
 use borrow.Author.Needs.{needs}
-use Rattle.reading.proofs.Laws.{finishes, read-then, read-last}
+use Rattle.reading.proofs.FieldReaders.{finishes, read-then, read-last}
 use Rattle.reading.proofs.lines.may_line.Statement.{statement}
 use Rattle.reading.proofs.lines.may_line.Tie as tie
 

@@ -1,6 +1,6 @@
 -- `object_line` meets its contract: one field.
 use borrow.Author.Needs.{needs}
-use Rattle.reading.proofs.Laws.{finishes, read-last}
+use Rattle.reading.proofs.FieldReaders.{finishes, read-last}
 use Rattle.reading.proofs.lines.object_line.Statement.{statement}
 use Rattle.reading.proofs.lines.object_line.Tie as tie
 

@@ -1,7 +1,7 @@
 -- `privilege_line` meets its contract: two fields.
 use mathlib.Core.Path.{refl}
 use borrow.Author.Needs.{needs}
-use Rattle.reading.proofs.Laws.{finishes, read-then, read-last}
+use Rattle.reading.proofs.FieldReaders.{finishes, read-then, read-last}
 use Rattle.reading.proofs.lines.privilege_line.Statement.{statement}
 use Rattle.reading.proofs.lines.privilege_line.Tie as tie
 

@@ -1,7 +1,7 @@
 -- `rule_line` meets its contract: two sides among the fields.
 use mathlib.Core.Path.{refl}
 use borrow.Author.Needs.{needs}
-use Rattle.reading.proofs.Laws.{finishes, read-then, read-last}
+use Rattle.reading.proofs.FieldReaders.{finishes, read-then, read-last}
 use Rattle.reading.proofs.lines.rule_line.Statement.{statement}
 use Rattle.reading.proofs.lines.rule_line.Tie as tie
 

@@ -2,7 +2,7 @@
 use native.Mathlib.Omega.{arith}
 use denote.Ref.{now}
 use borrow.Author.Needs.{needs}
-use Rattle.reading.proofs.Laws.{first-field}
+use Rattle.reading.proofs.FieldReaders.{first-field}
 use Rattle.reading.proofs.places.field_at.Statement.{statement}
 use Rattle.reading.proofs.places.field_at.Tie as tie
 

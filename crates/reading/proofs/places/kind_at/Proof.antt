@@ -4,7 +4,7 @@ use denote.Ref.{now}
 use borrow.Author.Needs.{needs}
 use Rattle.model.specs.Text.{oneOf, grammar}
 use Rattle.reading.specs.Lines.{readerFor}
-use Rattle.reading.proofs.Laws.{field-read}
+use Rattle.reading.proofs.FieldReaders.{field-read}
 use Rattle.reading.proofs.places.kind_at.Statement.{statement}
 use Rattle.reading.proofs.places.kind_at.Tie as tie
 

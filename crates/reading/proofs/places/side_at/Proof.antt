@@ -1,7 +1,7 @@
 -- `side_at` meets its contract: four fields, one after the other.
 use mathlib.Core.Path.{refl}
 use borrow.Author.Needs.{needs}
-use Rattle.reading.proofs.Laws.{read-then, read-last}
+use Rattle.reading.proofs.FieldReaders.{read-then, read-last}
 use Rattle.reading.proofs.places.side_at.Statement.{statement}
 use Rattle.reading.proofs.places.side_at.Tie as tie
 

@@ -13,7 +13,7 @@ use Rattle.records.specs.Records.{widthOf}
 use Rattle.records.specs.Pages.{bytesOf, numbersOf, joined}
 use Rattle.records.proofs.Joined.{next-sum, fits-next, copied-next}
 use Rattle.records.specs.RecordsFacts.{width-most}
-use Rattle.records.proofs.Bodies.{wide}
+use Rattle.records.proofs.StoredRows.{wide}
 use Rattle.records.proofs.page.fill.Statement.{statement}
 use Rattle.records.proofs.page.fill.Tie as tie
 

@@ -16,7 +16,7 @@ use Rattle.records.specs.Records.{widthOf}
 use Rattle.records.specs.Pages.{bytesOf, countOf, placeOf, least}
 use Rattle.records.proofs.Joined.{least-left, least-right}
 use Rattle.records.specs.RecordsFacts.{width-least}
-use Rattle.records.proofs.Bodies.{counts-within, count-most, page-fits}
+use Rattle.records.proofs.StoredRows.{counts-within, count-most, page-fits}
 use Rattle.records.proofs.Paged.{beyond, short, written}
 use Rattle.records.proofs.page.page.Statement.{statement}
 use Rattle.records.proofs.page.page.Tie as tie

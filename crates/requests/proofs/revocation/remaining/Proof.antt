@@ -8,7 +8,7 @@ use denote.Ref.{now}
 use Rattle.model.specs.declared.Authorization.{Authorization}
 use Rattle.encoding.specs.Format.{administratorsAt, authorizationsAt}
 use Rattle.edits.specs.Edits.{written-sound}
-use Rattle.withdrawal.specs.Bodies.{Built}
+use Rattle.withdrawal.specs.Building.{Built}
 use Rattle.lookup.proofs.SoundBodies.{Fitting, there}
 use Rattle.requests.specs.Carried.{passed-row}
 use Rattle.requests.proofs.Revoking.{passed-sound, written-fitting, lent-sorted, remains}

@@ -21,7 +21,7 @@ use Rattle.scan.proofs.relevant.keep_lines.Tie as tie
 
 -- what is left from the j-th on
 abbrev left : ℕ → List ℕ → ℕ → List Authorization
-left na lines j = rest 24 authorizationOf na lines j
+left total lines j = rest 24 authorizationOf total lines j
 
 -- the test
 abbrev test : List ℕ → ℕ → List ℕ → ℕ → Access → Authorization → Bool
@@ -33,26 +33,26 @@ regroup : (b : Bool) (a : Authorization) (ys r : List Authorization) →
 regroup true a ys r = append-assoc ys (a ∷ []) r
 regroup false a ys r = append-assoc ys [] r
 
-turn : (keep : Authorization → Bool) (na : ℕ) (lines : List ℕ) (j : ℕ) (b : Bool) (a : Authorization)
-    (ys zs : List Authorization) → j + 1 ≤ na → b ≡ keep a → a ≡ authorizationOf (drop (j * 24) lines) →
+turn : (keep : Authorization → Bool) (total : ℕ) (lines : List ℕ) (j : ℕ) (b : Bool) (a : Authorization)
+    (ys zs : List Authorization) → j + 1 ≤ total → b ≡ keep a → a ≡ authorizationOf (drop (j * 24) lines) →
     zs ≡ ys ++ pick b (a ∷ []) [] →
-    zs ++ keepIf keep (left na lines (j + 1)) ≡ ys ++ keepIf keep (left na lines j)
-turn keep na lines j b a ys zs h t e q =
-    let r = left na lines (j + 1) in
+    zs ++ keepIf keep (left total lines (j + 1)) ≡ ys ++ keepIf keep (left total lines j)
+turn keep total lines j b a ys zs h t e q =
+    let r = left total lines (j + 1) in
     ap (λ (l : List Authorization). l ++ keepIf keep r) q
     ∙ regroup b a ys (keepIf keep r)
     ∙ ap (λ (d : Bool). ys ++ pick d (a ∷ keepIf keep r) (keepIf keep r)) t
     ∙ ap (λ (l : List Authorization). ys ++ keepIf keep l)
-    (ap (λ (x : Authorization). x ∷ r) e ∙ sym (rest-step 24 authorizationOf na lines j (omega arith)))
+    (ap (λ (x : Authorization). x ∷ r) e ∙ sym (rest-step 24 authorizationOf total lines j (omega arith)))
 
 abbrev Inv-loop : tie.InvT-loop
-Inv-loop lines na body n u m x kept₀ k₀ j₀ kept k j =
-    (j ≤ na) × (k ≤ j) × (length kept ≡ length kept₀)
-    × (authorizationsIn k kept ++ keepIf (test u m body n x) (left na lines j)
-    ≡ keepIf (test u m body n x) (authorizationsIn na lines))
+Inv-loop lines total body n u m x kept₀ k₀ j₀ kept k j =
+    (j ≤ total) × (k ≤ j) × (length kept ≡ length kept₀)
+    × (authorizationsIn k kept ++ keepIf (test u m body n x) (left total lines j)
+    ≡ keepIf (test u m body n x) (authorizationsIn total lines))
 
 abbrev μ-loop : tie.MeasureT-loop
-μ-loop lines na body n u m x kept₀ k₀ j₀ kept k j = na - j
+μ-loop lines total body n u m x kept₀ k₀ j₀ kept k j = total - j
 
 loop-holds : tie.Need-loop-holds Inv-loop μ-loop
 loop-holds c =
@@ -61,7 +61,7 @@ loop-holds c =
       search needs,
       refl,
       ap (keepIf (test (now (a .u)) (a .m) (now (a .body)) (a .n) (a .x)))
-          (rest-all 24 authorizationOf (a .na) (now (a .lines))),
+          (rest-all 24 authorizationOf (a .total) (now (a .lines))),
     )
 
 loop-again : tie.Need-loop-again Inv-loop μ-loop
@@ -74,7 +74,7 @@ loop-again c =
       search needs,
       search needs,
       p .put-if .kept .0 ∙ l .loop .inv .2,
-      turn (test (now (a .u)) (a .m) (now (a .body)) (a .n) (a .x)) (a .na) (now (a .lines)) (l .loop .j)
+      turn (test (now (a .u)) (a .m) (now (a .body)) (a .n) (a .x)) (a .total) (now (a .lines)) (l .loop .j)
           (w .is-relevant .result) (d .authorization-at .result)
           (authorizationsIn (l .loop .k) (l .loop .kept)) _
           (search needs) (w .is-relevant .ensures) (d .authorization-at .ensures) (p .put-if .ensures .1)
@@ -92,7 +92,7 @@ returns c =
       those =
           sym (append-nil ys)
           ∙ ap (λ (z : List Authorization). ys ++ keepIf keep z)
-          (sym (rest-end 24 authorizationOf (a .na) (now (a .lines)) (l .loop .j) (search needs)))
+          (sym (rest-end 24 authorizationOf (a .total) (now (a .lines)) (l .loop .j) (search needs)))
           ∙ l .loop .inv .3;
     }
 

@@ -19,7 +19,7 @@ returns c =
     let g = p .before .before .before in
     let s = g .before .before .before .before .before .before in
     let a = s .args in
-    narrowed (now (a .lines)) (a .na) (now (a .body)) (a .n) (a .x) (p .keep-lines .result) _ _
+    narrowed (now (a .lines)) (a .total) (now (a .body)) (a .n) (a .x) (p .keep-lines .result) _ _
     (g .gather .result)
     (s .pre .0) (s .pre .1) (g .gather .ensures) (p .keep-lines .ensures)
     (search needs)

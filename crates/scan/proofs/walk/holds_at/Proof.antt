@@ -4,7 +4,7 @@ use native.Mathlib.Omega.{arith}
 use mathlib.Core.Path.{_∙_}
 use denote.Ref.{now}
 use Rattle.model.specs.EncodingFacts.{sound-length}
-use Rattle.scan.proofs.Bodies.{la-in, ra-in, bodies, may-decoded}
+use Rattle.scan.proofs.LentBodies.{la-in, ra-in, bodies, may-decoded}
 use Rattle.scan.proofs.walk.holds_at.Statement.{statement}
 use Rattle.scan.proofs.walk.holds_at.Tie as tie
 

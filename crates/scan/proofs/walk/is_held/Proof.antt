@@ -9,7 +9,7 @@ returns : tie.Need-returns
 returns c =
     let a = c .before .before .before .before .before .args in
     let d = c .before .derivers in
-    held-rule (now (a .lines)) (a .na) (now (a .body)) (a .n) (a .word) (a .x) (a .t) (a .negative)
+    held-rule (now (a .lines)) (a .total) (now (a .body)) (a .n) (a .word) (a .x) (a .t) (a .negative)
     (d .result)
     (d .ensures) (c .if1 .taken)
 
@@ -17,7 +17,7 @@ returns-2 : tie.Need-returns-2
 returns-2 c =
     let a = c .before .before .before .before .before .before .args in
     let d = c .before .before .derivers in
-    held-line (now (a .lines)) (a .na) (now (a .body)) (a .n) (a .word) (a .x) (a .t) (a .negative)
+    held-line (now (a .lines)) (a .total) (now (a .body)) (a .n) (a .word) (a .x) (a .t) (a .negative)
     (d .result)
     (c .holds-line .result) (d .ensures) (c .before .if1 .left) (c .holds-line .ensures)
 

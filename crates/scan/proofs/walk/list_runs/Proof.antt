@@ -7,7 +7,7 @@ use denote.Ref.{now}
 use Rattle.foundation.specs.declared.Interval.{Interval}
 use Rattle.model.specs.EncodingFacts.{sound-length}
 use Rattle.scan.specs.Walk.{Listing}
-use Rattle.scan.proofs.Bodies.{la-in, ra-in, bodies, when-decoded}
+use Rattle.scan.proofs.LentBodies.{la-in, ra-in, bodies, when-decoded}
 use Rattle.scan.proofs.walk.list_runs.Statement.{statement}
 use Rattle.scan.proofs.walk.list_runs.Tie as tie
 

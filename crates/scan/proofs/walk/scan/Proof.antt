@@ -16,14 +16,16 @@ use Rattle.scan.proofs.walk.scan.Statement.{statement}
 use Rattle.scan.proofs.walk.scan.Tie as tie
 
 abbrev Inv-loop : tie.InvT-loop
-Inv-loop lines na body n u o levels sides feed masks spots looks x runs₀ before₀ direct₀ table₀ changed₀ w₀ t₀
+Inv-loop lines total body n u o levels sides feed masks spots looks x runs₀ before₀ direct₀ table₀ changed₀ w₀
+    t₀
     runs before direct
     table changed w t =
-    (t ≤ 4294967296) × Serves lines na body n (take (o .subjects) u) t before
-    × Reached (λ v. mayIn lines na body n x v) lastInstant t w runs × (length runs ≡ 2200)
+    (t ≤ 4294967296) × Serves lines total body n (take (o .subjects) u) t before
+    × Reached (λ v. mayIn lines total body n x v) lastInstant t w runs × (length runs ≡ 2200)
 
 abbrev μ-loop : tie.MeasureT-loop
-μ-loop lines na body n u o levels sides feed masks spots looks x runs₀ before₀ direct₀ table₀ changed₀ w₀ t₀
+μ-loop lines total body n u o levels sides feed masks spots looks x runs₀ before₀ direct₀ table₀ changed₀ w₀
+    t₀
     runs before direct
     table changed w t = 4294967296 - t
 
@@ -32,9 +34,9 @@ loop-holds c =
     let s = c .before .before in
     let a = s .args in (
       omega arith,
-      serves-first (now (a .lines)) (a .na) (now (a .body)) (a .n) (take (a .o .subjects) (now (a .u))) 0
+      serves-first (now (a .lines)) (a .total) (now (a .body)) (a .n) (take (a .o .subjects) (now (a .u))) 0
           (replicate 520 0) (λ r m l. omega arith),
-      start (λ v. mayIn (now (a .lines)) (a .na) (now (a .body)) (a .n) (a .x) v) lastInstant
+      start (λ v. mayIn (now (a .lines)) (a .total) (now (a .body)) (a .n) (a .x) v) lastInstant
           (now (a .runs)) 0,
       s .pre .1 .3,
     )
@@ -59,13 +61,13 @@ note-requires c κs =
     let yes = c .before .verdict .ensures _ _ _ _ _ _ _ _ _ _ (s .pre .0)
     (c .before .before .before .derive .ensures) (s .pre .1 .1) in
     let g = s .pre .0 .grounds in
-    let f : ℕ → Bool = λ v. mayIn (now (a .lines)) (a .na) (now (a .body)) (a .n) (a .x) v in (
+    let f : ℕ → Bool = λ v. mayIn (now (a .lines)) (a .total) (now (a .body)) (a .n) (a .x) v in (
       (λ i y. (
         omega (arith, r .held i .0),
         omega (
           arith,
           fewer f lastInstant (l .t) (l .w) (l .runs) r i (omega (arith, l .inv .0)) (λ h. sym yes ∙ y),
-          most (now (a .lines)) (a .na) (now (a .body)) (a .n) (a .x) (g .lines-few) (g .rules-few),
+          most (now (a .lines)) (a .total) (now (a .body)) (a .n) (a .x) (g .lines-few) (g .rules-few),
         ),
       )),
       l .inv .3,
@@ -89,7 +91,7 @@ loop-less c =
     ) in
     omega (
       arith,
-      ahead (now (a .lines)) (a .na) (now (a .body)) (a .n) (l .t) (c .next-mark .result)
+      ahead (now (a .lines)) (a .total) (now (a .body)) (a .n) (l .t) (c .next-mark .result)
           (c .next-mark .ensures) h,
     )
 
@@ -106,18 +108,18 @@ loop-again c =
       c .before .before .before .before .before .before .before .before .before .before
           .loop-test .taken,
     ) in
-    let on = ahead (now (a .lines)) (a .na) (now (a .body)) (a .n) (l .t) m (c .next-mark .ensures) h in
+    let on = ahead (now (a .lines)) (a .total) (now (a .body)) (a .n) (l .t) m (c .next-mark .ensures) h in
     let at = c .before .before .before .before .before .derive .ensures in
     let yes = c .before .before .before .verdict .ensures _ _ _ _ _ _ _ _ _ _ (s .pre .0) at (s .pre .1 .1) in
-    let f : ℕ → Bool = λ v. mayIn (now (a .lines)) (a .na) (now (a .body)) (a .n) (a .x) v in
+    let f : ℕ → Bool = λ v. mayIn (now (a .lines)) (a .total) (now (a .body)) (a .n) (a .x) v in
     let noted = c .before .note .ensures in (
       on .1,
-      serves-next (now (a .lines)) (a .na) (now (a .body)) (a .n) (take (a .o .subjects) (now (a .u)))
+      serves-next (now (a .lines)) (a .total) (now (a .body)) (a .n) (take (a .o .subjects) (now (a .u)))
           (l .t) m
           (c .before .before .before .before .before .derive .last .1 .1 .1 .1 .1 .1 .1 .1 .1 .1 .1 .1 .1 .1
           .1 .0) (on .0) (omega (arith, c .next-mark .ensures)) at,
       onward f lastInstant (l .t) m (c .before .note .result) _ (on .0)
-          (steady (now (a .lines)) (a .na) (now (a .body)) (a .n) (a .x) (l .t) m (c .next-mark .ensures))
+          (steady (now (a .lines)) (a .total) (now (a .body)) (a .n) (a .x) (l .t) m (c .next-mark .ensures))
           (noted .0 f lastInstant (l .inv .2) yes (omega (arith, h))),
       noted .1,
     )
@@ -128,13 +130,13 @@ finish-requires c κs =
     let a = s .args in
     let l = c .before .before .loop in
     let g = s .pre .0 .grounds in
-    let f : ℕ → Bool = λ v. mayIn (now (a .lines)) (a .na) (now (a .body)) (a .n) (a .x) v in
+    let f : ℕ → Bool = λ v. mayIn (now (a .lines)) (a .total) (now (a .body)) (a .n) (a .x) v in
     let e : 4294967296 ≤ l .t = omega (arith, c .before .loop-test .left) in (
       (λ i. omega (
         arith,
         fewer f lastInstant (l .t) (l .w) (l .runs) (l .inv .2) i (omega (arith, l .inv .0))
             (λ h. absurd (omega arith)),
-        most (now (a .lines)) (a .na) (now (a .body)) (a .n) (a .x) (g .lines-few) (g .rules-few),
+        most (now (a .lines)) (a .total) (now (a .body)) (a .n) (a .x) (g .lines-few) (g .rules-few),
       )),
       l .inv .3,
     )
@@ -145,9 +147,9 @@ returns c =
     let a = s .args in
     let l = c .before .before .before .loop in
     let g = s .pre .0 .grounds in
-    let f : ℕ → Bool = λ v. mayIn (now (a .lines)) (a .na) (now (a .body)) (a .n) (a .x) v in
+    let f : ℕ → Bool = λ v. mayIn (now (a .lines)) (a .total) (now (a .body)) (a .n) (a .x) v in
     let e : l .t ≡ suc lastInstant = omega (arith, l .inv .0, c .before .before .loop-test .left) in
-    listing (now (a .lines)) (a .na) (now (a .body)) (a .n) (a .x) (c .finish .result) _ (g .lines-few)
+    listing (now (a .lines)) (a .total) (now (a .body)) (a .n) (a .x) (c .finish .result) _ (g .lines-few)
     (g .rules-few)
     (c .finish .ensures .0 f (subst (λ (t : ℕ). Reached f lastInstant t (l .w) (l .runs)) e (l .inv .2)))
     (c .finish .ensures .1)

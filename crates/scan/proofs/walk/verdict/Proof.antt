@@ -36,8 +36,8 @@ returns c =
     let s = c .before .before .before .before .before .before .before in
     let a = s .args in
     let word = getD (now (a .table)) (a .x .mode - 1) 0 in
-    let held = heldBy (now (a .lines)) (a .na) (now (a .body)) (a .n) word (a .x) (a .t) in
-    read (now (a .lines)) (a .na) (now (a .body)) (a .n) (now (a .table)) (a .x) (a .t) _ (s .pre .3)
+    let held = heldBy (now (a .lines)) (a .total) (now (a .body)) (a .n) word (a .x) (a .t) in
+    read (now (a .lines)) (a .total) (now (a .body)) (a .n) (now (a .table)) (a .x) (a .t) _ (s .pre .3)
     (ap not (c .is-held2 .ensures)
     ∙ ap (λ (b : Bool). b && not (held true)) (sym (c .before .if1 .taken)
     ∙ c .before .before .is-held .ensures))
@@ -47,8 +47,8 @@ returns-2 c =
     let s = c .before .before .before .before .before .before in
     let a = s .args in
     let word = getD (now (a .table)) (a .x .mode - 1) 0 in
-    let held = heldBy (now (a .lines)) (a .na) (now (a .body)) (a .n) word (a .x) (a .t) in
-    read (now (a .lines)) (a .na) (now (a .body)) (a .n) (now (a .table)) (a .x) (a .t) _ (s .pre .3)
+    let held = heldBy (now (a .lines)) (a .total) (now (a .body)) (a .n) word (a .x) (a .t) in
+    read (now (a .lines)) (a .total) (now (a .body)) (a .n) (now (a .table)) (a .x) (a .t) _ (s .pre .3)
     (ap (λ (b : Bool). b && not (held true)) (sym (c .if1 .left) ∙ c .before .is-held .ensures))
 
 pub verdict-spec : {M : Type 1} → statement M

@@ -9,7 +9,7 @@ use denote.Ref.{now}
 use Rattle.model.specs.Base.{Base}
 use Rattle.model.specs.Stratification.{stratified}
 use Rattle.model.specs.Soundness.{allSupported}
-use Rattle.soundness.specs.Bodies.{baseOf}
+use Rattle.soundness.specs.BodiesAsked.{baseOf}
 use Rattle.soundness.proofs.parts.bodies_sound.Statement.{statement}
 use Rattle.soundness.proofs.parts.bodies_sound.Tie as tie
 

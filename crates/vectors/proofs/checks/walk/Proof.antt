@@ -8,7 +8,7 @@ use lib.ListN.{length}
 use lib.Seq.{length-take-le}
 use Rattle.foundation.specs.Tests.{not-true, not-false}
 use Rattle.model.specs.EncodingFacts.{sound-length}
-use Rattle.vectors.proofs.Laws.{Goes, goes-start, goes-on, goes-wrong, goes-end, line-here}
+use Rattle.vectors.proofs.LineWalks.{Goes, goes-start, goes-on, goes-wrong, goes-end, line-here}
 use Rattle.vectors.proofs.checks.walk.Statement.{statement}
 use Rattle.vectors.proofs.checks.walk.Tie as tie
 

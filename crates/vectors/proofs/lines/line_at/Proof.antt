@@ -5,7 +5,7 @@ use denote.Ref.{now}
 use native.Mathlib.Omega.{arith}
 use Prim.Native.Nat.{_-_}
 use lib.ListN.{length}
-use Rattle.vectors.proofs.Laws.{Walks, walk-start, walk-byte, walk-ended, walk-whole}
+use Rattle.vectors.proofs.LineWalks.{Walks, walk-start, walk-byte, walk-ended, walk-whole}
 use Rattle.vectors.proofs.lines.line_at.Statement.{statement}
 use Rattle.vectors.proofs.lines.line_at.Tie as tie
 

@@ -3,7 +3,7 @@ use borrow.Author.Needs.{needs}
 use denote.Ref.{now}
 use mathlib.Core.Path.{sym, _∙_}
 use Rattle.vectors.specs.Transcripts.{stands}
-use Rattle.vectors.proofs.Laws.{marked-long}
+use Rattle.vectors.proofs.LineWalks.{marked-long}
 use Rattle.vectors.proofs.stages.stands.Statement.{statement}
 use Rattle.vectors.proofs.stages.stands.Tie as tie
 

@@ -11,7 +11,7 @@ use lib.Dec.{eqb}
 use lib.ListN.{length, take, drop, getD}
 use lib.Seq.{length-take-le}
 use Rattle.foundation.specs.Bytes.{eqList}
-use Rattle.vectors.proofs.Laws.{none-owed, with-last}
+use Rattle.vectors.proofs.LineWalks.{none-owed, with-last}
 use Rattle.vectors.proofs.stages.tells_owed.Statement.{statement}
 use Rattle.vectors.proofs.stages.tells_owed.Tie as tie
 

@@ -10,7 +10,7 @@ use denote.Ref.{now}
 use Rattle.model.specs.declared.Head.{Head}
 use Rattle.support.specs.Cover.{rootsIn}
 use Rattle.encoding.specs.Format.{authorizationsIn}
-use Rattle.withdrawal.specs.Bodies.{Body, makes-lines, makes-full}
+use Rattle.withdrawal.specs.Building.{Body, makes-lines, makes-full}
 use Rattle.withdrawal.specs.Times.{end-le, end-above, end-ordered}
 use Rattle.withdrawal.specs.Rounds.{stayers}
 use Rattle.withdrawal.specs.Walks.{rounds-start, rounds-end, rounds-full}

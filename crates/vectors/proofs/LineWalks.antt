@@ -25,7 +25,7 @@ use Rattle.serving.specs.Turns.{Turned}
 use Rattle.vectors.specs.Transcripts.{marked, opens, asks, body, Stage, stage, fresh, stands, next}
 use Rattle.vectors.specs.Transcripts.{agrees, standing, reached, remaining}
 use Rattle.vectors.specs.Said.{next-opens, next-asks, next-other}
-use Rattle.vectors.specs.Places.{Spans, Leads, Checks}
+use Rattle.vectors.specs.LinePlaces.{Spans, Leads, Checks}
 
 -- ---- a line, byte by byte
 
