@@ -5,7 +5,7 @@ use mathlib.Core.List.{List, map, _++_}
 use Prim.Native.Nat.{ℕ, suc, _+_, _≤_, _<_}
 use native.Mathlib.Omega.{arith}
 use lib.Dec.{eqb}
-use lib.ListN.{length, take, drop, set, getD, length-map, List·getD-map}
+use lib.ListN.{length, drop, set, getD, length-map, List·getD-map}
 use lib.Seq.{paste, paste-zero, paste-suc, length-paste, take-all}
 use Rattle.foundation.specs.Tests.{pick, cases, true-eq, false-eq}
 use Rattle.model.specs.declared.Question.{Question}

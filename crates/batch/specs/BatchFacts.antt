@@ -24,7 +24,7 @@ use Rattle.model.specs.Encoding.{decode}
 use Rattle.model.specs.Soundness.{soundBytes}
 use Rattle.model.specs.Answers.{mayTable, mayReply, mayAnswer}
 use Rattle.batch.specs.Batch.{replyByte, byteFor, batchRows, batchRefusal, batchBytes, Batched}
-use Rattle.batch.specs.Batch.{question, questionIn, questionsIn, wordsOf}
+use Rattle.batch.specs.Batch.{questionIn, questionsIn, wordsOf}
 
 -- a refusal by rows 2, 3 and 6, yes and no fit a byte
 pub byte-small : (s : List ℕ) (q : Question) → replyByte (mayAnswer s q) < 256

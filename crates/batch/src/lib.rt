@@ -6,6 +6,7 @@ ghost use lib.Dec.{eqb};
 ghost use lib.ListN.{length, drop};
 ghost use Rattle.foundation.specs.Tests.{pick};
 ghost use Rattle.model.specs.Soundness.{soundBytes};
+ghost use Rattle.batch.specs.Prepared.{Prepared};
 ghost use Rattle.batch.specs.Batch.{replyByte, byteFor, batchRefusal, Batched, questionIn, questionsIn};
 use model::Access;
 use model::Question;
@@ -26,9 +27,17 @@ fn byte_of(r: Reply) -> u8
     }
 }
 
+// What is the same for all questions, worked out once where there are any: so far nothing.
+fn prepare(base: &[u8], questions: usize) -> [u64; 1]
+    requires { ⌜ (0 < questions → soundBytes (now base) ≡ true) ⌝ }
+    ensures { λ t. ⌜ (0 < questions → Prepared (now (base .entry)) t) ⌝ }
+{
+    [0u64; 1]
+}
+
 // The byte for one question, over a base that is known to be sound.
-fn byte_for(base: &[u8], q: Question) -> u8
-    requires { ⌜ soundBytes (now base) ≡ true ⌝ }
+fn byte_for(base: &[u8], prepared: &[u64], q: Question) -> u8
+    requires { ⌜ (soundBytes (now base) ≡ true) × Prepared (now base) (now prepared) ⌝ }
     ensures { λ r. ⌜ r ≡ byteFor (now (base .entry)) q ⌝ }
 {
     byte_of(answers::may_sound(base, q))
@@ -82,9 +91,11 @@ pub fn batch(base: &[u8], questions: &[Question], replies: &mut [u8]) -> u32
     let m = questions.len();
     let r = batch_refusal(base, m, replies.len());
     let n = answered(r, m);
+    let table = prepare(base, n);
+    let prepared: &[u64] = &table;
     let mut i = 0;
     while i < n {
-        replies[i] = byte_for(base, questions[i]);
+        replies[i] = byte_for(base, prepared, questions[i]);
         i += 1;
     }
     r
@@ -98,9 +109,11 @@ pub fn batch_words(base: &[u8], words: &[u32], replies: &mut [u8]) -> u32
     let m = words.len() / 4;
     let r = batch_refusal(base, m, replies.len());
     let n = answered(r, m);
+    let table = prepare(base, n);
+    let prepared: &[u64] = &table;
     let mut i = 0;
     while i < n {
-        replies[i] = byte_for(base, question_at(words, i));
+        replies[i] = byte_for(base, prepared, question_at(words, i));
         i += 1;
     }
     r

@@ -1,6 +1,4 @@
 -- `batch::answered`: by the refusal.
-use mathlib.Core.Path.{sym, ap}
-use mathlib.Core.Bool.{Bool}
 use borrow.Author.Tests.{eq-eqb, ne-eqb}
 use Rattle.batch.proofs.answered.Statement.{statement}
 use Rattle.batch.proofs.answered.Tie as tie

@@ -3,27 +3,27 @@ use borrow.Author.Needs.{needs}
 use native.Mathlib.Omega.{arith}
 use native.Mathlib.Numerals.{add-one}
 use mathlib.Core.Path.{_≡_, sym, ap, _∙_}
-use Prim.Native.Nat.{ℕ, _+_, _/_, _-_, _<_, _≤_}
+use Prim.Native.Nat.{ℕ, _/_, _-_, _<_, _≤_}
 use lib.ListN.{length, set, getD, length-set}
 use lib.Dec.{eqb}
 use denote.Ref.{now}
 use Rattle.foundation.specs.Tests.{pick}
-use Rattle.batch.specs.Batch.{byteFor, batchRefusal, Batched, question, questionsIn}
+use Rattle.batch.specs.Batch.{byteFor, batchRefusal, question, questionsIn}
 use Rattle.batch.specs.BatchFacts.{length-questions, nth-question}
-use Rattle.batch.proofs.Filled.{filled, filled-none, filled-length, filled-next, Known, know}
+use Rattle.batch.proofs.Filled.{filled, filled-none, filled-next, Known, know}
 use Rattle.batch.proofs.batch_words.Statement.{statement}
 use Rattle.batch.proofs.batch_words.Tie as tie
 
 abbrev Inv-loop : tie.InvT-loop
-Inv-loop base words replies₀ m r n i₀ replies i =
+Inv-loop base words replies₀ m r n prepared i₀ replies i =
     (i ≤ n) × (length replies ≡ length replies₀) × (replies ≡ filled base (questionsIn words) replies₀ i)
 
 abbrev μ-loop : tie.MeasureT-loop
-μ-loop base words replies₀ m r n i₀ replies i = n - i
+μ-loop base words replies₀ m r n prepared i₀ replies i = n - i
 
 loop-holds : tie.Need-loop-holds Inv-loop μ-loop
 loop-holds c =
-    let a = c .before .before .before .before .before .args in
+    let a = c .before .before .before .before .before .before .before .args in
     (search needs, search needs, filled-none (now (a .base)) (questionsIn (now (a .words))) (now (a .replies)))
 
 -- what the two calls before the loop say
@@ -39,22 +39,27 @@ known c =
     (c .before .batch-refusal .ensures ∙ ap (λ (k : ℕ). batchRefusal (now (a .base)) k (length (now (a .replies)))) l)
     (c .answered .ensures ∙ ap (λ (k : ℕ). pick (eqb r 0) k 0) l)
 
+prepare-requires : tie.Need-prepare-requires Inv-loop μ-loop
+prepare-requires c κs = known c .sound
+
 question-at-requires : tie.Need-question-at-requires Inv-loop μ-loop
 question-at-requires c κs =
-    let d = c .before .before in
+    let d = c .before .before .before .before in
     let w = now (d .before .before .before .before .before .args .words) in
     omega (arith, known d .in-questions, length-questions w)
 
 byte-for-requires : tie.Need-byte-for-requires Inv-loop μ-loop
-byte-for-requires c κs = known (c .before .before .before) .sound (omega arith)
+byte-for-requires c κs =
+    let p = c .before .before .before .before in
+    (known (p .before) .sound (omega arith), p .prepare .ensures (omega arith))
 
 slice-write-replies : tie.Need-slice-write-replies Inv-loop μ-loop
-slice-write-replies c = omega (arith, known (c .before .before .before .before) .in-room)
+slice-write-replies c = omega (arith, known (c .before .before .before .before .before .before) .in-room)
 
 loop-again : tie.Need-loop-again Inv-loop μ-loop
 loop-again c =
     let l = c .before .before .before .loop in
-    let d = c .before .before .before .before in
+    let d = c .before .before .before .before .before .before in
     let a = d .before .before .before .before .before .args in
     let w = now (a .words) in
     let k = known d in
@@ -74,7 +79,7 @@ loop-again c =
 returns : tie.Need-returns Inv-loop μ-loop
 returns c =
     let l = c .before .loop in
-    let d = c .before .before in
+    let d = c .before .before .before .before in
     let a = d .before .before .before .before .before .args in
     let k = known d in
     let e : l .i ≡ d .answered .result = omega arith in
@@ -87,6 +92,7 @@ returns c =
 pub batch-words-spec : {M : Type 1} → statement M
 batch-words-spec =
     tie.close
-    (tie.spec Inv-loop μ-loop (λ c κs. search needs) (λ c κs. search needs) loop-holds question-at-requires
+    (tie.spec Inv-loop μ-loop (λ c κs. search needs) (λ c κs. search needs) prepare-requires
+    (λ c. search needs) loop-holds question-at-requires
     byte-for-requires slice-write-replies (λ c. search needs) (λ c. search needs) loop-again (λ c. search needs)
     returns)

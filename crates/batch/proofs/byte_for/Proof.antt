@@ -11,7 +11,7 @@ use Rattle.batch.proofs.byte_for.Tie as tie
 
 byte-of-requires : tie.Need-byte-of-requires
 byte-of-requires c κs =
-    let a = c .before .before .args in
+    let a = c .before .before .before .args in
     subst (λ (r : Reply). replyByte r < 256) (sym (c .may-sound .ensures)) (byte-small (now (a .base)) (a .q))
 
 returns : tie.Need-returns
