@@ -1,8 +1,10 @@
 // The library: what callers use of the access base. None of these functions has a requires, and every contract is an
-// equation with the definitions of crate model (Answers, for text Session): the reply and every byte of base, list and
-// buffer, for refusals too.
+// equation with the definitions of crate model (Answers, for text Session, for a round's questions Batch): the reply and
+// every byte of base, list and buffer, for refusals too.
 pub use answers::may;
 pub use answers::when;
+pub use batch::batch;
+pub use batch::batch_words;
 pub use encoding::create;
 pub use requests::request;
 pub use soundness::is_sound;

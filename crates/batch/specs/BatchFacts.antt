@@ -11,7 +11,7 @@ use lib.Dec.{ltb}
 use lib.ListN.{length, drop, getD}
 use lib.Seq.{drop-drop}
 use Rattle.foundation.specs.Tests.{not-false, true-le, false-le}
-use Rattle.foundation.specs.Lists.{each, length-each}
+use Rattle.foundation.specs.Lists.{Mem, each, length-each}
 use Rattle.foundation.specs.Bytes.{records, records-back}
 use Rattle.foundation.specs.BytesFacts.{length-records}
 use Rattle.model.specs.declared.Question.{Question}
@@ -19,7 +19,7 @@ use Rattle.model.specs.declared.Reply.{Reply}
 use Rattle.model.specs.declared.Reply.the-variants.{Refused}
 use Rattle.model.specs.Rules.{may}
 use Rattle.model.specs.Step.{Row, row, firstNumber}
-use Rattle.model.specs.StepFacts.{first-all, first-none, numbered, by-rows, answered, turned-away}
+use Rattle.model.specs.StepFacts.{first-all, first-given, first-none, numbered, by-rows, answered, turned-away}
 use Rattle.model.specs.Encoding.{decode}
 use Rattle.model.specs.Soundness.{soundBytes}
 use Rattle.model.specs.Answers.{mayTable, mayReply, mayAnswer}
@@ -47,6 +47,19 @@ batch-accepted s questions room z =
     let rows = batchRows s questions room in
     let t : (r : Row) → _ = first-none rows (numbered rows refl) z in
     (not-false (soundBytes s) (t _ (inl refl)), omega (arith, false-le (suc room) questions (t _ (inr (inl refl)))))
+
+-- a refused call gets 2 or 13
+pub batch-refuses : (s : List ℕ) (questions room : ℕ) → batchRefusal s questions room ≢ 0 →
+    Mem (batchRefusal s questions room) (2 ∷ 13 ∷ [])
+unfolding batchRefusal
+batch-refuses s questions room n = one-of (first-given (batchRows s questions room) n)
+  where
+    one-of : (r : Row) × Mem r (batchRows s questions room) × (r .given ≡ true)
+        × (r .number ≡ firstNumber (batchRows s questions room)) →
+        Mem (firstNumber (batchRows s questions room)) (2 ∷ 13 ∷ [])
+    one-of (r, inl e, g, f) = inl (sym f ∙ ap (λ (x : Row). x .number) e)
+    one-of (r, inr (inl e), g, f) = inr (inl (sym f ∙ ap (λ (x : Row). x .number) e))
+    one-of (r, inr (inr m), g, f) = absurd (m .lower)
 
 module _ (s : List ℕ) (questions : List Question) (bytes : List ℕ) where
   abbrev written : List ℕ

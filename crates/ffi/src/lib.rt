@@ -1,4 +1,4 @@
-// The library for C and Rust: the six functions of crate base on numbers, truth values and lent slices. They add
+// The library for C and Rust: the functions of crate base on numbers, truth values and lent slices. They add
 // nothing but the wording: every contract is that of base's function, on the request or question that the numbers
 // say. What a caller takes out of a packed reply is said in specs/Numbers.antt (`refusal-back`, `label-back`,
 // `number-back`) and specs/Bounds.antt (`text-parts` for a line of text).
@@ -7,6 +7,7 @@ ghost use Rattle.foundation.specs.Intervals.{interval};
 ghost use Rattle.model.specs.Soundness.{soundBytes};
 ghost use Rattle.model.specs.Answers.{create, mayAnswer, whenAnswer};
 ghost use Rattle.model.specs.Session.{textAnswer};
+ghost use Rattle.batch.specs.Batch.{Batched, questionsIn};
 ghost use Rattle.ffi.specs.Numbers.{termOf, optionOf, side, access, question, packed, packedText, AnsweredBy};
 use foundation::Interval;
 use model::Access;
@@ -222,4 +223,13 @@ pub extern "C" fn access_base_text(base: &mut [u8], line: &[u8], out: &mut [u8])
 {
     let w = base::text(base, line, out);
     (w.count as u64) * 4294967296 + w.refusal as u64
+}
+
+// A round's questions, four words each: subject, mode, object, instant. The reply is the refusal's number, or 0.
+#[no_mangle]
+pub extern "C" fn access_base_batch(base: &[u8], words: &[u32], replies: &mut [u8]) -> u64
+    ensures { λ r. ⌜ Batched (now (base .entry)) (questionsIn (now (words .entry))) (now (replies .entry)) r
+        (now (replies .exit)) ⌝ }
+{
+    base::batch_words(base, words, replies) as u64
 }
