@@ -408,6 +408,48 @@ static void row(const char *program, enum call call, int lines, int rules, doubl
     fflush(stdout);
 }
 
+/* ---- a round's questions: in one call, and one call a question; the bytes must be the same */
+
+enum { ROUND = 500 };
+
+static void round_row(int lines, int rules)
+{
+    static struct setup s;
+    static struct access_base_question q[ROUND];
+    static uint8_t one_call[ROUND], alone[ROUND];
+    double round = 1e9, calls = 1e9;
+    generate(&s, false, lines, rules);
+    build(&proved, &s, kept);
+    for (uint32_t i = 0; i < ROUND; i++)
+        q[i] = (struct access_base_question){2 + i % 40, 1 + i % 4, 1 + i % 8, 20000 + i * 37 % 9000};
+    for (int n = 0; n < ROUNDS; n++) {
+        double from = seconds();
+        access_base_ask_round(kept, sizeof kept, q, ROUND, one_call, ROUND);
+        round = lesser(round, seconds() - from);
+        from = seconds();
+        for (uint32_t i = 0; i < ROUND; i++) {
+            reply r = proved.may(kept, sizeof kept, q[i].subject, q[i].mode, q[i].object, q[i].instant);
+            alone[i] = (uint8_t)(r.refusal != 0 ? ACCESS_BASE_REPLY_REFUSED + r.refusal : r.number);
+        }
+        calls = lesser(calls, seconds() - from);
+    }
+    if (memcmp(one_call, alone, ROUND) != 0) {
+        fprintf(stderr, "a round answers otherwise than its questions alone\n");
+        exit(1);
+    }
+    printf("| %d | %d | %.2f | %.2f | %.2f |\n", lines, rules, 1e3 * round, 1e3 * calls, calls / round);
+    fflush(stdout);
+}
+
+static void rounds(void)
+{
+    static const int rules[] = {0, 64}, lines[] = {16, 256, 1024};
+    printf("\n| lines | rules | 500 questions in one call, ms | 500 calls, ms | ratio |\n|---|---|---|---|---|\n");
+    for (int r = 0; r < 2; r++)
+        for (int n = 0; n < 3; n++)
+            round_row(lines[n], rules[r]);
+}
+
 int main(int argc, char **argv)
 {
     static const int rules[] = {0, 8, 64}, lines[] = {16, 64, 256, 1024};
@@ -420,5 +462,6 @@ int main(int argc, char **argv)
             for (int n = 0; n < 4; n++)
                 row(program, (enum call)call, lines[n], rules[r], &last);
         }
+    rounds();
     return 0;
 }

@@ -141,6 +141,19 @@ struct access_base_reply {
     uint32_t number;
 };
 
+/* A question of a round. */
+struct access_base_question {
+    uint32_t subject;
+    uint32_t mode;
+    uint32_t object;
+    uint32_t instant;
+};
+
+/* What a question's byte says: no, yes, or refused with the number that is left when this is taken off. */
+#define ACCESS_BASE_REPLY_NO 0u
+#define ACCESS_BASE_REPLY_YES 1u
+#define ACCESS_BASE_REPLY_REFUSED 16u
+
 /* ---- what the archive exports: numbers, truth values, and slices as a pointer and a length. A reply is one number:
  * bits 0 to 15 the refusal, bits 16 to 31 the label, bits 32 to 63 the number. Rather use the functions below. */
 
@@ -171,6 +184,11 @@ uint64_t access_base_report(
 
 uint64_t access_base_text(
     uint8_t *base, size_t base_length, const uint8_t *line, size_t line_length, uint8_t *out, size_t out_length);
+
+/* Four words a question: subject, mode, object, instant. Words behind the last whole question are not looked at. */
+uint64_t access_base_batch(
+    const uint8_t *base, size_t base_length, const uint32_t *words, size_t words_length, uint8_t *replies,
+    size_t replies_length);
 
 /* ---- the same in C's words */
 
@@ -234,6 +252,18 @@ static inline struct access_base_reply access_base_write_report(
     const uint8_t *base, size_t base_length, uint32_t object, char *page, size_t page_length)
 {
     return access_base_reply_of(access_base_report(base, base_length, object, (uint8_t *)page, page_length));
+}
+
+/* A round's questions: the reply to each, as if it were put alone, in its byte of `replies`; bytes past the last
+ * question's are untouched. An unsound base is refused with 2, and fewer bytes than questions with 13; then nothing is
+ * written. No questions are accepted. Any number of questions may be lent. */
+static inline struct access_base_reply access_base_ask_round(
+    const uint8_t *base, size_t base_length, const struct access_base_question *questions, size_t count,
+    uint8_t *replies, size_t replies_length)
+{
+    _Static_assert(sizeof(struct access_base_question) == 4 * sizeof(uint32_t), "a question is four words");
+    return access_base_reply_of(access_base_batch(
+        base, base_length, (const uint32_t *)(const void *)questions, 4 * count, replies, replies_length));
 }
 
 /* One line of text, a request or a question as the text session has it, without its newline; any bytes may be lent.

@@ -251,10 +251,49 @@ static void sheets(void)
            "the last row");
 }
 
+/* A round over session S's base: every reply's byte, bytes past the last untouched, and byte lists that just suffice or
+ * just do not. */
+static void rounds(void)
+{
+    static const struct access_base_question round[10] = {
+        {3, 1, 7, 55}, {3, 1, 7, 60}, {3, 1, 7, 79}, {3, 1, 7, 80}, {4, 1, 7, 65},
+        {0, 1, 7, 1}, {3, 9, 7, 1}, {3, 1, 129, 1}, {3, 1, 8, 1}, {1023, 8, 7, ACCESS_BASE_LAST}};
+    static const uint8_t expected[12] = {1, 0, 0, 1, 0, 19, 19, 19, 22, 0, '#', '#'};
+    static struct access_base_question many[501];
+    static uint8_t replies[502];
+    memcpy(before, base, sizeof before);
+    memset(replies, '#', sizeof replies);
+    expect(is(access_base_ask_round(base, ACCESS_BASE_BYTES, round, 10, replies, 9), ACCESS_BASE_FULL, 0, 0)
+               && replies[0] == '#' && replies[8] == '#', "nine bytes for ten questions");
+    expect(is(access_base_ask_round(base, ACCESS_BASE_BYTES, round, 10, replies, 10), 0, 0, 0)
+               && memcmp(replies, expected, 12) == 0, "ten bytes for ten questions");
+    memset(replies, '#', sizeof replies);
+    expect(is(access_base_ask_round(base, ACCESS_BASE_BYTES, round, 10, replies, 12), 0, 0, 0)
+               && memcmp(replies, expected, 12) == 0, "twelve bytes for ten questions");
+    for (int i = 0; i < 10; i++) {
+        struct access_base_reply r = access_base_ask_may(
+            base, ACCESS_BASE_BYTES, round[i].subject, round[i].mode, round[i].object, round[i].instant);
+        expect(expected[i] == (r.refusal != 0 ? ACCESS_BASE_REPLY_REFUSED + r.refusal : r.number), "as put alone");
+    }
+    memset(replies, '#', sizeof replies);
+    expect(is(access_base_ask_round(base, ACCESS_BASE_BYTES, round, 0, replies, 0), 0, 0, 0), "no questions");
+    expect(is(access_base_ask_round(base, ACCESS_BASE_BYTES, round, 0, replies, 1), 0, 0, 0) && replies[0] == '#',
+           "no questions, and a byte");
+    for (int i = 0; i < 501; i++)
+        many[i] = round[i % 10];
+    expect(is(access_base_ask_round(base, ACCESS_BASE_BYTES, many, 501, replies, 502), 0, 0, 0)
+               && replies[500] == 1 && replies[499] == 0 && replies[501] == '#', "501 questions");
+    expect(is(access_base_reply_of(access_base_batch(
+                  base, ACCESS_BASE_BYTES, (const uint32_t *)(const void *)round, 7, replies, 1)), 0, 0, 0)
+               && replies[0] == 1, "seven words are one question");
+    expect(untouched(), "and a round leaves the base");
+}
+
 /* Bytes of another length or that are no base are refused by all, and untouched. */
 static void unsound(size_t length)
 {
     uint32_t list[2] = {90, 91};
+    uint8_t reply = '#';
     struct access_base_request q = {.kind = ACCESS_BASE_NEW, .requester = 1, .object = 7};
     memcpy(before, base, sizeof before);
     expect(!access_base_is_sound(base, length), "such bytes are not sound");
@@ -265,6 +304,12 @@ static void unsound(size_t length)
     page[0] = '#';
     expect(is(access_base_write_report(base, length, 1, page, sizeof page), ACCESS_BASE_INVALID_BASE, 0, 0)
                && page[0] == '#', "the sheet gets 2");
+    expect(is(access_base_ask_round(base, length, &(struct access_base_question){1, 1, 1, 1}, 1, &reply, 1),
+              ACCESS_BASE_INVALID_BASE, 0, 0) && reply == '#', "a round gets 2");
+    expect(is(access_base_ask_round(base, length, &(struct access_base_question){1, 1, 1, 1}, 0, &reply, 0),
+              ACCESS_BASE_INVALID_BASE, 0, 0), "one without questions too");
+    expect(is(access_base_ask_round(base, length, &(struct access_base_question){1, 1, 1, 1}, 1, &reply, 0),
+              ACCESS_BASE_INVALID_BASE, 0, 0), "2 comes before 13");
     expect(is(access_base_tell(base, length, "WHEN 1 1 1", 10, out, 16), 0, 0, 10)
                && memcmp(out, "refused 2\n", 10) == 0, "the text is `refused 2`");
     if (length != ACCESS_BASE_BYTES)
@@ -279,6 +324,7 @@ int main(void)
     replies();
     texts();
     sheets();
+    rounds();
     unsound(ACCESS_BASE_BYTES - 1);
     unsound(ACCESS_BASE_BYTES + 1);
     unsound(0);

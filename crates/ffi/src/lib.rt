@@ -9,6 +9,7 @@ ghost use Rattle.model.specs.Soundness.{soundBytes};
 ghost use Rattle.model.specs.Answers.{create, mayAnswer, whenAnswer};
 ghost use Rattle.model.specs.Report.{reportAnswer};
 ghost use Rattle.model.specs.Session.{textAnswer};
+ghost use Rattle.batch.specs.Batch.{Batched, questionsIn};
 ghost use Rattle.records.specs.Records.{recordsAnswer};
 ghost use Rattle.ffi.specs.Numbers.{termOf, optionOf, side, access, question, packed, packedCount};
 ghost use Rattle.ffi.specs.Numbers.{packedText};
@@ -263,4 +264,13 @@ pub extern "C" fn access_base_text(base: &mut [u8], line: &[u8], out: &mut [u8])
 {
     let w = base::text(base, line, out);
     (w.count as u64) * 4294967296 + w.refusal as u64
+}
+
+// A round's questions, four words each: subject, mode, object, instant. The reply is the refusal's number, or 0.
+#[no_mangle]
+pub extern "C" fn access_base_batch(base: &[u8], words: &[u32], replies: &mut [u8]) -> u64
+    ensures { λ r. ⌜ Batched (now (base .entry)) (questionsIn (now (words .entry))) (now (replies .entry)) r
+        (now (replies .exit)) ⌝ }
+{
+    base::batch_words(base, words, replies) as u64
 }

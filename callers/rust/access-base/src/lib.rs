@@ -72,6 +72,20 @@ pub struct Access {
     pub object: u32,
 }
 
+/// A question of a round: whether the access is allowed at the instant. It is four words, as the boundary has it.
+#[derive(Clone, Copy, Debug, PartialEq, Eq)]
+#[repr(C)]
+pub struct Question {
+    /// Who.
+    pub subject: u32,
+    /// What.
+    pub mode: u32,
+    /// The meter.
+    pub object: u32,
+    /// When.
+    pub instant: u32,
+}
+
 /// A number of a rule, or the star. The star is no number, so that 0 stays out of range.
 #[derive(Clone, Copy, Debug, PartialEq, Eq)]
 pub enum Term {
@@ -299,6 +313,29 @@ pub fn records<'l>(base: &[u8], body: Body, first: u32, list: &'l mut [u32]) -> 
 pub fn report<'p>(base: &[u8], object: u32, page: &'p mut [u8]) -> Result<&'p str, Refusal> {
     let reply = refusal::checked(raw::report(base, object, page))?;
     Ok(core::str::from_utf8(&page[..reply.number as usize]).expect("sheets are in ASCII"))
+}
+
+/// The replies to a round's questions, each as if it were put alone: the first byte of `replies` is for the first question,
+/// 0 for no, 1 for yes, and 16 plus the refusal's number. The bytes past the last question's are untouched.
+///
+/// An unsound base is refused, whatever the questions, and so are fewer bytes than questions; then nothing is written.
+///
+/// ```
+/// use access_base::{create, may_each, Question, Refusal, BYTES};
+///
+/// let mut base = vec![0; BYTES];
+/// let questions = [Question { subject: 1, mode: 1, object: 7, instant: 0 }];
+/// let mut replies = [9; 2];
+/// assert_eq!(may_each(&base, &questions, &mut replies), Err(Refusal::InvalidBase));
+/// create(&mut base)?;
+/// assert_eq!(may_each(&base, &questions, &mut replies[..0]), Err(Refusal::Full));
+/// assert_eq!(may_each(&base, &questions, &mut replies)?, [22]); // no such meter
+/// assert_eq!(replies[1], 9);
+/// # Ok::<(), Refusal>(())
+/// ```
+pub fn may_each<'r>(base: &[u8], questions: &[Question], replies: &'r mut [u8]) -> Result<&'r [u8], Refusal> {
+    refusal::checked(raw::batch(base, raw::words(questions), replies))?;
+    Ok(&replies[..questions.len()])
 }
 
 /// Answers one line of text, a request or a question as the text session has it, without its newline. The reply's text

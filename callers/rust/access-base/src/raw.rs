@@ -1,6 +1,6 @@
 //! The exported functions as they are: requests in numbers, so that an unknown kind can be said, and lists of any
 //! length. Nothing here is unsafe to call: a slice is what the boundary asks for.
-use crate::{Access, Operator, OptionTerm, Order, Request, Side, Term};
+use crate::{Access, Operator, OptionTerm, Order, Question, Request, Side, Term};
 
 /// A request in the boundary's numbers. Fields that the kind does not name are not looked at.
 #[derive(Clone, Copy, Debug, PartialEq, Eq)]
@@ -109,6 +109,14 @@ mod linked {
             out: *mut u8,
             out_length: usize,
         ) -> u64;
+        pub fn access_base_batch(
+            base: *const u8,
+            length: usize,
+            words: *const u32,
+            words_length: usize,
+            replies: *mut u8,
+            replies_length: usize,
+        ) -> u64;
     }
 }
 
@@ -204,6 +212,28 @@ pub fn report(base: &[u8], object: u32, page: &mut [u8]) -> Reply {
 pub fn text(base: &mut [u8], line: &[u8], out: &mut [u8]) -> Reply {
     unpacked(unsafe {
         linked::access_base_text(base.as_mut_ptr(), base.len(), line.as_ptr(), line.len(), out.as_mut_ptr(), out.len())
+    })
+}
+
+/// The words of questions, as they lie in memory.
+pub fn words(questions: &[Question]) -> &[u32] {
+    // a question is four words and nothing else, by its representation
+    const _: () = assert!(size_of::<Question>() == 4 * size_of::<u32>() && align_of::<Question>() == align_of::<u32>());
+    unsafe { core::slice::from_raw_parts(questions.as_ptr().cast(), 4 * questions.len()) }
+}
+
+/// `access_base_batch`: four words a question (subject, mode, object, instant); up to three words behind the last question
+/// are not looked at.
+pub fn batch(base: &[u8], words: &[u32], replies: &mut [u8]) -> Reply {
+    unpacked(unsafe {
+        linked::access_base_batch(
+            base.as_ptr(),
+            base.len(),
+            words.as_ptr(),
+            words.len(),
+            replies.as_mut_ptr(),
+            replies.len(),
+        )
     })
 }
 

@@ -375,6 +375,18 @@ impl Generator<'_> {
         Step::May(access, self.instant(contents))
     }
 
+    /// A round of so many questions, with a byte list that is one byte short, as long as the questions, and longer.
+    pub fn round(&mut self, contents: &Contents, count: usize) -> Vec<Step> {
+        let questions: Vec<[u32; 4]> = (0..count)
+            .map(|_| {
+                let x = self.question(contents);
+                [x.subject, x.mode, x.object, self.instant(contents)]
+            })
+            .collect();
+        let lengths = [count.saturating_sub(1), count, count + 1 + self.random.below(9)];
+        lengths.map(|length| Step::Round { questions: questions.clone(), length, pattern: self.random.any() }).to_vec()
+    }
+
     /// The question WHEN, with lists that just suffice or just do not.
     pub fn when(&mut self, contents: &Contents, runs: impl Fn(Access) -> Option<usize>) -> Vec<Step> {
         let access = self.question(contents);

@@ -45,6 +45,15 @@ pub enum Step {
         /// The seed of what is in the buffer before.
         pattern: u64,
     },
+    /// A round's questions.
+    Round {
+        /// Subject, mode, object and instant of each.
+        questions: Vec<[u32; 4]>,
+        /// How many bytes the list for the replies has.
+        length: usize,
+        /// The seed of what is in the list before.
+        pattern: u64,
+    },
 }
 
 /// What the library replied where the oracle replies something else.
@@ -166,6 +175,7 @@ impl Pair {
             Step::When { access, length, pattern } => self.when(access, length, pattern),
             Step::Report { object, length, pattern } => self.report(object, length, pattern),
             Step::Text { line, length, pattern } => self.text(&line, length, pattern),
+            Step::Round { questions, length, pattern } => self.round(&questions, length, pattern),
         }
     }
 
@@ -278,6 +288,22 @@ impl Pair {
         }
         same(reply, expected.map_or_else(refused, |sheet| (0, 0, sheet.len() as u32)))?;
         same_bytes(&page, &expected_page)?;
+        same_bytes(&self.base, &self.before)?;
+        Ok(reply.0)
+    }
+
+    // Each byte is the reply to its question put alone; an unsound base gets 2 for the whole call.
+    fn round(&mut self, questions: &[[u32; 4]], length: usize, pattern: u64) -> Result<u32, Difference> {
+        let mut replies = Random::new(pattern).bytes(length);
+        let expected = match &self.oracle {
+            None => Err(2),
+            Some(oracle) => oracle.round(questions, &replies),
+        };
+        let expected_replies = expected.as_ref().unwrap_or(&replies).clone();
+        let reply = parts(raw::batch(&self.base, questions.as_flattened(), &mut replies));
+        self.tally.round(expected.as_ref().map(|_| questions.len()).map_err(|row| *row));
+        same(reply, refused(expected.err().unwrap_or(0)))?;
+        same_bytes(&replies, &expected_replies)?;
         same_bytes(&self.base, &self.before)?;
         Ok(reply.0)
     }

@@ -126,6 +126,38 @@ fn told(name: &str, generator: &mut Generator) -> Result<Pair, Box<Failure>> {
     Ok(pair)
 }
 
+/// A random session, and rounds of questions over its last base and over damaged bases that come of it.
+pub fn round_session(seed: u64, counts: &[usize]) -> Result<Tally, Box<Failure>> {
+    let mut random = Random::new(seed);
+    let world = World::random(&mut random);
+    let name = format!("round session {seed}");
+    let mut pair = Pair::new(world.boundaries());
+    let mut generator = Generator { random: &mut random, world };
+    let ran = begin(&mut pair, &mut generator).and_then(|length| run(&mut pair, &mut generator, length));
+    let ran = ran.and_then(|()| rounds(&mut pair, &mut generator, counts));
+    ran.map_err(|difference| Box::new(Failure::new(&name, &pair, difference)))?;
+    let mut tally = pair.tally.clone();
+    for _ in 0..4 {
+        let bytes = other_base(pair.base(), &mut generator);
+        let mut other = Pair::new(pair.boundaries());
+        let asked = other.take(Step::Lend(bytes)).and_then(|_| rounds(&mut other, &mut generator, &[0, 1, 5]));
+        asked.map_err(|difference| Box::new(Failure::new(&name, &other, difference)))?;
+        tally.add(&other.tally);
+    }
+    Ok(tally)
+}
+
+// A round of each size, whatever the lent bytes are.
+fn rounds(pair: &mut Pair, generator: &mut Generator, counts: &[usize]) -> Result<(), Difference> {
+    let contents = Contents::read(pair.base());
+    for &count in counts {
+        for step in generator.round(&contents, count) {
+            pair.take(step)?;
+        }
+    }
+    Ok(())
+}
+
 // So many lines of text, whatever the lent bytes are.
 fn tell(pair: &mut Pair, generator: &mut Generator, count: usize) -> Result<(), Difference> {
     for _ in 0..count {

@@ -19,6 +19,9 @@ pub struct Tally {
     unreadable: u64,
     longest_text: usize,
     texts_refused: u64,
+    rounds: u64,
+    round_questions: u64,
+    rounds_refused: [u64; 14],
     /// Bases judged: composed, damaged or cut.
     pub judged: u64,
     /// How many of them were sound.
@@ -68,6 +71,21 @@ impl Tally {
         self.texts += 1;
         self.unreadable += u64::from(text == b"refused 1\n");
         self.longest_text = self.longest_text.max(text.len());
+    }
+
+    pub(crate) fn round(&mut self, reply: Result<usize, u32>) {
+        match reply {
+            Ok(questions) => {
+                self.rounds += 1;
+                self.round_questions += questions as u64;
+            }
+            Err(row) => self.rounds_refused[row as usize] += 1,
+        }
+    }
+
+    /// How many rounds were answered, with how many questions, and how many were refused with 2 and 13.
+    pub fn rounds(&self) -> (u64, u64, u64, u64) {
+        (self.rounds, self.round_questions, self.rounds_refused[2], self.rounds_refused[13])
     }
 
     pub(crate) fn sizes(&mut self, lines: usize, rules: usize) {
@@ -123,6 +141,9 @@ impl Tally {
         self.unreadable += other.unreadable;
         self.longest_text = self.longest_text.max(other.longest_text);
         self.texts_refused += other.texts_refused;
+        self.rounds += other.rounds;
+        self.round_questions += other.round_questions;
+        sum(&mut self.rounds_refused, &other.rounds_refused);
         self.judged += other.judged;
         self.sound += other.sound;
         self.sizes(other.most_lines, other.most_rules);
@@ -156,6 +177,10 @@ impl fmt::Display for Tally {
             let (answered, unreadable, refused) = self.texts();
             write!(f, "{answered} lines of text, {unreadable} of them unreadable, at most {}", self.longest_text)?;
             writeln!(f, " bytes in a reply; {refused} buffers too short")?;
+        }
+        if self.rounds > 0 {
+            let (answered, questions, unsound, short) = self.rounds();
+            writeln!(f, "{answered} rounds with {questions} questions; {unsound} refused with 2, {short} with 13")?;
         }
         write!(f, "{} bases lent and judged, {} of them sound", self.judged, self.sound)
     }

@@ -91,6 +91,9 @@ pub fn step(step: &Step) -> String {
         Step::Text { line, length, .. } => {
             format!("{}    # as text, with a buffer of {length} bytes", line.escape_ascii())
         }
+        Step::Round { questions, length, .. } => {
+            format!("# a round of {} questions with {length} bytes: {questions:?}", questions.len())
+        }
     }
 }
 

@@ -7,6 +7,7 @@ mod bytes;
 mod cells;
 mod held;
 mod requests;
+mod round;
 pub mod session;
 mod sheet;
 mod support;

@@ -1,0 +1,2 @@
+-- `Filled` has the byte list while the questions are answered.
+pub mod Filled
