@@ -10,8 +10,8 @@ use lib.Seq.{paste, paste-zero, paste-suc, length-paste, take-all}
 use Rattle.foundation.specs.Tests.{pick, cases, true-eq, false-eq}
 use Rattle.model.specs.declared.Question.{Question}
 use Rattle.model.specs.Soundness.{soundBytes}
-use Rattle.batch.specs.Batch.{byteFor, batchRefusal, batchBytes}
-use Rattle.batch.specs.BatchFacts.{batch-accepted, batch-written, batch-refused}
+use Rattle.model.specs.Batch.{byteFor, batchRefusal, batchBytes}
+use Rattle.model.specs.BatchFacts.{batch-accepted, batch-written, batch-refused}
 
 module _ (s : List ℕ) (qs : List Question) (out : List ℕ) where
   -- the bytes for the first n questions stand at the front

@@ -59,7 +59,7 @@ use denote.Triple.Clauses.{ensured, lasts}
 use denote.Triple.Table.{entered, cited}
 use denote.Triple.Walked.{says, Stays, stay-slice, stay-none-slice, walkOf, Walks, ends-at, walked, goes-slice}
 use denote.Triple.Walked.{goes-none-slice, walk-meets}
-use Rattle.batch.specs.Batch.{byteFor, batchRefusal, question}
+use Rattle.model.specs.Batch.{byteFor, batchRefusal, question}
 use Rattle.batch.specs.Prepared.{Prepared}
 use Rattle.batch.proofs.Filled.{filled, filled-none, filled-length, filled-next, Known, know}
 use Rattle.foundation.specs.Tests.{pick as choose}

@@ -9,7 +9,7 @@ use denote.Ref.{now}
 use borrow.Author.Tests.{lt-ltb, le-ltb}
 use Rattle.model.specs.Step.{row, firstNumber}
 use Rattle.model.specs.Soundness.{soundBytes}
-use Rattle.batch.specs.Batch.{batchRefusal}
+use Rattle.model.specs.Batch.{batchRefusal}
 use Rattle.batch.proofs.batch_refusal.Statement.{statement}
 use Rattle.batch.proofs.batch_refusal.Tie as tie
 

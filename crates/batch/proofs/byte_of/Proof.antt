@@ -4,7 +4,7 @@ use native.Mathlib.Omega.{arith}
 use Prim.Native.Nat.{_<_}
 use mathlib.Core.Path.{sym, ap, subst}
 use Rattle.model.specs.declared.Reply.{Reply}
-use Rattle.batch.specs.Batch.{replyByte}
+use Rattle.model.specs.Batch.{replyByte}
 use Rattle.batch.proofs.byte_of.Statement.{statement}
 use Rattle.batch.proofs.byte_of.Tie as tie
 

@@ -6,7 +6,7 @@ use Prim.Native.Nat.{ℕ, _+_, _*_}
 use lib.ListN.{getD, drop}
 use lib.Seq.{getD-drop}
 use denote.Ref.{now}
-use Rattle.batch.specs.Batch.{question}
+use Rattle.model.specs.Batch.{question}
 use Rattle.batch.proofs.question_at.Statement.{statement}
 use Rattle.batch.proofs.question_at.Tie as tie
 

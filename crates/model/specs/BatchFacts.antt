@@ -14,17 +14,17 @@ use Rattle.foundation.specs.Tests.{not-false, true-le, false-le}
 use Rattle.foundation.specs.Lists.{Mem, each, length-each}
 use Rattle.foundation.specs.Bytes.{records, records-back}
 use Rattle.foundation.specs.BytesFacts.{length-records}
 use Rattle.model.specs.declared.Question.{Question}
 use Rattle.model.specs.declared.Reply.{Reply}
 use Rattle.model.specs.declared.Reply.the-variants.{Refused}
 use Rattle.model.specs.Rules.{may}
 use Rattle.model.specs.Step.{Row, row, firstNumber}
 use Rattle.model.specs.StepFacts.{first-all, first-given, first-none, numbered, by-rows, answered, turned-away}
 use Rattle.model.specs.Encoding.{decode}
 use Rattle.model.specs.Soundness.{soundBytes}
 use Rattle.model.specs.Answers.{mayTable, mayReply, mayAnswer}
-use Rattle.batch.specs.Batch.{replyByte, byteFor, batchRows, batchRefusal, batchBytes, Batched}
-use Rattle.batch.specs.Batch.{questionIn, questionsIn, wordsOf}
+use Rattle.model.specs.Batch.{replyByte, byteFor, batchRows, batchRefusal, batchBytes, Batched}
+use Rattle.model.specs.Batch.{questionIn, questionsIn, wordsOf}
 
 -- a refusal by rows 2, 3 and 6, yes and no fit a byte
 pub byte-small : (s : List ℕ) (q : Question) → replyByte (mayAnswer s q) < 256
