@@ -1,4 +1,5 @@
--- The byte list while the questions are answered, and how many of them are: what the two forms of the batch share.
+-- The byte list while the questions are answered, and how many of them are: what the two forms of the batch
+-- share.
 use mathlib.Core.Path.{_≡_, sym, ap, _∙_}
 use mathlib.Core.Bool.{Bool, true}
 use mathlib.Core.List.{List, map, _++_}
@@ -10,8 +11,8 @@ use lib.Seq.{paste, paste-zero, paste-suc, length-paste, take-all}
 use Rattle.foundation.specs.Tests.{pick, cases, true-eq, false-eq}
 use Rattle.model.specs.declared.Question.{Question}
 use Rattle.model.specs.Soundness.{soundBytes}
-use Rattle.batch.specs.Batch.{byteFor, batchRefusal, batchBytes}
-use Rattle.batch.specs.BatchFacts.{batch-accepted, batch-written, batch-refused}
+use Rattle.model.specs.Batch.{byteFor, batchRefusal, batchBytes}
+use Rattle.model.specs.BatchFacts.{batch-accepted, batch-written, batch-refused}
 
 module _ (s : List ℕ) (qs : List Question) (out : List ℕ) where
   -- the bytes for the first n questions stand at the front
@@ -51,7 +52,8 @@ module _ (s : List ℕ) (qs : List Question) (out : List ℕ) where
     pub in-room : n ≤ length out
     pub sound : 0 < n → soundBytes s ≡ true
 
-  pub know : (r n : ℕ) → r ≡ batchRefusal s (length qs) (length out) → n ≡ pick (eqb r 0) (length qs) 0 → Known r n
+  pub know : (r n : ℕ) → r ≡ batchRefusal s (length qs) (length out) → n ≡ pick (eqb r 0) (length qs) 0 →
+      Known r n
   know r n e f = cases (eqb r 0)
       (λ t.
       let z : batchRefusal s (length qs) (length out) ≡ 0 = sym e ∙ true-eq r 0 t in

@@ -7,7 +7,7 @@ ghost use lib.ListN.{length, drop};
 ghost use Rattle.foundation.specs.Tests.{pick};
 ghost use Rattle.model.specs.Soundness.{soundBytes};
 ghost use Rattle.batch.specs.Prepared.{Prepared};
-ghost use Rattle.batch.specs.Batch.{replyByte, byteFor, batchRefusal, Batched, questionIn, questionsIn};
+ghost use Rattle.model.specs.Batch.{replyByte, byteFor, batchRefusal, Batched, questionIn, questionsIn};
 use model::Access;
 use model::Question;
 use model::Reply;

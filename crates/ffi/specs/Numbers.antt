@@ -18,7 +18,6 @@ use Rattle.model.specs.declared.OptionTerm.the-variants.{With, Without, Either}
 use Rattle.model.specs.declared.SideTerms.{SideTerms}
 use Rattle.model.specs.declared.Request.{Request}
 use Rattle.model.specs.declared.Access.{Access}
-use Rattle.model.specs.declared.Question.{Question}
 use Rattle.model.specs.Answers.{Answered, refusalNumber}
 use Rattle.model.specs.Counting.{countedRefusal, countedNumber}
 use Rattle.model.specs.Session.{Written}
@@ -43,9 +42,6 @@ side anySubject subject anyMode mode object negative = record {
 
 abbrev pub access : ℕ → ℕ → ℕ → Access
 access subject mode object = record { subject = subject; mode = mode; object = object }
-
-abbrev pub question : ℕ → ℕ → ℕ → ℕ → Question
-question subject mode object instant = record { access = access subject mode object; instant = instant }
 
 -- ---- replies
 

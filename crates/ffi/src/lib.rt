@@ -9,11 +9,10 @@ ghost use Rattle.model.specs.Soundness.{soundBytes};
 ghost use Rattle.model.specs.Answers.{create, mayAnswer, whenAnswer};
 ghost use Rattle.model.specs.Report.{reportAnswer};
 ghost use Rattle.model.specs.Session.{textAnswer};
-ghost use Rattle.batch.specs.Batch.{Batched, questionsIn};
+ghost use Rattle.model.specs.Batch.{Batched, question, questionsIn};
 ghost use Rattle.records.specs.Records.{recordsAnswer};
-ghost use Rattle.ffi.specs.Numbers.{termOf, optionOf, side, access, question, packed, packedCount};
-ghost use Rattle.ffi.specs.Numbers.{packedText};
-ghost use Rattle.ffi.specs.Numbers.{AnsweredBy};
+ghost use Rattle.ffi.specs.Numbers.{termOf, optionOf, side, access, packed, packedCount};
+ghost use Rattle.ffi.specs.Numbers.{packedText, AnsweredBy};
 use foundation::Interval;
 use model::Access;
 use model::Counted;
@@ -266,7 +265,8 @@ pub extern "C" fn access_base_text(base: &mut [u8], line: &[u8], out: &mut [u8])
     (w.count as u64) * 4294967296 + w.refusal as u64
 }
 
-// A round's questions, four words each: subject, mode, object, instant. The reply is the refusal's number, or 0.
+// A round's questions, four words each: subject, mode, object, instant. The reply is the refusal's number, or
+// 0.
 #[no_mangle]
 pub extern "C" fn access_base_batch(base: &[u8], words: &[u32], replies: &mut [u8]) -> u64
     ensures { λ r. ⌜ Batched (now (base .entry)) (questionsIn (now (words .entry))) (now (replies .entry)) r

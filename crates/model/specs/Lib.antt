@@ -17,6 +17,8 @@ pub mod SoundnessFacts
 pub mod SoundTests
 pub mod StepFacts
 pub mod Answers
+pub mod Batch
+pub mod BatchFacts
 pub mod Ledger
 pub mod Text
 pub mod Session

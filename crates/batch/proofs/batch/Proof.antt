@@ -1,7 +1,7 @@
--- `batch::batch` meets its contract: a walk of its MIR, by hand, since it is lent a slice of structs. `batch_refusal`
--- makes the reply, `answered` says how many turns the loop takes, and what `prepare` makes is lent to all of them; in
--- a turn the i-th question is read out of the lent slice, handed to `byte_for` by value, and its byte is stored. All
--- that the proof knows of the four is that each meets its contract.
+-- `batch::batch` meets its contract: a walk of its MIR, by hand, since it is lent a slice of structs.
+-- `batch_refusal` makes the reply, `answered` says how many turns the loop takes, and what `prepare` makes is
+-- lent to all of them; in a turn the i-th question is read out of the lent slice, handed to `byte_for` by
+-- value, and its byte is stored. All that the proof knows of the four is that each meets its contract.
 use mathlib.Core.Path.{_≡_, refl, sym, ap, _∙_, subst}
 use Prim.Native.Nat.{ℕ, zero, suc, _+_, _*_, _<_, _^_}
 use native.Mathlib.Omega.{arith}
@@ -23,15 +23,18 @@ use ghost.Atoms.{Atoms, sem}
 use sound.Loop.{loop-rule}
 use sound.WpLaws.{FmC, fmOf, WpFn-mono}
 use types.Kit.{Given, Item, ‵, raw, _⊛_, some, later, ⋆, anyQ, atRet, _$_, _∵_, !, qed, by, move, keep, use1}
-use types.Kit.{use2, use3, drop, split, join, pick, rewrite, fsplit, fjoin, fpick, fpack, feqL, suffices, frame}
+use types.Kit.{use2, use3, drop, split, join, pick, rewrite, fsplit, fjoin, fpick, fpack, feqL, suffices}
+use types.Kit.{frame}
 use types.Kit.{await, done}
 use types.Part.{whole, sub, look-in, agg}
 use types.Tokens.{lft-new, lft-end, lent-back}
 use types.Share.{arr-parts}
 use denote.Array.{Array, arrayVal, array-lawful}
 use denote.ArrayMemory.{array-apart, array-whole}
-use types.Run.{look, look-raw, store, init, forget, stop, hop, fld, from, load, lit, of-opd, and-then, no-more, bin}
-use types.Run.{assigns, assigns-last, land, stays, leaves-loop, returns, enter, addr, alloc1, alloc0, params1, pass1}
+use types.Run.{look, look-raw, store, init, forget, stop, hop, fld, from, load, lit, of-opd, and-then}
+use types.Run.{no-more, bin}
+use types.Run.{assigns, assigns-last, land, stays, leaves-loop, returns, enter, addr, alloc1, alloc0, params1}
+use types.Run.{pass1}
 use types.Run.{pass0, free1, free0, exec}
 use contract.Monad.{fact, Fun}
 use contract.Running.{givenOf, tables, tablesOf}
@@ -57,9 +60,10 @@ use denote.Triple.Call.{calls-at}
 use denote.Triple.Spec.{tripleOf, Meets}
 use denote.Triple.Clauses.{ensured, lasts}
 use denote.Triple.Table.{entered, cited}
-use denote.Triple.Walked.{says, Stays, stay-slice, stay-none-slice, walkOf, Walks, ends-at, walked, goes-slice}
+use denote.Triple.Walked.{says, Stays, stay-slice, stay-none-slice, walkOf, Walks, ends-at, walked}
+use denote.Triple.Walked.{goes-slice}
 use denote.Triple.Walked.{goes-none-slice, walk-meets}
-use Rattle.batch.specs.Batch.{byteFor, batchRefusal, question}
+use Rattle.model.specs.Batch.{byteFor, batchRefusal, question}
 use Rattle.batch.specs.Prepared.{Prepared}
 use Rattle.batch.proofs.Filled.{filled, filled-none, filled-length, filled-next, Known, know}
 use Rattle.foundation.specs.Tests.{pick as choose}
@@ -141,7 +145,8 @@ stayed = (
   (stay-none-slice (1 ∷ []) tt (plain (λ _. T.the-row)) yes, (stay-slice (2 ∷ []) tt (plain (λ _. u8)), tt)),
 )
 
-module _ {M : Type 1} (𝓤 : URA M) (H : Heap 𝓤) (A : Atoms 𝓤) (mem′ : Memory → SProp 𝓤) (run : Routine → Fun 𝓤) where
+module _ {M : Type 1} (𝓤 : URA M) (H : Heap 𝓤) (A : Atoms 𝓤) (mem′ : Memory → SProp 𝓤)
+    (run : Routine → Fun 𝓤) where
   -- the contracts that the proof cites
   abbrev Answer : Contract 𝓤
   Answer = tripleOf 𝓤 H A byte-for.signature (byte-for.spec 𝓤 H A mem′ run)
@@ -207,7 +212,8 @@ module _ {M : Type 1} (𝓤 : URA M) (H : Heap 𝓤) (A : Atoms 𝓤) (W : Given
 
   -- from what is had at exit to the `post` of `walkOf`
   exits : (r n : ℕ) → Known s qs out r n → r < 2 ^ 32 →
-      ent 𝓤 (⋆ 𝓤 H A (‵ (Own₂ (ys n)) ∷ ‵ (flft κ₀ q₀) ∷ ‵ (flft κ₁ q₁) ∷ ‵ (flft κ₂ q₂) ∷ ‵ Own₀ ∷ ‵ Own₁ ∷ []))
+      ent 𝓤 (⋆ 𝓤 H A (‵ (Own₂ (ys n)) ∷ ‵ (flft κ₀ q₀) ∷ ‵ (flft κ₁ q₁) ∷ ‵ (flft κ₂ q₂) ∷ ‵ Own₀ ∷ ‵ Own₁
+      ∷ []))
       (Post (vint w32 r))
   exits r n z g =
       qed W (‵ (Own₂ (ys n)) ∷ ‵ (flft κ₀ q₀) ∷ ‵ (flft κ₁ q₁) ∷ ‵ (flft κ₂ q₂) ∷ ‵ Own₀ ∷ ‵ Own₁ ∷ []) ∵
@@ -216,7 +222,8 @@ module _ {M : Type 1} (𝓤 : URA M) (H : Heap 𝓤) (A : Atoms 𝓤) (W : Given
       says ! (record { refusal = z .refusal; replies = z .bytes }) $
       nothing ! $ move ! (4 ∷ 0 ∷ []) $ join ! $ move ! (3 ∷ 0 ∷ []) $ join ! $ move ! (2 ∷ 0 ∷ []) $ join ! $
       frame ! $
-      nothing ! $ move ! (1 ∷ 0 ∷ []) $ fjoin ! $ move ! (2 ∷ 0 ∷ []) $ fjoin ! $ move ! (1 ∷ 0 ∷ []) $ fjoin ! $
+      nothing ! $ move ! (1 ∷ 0 ∷ []) $ fjoin ! $ move ! (2 ∷ 0 ∷ []) $ fjoin ! $ move !
+      (1 ∷ 0 ∷ []) $ fjoin ! $
       frame ! $
       owned ! u32 (Is u32) (uint-makes 𝓤 H A W w32) r _ (refl, g) $ done !
 
@@ -238,13 +245,15 @@ module _ {M : Type 1} (𝓤 : URA M) (H : Heap 𝓤) (A : Atoms 𝓤) (W : Given
   goes-reply g₁ g₂ =
       qed W (‵ (flft κ₀ q₀) ∷ ‵ Own₀ ∷ []) ∵ nothing ! $ move ! (1 ∷ 0 ∷ []) $ join ! $
       nothing ! $ owned ! usize (Is usize) (uint-makes 𝓤 H A W w64) (length out) _ (refl, g₂) $ fjoin ! $
-      owned ! usize (Is usize) (uint-makes 𝓤 H A W w64) (length qs) _ (refl, g₁) $ fjoin ! $ move ! (2 ∷ 0 ∷ []) $
+      owned ! usize (Is usize) (uint-makes 𝓤 H A W w64) (length qs) _ (refl, g₁) $ fjoin ! $ move !
+      (2 ∷ 0 ∷ []) $
       fjoin ! $
       move ! (1 ∷ 0 ∷ []) $ join ! $ frame ! $ done !
 
   said-of : (r : ℕ) → ent 𝓤 (ensured 𝓤 H A reply.ended (reply.clauses 𝓤 H A mem′ run) (κ₀, tt)
       (x₀, (length qs, (length out, tt))) tt r) (fact 𝓤 (r ≡ batchRefusal s (length qs) (length out)))
-  said-of r = exE 𝓤 _ (λ ws. snd∗ 𝓤 (sem 𝓤 H A (lasts reply.ended (κ₀, tt) (x₀, (length qs, (length out, tt))) ws))
+  said-of r = exE 𝓤 _ (λ ws. snd∗ 𝓤 (sem 𝓤 H A (lasts reply.ended (κ₀, tt)
+      (x₀, (length qs, (length out, tt))) ws))
       (fact 𝓤 (r ≡ batchRefusal s (length qs) (length out))))
 
   abbrev to-answered : ℕ → Answered 𝓤 H A mem′ run .Ghost
@@ -253,11 +262,13 @@ module _ {M : Type 1} (𝓤 : URA M) (H : Heap 𝓤) (A : Atoms 𝓤) (W : Given
   goes-answered : (r : ℕ) → r < 2 ^ 32 → length qs < 2 ^ 64 →
       ent 𝓤 (sem 𝓤 H A ftrue) (Answered 𝓤 H A mem′ run .pre (to-answered r))
   goes-answered r g₁ g₂ =
-      qed W (‵ ftrue ∷ []) ∵ nothing ! $ owned ! usize (Is usize) (uint-makes 𝓤 H A W w64) (length qs) _ (refl, g₂) $
+      qed W (‵ ftrue ∷ []) ∵ nothing ! $ owned ! usize (Is usize) (uint-makes 𝓤 H A W w64) (length qs) _
+      (refl, g₂) $
       fjoin ! $ owned ! u32 (Is u32) (uint-makes 𝓤 H A W w32) r _ (refl, g₁) $ fjoin ! $
       move ! (1 ∷ 0 ∷ []) $ join ! $ frame ! $ done !
 
-  many-of : (r k : ℕ) → ent 𝓤 (ensured 𝓤 H A answered.ended (answered.clauses 𝓤 H A mem′ run) tt (r, (length qs, tt))
+  many-of : (r k : ℕ) → ent 𝓤 (ensured 𝓤 H A answered.ended (answered.clauses 𝓤 H A mem′ run) tt
+      (r, (length qs, tt))
       tt k) (fact 𝓤 (k ≡ choose (eqb r 0) (length qs) 0))
   many-of r k = exE 𝓤 _ (λ ws. snd∗ 𝓤 (sem 𝓤 H A (lasts answered.ended tt (r, (length qs, tt)) ws))
       (fact 𝓤 (k ≡ choose (eqb r 0) (length qs) 0)))
@@ -280,18 +291,23 @@ module _ {M : Type 1} (𝓤 : URA M) (H : Heap 𝓤) (A : Atoms 𝓤) (W : Given
   unfolding partOf
   laid t l u =
       qed W (‵ (fat fullShare table l 0 u) ∷ ‵ (Array u64 width .own t (u ∷ [])) ∷ []) ∵
-      use1 W (‵ (cellAt fullShare (table ∷ []) (u ∷ []) l 0)) (W .laws .at-raw fullShare table l 0 u) $ fjoin ! $
-      fpack ! (List Val) (λ vs. fsep (cellAt fullShare (table ∷ []) vs l 0) (Array u64 width .own t vs)) (u ∷ []) $
+      use1 W (‵ (cellAt fullShare (table ∷ []) (u ∷ []) l 0))
+      (W .laws .at-raw fullShare table l 0 u) $ fjoin ! $
+      fpack ! (List Val) (λ vs. fsep (cellAt fullShare (table ∷ []) vs l 0) (Array u64 width .own t vs))
+      (u ∷ []) $
       done !
 
-  room-back : (n : ℕ) (t : List ℕ) (l : ℕ) → ent 𝓤 (sem 𝓤 H A (arr-parts (shares u64) n .part fullShare t l 0))
+  room-back : (n : ℕ) (t : List ℕ) (l : ℕ) → ent 𝓤
+      (sem 𝓤 H A (arr-parts (shares u64) n .part fullShare t l 0))
       (sem 𝓤 H A (froom (tyArray word n) l 0))
   unfolding partOf
   room-back n t l =
       via 𝓤 (sem 𝓤 H A (partAt (Array u64 n) fullShare t l 0)) (array-whole 𝓤 H A W u64 fullShare n t l 0)
       (qed W (‵ (partAt (Array u64 n) fullShare t l 0) ∷ []) ∵
-      fpick ! (λ vs. fsplit ! $ move ! (1 ∷ []) $ fpick ! (λ us. fsplit ! $ fsplit ! $ feqL ! (λ e. feqL ! (λ k.
-      rewrite ! 1 (λ (ws : List Val). ‵ (cellAt fullShare (tyArray word n ∷ []) ws l 0)) e refl $ move ! (1 ∷ []) $
+      fpick ! (λ vs. fsplit ! $ move ! (1 ∷ []) $ fpick !
+      (λ us. fsplit ! $ fsplit ! $ feqL ! (λ e. feqL ! (λ k.
+      rewrite ! 1 (λ (ws : List Val). ‵ (cellAt fullShare (tyArray word n ∷ []) ws l 0)) e refl $ move !
+      (1 ∷ []) $
       use1 W (‵ (fat fullShare (tyArray word n) l 0 (arrayVal us)))
       (W .laws .raw-at fullShare (tyArray word n) l 0 (arrayVal us)) $
       use1 W (‵ (froom (tyArray word n) l 0)) (W .laws .at-room (tyArray word n) l 0 (arrayVal us)) $
@@ -313,7 +329,8 @@ module _ {M : Type 1} (𝓤 : URA M) (H : Heap 𝓤) (A : Atoms 𝓤) (W : Given
 
   prep-of : (n : ℕ) (t : List ℕ) → ent 𝓤 (ensured 𝓤 H A prep.ended (prep.clauses 𝓤 H A mem′ run) (κ₀, tt)
       (x₀, (n, tt)) tt t) (fact 𝓤 (Ready n t))
-  prep-of n t = exE 𝓤 _ (λ ws. snd∗ 𝓤 (sem 𝓤 H A (lasts prep.ended (κ₀, tt) (x₀, (n, tt)) ws)) (fact 𝓤 (Ready n t)))
+  prep-of n t = exE 𝓤 _ (λ ws. snd∗ 𝓤 (sem 𝓤 H A (lasts prep.ended (κ₀, tt) (x₀, (n, tt)) ws))
+      (fact 𝓤 (Ready n t)))
 
   module _ (α lP : ℕ) (δ : GName) (t : List ℕ) where
     abbrev to : Question → Answer 𝓤 H A mem′ run .Ghost
@@ -332,15 +349,18 @@ module _ {M : Type 1} (𝓤 : URA M) (H : Heap 𝓤) (A : Atoms 𝓤) (W : Given
         ent 𝓤 (sep 𝓤 (A .lft κ₀ q₀) (sep 𝓤 (sem 𝓤 H A Own₀)
         (sep 𝓤 (A .lft (α ∷ []) fullShare) (sem 𝓤 H A (OwnP α lP δ t))))) (Answer 𝓤 H A mem′ run .pre (to d))
     goes g e d p =
-        qed W (‵ (flft κ₀ q₀) ∷ ‵ Own₀ ∷ (‵ (flft (α ∷ []) fullShare) ⊛ ‵ (OwnP α lP δ t)) ∷ []) ∵ move ! (2 ∷ []) $
+        qed W (‵ (flft κ₀ q₀) ∷ ‵ Own₀ ∷ (‵ (flft (α ∷ []) fullShare) ⊛ ‵ (OwnP α lP δ t)) ∷ []) ∵ move !
+        (2 ∷ []) $
         split ! $
         says ! (g, e) $ nothing ! $ move ! (1 ∷ 0 ∷ []) $ join ! $ move ! (2 ∷ 0 ∷ []) $ join ! $ frame ! $
-        nothing ! $ owned ! T.the-row (Is T.the-row) (LL.makes T.the-type T′.the-plain 𝓤 H A) d _ p $ fjoin ! $
+        nothing ! $ owned ! T.the-row (Is T.the-row)
+        (LL.makes T.the-type T′.the-plain 𝓤 H A) d _ p $ fjoin ! $
         move ! (1 ∷ 0 ∷ []) $ fjoin ! $ move ! (1 ∷ 0 ∷ []) $ fjoin ! $ done !
 
     said : (d : Question) (r : ℕ) → ent 𝓤 (ensured 𝓤 H A byte-for.ended (byte-for.clauses 𝓤 H A mem′ run)
         (κ₀, (α ∷ [], tt)) (x₀, (xP lP δ t, (d, tt))) tt r) (fact 𝓤 (r ≡ byteFor s d))
-    said d r = exE 𝓤 _ (λ ws. snd∗ 𝓤 (sem 𝓤 H A (lasts byte-for.ended (κ₀, (α ∷ [], tt)) (x₀, (xP lP δ t, (d, tt)))
+    said d r = exE 𝓤 _ (λ ws. snd∗ 𝓤 (sem 𝓤 H A (lasts byte-for.ended (κ₀, (α ∷ [], tt))
+        (x₀, (xP lP δ t, (d, tt)))
         ws)) (fact 𝓤 (r ≡ byteFor s d)))
 
   module _ (𝓣 : Tables 𝓤 H) (fm : FmC 𝓤 H (W .laws) (𝓣 .C))
@@ -355,22 +375,28 @@ module _ {M : Type 1} (𝓤 : URA M) (H : Heap 𝓤) (A : Atoms 𝓤) (W : Given
     Λ = 𝓣 .Λ
 
     abbrev En : Env 𝓤 H
-    En = (tyInt w32, l₀) ∷ (slice₀, l₁) ∷ (slice₁, l₂) ∷ (slice₂, l₃) ∷ (word, l₄) ∷ (tyInt w32, l₅) ∷ (word, l₆)
+    En = (tyInt w32, l₀) ∷ (slice₀, l₁) ∷ (slice₁, l₂) ∷ (slice₂, l₃) ∷ (word, l₄) ∷ (tyInt w32, l₅)
+        ∷ (word, l₆)
         ∷ (table, l₇) ∷ (sliceP, l₈) ∷ (word, l₉) ∷ (word, l₁₀) ∷ (table, l₁₁) ∷ (refT, l₁₂) ∷ (tyBool, l₁₃)
         ∷ (byte, l₁₄) ∷ (word, l₁₅) ∷ (tyPtr, l₁₆) ∷ (T′.mir, l₁₇) ∷ (tyPtr, l₁₈) ∷ []
 
     -- what no turn touches
     abbrev Frame : List (Item 𝓤)
     Frame = ‵ (fat fullShare slice₀ l₁ 0 v₀) ∷ ‵ (fat fullShare slice₁ l₂ 0 v₁)
-        ∷ ‵ (fat fullShare word l₆ 0 (vint w64 n)) ∷ ‵ (fat fullShare slice₂ l₃ 0 v₂) ∷ ‵ (froom (tyInt w32) l₀ 0)
-        ∷ ‵ (fat fullShare (tyInt w32) l₅ 0 (vint w32 r₀)) ∷ ‵ (fat fullShare word l₄ 0 (vint w64 (length qs)))
+        ∷ ‵ (fat fullShare word l₆ 0 (vint w64 n)) ∷ ‵ (fat fullShare slice₂ l₃ 0 v₂)
+        ∷ ‵ (froom (tyInt w32) l₀ 0)
+        ∷ ‵ (fat fullShare (tyInt w32) l₅ 0 (vint w32 r₀))
+        ∷ ‵ (fat fullShare word l₄ 0 (vint w64 (length qs)))
         ∷ ‵ (fat fullShare word l₁₀ 0 (vint w64 (length out)))
         ∷ ‵ (fdies (tyInt w32) l₀) ∷ ‵ (fdies slice₀ l₁) ∷ ‵ (fdies slice₁ l₂) ∷ ‵ (fdies slice₂ l₃)
-        ∷ ‵ (fdies word l₄) ∷ ‵ (fdies (tyInt w32) l₅) ∷ ‵ (fdies word l₆) ∷ ‵ (fdies word l₉) ∷ ‵ (fdies word l₁₀)
-        ∷ ‵ (fdies tyBool l₁₃) ∷ ‵ (fdies byte l₁₄) ∷ ‵ (fdies word l₁₅) ∷ ‵ (fdies tyPtr l₁₆) ∷ ‵ (fdies T′.mir l₁₇)
+        ∷ ‵ (fdies word l₄) ∷ ‵ (fdies (tyInt w32) l₅) ∷ ‵ (fdies word l₆) ∷ ‵ (fdies word l₉)
+        ∷ ‵ (fdies word l₁₀)
+        ∷ ‵ (fdies tyBool l₁₃) ∷ ‵ (fdies byte l₁₄) ∷ ‵ (fdies word l₁₅) ∷ ‵ (fdies tyPtr l₁₆)
+        ∷ ‵ (fdies T′.mir l₁₇)
         ∷ ‵ (fdies tyPtr l₁₈)
         ∷ ‵ (LentP α l₇ t) ∷ ‵ (fat fullShare sliceP l₈ 0 (sliceVal (l₇, 0) (length t)))
-        ∷ ‵ (fat fullShare refT l₁₂ 0 (vptr l₇ 0)) ∷ ‵ (froom table l₁₁ 0) ∷ ‵ (fdies table l₇) ∷ ‵ (fdies sliceP l₈)
+        ∷ ‵ (fat fullShare refT l₁₂ 0 (vptr l₇ 0)) ∷ ‵ (froom table l₁₁ 0) ∷ ‵ (fdies table l₇)
+        ∷ ‵ (fdies sliceP l₈)
         ∷ ‵ (fdies refT l₁₂) ∷ ‵ (fdies table l₁₁) ∷ []
 
     -- i bytes are written
@@ -395,7 +421,8 @@ module _ {M : Type 1} (𝓤 : URA M) (H : Heap 𝓤) (A : Atoms 𝓤) (W : Given
     unfolding afterTurn
     ends X =
         qed W (At n) ∵ exec ! C Λ En M′.turn-1 (anyQ (afterTurn 𝓤 H X Left)) $
-        assigns ! (bin ! (load ! (from ! (stop !)) (look ! 8 refl)) (load ! (from ! (stop !)) (look ! 17 refl)) tt)
+        assigns ! (bin ! (load ! (from ! (stop !)) (look ! 8 refl))
+        (load ! (from ! (stop !)) (look ! 17 refl)) tt)
         (from ! (stop !)) (init ! 9 refl (tt, tt)) $
         rewrite ! 9 (λ (t : Bool). ‵ (fat fullShare tyBool l₁₃ 0 (vbool t)))
         (fails (ltb n n) (λ a. omega (arith, ltb→lt n n a))) refl $
@@ -409,10 +436,13 @@ module _ {M : Type 1} (𝓤 : URA M) (H : Heap 𝓤) (A : Atoms 𝓤) (W : Given
         returns ! (look ! 18 refl) $ forget ! 7 refl $ forget ! 8 refl $ forget ! 14 refl $ forget ! 15 refl $
         forget ! 16 refl $ forget ! 17 refl $ forget ! 18 refl $ forget ! 19 refl $ forget ! 20 refl $
         forget ! 21 refl $ forget ! 37 refl $ forget ! 38 refl $
-        keep ! (18 ∷ 22 ∷ 14 ∷ 23 ∷ 15 ∷ 24 ∷ 17 ∷ 25 ∷ 20 ∷ 26 ∷ 19 ∷ 27 ∷ 16 ∷ 28 ∷ 0 ∷ 40 ∷ 37 ∷ 41 ∷ 7 ∷ 29 ∷ 21
-        ∷ 30 ∷ 39 ∷ 43 ∷ 38 ∷ 42 ∷ 8 ∷ 31 ∷ 9 ∷ 32 ∷ 10 ∷ 33 ∷ 11 ∷ 34 ∷ 12 ∷ 35 ∷ 13 ∷ 36 ∷ 1 ∷ 2 ∷ 3 ∷ 4 ∷ 5 ∷ 6
+        keep ! (18 ∷ 22 ∷ 14 ∷ 23 ∷ 15 ∷ 24 ∷ 17 ∷ 25 ∷ 20 ∷ 26 ∷ 19 ∷ 27 ∷ 16 ∷ 28 ∷ 0 ∷ 40 ∷ 37 ∷ 41 ∷ 7
+        ∷ 29 ∷ 21
+        ∷ 30 ∷ 39 ∷ 43 ∷ 38 ∷ 42 ∷ 8 ∷ 31 ∷ 9 ∷ 32 ∷ 10 ∷ 33 ∷ 11 ∷ 34 ∷ 12 ∷ 35 ∷ 13 ∷ 36 ∷ 1 ∷ 2 ∷ 3 ∷ 4 ∷ 5
+        ∷ 6
         ∷ []) $
-        free1 ! $ free1 ! $ free1 ! $ free1 ! $ free1 ! $ free1 ! $ free1 ! $ free1 ! $ free1 ! $ free1 ! $ free1 ! $
+        free1 ! $ free1 ! $ free1 ! $ free1 ! $ free1 ! $ free1 ! $ free1 ! $ free1 ! $ free1 ! $ free1 ! $
+        free1 ! $
         free1 ! $ free1 ! $ free1 ! $ free1 ! $ free1 ! $ free1 ! $ free1 ! $ free1 ! $ free0 ! $
         by ! (exits r₀ n z r-fits)
 
@@ -422,9 +452,11 @@ module _ {M : Type 1} (𝓤 : URA M) (H : Heap 𝓤) (A : Atoms 𝓤) (W : Given
     unfolding afterTurn
     more i X less next =
         qed W (At i) ∵ exec ! C Λ En M′.turn-1 (anyQ (afterTurn 𝓤 H X Left)) $
-        assigns ! (bin ! (load ! (from ! (stop !)) (look ! 8 refl)) (load ! (from ! (stop !)) (look ! 17 refl)) tt)
+        assigns ! (bin ! (load ! (from ! (stop !)) (look ! 8 refl))
+        (load ! (from ! (stop !)) (look ! 17 refl)) tt)
         (from ! (stop !)) (init ! 9 refl (tt, tt)) $
-        rewrite ! 9 (λ (t : Bool). ‵ (fat fullShare tyBool l₁₃ 0 (vbool t))) (holds (ltb i n) (lt→ltb i n less))
+        rewrite ! 9 (λ (t : Bool). ‵ (fat fullShare tyBool l₁₃ 0 (vbool t)))
+        (holds (ltb i n) (lt→ltb i n less))
         refl $
         stays ! (load ! (from ! (stop !)) (look ! 9 refl)) $
         -- the place of qs[i]
@@ -438,21 +470,26 @@ module _ {M : Type 1} (𝓤 : URA M) (H : Heap 𝓤) (A : Atoms 𝓤) (W : Given
         move ! (5 ∷ []) $ use1 W (‵ Own₁ ⊛ ‵ Own₁) (shr-slice-copy 𝓤 H A W (named 1) κ₁ T.the-row .twice x₁
         (v₁ ∷ [])) $ split ! $
         fsplit ! $ drop ! $ fsplit ! $ drop ! $ move ! (0 ∷ 4 ∷ []) $
-        looks-slice ! tt T.the-row (Is T.the-row) (shows 𝓤 H A T.the-row) vals (LL.tells T.the-type T′.the-laws)
+        looks-slice ! tt T.the-row (Is T.the-row) (shows 𝓤 H A T.the-row) vals
+        (LL.tells T.the-type T′.the-laws)
         (LL.copy T.the-type T′.the-copy 𝓤 H A W) qs (x₁ .ptr .0) (x₁ .ptr .1) (λ q′.
-        elem-out ! T.the-row (Is T.the-row) (shows 𝓤 H A T.the-row) vals (LL.tells T.the-type T′.the-laws) q′ qs i
+        elem-out ! T.the-row (Is T.the-row) (shows 𝓤 H A T.the-row) vals
+        (LL.tells T.the-type T′.the-laws) q′ qs i
         none (x₁ .ptr .0) (x₁ .ptr .1) in-qs (λ g.
-        -- [qs[i]; what it owns; the others; the open borrow; the borrow; qs; out; s's token; out's token; s; the
-        -- table's token; the table; _9; …]
-        assigns ! (of-opd ! (load ! (from ! (hop ! (look ! 16 refl) (stop !))) (look-raw ! 0 refl))) (from ! (stop !))
+        -- [qs[i]; what it owns; the others; the open borrow; the borrow; qs; out; s's token; out's token; s;
+        -- the table's token; the table; _9; …]
+        assigns ! (of-opd ! (load ! (from ! (hop ! (look ! 16 refl) (stop !))) (look-raw ! 0 refl)))
+        (from ! (stop !))
         (init ! 17 refl (LL.lawful T.the-type T′.the-laws 𝓤 H A W .typed d (vals d) g .0)) $
         elem-back ! T.the-row q′ qs i none (vals (getD qs i none)) (x₁ .ptr .0) (x₁ .ptr .1) in-qs $
         shuts-slice ! tt T.the-row q′ qs (x₁ .ptr .0) (x₁ .ptr .1) $ move ! (1 ∷ []) $ drop ! $
         -- [qs's token; qs; out; s's token; out's token; s; the table's token; the table; _9; …]: the call
-        move ! (5 ∷ []) $ use1 W (‵ Own₀ ⊛ ‵ Own₀) (shr-slice-copy 𝓤 H A W (named 0) κ₀ u8 .twice x₀ (v₀ ∷ [])) $
+        move ! (5 ∷ []) $ use1 W (‵ Own₀ ⊛ ‵ Own₀)
+        (shr-slice-copy 𝓤 H A W (named 0) κ₀ u8 .twice x₀ (v₀ ∷ [])) $
         split ! $
         move ! (8 ∷ []) $ use1 W (‵ (OwnP α l₇ δ t) ⊛ ‵ (OwnP α l₇ δ t))
-        (shr-slice-copy 𝓤 H A W (named 1) (α ∷ []) u64 .twice (xP l₇ δ t) (sliceVal (l₇, 0) (length t) ∷ [])) $
+        (shr-slice-copy 𝓤 H A W (named 1) (α ∷ []) u64 .twice (xP l₇ δ t) (sliceVal (l₇, 0) (length t) ∷ []))
+        $
         split ! $
         move ! (9 ∷ 0 ∷ []) $ join ! $ move ! (7 ∷ 2 ∷ 0 ∷ []) $
         use3 W (raw (Answer 𝓤 H A mem′ run .pre (to α l₇ δ t (getD qs i none))))
@@ -463,7 +500,8 @@ module _ {M : Type 1} (𝓤 : URA M) (H : Heap 𝓤) (A : Atoms 𝓤) (W : Given
         (and-then ! (load ! (from ! (stop !)) (look ! 38 refl))
         (and-then ! (load ! (from ! (stop !)) (look ! 12 refl)) (no-more !)))) (λ u.
         use1 W (later (some (λ (r : ℕ). ((‵ (flft κ₀ q₀) ⊛ ‵ (flft (α ∷ []) fullShare) ⊛ ‵ ftrue) ⊛ ‵
-        (u8 .own r (u ∷ []))) ⊛ raw (ensured 𝓤 H A byte-for.ended (byte-for.clauses 𝓤 H A mem′ run) (κ₀, (α ∷ [], tt))
+        (u8 .own r (u ∷ []))) ⊛ raw (ensured 𝓤 H A byte-for.ended (byte-for.clauses 𝓤 H A mem′ run)
+        (κ₀, (α ∷ [], tt))
         (x₀, (xP l₇ δ t, (getD qs i none, tt))) tt r)))) (id⊢ 𝓤 _) $ await ! tt $ pick ! (λ r.
         split ! $ move ! (1 ∷ []) $ use1 W (raw (fact 𝓤 (r ≡ byteFor s (getD qs i none))))
         (said α l₇ δ t (getD qs i none) r) $ heard ! (r ≡ byteFor s (getD qs i none))
@@ -472,26 +510,29 @@ module _ {M : Type 1} (𝓤 : URA M) (H : Heap 𝓤) (A : Atoms 𝓤) (W : Given
         land ! (from ! (stop !)) (init ! 10 refl (uint-lawful 𝓤 H A W w8 .typed r _ is .0)) $
         rewrite ! 10 (λ (w : Val). ‵ (fat fullShare byte l₁₄ 0 w)) (ap only (is .0)) refl $
         drop ! $ split ! $ move ! (1 ∷ []) $ split ! $ move ! (1 ∷ []) $ drop ! $
-        -- [the table's token; s's token; the table; s; qs's token; qs; out; out's token; _9; …]: the place of out[i],
-        -- and the store
+        -- [the table's token; s's token; the table; s; qs's token; qs; out; out's token; _9; …]: the place of
+        -- out[i], and the store
         assigns ! (bin ! (load ! (from ! (fld ! refl (stop !))) (look-in ! 18 (sub ! 0 refl (whole !))))
         (load ! (from ! (stop !)) (look ! 8 refl)) tt) (from ! (stop !)) (init ! 14 refl (tt, tt)) $
         rewrite ! 14 (λ (p : ℕ). ‵ (fat fullShare tyPtr l₁₈ 0 (vptr b p))) (sym (place-byte o i)) refl $
         move ! (6 ∷ []) $ fsplit ! $ move ! (1 ∷ []) $ fsplit ! $ move ! (0 ∷ 1 ∷ 9 ∷ []) $
         opens-slice ! tt u8 (ys i) b o $ elem-out ! u8 (Is u8) (shows 𝓤 H A u8) (uint-vals w8) (uint-tells w8)
         fullShare (ys i) i 0 b o in-out (λ _.
-        -- [out[i]; what it owns; the others; the open borrow; obs; auth; out's fact; the table's token; s's token;
-        -- the table; s; qs's token; qs; _9; …]
-        assigns ! (of-opd ! (load ! (from ! (stop !)) (look ! 15 refl))) (from ! (hop ! (look ! 19 refl) (stop !)))
+        -- [out[i]; what it owns; the others; the open borrow; obs; auth; out's fact; the table's token; s's
+        -- token; the table; s; qs's token; qs; _9; …]
+        assigns ! (of-opd ! (load ! (from ! (stop !)) (look ! 15 refl)))
+        (from ! (hop ! (look ! 19 refl) (stop !)))
         (store ! 0 refl (tt, record { fits = is .1 })) $
         move ! (1 ∷ []) $ drop ! $ owned ! u8 (Is u8) (uint-makes 𝓤 H A W w8) r _ (refl, is .1) $
         move ! (1 ∷ 0 ∷ []) $ elem-put ! u8 fullShare (ys i) i r (vint w8 r ∷ []) b o in-out $
         closes-slice ! tt u8 (ys i) (set (ys i) i r) (length-set (ys i) i r) b o $
-        assigns-last ! (bin ! (load ! (from ! (stop !)) (look ! 10 refl)) (lit ! tt) (record { fits = next-fits }))
+        assigns-last ! (bin ! (load ! (from ! (stop !)) (look ! 10 refl)) (lit ! tt)
+        (record { fits = next-fits }))
         (from ! (stop !)) (store ! 10 refl (tt, record { fits = next-fits })) $
         forget ! 11 refl $ forget ! 12 refl $ forget ! 13 refl $ forget ! 14 refl $ forget ! 15 refl $
         forget ! 16 refl $
-        move ! (3 ∷ []) $ drop ! $ fjoin ! $ pureI ! (at-slice u8 (x₂ (set (ys i) i r)) (v₂ ∷ [])) (tt, (tt, tt))
+        move ! (3 ∷ []) $ drop ! $ fjoin ! $ pureI ! (at-slice u8 (x₂ (set (ys i) i r)) (v₂ ∷ []))
+        (tt, (tt, tt))
         (same-place r, subst (Room u8) (sym (same-length r)) room₂) $ fjoin ! $
         rewrite ! 0 (λ (l : List ℕ). ‵ (Own₂ l)) (stored r e) refl $
         rewrite ! 8 (λ (j : ℕ). ‵ (fat fullShare word l₉ 0 (vint w64 j))) (one-more i) refl $
@@ -508,7 +549,8 @@ module _ {M : Type 1} (𝓤 : URA M) (H : Heap 𝓤) (A : Atoms 𝓤) (W : Given
         same-place r = ap (λ (m : ℕ). sliceVal (b, o) m ∷ []) (sym (same-length r))
 
         stored : (r : ℕ) → r ≡ byteFor s (getD qs i none) → set (ys i) i r ≡ ys (suc i)
-        stored r e = ap (λ (v : ℕ). set (ys i) i v) e ∙ filled-next s qs out none i (omega (arith, z .in-questions))
+        stored r e = ap (λ (v : ℕ). set (ys i) i v) e
+            ∙ filled-next s qs out none i (omega (arith, z .in-questions))
             (omega (arith, z .in-room))
 
         in-qs : i < length qs
@@ -536,11 +578,13 @@ module _ {M : Type 1} (𝓤 : URA M) (H : Heap 𝓤) (A : Atoms 𝓤) (W : Given
         (exI 𝓤 (λ (u : ℕ). guard 𝓤 (u < t) (Inv u)) t′))
 
     -- a turn from the invariant at t leaves the loop, or ends in the invariant below t
-    turn-at : (t i : ℕ) → i + t ≡ n → ent 𝓤 (⋆ 𝓤 H A (At i)) (Wp 𝓤 H C Λ En M′.turn-1 (afterTurn 𝓤 H (Below t) Left))
+    turn-at : (t i : ℕ) → i + t ≡ n → ent 𝓤 (⋆ 𝓤 H A (At i))
+        (Wp 𝓤 H C Λ En M′.turn-1 (afterTurn 𝓤 H (Below t) Left))
     turn-at zero i e = let f : n ≡ i = omega arith in subst
         (λ (j : ℕ). ent 𝓤 (⋆ 𝓤 H A (At j)) (Wp 𝓤 H C Λ En M′.turn-1 (afterTurn 𝓤 H (Below zero) Left))) f
         (ends (Below zero))
-    turn-at (suc t) i e = more i (Below (suc t)) (omega arith) (below (suc t) (suc i) t (omega arith) (omega arith))
+    turn-at (suc t) i e = more i (Below (suc t)) (omega arith)
+        (below (suc t) (suc i) t (omega arith) (omega arith))
 
     turns : (t : ℕ) → ent 𝓤 (Inv t) (Wp 𝓤 H C Λ En M′.turn-1 (afterTurn 𝓤 H (Below t) Left))
     turns t = exE 𝓤 (λ (i : ℕ). guard 𝓤 (i + t ≡ n) (⋆ 𝓤 H A (At i)))
@@ -561,7 +605,8 @@ module _ {M : Type 1} (𝓤 : URA M) (H : Heap 𝓤) (A : Atoms 𝓤) (W : Given
       (room₁ : Room T.the-row (length qs)) (room₂ : Room u8 (length out))
       (l₀ l₁ l₂ l₃ l₄ l₅ l₆ l₇ l₈ l₉ l₁₀ l₁₁ l₁₂ l₁₃ l₁₄ l₁₅ l₁₆ l₁₇ l₁₈ : ℕ) where
     abbrev Here : Env 𝓤 H
-    Here = (tyInt w32, l₀) ∷ (slice₀, l₁) ∷ (slice₁, l₂) ∷ (slice₂, l₃) ∷ (word, l₄) ∷ (tyInt w32, l₅) ∷ (word, l₆)
+    Here = (tyInt w32, l₀) ∷ (slice₀, l₁) ∷ (slice₁, l₂) ∷ (slice₂, l₃) ∷ (word, l₄) ∷ (tyInt w32, l₅)
+        ∷ (word, l₆)
         ∷ (table, l₇) ∷ (sliceP, l₈) ∷ (word, l₉) ∷ (word, l₁₀) ∷ (table, l₁₁) ∷ (refT, l₁₂) ∷ (tyBool, l₁₃)
         ∷ (byte, l₁₄) ∷ (word, l₁₅) ∷ (tyPtr, l₁₆) ∷ (T′.mir, l₁₇) ∷ (tyPtr, l₁₈) ∷ []
 
@@ -572,8 +617,10 @@ module _ {M : Type 1} (𝓤 : URA M) (H : Heap 𝓤) (A : Atoms 𝓤) (W : Given
         ∷ ‵ (froom byte l₁₄ 0) ∷ ‵ (fdies byte l₁₄) ∷ ‵ (froom tyBool l₁₃ 0) ∷ ‵ (fdies tyBool l₁₃)
         ∷ ‵ (froom refT l₁₂ 0) ∷ ‵ (fdies refT l₁₂) ∷ ‵ (froom table l₁₁ 0) ∷ ‵ (fdies table l₁₁)
         ∷ ‵ (fat fullShare word l₁₀ 0 (vint w64 (length out))) ∷ ‵ (fdies word l₁₀) ∷ ‵ (froom word l₉ 0)
-        ∷ ‵ (fdies word l₉) ∷ ‵ (froom sliceP l₈ 0) ∷ ‵ (fdies sliceP l₈) ∷ ‵ (froom table l₇ 0) ∷ ‵ (fdies table l₇)
-        ∷ i₆ ∷ ‵ (fdies word l₆) ∷ i₅ ∷ ‵ (fdies (tyInt w32) l₅) ∷ ‵ (fat fullShare word l₄ 0 (vint w64 (length qs)))
+        ∷ ‵ (fdies word l₉) ∷ ‵ (froom sliceP l₈ 0) ∷ ‵ (fdies sliceP l₈) ∷ ‵ (froom table l₇ 0)
+        ∷ ‵ (fdies table l₇)
+        ∷ i₆ ∷ ‵ (fdies word l₆) ∷ i₅ ∷ ‵ (fdies (tyInt w32) l₅)
+        ∷ ‵ (fat fullShare word l₄ 0 (vint w64 (length qs)))
         ∷ ‵ (fdies word l₄) ∷ ‵ (fat fullShare slice₂ l₃ 0 v₂) ∷ ‵ (fdies slice₂ l₃)
         ∷ ‵ (fat fullShare slice₁ l₂ 0 v₁) ∷ ‵ (fdies slice₁ l₂) ∷ ‵ (fat fullShare slice₀ l₁ 0 v₀)
         ∷ ‵ (fdies slice₀ l₁) ∷ ‵ (froom (tyInt w32) l₀ 0) ∷ ‵ (fdies (tyInt w32) l₀) ∷ []
@@ -588,43 +635,52 @@ module _ {M : Type 1} (𝓤 : URA M) (H : Heap 𝓤) (A : Atoms 𝓤) (W : Given
         ent 𝓤 (⋆ 𝓤 H A (Mid₂ r n)) (Wp 𝓤 H (𝓣 .C) (𝓣 .Λ) Here M′.t-5 (atReturn 𝓤 H Here Post))
     third r n z r-fits n-fits =
         qed W (Mid₂ r n) ∵ exec ! (𝓣 .C) (𝓣 .Λ) Here M′.t-5 (atRet Here Post) $
-        move ! (1 ∷ []) $ use1 W (‵ Own₀ ⊛ ‵ Own₀) (shr-slice-copy 𝓤 H A W (named 0) κ₀ u8 .twice x₀ (v₀ ∷ [])) $
+        move ! (1 ∷ []) $ use1 W (‵ Own₀ ⊛ ‵ Own₀)
+        (shr-slice-copy 𝓤 H A W (named 0) κ₀ u8 .twice x₀ (v₀ ∷ [])) $
         split ! $ move ! (2 ∷ 0 ∷ []) $
         use2 W (raw (Prep 𝓤 H A mem′ run .pre (to-prep n))) (goes-prep n (z .sound) n-fits) $
         calls-at ! fm (Prep 𝓤 H A mem′ run) known-prep (to-prep n)
         (and-then ! (load ! (from ! (stop !)) (look ! 40 refl))
         (and-then ! (load ! (from ! (stop !)) (look ! 30 refl)) (no-more !))) (λ u.
-        use1 W (later (some (λ (t : List ℕ). ((‵ (flft κ₀ q₀) ⊛ ‵ ftrue) ⊛ ‵ (Array u64 width .own t (u ∷ []))) ⊛ raw
+        use1 W (later (some (λ (t : List ℕ). ((‵ (flft κ₀ q₀) ⊛ ‵ ftrue) ⊛ ‵
+        (Array u64 width .own t (u ∷ []))) ⊛ raw
         (ensured 𝓤 H A prep.ended (prep.clauses 𝓤 H A mem′ run) (κ₀, tt) (x₀, (n, tt)) tt t)))) (id⊢ 𝓤 _) $
         await ! tt $ pick ! (λ t.
         split ! $ move ! (1 ∷ []) $ use1 W (raw (fact 𝓤 (Ready n t))) (prep-of n t) $
         heard ! (Ready n t) (λ e. split ! $ move ! (1 ∷ []) $
         peeks ! (Array u64 width) (Is (Array u64 width)) (shows 𝓤 H A (Array u64 width)) t (u ∷ []) (λ is.
-        land ! (from ! (stop !)) (init ! 21 refl (array-lawful 𝓤 H A W u64 (uint-lawful 𝓤 H A W w64) width .typed t _
+        land ! (from ! (stop !)) (init ! 21 refl (array-lawful 𝓤 H A W u64
+        (uint-lawful 𝓤 H A W w64) width .typed t _
         is .0)) $
         assigns ! (of-opd ! (load ! (from ! (stop !)) (look ! 21 refl))) (from ! (stop !))
         (init ! 29 refl (array-lawful 𝓤 H A W u64 (uint-lawful 𝓤 H A W w64) width .typed t _ is .0)) $
         forget ! 21 refl $ move ! (1 ∷ []) $ split ! $ move ! (1 ∷ []) $ drop ! $
         -- [s's token; what the table owns; s; out's token; qs's token; out; qs; _18; …]
         assigns ! (addr ! (from ! (stop !))) (from ! (stop !)) (init ! 19 refl (tt, tt)) $
-        assigns ! (agg ! (and-then ! (load ! (from ! (stop !)) (look ! 19 refl)) (and-then ! (lit ! tt) (no-more !))))
+        assigns ! (agg ! (and-then ! (load ! (from ! (stop !)) (look ! 19 refl))
+        (and-then ! (lit ! tt) (no-more !))))
         (from ! (stop !)) (init ! 27 refl (tt, (tt, (record { fits = lit< tt }, tt)))) $
         assigns ! (of-opd ! (lit ! tt)) (from ! (stop !)) (init ! 25 refl (tt, record { fits = lit< tt })) $
         move ! (29 ∷ 1 ∷ []) $ use2 W (‵ (partAt (Array u64 width) fullShare t l₇ 0)) (laid t l₇ u) $
         use1 W (‵ (arr-parts (shares u64) width .part fullShare t l₇ 0))
         (array-apart 𝓤 H A W u64 fullShare tt width t l₇ 0) $
-        rewrite ! 0 (λ (k : ℕ). ‵ (arr-parts (shares u64) k .part fullShare t l₇ 0)) (sym (is .1 .0 .1)) refl $
+        rewrite ! 0 (λ (k : ℕ). ‵ (arr-parts (shares u64) k .part fullShare t l₇ 0))
+        (sym (is .1 .0 .1)) refl $
         lft-new ! tt (λ α. move ! (1 ∷ []) $
         use1 W (later (some (λ (δ : GName). ‵ (OwnP α l₇ δ t) ⊛ ‵ (LentP α l₇ t))))
         (lends-shr-slice 𝓤 H A W u64 (named 1) (α ∷ []) fullShare t l₇ 0
         (subst (Room u64) (sym (is .1 .0 .1)) (lit< tt, lit< tt))) $ await ! tt $ pick ! (λ δ. split ! $
         -- [the table; its loan; its token; s's token; s; out's token; qs's token; out; qs; _18; …]
         rewrite ! 7 (λ (l : List ℕ). ‵ (Own₂ l)) (filled-none s qs out) refl $
-        rewrite ! 29 (λ (k : ℕ). ‵ (fat fullShare sliceP l₈ 0 (sliceVal (l₇, 0) k))) (sym (is .1 .0 .1)) refl $
-        keep ! (7 ∷ 3 ∷ 6 ∷ 5 ∷ 4 ∷ 8 ∷ 2 ∷ 0 ∷ 27 ∷ 19 ∷ 17 ∷ 15 ∷ 13 ∷ 11 ∷ 9 ∷ 42 ∷ 40 ∷ 32 ∷ 38 ∷ 44 ∷ 34 ∷ 36
-        ∷ 25 ∷ 45 ∷ 43 ∷ 41 ∷ 39 ∷ 37 ∷ 35 ∷ 33 ∷ 28 ∷ 26 ∷ 20 ∷ 18 ∷ 16 ∷ 14 ∷ 12 ∷ 10 ∷ 1 ∷ 29 ∷ 21 ∷ 23 ∷ 31 ∷ 30
+        rewrite ! 29 (λ (k : ℕ). ‵ (fat fullShare sliceP l₈ 0 (sliceVal (l₇, 0) k)))
+        (sym (is .1 .0 .1)) refl $
+        keep ! (7 ∷ 3 ∷ 6 ∷ 5 ∷ 4 ∷ 8 ∷ 2 ∷ 0 ∷ 27 ∷ 19 ∷ 17 ∷ 15 ∷ 13 ∷ 11 ∷ 9 ∷ 42 ∷ 40 ∷ 32 ∷ 38 ∷ 44 ∷ 34
+        ∷ 36
+        ∷ 25 ∷ 45 ∷ 43 ∷ 41 ∷ 39 ∷ 37 ∷ 35 ∷ 33 ∷ 28 ∷ 26 ∷ 20 ∷ 18 ∷ 16 ∷ 14 ∷ 12 ∷ 10 ∷ 1 ∷ 29 ∷ 21 ∷ 23
+        ∷ 31 ∷ 30
         ∷ 22 ∷ 24 ∷ []) $
-        by ! (loops 𝓣 fm known room₁ room₂ r n z r-fits α δ t e (is .1 .0 .1) l₀ l₁ l₂ l₃ l₄ l₅ l₆ l₇ l₈ l₉ l₁₀ l₁₁
+        by ! (loops 𝓣 fm known room₁ room₂ r n z r-fits α δ t e
+        (is .1 .0 .1) l₀ l₁ l₂ l₃ l₄ l₅ l₆ l₇ l₈ l₉ l₁₀ l₁₁
         l₁₂ l₁₃ l₁₄ l₁₅ l₁₆ l₁₇ l₁₈)))))))
 
     -- once the refusal is known
@@ -637,13 +693,15 @@ module _ {M : Type 1} (𝓤 : URA M) (H : Heap 𝓤) (A : Atoms 𝓤) (W : Given
         ent 𝓤 (⋆ 𝓤 H A (Mid r)) (Wp 𝓤 H (𝓣 .C) (𝓣 .Λ) Here M′.t-4 (atReturn 𝓤 H Here Post))
     second r e r-fits =
         qed W (Mid r) ∵ exec ! (𝓣 .C) (𝓣 .Λ) Here M′.t-4 (atRet Here Post) $
-        nothing ! $ use1 W (raw (Answered 𝓤 H A mem′ run .pre (to-answered r))) (goes-answered r r-fits (room₁ .0)) $
+        nothing ! $ use1 W (raw (Answered 𝓤 H A mem′ run .pre (to-answered r)))
+        (goes-answered r r-fits (room₁ .0)) $
         -- [what the callee asks; s's token; s; out's token; qs's token; out; qs; _17; …; _0; …]
         calls-at ! fm (Answered 𝓤 H A mem′ run) known-answered (to-answered r)
         (and-then ! (load ! (from ! (stop !)) (look ! 33 refl))
         (and-then ! (load ! (from ! (stop !)) (look ! 35 refl)) (no-more !))) (λ w.
         use1 W (later (some (λ (k : ℕ). (‵ ftrue ⊛ ‵ (usize .own k (w ∷ []))) ⊛ raw
-        (ensured 𝓤 H A answered.ended (answered.clauses 𝓤 H A mem′ run) tt (r, (length qs, tt)) tt k)))) (id⊢ 𝓤 _) $
+        (ensured 𝓤 H A answered.ended (answered.clauses 𝓤 H A mem′ run) tt (r, (length qs, tt)) tt k))))
+        (id⊢ 𝓤 _) $
         await ! tt $ pick ! (λ k.
         split ! $ move ! (1 ∷ []) $ use1 W (raw (fact 𝓤 (k ≡ choose (eqb r 0) (length qs) 0))) (many-of r k) $
         heard ! (k ≡ choose (eqb r 0) (length qs) 0) (λ e₂. split ! $ drop ! $
@@ -660,7 +718,8 @@ module _ {M : Type 1} (𝓤 : URA M) (H : Heap 𝓤) (A : Atoms 𝓤) (W : Given
     first : ent 𝓤 (⋆ 𝓤 H A Start) (Wp 𝓤 H (𝓣 .C) (𝓣 .Λ) Here M′.t-3 (atReturn 𝓤 H Here Post))
     first =
         qed W Start ∵ exec ! (𝓣 .C) (𝓣 .Λ) Here M′.t-3 (atRet Here Post) $
-        move ! (5 ∷ []) $ use1 W (‵ Own₀ ⊛ ‵ Own₀) (shr-slice-copy 𝓤 H A W (named 0) κ₀ u8 .twice x₀ (v₀ ∷ [])) $
+        move ! (5 ∷ []) $ use1 W (‵ Own₀ ⊛ ‵ Own₀)
+        (shr-slice-copy 𝓤 H A W (named 0) κ₀ u8 .twice x₀ (v₀ ∷ [])) $
         split ! $ move ! (4 ∷ 0 ∷ []) $
         use2 W (raw (Replied 𝓤 H A mem′ run .pre to-reply)) (goes-reply (room₁ .0) (room₂ .0)) $
         calls-at ! fm (Replied 𝓤 H A mem′ run) known-reply to-reply
@@ -668,9 +727,11 @@ module _ {M : Type 1} (𝓤 : URA M) (H : Heap 𝓤) (A : Atoms 𝓤) (W : Given
         (and-then ! (load ! (from ! (stop !)) (look ! 34 refl))
         (and-then ! (load ! (from ! (stop !)) (look ! 22 refl)) (no-more !)))) (λ u.
         use1 W (later (some (λ (r : ℕ). ((‵ (flft κ₀ q₀) ⊛ ‵ ftrue) ⊛ ‵ (u32 .own r (u ∷ []))) ⊛ raw
-        (ensured 𝓤 H A reply.ended (reply.clauses 𝓤 H A mem′ run) (κ₀, tt) (x₀, (length qs, (length out, tt))) tt
+        (ensured 𝓤 H A reply.ended (reply.clauses 𝓤 H A mem′ run) (κ₀, tt)
+        (x₀, (length qs, (length out, tt))) tt
         r)))) (id⊢ 𝓤 _) $ await ! tt $ pick ! (λ r.
-        split ! $ move ! (1 ∷ []) $ use1 W (raw (fact 𝓤 (r ≡ batchRefusal s (length qs) (length out)))) (said-of r) $
+        split ! $ move ! (1 ∷ []) $ use1 W (raw (fact 𝓤 (r ≡ batchRefusal s (length qs) (length out))))
+        (said-of r) $
         heard ! (r ≡ batchRefusal s (length qs) (length out)) (λ e. split ! $ move ! (1 ∷ []) $
         peeks ! u32 (Is u32) (shows 𝓤 H A u32) r (u ∷ []) (λ is.
         land ! (from ! (stop !)) (init ! 33 refl (uint-lawful 𝓤 H A W w32 .typed r _ is .0)) $
@@ -678,7 +739,8 @@ module _ {M : Type 1} (𝓤 : URA M) (H : Heap 𝓤) (A : Atoms 𝓤) (W : Given
         drop ! $ split ! $ move ! (1 ∷ []) $ drop ! $ by ! (second r e (is .1))))))
 
   -- the MIR, up to the first call
-  walk : (𝓣 : Tables 𝓤 H) → FmC 𝓤 H (W .laws) (𝓣 .C) → Triple 𝓤 (𝓣 .C #batch·byte-for) (Answer 𝓤 H A mem′ run) →
+  walk : (𝓣 : Tables 𝓤 H) → FmC 𝓤 H (W .laws) (𝓣 .C) →
+      Triple 𝓤 (𝓣 .C #batch·byte-for) (Answer 𝓤 H A mem′ run) →
       Triple 𝓤 (𝓣 .C #batch·prepare) (Prep 𝓤 H A mem′ run) →
       Triple 𝓤 (𝓣 .C #batch·batch-refusal) (Replied 𝓤 H A mem′ run) →
       Triple 𝓤 (𝓣 .C #batch·answered) (Answered 𝓤 H A mem′ run) →
@@ -687,7 +749,8 @@ module _ {M : Type 1} (𝓤 : URA M) (H : Heap 𝓤) (A : Atoms 𝓤) (W : Given
       (WpFn 𝓤 H (𝓣 .C) (𝓣 .Λ) code.function (v₀ ∷ v₁ ∷ v₂ ∷ []) Post)
   walk 𝓣 fm known known-prep known-reply known-answered room₀ room₁ room₂ =
       qed W ((‵ (flft κ₀ q₀) ⊛ ‵ (flft κ₁ q₁) ⊛ ‵ (flft κ₂ q₂) ⊛ ‵ ftrue)
-      ∷ ‵ (owns (ShrSlice (named 0) κ₀ u8 ∷ ShrSlice (named 1) κ₁ T.the-row ∷ MutSlice (named 2) κ₂ u8 ∷ []) x at)
+      ∷ ‵ (owns (ShrSlice (named 0) κ₀ u8 ∷ ShrSlice (named 1) κ₁ T.the-row ∷ MutSlice (named 2) κ₂ u8 ∷ []) x
+      at)
       ∷ []) ∵
       enter ! (𝓣 .C) (𝓣 .Λ) code.function (v₀ ∷ v₁ ∷ v₂ ∷ []) _ $
       alloc1 ! (λ l₀. alloc1 ! (λ l₁. alloc1 ! (λ l₂. alloc1 !
@@ -703,15 +766,19 @@ module _ {M : Type 1} (𝓤 : URA M) (H : Heap 𝓤) (A : Atoms 𝓤) (W : Given
       (from ! (stop !)) (init ! 28 refl (tt, record { fits = room₁ .0 })) $
       assigns ! (of-opd ! (load ! (from ! (fld ! refl (stop !))) (look-in ! 30 (sub ! 1 refl (whole !)))))
       (from ! (stop !)) (init ! 16 refl (tt, record { fits = room₂ .0 })) $
-      move ! (39 ∷ []) $ fsplit ! $ move ! (1 ∷ []) $ fsplit ! $ move ! (1 ∷ []) $ fsplit ! $ move ! (1 ∷ []) $
+      move ! (39 ∷ []) $ fsplit ! $ move ! (1 ∷ []) $ fsplit ! $ move ! (1 ∷ []) $ fsplit ! $ move !
+      (1 ∷ []) $
       drop ! $
-      move ! (41 ∷ []) $ split ! $ move ! (1 ∷ []) $ split ! $ move ! (1 ∷ []) $ split ! $ move ! (1 ∷ []) $ drop ! $
-      by ! (first 𝓣 fm known known-prep known-reply known-answered room₁ room₂ l₀ l₁ l₂ l₃ l₄ l₅ l₆ l₇ l₈ l₉ l₁₀ l₁₁
+      move ! (41 ∷ []) $ split ! $ move ! (1 ∷ []) $ split ! $ move ! (1 ∷ []) $ split ! $ move !
+      (1 ∷ []) $ drop ! $
+      by ! (first 𝓣 fm known known-prep known-reply known-answered room₁ room₂ l₀ l₁ l₂ l₃ l₄ l₅ l₆ l₇ l₈ l₉
+      l₁₀ l₁₁
       l₁₂ l₁₃ l₁₄ l₁₅ l₁₆ l₁₇ l₁₈))))))))))))))))))))
 
 module _ {M : Type 1} (𝓤 : URA M) (H : Heap 𝓤) (A : Atoms 𝓤) (W : Given 𝓤 H A) (mem′ : Memory → SProp 𝓤)
     (run : Routine → Fun 𝓤) where
-  all-walks : (𝓣 : Tables 𝓤 H) → FmC 𝓤 H (W .laws) (𝓣 .C) → Triple 𝓤 (𝓣 .C #batch·byte-for) (Answer 𝓤 H A mem′ run) →
+  all-walks : (𝓣 : Tables 𝓤 H) → FmC 𝓤 H (W .laws) (𝓣 .C) →
+      Triple 𝓤 (𝓣 .C #batch·byte-for) (Answer 𝓤 H A mem′ run) →
       Triple 𝓤 (𝓣 .C #batch·prepare) (Prep 𝓤 H A mem′ run) →
       Triple 𝓤 (𝓣 .C #batch·batch-refusal) (Replied 𝓤 H A mem′ run) →
       Triple 𝓤 (𝓣 .C #batch·answered) (Answered 𝓤 H A mem′ run) →
@@ -727,13 +794,16 @@ module _ {M : Type 1} (𝓤 : URA M) (H : Heap 𝓤) (A : Atoms 𝓤) (W : Given
         ),
       ))
       (λ κs qs bounds a g are. via 𝓤 _ (fst∗ 𝓤 _ (emp 𝓤))
-      (walk 𝓤 H A W mem′ run (κs .0) (κs .1 .0) (κs .1 .1 .0) (qs .0) (qs .1 .0) (qs .1 .1 .0) (a .0) (a .1 .0)
-      (a .1 .1 .0 .ptr .0) (a .1 .1 .0 .ptr .1) (a .1 .1 .0 .name) (a .1 .1 .0 .now) 𝓣 fm known known-prep known-reply
+      (walk 𝓤 H A W mem′ run (κs .0) (κs .1 .0) (κs .1 .1 .0) (qs .0) (qs .1 .0) (qs .1 .1 .0) (a .0)
+      (a .1 .0)
+      (a .1 .1 .0 .ptr .0) (a .1 .1 .0 .ptr .1) (a .1 .1 .0 .name)
+      (a .1 .1 .0 .now) 𝓣 fm known known-prep known-reply
       known-answered (are .0 .0 .1) (are .1 .0 .0 .1) (are .1 .1 .0 .0 .1)))
 
 all-meets : {M : Type 1} (𝓤 : URA M) (H : Heap 𝓤) (A : Atoms 𝓤) → Given 𝓤 H A →
     (mem′ : Memory → SProp 𝓤) (run : Routine → Fun 𝓤) (𝓣 : Tables 𝓤 H) →
-    Triple 𝓤 (𝓣 .C #batch·byte-for) (Answer 𝓤 H A mem′ run) → Triple 𝓤 (𝓣 .C #batch·prepare) (Prep 𝓤 H A mem′ run) →
+    Triple 𝓤 (𝓣 .C #batch·byte-for) (Answer 𝓤 H A mem′ run) →
+    Triple 𝓤 (𝓣 .C #batch·prepare) (Prep 𝓤 H A mem′ run) →
     Triple 𝓤 (𝓣 .C #batch·batch-refusal) (Replied 𝓤 H A mem′ run) →
     Triple 𝓤 (𝓣 .C #batch·answered) (Answered 𝓤 H A mem′ run) →
     Meets 𝓤 H A all.signature (WpFn 𝓤 H (𝓣 .C) (𝓣 .Λ) code.function) (all.spec 𝓤 H A mem′ run)
@@ -745,14 +815,16 @@ all-meets 𝓤 H A W mem′ run 𝓣 known known-prep known-reply known-answered
         (goes-slice 𝓤 H A W 3 2 tt (plain (λ _. u8)), tt),
       ),
     )
-    (all.clauses 𝓤 H A mem′ run) (WpFn 𝓤 H (𝓣 .C) (𝓣 .Λ) code.function) (WpFn-mono 𝓤 H (W .laws) 𝓣 code.function)
+    (all.clauses 𝓤 H A mem′ run) (WpFn 𝓤 H (𝓣 .C) (𝓣 .Λ) code.function)
+    (WpFn-mono 𝓤 H (W .laws) 𝓣 code.function)
     (all-walks 𝓤 H A W mem′ run 𝓣 (fmOf 𝓤 H (W .laws) 𝓣) known known-prep known-reply known-answered)
 
 pub batch-spec : {M : Type 1} → stated.statement M
 unfolding code.routine tablesOf
 batch-spec 𝓤 H 𝓜 𝓖 𝓡 =
     entered 𝓤 H (tripleOf 𝓤 H (𝓖 .A) all.signature (all.spec 𝓤 H (𝓖 .A) (𝓜 .mem) (𝓡 .run)))
-    (tables 𝓤 H 𝓜 𝓡 code.env .C) (tables 𝓤 H 𝓜 𝓡 code.env .Λ) #batch·batch code.function (code.unfolded 𝓤 H 𝓜 𝓡)
+    (tables 𝓤 H 𝓜 𝓡 code.env .C) (tables 𝓤 H 𝓜 𝓡 code.env .Λ) #batch·batch code.function
+    (code.unfolded 𝓤 H 𝓜 𝓡)
     (all-meets 𝓤 H (𝓖 .A) (givenOf 𝓤 H 𝓜 𝓖) (𝓜 .mem) (𝓡 .run) (tablesOf 𝓤 H 𝓜 (tables 𝓤 H 𝓜 𝓡 code.env))
     (cited 𝓤 H (Answer 𝓤 H (𝓖 .A) (𝓜 .mem) (𝓡 .run)) 𝓜 𝓡 code.env #batch·byte-for byte-def.routine
     code.calls-batch·byte-for (byte-thm.met 𝓤 H 𝓜 𝓖 𝓡))

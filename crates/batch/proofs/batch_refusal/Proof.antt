@@ -9,7 +9,7 @@ use denote.Ref.{now}
 use borrow.Author.Tests.{lt-ltb, le-ltb}
 use Rattle.model.specs.Step.{row, firstNumber}
 use Rattle.model.specs.Soundness.{soundBytes}
-use Rattle.batch.specs.Batch.{batchRefusal}
+use Rattle.model.specs.Batch.{batchRefusal}
 use Rattle.batch.proofs.batch_refusal.Statement.{statement}
 use Rattle.batch.proofs.batch_refusal.Tie as tie
 
@@ -25,7 +25,8 @@ returns c =
     λ k. of-rows (t k) (ltb (a .room) (a .questions))
 
 -- behind row 2
-passes-2 : (c : tie.Else1) → (let a = c .before .before .before .args in false ≡ not (soundBytes (now (a .base))))
+passes-2 : (c : tie.Else1) → (let a = c .before .before .before .args in
+    false ≡ not (soundBytes (now (a .base))))
 passes-2 c = sym (c .if1 .left) ∙ ap not (c .before .is-sound .ensures)
 
 returns-2 : tie.Need-returns-2

@@ -8,8 +8,8 @@ use lib.ListN.{length, set, getD, length-set}
 use lib.Dec.{eqb}
 use denote.Ref.{now}
 use Rattle.foundation.specs.Tests.{pick}
-use Rattle.batch.specs.Batch.{byteFor, batchRefusal, question, questionsIn}
-use Rattle.batch.specs.BatchFacts.{length-questions, nth-question}
+use Rattle.model.specs.Batch.{byteFor, batchRefusal, question, questionsIn}
+use Rattle.model.specs.BatchFacts.{length-questions, nth-question}
 use Rattle.batch.proofs.Filled.{filled, filled-none, filled-next, Known, know}
 use Rattle.batch.proofs.batch_words.Statement.{statement}
 use Rattle.batch.proofs.batch_words.Tie as tie
@@ -23,8 +23,12 @@ abbrev μ-loop : tie.MeasureT-loop
 
 loop-holds : tie.Need-loop-holds Inv-loop μ-loop
 loop-holds c =
-    let a = c .before .before .before .before .before .before .before .args in
-    (search needs, search needs, filled-none (now (a .base)) (questionsIn (now (a .words))) (now (a .replies)))
+    let a = c .before .before .before .before .before .before .before .args in (
+      search needs,
+      search needs,
+      filled-none (now (a .base)) (questionsIn (now (a .words)))
+          (now (a .replies)),
+    )
 
 -- what the two calls before the loop say
 known : (c : tie.After-answered Inv-loop μ-loop) →
@@ -36,7 +40,8 @@ known c =
     let l = sym (length-questions (now (a .words))) in
     let r = c .before .batch-refusal .result in
     know (now (a .base)) (questionsIn (now (a .words))) (now (a .replies)) r (c .answered .result)
-    (c .before .batch-refusal .ensures ∙ ap (λ (k : ℕ). batchRefusal (now (a .base)) k (length (now (a .replies)))) l)
+    (c .before .batch-refusal .ensures ∙ ap (λ (k : ℕ). batchRefusal (now (a .base)) k
+    (length (now (a .replies)))) l)
     (c .answered .ensures ∙ ap (λ (k : ℕ). pick (eqb r 0) k 0) l)
 
 prepare-requires : tie.Need-prepare-requires Inv-loop μ-loop
@@ -67,11 +72,13 @@ loop-again c =
     let x = question 0 0 0 0 in
     let byte : c .byte-for .result ≡ byteFor (now (a .base)) (getD (questionsIn w) (l .i) x) =
     c .byte-for .ensures
-    ∙ ap (byteFor (now (a .base))) (c .before .question-at .ensures ∙ sym (nth-question w (l .i) x in-words)) in (
+    ∙ ap (byteFor (now (a .base))) (c .before .question-at .ensures
+    ∙ sym (nth-question w (l .i) x in-words)) in (
       search needs,
       simp length-set (search needs),
       (λ j. set (l .inv .2 j) (l .i) (byte j))
-          ∙ filled-next (now (a .base)) (questionsIn w) (now (a .replies)) x (l .i) (omega (arith, k .in-questions))
+          ∙ filled-next (now (a .base)) (questionsIn w) (now (a .replies)) x (l .i)
+          (omega (arith, k .in-questions))
           (omega (arith, k .in-room))
           ∙ ap (filled (now (a .base)) (questionsIn w) (now (a .replies))) (sym (add-one (l .i))),
     )
@@ -86,7 +93,8 @@ returns c =
     record {
       refusal = k .refusal;
       replies =
-          l .inv .2 ∙ ap (filled (now (a .base)) (questionsIn (now (a .words))) (now (a .replies))) e ∙ k .bytes;
+          l .inv .2 ∙ ap (filled (now (a .base)) (questionsIn (now (a .words))) (now (a .replies))) e
+          ∙ k .bytes;
     }
 
 pub batch-words-spec : {M : Type 1} → statement M
@@ -94,5 +102,6 @@ batch-words-spec =
     tie.close
     (tie.spec Inv-loop μ-loop (λ c κs. search needs) (λ c κs. search needs) prepare-requires
     (λ c. search needs) loop-holds question-at-requires
-    byte-for-requires slice-write-replies (λ c. search needs) (λ c. search needs) loop-again (λ c. search needs)
+    byte-for-requires slice-write-replies (λ c. search needs) (λ c. search needs) loop-again
+    (λ c. search needs)
     returns)

@@ -4,8 +4,8 @@ use Prim.Native.Nat.{_<_}
 use mathlib.Core.Path.{sym, ap, subst, _∙_}
 use denote.Ref.{now}
 use Rattle.model.specs.declared.Reply.{Reply}
-use Rattle.batch.specs.Batch.{replyByte, byteFor}
-use Rattle.batch.specs.BatchFacts.{byte-small}
+use Rattle.model.specs.Batch.{replyByte, byteFor}
+use Rattle.model.specs.BatchFacts.{byte-small}
 use Rattle.batch.proofs.byte_for.Statement.{statement}
 use Rattle.batch.proofs.byte_for.Tie as tie
 

@@ -6,7 +6,7 @@ use Prim.Native.Nat.{ℕ, _+_, _*_}
 use lib.ListN.{getD, drop}
 use lib.Seq.{getD-drop}
 use denote.Ref.{now}
-use Rattle.batch.specs.Batch.{question}
+use Rattle.model.specs.Batch.{question}
 use Rattle.batch.proofs.question_at.Statement.{statement}
 use Rattle.batch.proofs.question_at.Tie as tie
 
@@ -23,6 +23,7 @@ returns c =
 pub question-at-spec : {M : Type 1} → statement M
 question-at-spec =
     tie.close
-    (tie.spec (λ c. search needs) (λ c. search needs) (λ c. search needs) (λ c. search needs) (λ c. search needs)
+    (tie.spec (λ c. search needs) (λ c. search needs) (λ c. search needs) (λ c. search needs)
+    (λ c. search needs)
     (λ c. search needs) (λ c. search needs) (λ c. search needs) (λ c. search needs) (λ c. search needs)
     (λ c. search needs) (λ c. search needs) returns)

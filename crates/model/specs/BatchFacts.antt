@@ -1,5 +1,5 @@
--- What the batch's definitions say: when the call is accepted, which bytes it leaves, that a reply to MAY fits a byte,
--- and that questions are read back from their words.
+-- What the batch's definitions say: when the call is accepted, which bytes it leaves, that a reply to MAY
+-- fits a byte, and that questions are read back from their words.
 use mathlib.Core.Path.{_≡_, refl, sym, ap, _∙_}
 use mathlib.Core.Logic.{_≢_, inl, inr}
 use mathlib.Core.Bool.{Bool, true, false, not}
@@ -14,17 +14,18 @@ use Rattle.foundation.specs.Tests.{not-false, true-le, false-le}
 use Rattle.foundation.specs.Lists.{Mem, each, length-each}
 use Rattle.foundation.specs.Bytes.{records, records-back}
 use Rattle.foundation.specs.BytesFacts.{length-records}
 use Rattle.model.specs.declared.Question.{Question}
 use Rattle.model.specs.declared.Reply.{Reply}
 use Rattle.model.specs.declared.Reply.the-variants.{Refused}
 use Rattle.model.specs.Rules.{may}
 use Rattle.model.specs.Step.{Row, row, firstNumber}
-use Rattle.model.specs.StepFacts.{first-all, first-given, first-none, numbered, by-rows, answered, turned-away}
+use Rattle.model.specs.StepFacts.{first-all, first-given, first-none, numbered, by-rows, answered}
+use Rattle.model.specs.StepFacts.{turned-away}
 use Rattle.model.specs.Encoding.{decode}
 use Rattle.model.specs.Soundness.{soundBytes}
 use Rattle.model.specs.Answers.{mayTable, mayReply, mayAnswer}
-use Rattle.batch.specs.Batch.{replyByte, byteFor, batchRows, batchRefusal, batchBytes, Batched}
-use Rattle.batch.specs.Batch.{questionIn, questionsIn, wordsOf}
+use Rattle.model.specs.Batch.{replyByte, byteFor, batchRows, batchRefusal, batchBytes, Batched}
+use Rattle.model.specs.Batch.{questionIn, questionsIn, wordsOf}
 
 -- a refusal by rows 2, 3 and 6, yes and no fit a byte
 pub byte-small : (s : List ℕ) (q : Question) → replyByte (mayAnswer s q) < 256
@@ -45,8 +46,13 @@ pub batch-accepted : (s : List ℕ) (questions room : ℕ) → batchRefusal s qu
 unfolding batchRefusal
 batch-accepted s questions room z =
     let rows = batchRows s questions room in
-    let t : (r : Row) → _ = first-none rows (numbered rows refl) z in
-    (not-false (soundBytes s) (t _ (inl refl)), omega (arith, false-le (suc room) questions (t _ (inr (inl refl)))))
+    let t : (r : Row) → _ = first-none rows (numbered rows refl) z in (
+      not-false (soundBytes s) (t _ (inl refl)),
+      omega (
+        arith,
+        false-le (suc room) questions (t _ (inr (inl refl))),
+      ),
+    )
 
 -- a refused call gets 2 or 13
 pub batch-refuses : (s : List ℕ) (questions room : ℕ) → batchRefusal s questions room ≢ 0 →
@@ -68,12 +74,14 @@ module _ (s : List ℕ) (questions : List Question) (bytes : List ℕ) where
   abbrev rows : List Row
   rows = batchRows s (length questions) (length bytes)
 
-  pub batch-written : batchRefusal s (length questions) (length bytes) ≡ 0 → batchBytes s questions bytes ≡ written
+  pub batch-written : batchRefusal s (length questions) (length bytes) ≡ 0 →
+      batchBytes s questions bytes ≡ written
   unfolding batchRefusal batchBytes
   batch-written z = answered rows (λ n. bytes) written z
 
   -- "nothing written"
-  pub batch-refused : batchRefusal s (length questions) (length bytes) ≢ 0 → batchBytes s questions bytes ≡ bytes
+  pub batch-refused : batchRefusal s (length questions) (length bytes) ≢ 0 →
+      batchBytes s questions bytes ≡ bytes
   unfolding batchRefusal batchBytes
   batch-refused n = turned-away rows (λ n. bytes) written n
 
@@ -90,7 +98,8 @@ nth-record w f zero s i d h = absurd (omega arith)
 nth-record w f (suc n) s zero d h = rw (mul-zero w)
 nth-record w f (suc n) s (suc i) d h =
     let q : w * suc i ≡ w + w * i = rw (mul-suc w i) (omega arith) in
-    nth-record w f n (drop w s) i d (omega arith) ∙ ap f (drop-drop (w * i) w s ∙ ap (λ (k : ℕ). drop k s) (sym q))
+    nth-record w f n (drop w s) i d (omega arith) ∙ ap f
+    (drop-drop (w * i) w s ∙ ap (λ (k : ℕ). drop k s) (sym q))
 
 pub nth-question : (words : List ℕ) (i : ℕ) (d : Question) → i < length words / 4 →
     getD (questionsIn words) i d ≡ questionIn (drop (4 * i) words)
@@ -106,14 +115,17 @@ questions-back questions =
     omega (arith, length-each questions wordsOf 4 (λ q. refl)) in
     ap (λ (k : ℕ). records 4 questionIn k words) n
     ∙ ap (records 4 questionIn (length questions)) (sym (append-nil words))
-    ∙ records-back questionIn wordsOf 4 (λ q. Unit {0}) (λ q. refl) (λ q rest h. refl) questions (λ q m. tt) []
+    ∙ records-back questionIn wordsOf 4 (λ q. Unit {0}) (λ q. refl) (λ q rest h. refl) questions
+    (λ q m. tt) []
 
 -- A list of questions and the list of their words get the same number and the same bytes.
-pub same-batch : (s : List ℕ) (questions : List Question) (bytes : List ℕ) (r r′ : ℕ) (after after′ : List ℕ) →
+pub same-batch : (s : List ℕ) (questions : List Question) (bytes : List ℕ) (r r′ : ℕ)
+    (after after′ : List ℕ) →
     Batched s questions bytes r after → Batched s (questionsIn (each questions wordsOf)) bytes r′ after′ →
     (r ≡ r′) × (after ≡ after′)
 same-batch s questions bytes r r′ after after′ b b′ =
     let e = questions-back questions in (
-      b .refusal ∙ ap (λ (l : List Question). batchRefusal s (length l) (length bytes)) (sym e) ∙ sym (b′ .refusal),
+      b .refusal ∙ ap (λ (l : List Question). batchRefusal s (length l) (length bytes)) (sym e)
+          ∙ sym (b′ .refusal),
       b .replies ∙ ap (λ (l : List Question). batchBytes s l bytes) (sym e) ∙ sym (b′ .replies),
     )

@@ -1,5 +1,5 @@
--- A round's questions in one call (02, CR 2): the bytes of the replies, the refusals of the whole call, and how a list
--- of words is read as questions.
+-- A round's questions in one call (02, CR 2): the bytes of the replies, the refusals of the whole call, and
+-- how a list of words is read as questions.
 use Prim.Native.Nat.{ℕ, _+_, _/_}
 use mathlib.Core.Path.{_≡_}
 use mathlib.Core.Bool.{not}
@@ -7,15 +7,15 @@ use mathlib.Core.List.{List, [], _∷_, _++_, map}
 use lib.Dec.{ltb}
 use lib.ListN.{length, drop, getD}
 use Rattle.foundation.specs.Bytes.{records}
 use Rattle.model.specs.declared.Question.{Question}
 use Rattle.model.specs.declared.Reply.{Reply}
 use Rattle.model.specs.declared.Reply.the-variants.{Done, Refused, Unsupported, Yes, No, Runs}
 use Rattle.model.specs.Step.{Row, row, firstNumber, refusedOr}
 use Rattle.model.specs.Soundness.{soundBytes}
 use Rattle.model.specs.Answers.{mayAnswer}
 
--- 02: "0 no, 1 yes, 16 plus the number for a refused question". MAY gives no other reply; for those a refusal's number
--- is what `Answers.refusalNumber` says.
+-- 02: "0 no, 1 yes, 16 plus the number for a refused question". MAY gives no other reply; for those a
+-- refusal's number is what `Answers.refusalNumber` says.
 abbrev pub replyByte : Reply → ℕ
 replyByte No = 0
 replyByte Yes = 1
@@ -28,7 +28,8 @@ replyByte (Runs n) = 16 + 0
 unfoldable pub byteFor : List ℕ → Question → ℕ
 byteFor s q = replyByte (mayAnswer s q)
 
--- 02: "A byte list shorter than the questions gets 13 with nothing written; an unsound base gets 2 for the whole call"
+-- 02: "A byte list shorter than the questions gets 13 with nothing written; an unsound base gets 2 for the
+-- whole call"
 abbrev pub batchRows : List ℕ → ℕ → ℕ → List Row
 batchRows s questions room = row 2 (not (soundBytes s)) ∷ row 13 (ltb room questions) ∷ []
 
@@ -43,7 +44,8 @@ batchBytes s questions bytes =
     (map (byteFor s) questions ++ drop (length questions) bytes)
 
 -- What the contract says: the number r, and the byte list that stands in the place of `bytes`
-pub record Batched (s : List ℕ) (questions : List Question) (bytes : List ℕ) (r : ℕ) (after : List ℕ) : Type 0 where
+pub record Batched (s : List ℕ) (questions : List Question) (bytes : List ℕ) (r : ℕ)
+    (after : List ℕ) : Type 0 where
   pub refusal : r ≡ batchRefusal s (length questions) (length bytes)
   pub replies : after ≡ batchBytes s questions bytes
 
