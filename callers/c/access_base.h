@@ -1,7 +1,8 @@
 /* The access base for submeters, for C: who may read, switch or configure a meter, from which instant to which.
  *
  * Link with target/staticlib/libffi.a, which `rt staticlib ffi` writes. Every function is proved against the
- * definitions in crates/model/specs (Answers.antt); docs/LIBRARY.md says what each contract rules out.
+ * definitions in crates/model/specs (Answers, Session, Report, Batch) and crates/records/specs (Records);
+ * docs/LIBRARY.md has the contracts, docs/ASSURANCE.md what each rules out.
  *
  * The base is ACCESS_BASE_BYTES bytes that the caller lends; nothing else is kept between calls. Any bytes may be lent,
  * of any length: what is no sound base is refused with 2 and left as it is. No function allocates, and the deepest

@@ -1,8 +1,10 @@
 /* Prints the rights sheet of a meter, to be hung up in the meter room. Standard input has the requests, one a line as in
  * the text session, and the argument is the meter: `sheet 7 < requests`. Says on standard error what was refused. */
+#define _POSIX_C_SOURCE 200809L
 #include <stdio.h>
 #include <stdlib.h>
 #include <string.h>
+#include <sys/types.h>
 
 #include "access_base.h"
 
@@ -11,21 +13,23 @@ static char page[ACCESS_BASE_SHEET_BYTES], out[ACCESS_BASE_TEXT_BYTES];
 
 int main(int count, char **words)
 {
-    char line[256];
-    unsigned long meter;
+    char *line = NULL, *end = NULL;
+    size_t room = 0;
+    ssize_t length;
+    unsigned long meter = count == 2 ? strtoul(words[1], &end, 10) : 0;
     struct access_base_reply r;
-    if (count != 2) {
+    if (count != 2 || *words[1] == 0 || *end != 0) {
         fprintf(stderr, "usage: sheet METER < REQUESTS\n");
         return 2;
     }
     access_base_make(base, sizeof base);
-    while (fgets(line, sizeof line, stdin)) {
-        line[strcspn(line, "\n")] = 0;
-        r = access_base_tell(base, sizeof base, line, strlen(line), out, sizeof out);
+    while ((length = getline(&line, &room, stdin)) > 0) {
+        length -= line[length - 1] == '\n';
+        r = access_base_tell(base, sizeof base, line, (size_t)length, out, sizeof out);
         if (strncmp(out, "refused", 7) == 0)
-            fprintf(stderr, "%s: %.*s", line, (int)r.number, out);
+            fprintf(stderr, "%.*s: %.*s", (int)length, line, (int)r.number, out);
     }
-    meter = strtoul(words[1], NULL, 10);
+    free(line);
     r = access_base_write_report(base, sizeof base, meter > UINT32_MAX ? 0 : (uint32_t)meter, page, sizeof page);
     if (r.refusal != ACCESS_BASE_DONE) {
         fprintf(stderr, "refused %u\n", (unsigned)r.refusal);

@@ -3,9 +3,10 @@
 -- and that what is handed over is written, is left to trust.
 use mathlib.Core.Path.{_≡_, refl, sym, ap, _∙_, subst}
 use Prim.Native.Nat.{ℕ, suc, _+_, _*_, _%_, _≤_, _<_}
+use mathlib.Core.Logic.{_⊎_, inl, inr}
 use mathlib.Core.Bool.{true}
 use mathlib.Core.List.{List, [], _∷_, _++_, append-nil}
-use lib.IntN.{ℤ, pos}
+use lib.IntN.{ℤ, pos, negsuc}
 use lib.ListN.{length, take, drop, getD}
 use lib.Seq.{drop-cons}
 use native.Mathlib.Omega.{arith}
@@ -52,10 +53,19 @@ pub record Unread (g r : Going) : Type 0 where
   pub reads : r .reads ≡ g .reads
   pub got : r .got ≡ g .got
 
--- `input` is what was read, and it has ended only where a read said so
+-- `input` has the digest that was kept of what was read; and where the last read is said to have answered 0,
+-- one was counted
 pub record Read (input : List ℕ) (r : Going) : Type 0 where
   pub seen : r .seen ≡ digest 0 input
   pub asked : r .got ≡ pos 0 → 0 < r .reads
+
+-- the last read said that the input has ended, or failed
+abbrev pub Through : Going → Type 0
+Through r = (r .got ≡ pos 0) ⊎ (r .got ≡ negsuc 0)
+
+-- where every write worked, that is why the program stopped, or its reads can no longer be counted
+abbrev pub Stopped : Going → Type 0
+Stopped r = r .ok ≡ true → Through r ⊎ (18446744073709551615 ≤ r .reads)
 
 -- of `input`, behind the line `pending`, all but `rest` is answered: the bytes of the base are s′, `left` is
 -- the line that is not ended yet, and its first bytes are kept; `text` was handed to be written
@@ -75,6 +85,7 @@ pub record Answered (s pending input : List ℕ) (sent : ℕ) (r : Going) (s′ 
 -- the program is through with its input
 pub record Served (s pending input : List ℕ) (r : Going) (s′ : List ℕ) : Type 0 where
   pub read : Read input r
+  pub stopped : Stopped r
   -- the input ended: all of it is answered, and so is its end
   pub ended : r .ok ≡ true → r .got ≡ pos 0 →
       (let f = feed s pending input in
@@ -92,6 +103,7 @@ pub record Served (s pending input : List ℕ) (r : Going) (s′ : List ℕ) : T
 -- the program has run on an empty base
 pub record Ran (input : List ℕ) (r : Going) (s′ : List ℕ) : Type 0 where
   pub read : Read input r
+  pub stopped : Stopped r
   -- the input ended: the text of the session over it was handed to be written,
   pub ended : r .ok ≡ true → r .got ≡ pos 0 → r .sent ≡ digest 0 (session input)
   -- and demand 3 holds of the requests among its lines and the bytes of the base
@@ -213,6 +225,7 @@ module _ {s pending : List ℕ} where
         handed ∙ ap (λ (n : ℕ). digest n t) (f .handed) ∙ digest-twice 0 (f .text) t in
         record {
           read = read-same w u;
+          stopped = λ p. inl (inl (u .got ∙ over));
           ended = λ p q. (
             bytes ∙ ap (λ (x : Fed). finishBytes (x .lent) (x .pending)) (sym e),
             n ∙ ap (λ (x : Fed). digest 0 (ending x)) (sym e),
@@ -226,12 +239,13 @@ module _ {s pending : List ℕ} where
         }
 
     -- the input did not end
-    pub served-cut : (g .ok ≡ true → g .got ≡ pos 0 → ⊥) → soundBytes s′ ≡ true →
+    pub served-cut : (g .ok ≡ true → g .got ≡ pos 0 → ⊥) → Stopped g → soundBytes s′ ≡ true →
         Served s pending input g s′
-    served-cut none sound =
+    served-cut none stop sound =
         let f = a .answers in
         record {
           read = w;
+          stopped = stop;
           ended = λ p q. absurd (none p q);
           cut = λ p q. let e = feeds-all (f .feeds) (a .all p) in (
             ap (λ (x : Fed). x .lent) (sym e),
@@ -253,6 +267,7 @@ served-run {s} {input} {s′} {r} z w =
     rw z (stream-base input) in
     record {
       read = w .read;
+      stopped = w .stopped;
       ended = λ p q. w .ended p q .1 ∙ ap (digest 0) e;
       promise = λ p q. subst (Demand3 (orders input)) (sym (w .ended p q .0 ∙ b)) (demand3-text input);
       text = w .text;

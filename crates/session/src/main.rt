@@ -3,7 +3,7 @@
 // pipe and at a terminal. At the end of the input it answers the line that is not ended. A read or a write
 // that fails ends it, and then that line is not answered.
 ghost use mathlib.Core.Path.{_≡_};
-ghost use mathlib.Core.Bool.{true};
+ghost use mathlib.Core.Bool.{true, false};
 ghost use mathlib.Core.List.{List};
 ghost use Prim.Native.Nat.{ℕ, _≤_, _<_};
 ghost use lib.IntN.{pos};
@@ -12,7 +12,8 @@ ghost use Rattle.model.specs.Base.{emptyBase};
 ghost use Rattle.model.specs.Encoding.{encode};
 ghost use Rattle.serving.specs.Turns.{Kept};
 ghost use Rattle.serving.specs.Stream.{finish, finishBytes};
-ghost use Rattle.session.specs.Input.{Ready, mixed, digest, arrived, Fetched, Unread, Answered, Served};
+ghost use Rattle.session.specs.Input.{Ready, mixed, digest, arrived, Fetched, Unread, Through};
+ghost use Rattle.session.specs.Input.{Answered, Served};
 ghost use Rattle.session.specs.Input.{Ran};
 use libc::STDERR_FILENO;
 use libc::STDIN_FILENO;
@@ -160,11 +161,11 @@ fn serve_last(s: &mut [u8], line: &[u8; 97], g: Going, out: &mut [u8]) -> Going
     }
 }
 
-// There may be more input, and the last write worked.
+// The last read neither failed nor said that the input has ended, and every write worked.
 fn goes_on(g: Going) -> bool
-    ensures { λ r. ⌜ (r ≡ true → g .ok ≡ true) ⌝ }
+    ensures { λ r. ⌜ (r ≡ true → g .ok ≡ true) × (r ≡ false → g .ok ≡ true → Through g) ⌝ }
 {
-    g.ok & (0 < g.got)
+    g.ok & !((g.got == 0) | (g.got == -1))
 }
 
 // The input has ended, and every write worked.

@@ -2,31 +2,35 @@
 -- theorem a function, each an instance of `refused`.
 use mathlib.Core.Path.{_≡_, refl, sym, ap, _∙_, subst}
 use mathlib.Core.Logic.{_≢_, inl, inr, ⊎-elim}
-use Prim.Native.Nat.{ℕ, _*_, _/_}
+use Prim.Native.Nat.{ℕ, suc, _*_, _/_, _≤_}
+use native.Mathlib.Omega.{arith}
 use mathlib.Core.Bool.{Bool, true, false, not}
 use mathlib.Core.List.{List, [], _∷_, _++_, map}
-use lib.Dec.{eqb}
+use lib.Dec.{ltb, eqb}
 use lib.ListN.{length, drop}
-use Rattle.foundation.specs.Tests.{cases, true-eq, false-eq, and-true}
-use Rattle.foundation.specs.Lists.{Mem, anyb, allb, any-mem, mem-map}
+use Rattle.foundation.specs.Tests.{cases, true-eq, false-eq, and-true, le-false}
+use Rattle.foundation.specs.Lists.{Mem, anyb, allb, any-mem, mem-map, keepIf}
 use Rattle.model.specs.declared.Request.{Request}
 use Rattle.model.specs.declared.Access.{Access}
 use Rattle.model.specs.declared.Question.{Question}
 use Rattle.model.specs.declared.Reply.{Reply}
 use Rattle.model.specs.declared.Reply.the-variants.{Done, Refused, Unsupported, Yes, No, Runs}
-use Rattle.model.specs.Base.{emptyBase}
+use Rattle.model.specs.Ranges.{isObject}
+use Rattle.model.specs.Base.{emptyBase, exists}
 use Rattle.model.specs.Rules.{may, when}
 use Rattle.model.specs.Means.{plainly}
 use Rattle.model.specs.Step.{Row, row, firstNumber, refusedOr, accepting, effect}
-use Rattle.model.specs.StepFacts.{first-given, answered, turned-away}
+use Rattle.model.specs.StepFacts.{first-given, answered, turned-away, rising?}
 use Rattle.model.specs.Encoding.{size, encode, decode}
 use Rattle.model.specs.Soundness.{soundBytes}
+use Rattle.model.specs.SoundnessFacts.{sound-bytes}
 use Rattle.model.specs.Answers.{Answer, answering, refusing, refusalNumber, shown, create, requestTable}
 use Rattle.model.specs.Answers.{request}
 use Rattle.model.specs.Answers.{Answered, mayTable, whenTable, words, mayReply, mayAnswer, whenAnswer}
 use Rattle.model.specs.declared.Counted.the-variants.{Count}
 use Rattle.model.specs.Counting.{Counting, counting, declining, countedRefusal}
-use Rattle.model.specs.Report.{reportOf, reportTable, reportAnswer}
+use Rattle.model.specs.Report.{isOn, reportOf, reportTable, reportAnswer}
+use Rattle.model.specs.ReportFacts.{report-length}
 use Rattle.model.specs.Text.{Line, order, asksMay, asksWhen, unreadable}
 use Rattle.model.specs.Session.{whenList, byteTurn}
 
@@ -115,6 +119,27 @@ report-refuses s o page n =
     let w = refused rows (declining page) (counting (Count k) (text ++ drop k page))
     (λ (a : Counting). countedRefusal (a .reply)) (λ k. refl) refl n in
     (w .0, ap (λ (a : Counting). a .lent) (w .1))
+
+-- the first row of a sheet that applies is the lowest number that applies
+pub report-rises : (s : List ℕ) (o room need : ℕ) →
+    rising? 1 (row 2 (not (soundBytes s)) ∷ reportTable (decode s) o room need) ≡ true
+report-rises s o room need = refl
+
+-- a page of 44 bytes for each authorization on the object suffices, and none is needed where there is none
+pub report-fills : (s : List ℕ) (o : ℕ) (page : List ℕ) → soundBytes s ≡ true → isObject o ≡ true →
+    exists (decode s) o ≡ true → 44 * length (keepIf (isOn o) (decode s .authorizations)) ≤ length page →
+    reportAnswer s o page .reply ≡ Count (44 * length (keepIf (isOn o) (decode s .authorizations)))
+unfolding reportAnswer
+report-fills s o page sound? object there room =
+    let text = reportOf (decode s) o in
+    let n = report-length (decode s) o (sound-bytes s sound? .1) in
+    let rows = row 2 (not (soundBytes s)) ∷ reportTable (decode s) o (length page) (length text) in
+    let fits : ltb (length page) (length text) ≡ false =
+    le-false (suc (length page)) (length text) (omega (arith, n)) in
+    let none : firstNumber rows ≡ 0 = rw (sound?, object, there, fits) in
+    ap (λ (a : Counting). a .reply) (answered rows (declining page)
+    (counting (Count (length text)) (text ++ drop (length text) page)) none)
+    ∙ ap Count n
 
 -- ---- the same about the code
 

@@ -2,20 +2,20 @@
 use borrow.Author.Needs.{needs}
 use native.Mathlib.Omega.{arith}
 use mathlib.Core.Path.{_≡_, refl, sym, _∙_}
+use mathlib.Core.Logic.{inl, inr}
 use mathlib.Core.Bool.{true, true≢false}
 use mathlib.Core.List.{List, [], _++_}
 use Prim.Native.Nat.{ℕ, suc, _-_, _≤_, _<_}
 use denote.Ref.{now}
 use lib.ListN.{length}
-use Rattle.foundation.specs.Tests.{true-le, and-true}
+use Rattle.foundation.specs.Tests.{cases, true-le, false-le, and-true}
 use Rattle.model.specs.Soundness.{soundBytes}
 use Rattle.model.specs.EncodingFacts.{sound-length}
 use Rattle.serving.specs.Turns.{Kept}
 use Rattle.serving.specs.Pieces.{kept-front}
 use Rattle.session.specs.declared.Going.{Going}
 use Rattle.session.specs.Input.{arrived, Read, Answered, digest-none, read-more, answers-none}
-use Rattle.session.specs.Input.{answered-then}
-use Rattle.session.specs.Input.{served-ended, served-cut}
+use Rattle.session.specs.Input.{answered-then, Stopped, served-ended, served-cut}
 use Rattle.session.proofs.serve_input.Statement.{statement}
 use Rattle.session.proofs.serve_input.Tie as tie
 
@@ -77,7 +77,7 @@ loop-again c =
     let n = t .before .before .before .before .before in
     let i = n .before .before .before .loop .inv in
     let e = t .serve-some .ensures in
-    let ok = n .before .before .goes-on .ensures (and-true (n .before .before .goes-on .result) _
+    let ok = n .before .before .goes-on .ensures .0 (and-true (n .before .before .goes-on .result) _
     (n .if1 .taken) .0) in
     record {
       input = i .input ++ arrived (t .serve-some .result .got) (t .serve-some .last .1 .1 .1 .0);
@@ -142,10 +142,18 @@ same-length-6 c = c .before .before .before .before .before .loop .inv .room
 
 returns-2 : tie.Need-returns-2 Inv-loop μ-loop
 returns-2 c =
-    let i = c .before .before .before .before .before .loop .inv in
-    let n = c .before .has-ended .ensures .1 in (
+    let t = c .before .before in
+    let o = t .before .before in
+    let l = o .before in
+    let i = l .loop .inv in
+    let n = c .before .has-ended .ensures .1 in
+    let stop : Stopped (l .loop .g) = λ ok. cases (o .goes-on .result)
+    (λ p. let k = false-le (suc (l .loop .g .reads)) 18446744073709551615 (rw p at (t .if1 .left)) in
+    let m : 18446744073709551615 ≤ l .loop .g .reads = omega arith in inr m)
+    (λ p. inl (o .goes-on .ensures .1 p ok)) in (
       i .input,
-      λ q h. served-cut (i .read) (i .answered q h) (λ ok zero. true≢false (sym (n ok zero) ∙ c .if2 .left))
+      λ q h. served-cut (i .read) (i .answered q h)
+          (λ ok zero. true≢false (sym (n ok zero) ∙ c .if2 .left)) stop
           (i .sound),
     )
 
