@@ -719,7 +719,7 @@ class Command(unittest.TestCase):
 
     def browser(self, picture):
         """The page in Chromium: it is not blank, and no text is cut off, lies on another, or is longer than its bar."""
-        if not shutil.which("chromium"):
+        if os.environ.get("METERS_NO_BROWSER") or not shutil.which("chromium"):
             return
         page, png = os.path.join(self.folder, picture + ".html"), os.path.join(self.folder, picture + ".png")
         with open(page, "a", encoding="utf-8") as out:
