@@ -135,7 +135,7 @@ struct access_base_request {
 
 /* A reply. `number` is: for a request done, the authorizations (lines) now in the base; with refusal 9, an uncovered
  * instant of the span; for MAY, 1 if the answer is yes and 0 if it is no; for WHEN, the number of runs; for records, how
- * many; for a rights sheet or a line of text, the bytes written. 0 with any other refusal. */
+ * many; for a rights sheet or a line of text, the bytes written; for a round 0. 0 with any other refusal. */
 struct access_base_reply {
     uint32_t refusal; /* enum access_base_refusal; 0 if not refused */
     uint32_t label;   /* the new label of a GRANT, DENY or ADDRULE that was done, or 0 */
@@ -149,6 +149,8 @@ struct access_base_question {
     uint32_t object;
     uint32_t instant;
 };
+/* a question is four words and nothing else */
+typedef char access_base_question_is_four_words[sizeof(struct access_base_question) == 16 ? 1 : -1];
 
 /* What a question's byte says: no, yes, or refused with the number that is left when this is taken off. */
 #define ACCESS_BASE_REPLY_NO 0u
@@ -262,7 +264,6 @@ static inline struct access_base_reply access_base_ask_round(
     const uint8_t *base, size_t base_length, const struct access_base_question *questions, size_t count,
     uint8_t *replies, size_t replies_length)
 {
-    _Static_assert(sizeof(struct access_base_question) == 4 * sizeof(uint32_t), "a question is four words");
     return access_base_reply_of(access_base_batch(
         base, base_length, (const uint32_t *)(const void *)questions, 4 * count, replies, replies_length));
 }

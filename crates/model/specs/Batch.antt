@@ -14,8 +14,8 @@ use Rattle.model.specs.Step.{Row, row, firstNumber, refusedOr}
 use Rattle.model.specs.Soundness.{soundBytes}
 use Rattle.model.specs.Answers.{mayAnswer}
 
--- 02: "0 no, 1 yes, 16 plus the number for a refused question". MAY gives no other reply; for those a
--- refusal's number is what `Answers.refusalNumber` says.
+-- 02: "0 no, 1 yes, 16 plus the number for a refused question". MAY gives no other reply (`byte-values` in
+-- BatchFacts).
 abbrev pub replyByte : Reply → ℕ
 replyByte No = 0
 replyByte Yes = 1

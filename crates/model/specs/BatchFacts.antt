@@ -2,7 +2,7 @@
 -- fits a byte, and that questions are read back from their words.
 use mathlib.Core.Path.{_≡_, refl, sym, ap, _∙_}
 use mathlib.Core.Logic.{_≢_, inl, inr}
-use mathlib.Core.Bool.{Bool, true, false, not}
+use mathlib.Core.Bool.{Bool, true, false, not, _&&_}
 use mathlib.Core.List.{List, [], _∷_, _++_, map, append-nil}
 use Prim.Native.Nat.{ℕ, zero, suc, _+_, _*_, _/_, _≤_, _<_}
 use native.Mathlib.Omega.{arith}
@@ -10,7 +10,7 @@ use native.Mathlib.Nat.{mul-zero, mul-suc}
 use lib.Dec.{ltb}
 use lib.ListN.{length, drop, getD}
 use lib.Seq.{drop-drop}
-use Rattle.foundation.specs.Tests.{not-false, true-le, false-le}
+use Rattle.foundation.specs.Tests.{cases, not-false, true-le, false-le, le-false}
 use Rattle.foundation.specs.Lists.{Mem, each, length-each}
 use Rattle.foundation.specs.Bytes.{records, records-back}
 use Rattle.foundation.specs.Records.{length-records}
@@ -23,9 +23,34 @@ use Rattle.model.specs.StepFacts.{first-all, first-given, first-none, nu
 use Rattle.model.specs.StepFacts.{turned-away}
 use Rattle.model.specs.Encoding.{decode}
 use Rattle.model.specs.Soundness.{soundBytes}
-use Rattle.model.specs.Answers.{mayTable, mayReply, mayAnswer}
+use Rattle.model.specs.Ranges.{isInstant}
+use Rattle.model.specs.Base.{exists}
+use Rattle.model.specs.Answers.{accessIn, mayTable, mayReply, mayAnswer}
 use Rattle.model.specs.Batch.{replyByte, byteFor, batchRows, batchRefusal, batchBytes, Batched}
 use Rattle.model.specs.Batch.{questionIn, questionsIn, wordsOf}
+
+-- over a sound base: no, yes, and 3 and 6 with 16 added
+pub byte-values : (s : List ℕ) (q : Question) → soundBytes s ≡ true → Mem (byteFor s q) (0 ∷ 1 ∷ 19 ∷ 22 ∷ [])
+unfolding byteFor mayAnswer
+byte-values s q e =
+    let off = not (accessIn (q .access) && isInstant (q .instant)) in
+    let unknown = not (exists (decode s) (q .access .object)) in
+    cases off
+    (λ a. rw (e, a) (inr (inr (inl refl))))
+    (λ a. cases unknown
+    (λ b. rw (e, a, b) (inr (inr (inr (inl refl)))))
+    (λ b. rw (e, a, b) (answers (may (decode s) (q .access) (q .instant)))))
+  where
+    answers : (yes? : Bool) → Mem (replyByte (mayReply yes?)) (0 ∷ 1 ∷ 19 ∷ 22 ∷ [])
+    answers true = inr (inl refl)
+    answers false = inl refl
+
+-- a sound base and a byte for each question suffice, and none for no question
+pub batch-accepts : (s : List ℕ) (questions room : ℕ) → soundBytes s ≡ true → questions ≤ room →
+    batchRefusal s questions room ≡ 0
+unfolding batchRefusal
+batch-accepts s questions room e h =
+    let fits : ltb room questions ≡ false = le-false (suc room) questions (omega arith) in rw (e, fits)
 
 -- a refusal by rows 2, 3 and 6, yes and no fit a byte
 pub byte-small : (s : List ℕ) (q : Question) → replyByte (mayAnswer s q) < 256

@@ -321,15 +321,19 @@ pub fn report<'p>(base: &[u8], object: u32, page: &'p mut [u8]) -> Result<&'p st
 /// An unsound base is refused, whatever the questions, and so are fewer bytes than questions; then nothing is written.
 ///
 /// ```
-/// use access_base::{create, may_each, Question, Refusal, BYTES};
+/// use access_base::{create, may_each, text, Question, Refusal, BYTES};
 ///
 /// let mut base = vec![0; BYTES];
-/// let questions = [Question { subject: 1, mode: 1, object: 7, instant: 0 }];
+/// let questions = [Question { subject: 2, mode: 3, object: 7, instant: 50 }];
 /// let mut replies = [9; 2];
 /// assert_eq!(may_each(&base, &questions, &mut replies), Err(Refusal::InvalidBase));
 /// create(&mut base)?;
 /// assert_eq!(may_each(&base, &questions, &mut replies[..0]), Err(Refusal::Full));
 /// assert_eq!(may_each(&base, &questions, &mut replies)?, [22]); // no such meter
+/// for line in ["4 1 NEW 7", "5 1 GRANT 3 7 2 50 50 n"] {
+///     text(&mut base, line, &mut [0; 16]).expect("16 bytes suffice");
+/// }
+/// assert_eq!(may_each(&base, &questions, &mut replies)?, [1]); // subject 2 may do 3 to meter 7 at 50
 /// assert_eq!(replies[1], 9);
 /// # Ok::<(), Refusal>(())
 /// ```

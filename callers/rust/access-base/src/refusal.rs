@@ -31,7 +31,7 @@ pub enum Refusal {
     NotHeld,
     /// 12: the rule would close a forbidden circle.
     NotStratified,
-    /// 13: a count would be passed, no label is left, or the list or the page is too short.
+    /// 13: a count would be passed, no label is left, or the list, the page or the byte list is too short.
     Full,
 }
 
@@ -71,7 +71,7 @@ impl fmt::Display for Refusal {
             Refusal::AlreadySo => "already so: nothing to do",
             Refusal::NotHeld => "not held: nothing to do",
             Refusal::NotStratified => "not stratified: a rule with WHENEVERNOT or UNLESS would feed itself",
-            Refusal::Full => "full: withdraw what has passed, or lend a list of 1,100 pairs or a page of 45,056 bytes",
+            Refusal::Full => "full: withdraw what has passed, or lend a list of 1,100 pairs, a page of 45,056 bytes, a byte for each question",
         };
         write!(f, "{}, {text}", self.number())
     }
