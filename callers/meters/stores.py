@@ -65,6 +65,8 @@ class Sqlite:
 
     def __init__(self, path, create=False):
         self.path = path
+        if path in ("", ":memory:"):
+            raise Fault("a store is kept in a file: name one with --store")
         if not create and not os.path.exists(path):
             raise Fault(f"there is no file {path}: make it with 'meters new BLOCK', or name another with --store")
         if create and not os.path.isdir(os.path.dirname(path) or "."):
@@ -153,13 +155,13 @@ class Sqlite:
 
     # ---- blocks
     def block(self, name):
-        row = self.one("SELECT name, unit, origin, requests, (unixepoch() - origin) / unit FROM blocks WHERE name = ?", name)
+        row = self.one("SELECT b.name, unit, origin, requests, instant FROM blocks b JOIN clocks USING (id) WHERE b.name = ?", name)
         if row is None:
             raise Fault(f"there is no block '{name}': 'meters blocks' lists them, 'meters new' makes one")
         return Block(*row)
 
     def blocks(self):
-        rows = self.all("SELECT name, unit, origin, requests, (unixepoch() - origin) / unit FROM blocks ORDER BY name")
+        rows = self.all("SELECT b.name, unit, origin, requests, instant FROM blocks b JOIN clocks USING (id) ORDER BY b.name")
         return [Block(*row) for row in rows]
 
     def new(self, name, unit, origin, initial=None):

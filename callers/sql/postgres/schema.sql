@@ -19,8 +19,8 @@ SET LOCAL ROLE meters_owner;
 CREATE TABLE meters.blocks (
   id int GENERATED ALWAYS AS IDENTITY PRIMARY KEY,
   name text NOT NULL UNIQUE CHECK (length(name) BETWEEN 1 AND 200),
-  unit bigint NOT NULL DEFAULT 1 CHECK (unit > 0),
-  origin bigint NOT NULL DEFAULT 0,
+  unit bigint NOT NULL DEFAULT 1 CHECK (unit BETWEEN 1 AND 1099511627776),
+  origin bigint NOT NULL DEFAULT 0 CHECK (origin BETWEEN -1000000000000 AND 1000000000000),
   requests bigint NOT NULL DEFAULT 0,
   initial access_base.base,
   base access_base.base NOT NULL
@@ -118,7 +118,7 @@ BEGIN
   IF now_at NOT BETWEEN 0 AND 4294967294 THEN
     RAISE EXCEPTION 'the clock stands outside the instants of the block' USING HINT = 'look at its unit and origin';
   END IF;
-  RETURN meters.put_lines(b, ARRAY(SELECT now_at || ' ' || who || ' ' || replace(q, ' now', ' ' || now_at) FROM unnest(requests) WITH ORDINALITY AS t(q, n) ORDER BY n));
+  RETURN meters.put_lines(b, ARRAY(SELECT now_at || ' ' || who || ' ' || regexp_replace(q, ' now(?= |$)', ' ' || now_at, 'g') FROM unnest(requests) WITH ORDINALITY AS t(q, n) ORDER BY n));
 END $$;
 
 CREATE FUNCTION meters.put(block text, request text) RETURNS text
@@ -143,7 +143,7 @@ EXCEPTION
   WHEN unique_violation THEN
     RAISE EXCEPTION 'there is a block % already', quote_literal(name) USING HINT = 'give another name';
   WHEN check_violation THEN
-    RAISE EXCEPTION 'the bytes are no sound base, or the name or unit is out of bounds'
+    RAISE EXCEPTION 'the bytes are no sound base, or the name, unit or origin is out of bounds'
       USING HINT = 'import what meters export wrote; a name has 1 to 200 letters, a unit is above 0';
 END $$;
 

@@ -9,8 +9,8 @@ PRAGMA user_version = 1;
 CREATE TABLE blocks (
   id INTEGER PRIMARY KEY,
   name TEXT NOT NULL UNIQUE CHECK (length(name) BETWEEN 1 AND 200),
-  unit INTEGER NOT NULL DEFAULT 1 CHECK (unit > 0),  -- how many seconds an instant lasts
-  origin INTEGER NOT NULL DEFAULT 0,                 -- where instants count from, in seconds since 1970
+  unit INTEGER NOT NULL DEFAULT 1 CHECK (unit BETWEEN 1 AND 1099511627776), -- how many seconds an instant lasts
+  origin INTEGER NOT NULL DEFAULT 0 CHECK (origin BETWEEN -1000000000000 AND 1000000000000), -- where instants count from, in seconds since 1970
   requests INTEGER NOT NULL DEFAULT 0,               -- the number of the last one in the journal
   initial BLOB CHECK (initial IS NULL OR access_base_is_sound(initial)), -- imported bytes; NULL: it began empty
   base BLOB NOT NULL CHECK (access_base_is_sound(base))
@@ -33,8 +33,9 @@ CREATE TABLE requesters (
   PRIMARY KEY (block, role)
 ) STRICT, WITHOUT ROWID;
 
--- A block's instant by the machine's clock.
-CREATE VIEW clocks AS SELECT id, name, (unixepoch() - origin) / unit AS instant FROM blocks;
+-- A block's instant by the machine's clock; below 0 before its origin.
+CREATE VIEW clocks AS
+  SELECT id, name, CASE WHEN unixepoch() < origin THEN -1 ELSE (unixepoch() - origin) / unit END AS instant FROM blocks;
 
 -- ---- the journal: the next number, the true reply, no instant ahead of the clock; the base follows
 CREATE TRIGGER journal_next BEFORE INSERT ON journal
@@ -67,7 +68,7 @@ WHEN NEW.id <> OLD.id OR NEW.initial IS NOT OLD.initial OR NEW.requests <> OLD.r
 BEGIN SELECT RAISE(ABORT, 'a base changes by a request alone: INSERT INTO put(block, role, request)'); END;
 
 CREATE TRIGGER blocks_fixed BEFORE UPDATE OF name, unit, origin ON blocks
-WHEN NEW.name <> OLD.name OR (OLD.requests > 0 AND (NEW.unit <> OLD.unit OR NEW.origin <> OLD.origin))
+WHEN NEW.name IS NOT OLD.name OR (OLD.requests > 0 AND (NEW.unit IS NOT OLD.unit OR NEW.origin IS NOT OLD.origin))
 BEGIN SELECT RAISE(ABORT, 'a block keeps its name, and what an instant is once a request was put'); END;
 
 CREATE TRIGGER blocks_stay BEFORE DELETE ON blocks BEGIN SELECT RAISE(ABORT, 'a block is not removed'); END;
@@ -89,8 +90,8 @@ CREATE TRIGGER put_request INSTEAD OF INSERT ON put BEGIN
   SELECT RAISE(ABORT, 'the clock stands outside the instants of the block: look at its unit and origin')
     FROM clocks WHERE name = NEW.block AND instant NOT BETWEEN 0 AND 4294967294;
   INSERT INTO put_as_written(block, line)
-    SELECT NEW.block, c.instant || ' ' || r.subject || ' ' || replace(NEW.request, ' now', ' ' || c.instant)
-    FROM clocks c JOIN requesters r ON r.block = c.id WHERE c.name = NEW.block AND r.role = NEW.role;
+    SELECT NEW.block, c.instant || ' ' || r.subject || ' ' || substr(q, 1, length(q) - 1)
+    FROM (SELECT *, replace(replace(NEW.request || ' ', ' now ', ' ' || instant || ' '), ' now ', ' ' || instant || ' ') AS q FROM clocks) c JOIN requesters r ON r.block = c.id WHERE c.name = NEW.block AND r.role = NEW.role;
 END;
 
 -- INSERT INTO put_as_written(block, line): a line with its own now and requester, for an import.
