@@ -323,8 +323,8 @@ int main(void)
     records();
     replies();
     texts();
+    rounds(); /* over the base that the texts leave */
     sheets();
-    rounds();
     unsound(ACCESS_BASE_BYTES - 1);
     unsound(ACCESS_BASE_BYTES + 1);
     unsound(0);
