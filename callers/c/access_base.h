@@ -72,7 +72,7 @@ enum access_base_refusal {
     ACCESS_BASE_NO_SUCH_OBJECT = 6,/* the object (for a rule, either one) does not exist */
     ACCESS_BASE_NO_SUCH_LABEL = 7, /* no line (REVOKE) or rule (DROPRULE) has the label */
     ACCESS_BASE_NOT_PERMITTED = 8, /* not its granter, author or owner, or without a rule's powers */
-    ACCESS_BASE_NOT_SUPPORTED = 9, /* some instant of the grant or denial is not covered; one such instant is given */
+    ACCESS_BASE_NOT_SUPPORTED = 9, /* some instant of the grant or denial is not covered; the earliest is given */
     ACCESS_BASE_ALREADY_SO = 10,   /* the object exists, or the subject owns it or holds that privilege */
     ACCESS_BASE_NOT_HELD = 11,     /* the privilege to withdraw is not there */
     ACCESS_BASE_NOT_STRATIFIED = 12,/* the rule would close a forbidden circle */
@@ -133,9 +133,9 @@ struct access_base_request {
     struct access_base_rule rule;
 };
 
-/* A reply. `number` is: for a request done, the authorizations (lines) now in the base; with refusal 9, an uncovered
- * instant of the span; for MAY, 1 if the answer is yes and 0 if it is no; for WHEN, the number of runs; for records, how
- * many; for a rights sheet or a line of text, the bytes written; for a round 0. 0 with any other refusal. */
+/* A reply. `number` is: for a request done, the authorizations (lines) now in the base; with refusal 9, the
+ * earliest uncovered instant of the span; for MAY, 1 if the answer is yes and 0 if it is no; for WHEN, the number of runs;
+ * for records, how many; for a rights sheet or a line of text, the bytes written; for a round 0. 0 with any other refusal. */
 struct access_base_reply {
     uint32_t refusal; /* enum access_base_refusal; 0 if not refused */
     uint32_t label;   /* the new label of a GRANT, DENY or ADDRULE that was done, or 0 */

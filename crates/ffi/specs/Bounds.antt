@@ -22,18 +22,20 @@ use Rattle.model.specs.declared.Reply.{Reply}
 use Rattle.model.specs.declared.Reply.the-variants.{Done, Refused, Unsupported, Yes, No, Runs}
 use Rattle.model.specs.Base.{emptyBase}
 use Rattle.model.specs.Rules.{when}
-use Rattle.model.specs.Step.{Row, row, firstNumber, isGap}
+use Rattle.model.specs.Means.{plainly}
+use Rattle.model.specs.Step.{Row, row, firstNumber, earliestGap}
 use Rattle.model.specs.StepFacts.{first-all, first-none, numbered, by-rows}
 use Rattle.model.specs.Encoding.{size, encode, decode}
 use Rattle.model.specs.FitsFacts.{counts-fit}
 use Rattle.model.specs.Soundness.{soundBytes}
 use Rattle.model.specs.SoundnessFacts.{sound-tests, sound-bytes}
-use Rattle.model.specs.Answers.{Answer, Answered, answering, refusing, refusalNumber, shown, create, request}
+use Rattle.model.specs.Answers.{Answer, answering, refusing, refusalNumber, create, request}
 use Rattle.model.specs.Answers.{whenTable, mayAnswer, whenAnswer, words}
 use Rattle.model.specs.Counting.{Counting, counting, declining, countedRefusal, countedNumber}
 use Rattle.model.specs.Report.{isOn, reportOf, reportTable, reportAnswer}
 use Rattle.model.specs.ReportFacts.{report-length}
 use Rattle.model.specs.Session.{Written, textAnswer}
+use Rattle.laws.specs.RequestFacts.{uncovered-reply}
 use Rattle.text.specs.Short.{Short, request-short, may-short}
 use Rattle.text.specs.Room.{refused-untouched}
 use Rattle.records.specs.Records.{bodyOf, widthOf, rows, pageRows, paged, pageAnswer, recordsAnswer}
@@ -102,73 +104,27 @@ request-small s q = short-small (request s q .reply) (request-short s q)
 
 -- ---- the parts of a reply to a request
 
-refusal-shown : (r : Reply) → refusalNumber (shown r) ≡ refusalNumber r
-refusal-shown (Done label count) = refl
-refusal-shown (Refused n) = refl
-refusal-shown (Unsupported t) = refl
-refusal-shown Yes = refl
-refusal-shown No = refl
-refusal-shown (Runs n) = refl
-
-label-shown : (r : Reply) → labelOf (shown r) ≡ labelOf r
-label-shown (Done label count) = refl
-label-shown (Refused n) = refl
-label-shown (Unsupported t) = refl
-label-shown Yes = refl
-label-shown No = refl
-label-shown (Runs n) = refl
-
--- what the number that the exported request gives says of the request's definition: with 9 comes an uncovered
--- instant
+-- what the number that the exported request gives says of the request's definition: with 9 comes the
+-- earliest uncovered instant
 pub record RequestParts (s : List ℕ) (q : Request) (n : ℕ) : Type 0 where
   pub refusal : n % 65536 ≡ refusalNumber (request s q .reply)
   pub label : n / 65536 % 65536 ≡ labelOf (request s q .reply)
-  pub number : refusalNumber (request s q .reply) ≢ 9 → n / 4294967296 ≡ numberOf (request s q .reply)
-  pub uncovered : refusalNumber (request s q .reply) ≡ 9 → isGap (decode s) q (n / 4294967296) ≡ true
+  pub number : n / 4294967296 ≡ numberOf (request s q .reply)
+  pub uncovered : refusalNumber (request s q .reply) ≡ 9 →
+      n / 4294967296 ≡ earliestGap plainly (decode s) q
 
-module _ (s : List ℕ) (q : Request) where
-  -- the number part, by the reply
-  number-part : (r : Reply) → shown r ≡ request s q .reply → refusalNumber (request s q .reply) ≢ 9 →
-      numberOf r ≡ numberOf (request s q .reply)
-  number-part (Done label count) e h = ap numberOf e
-  number-part (Refused n) e h = ap numberOf e
-  number-part (Unsupported t) e h = absurd (h (sym (ap refusalNumber e)))
-  number-part Yes e h = ap numberOf e
-  number-part No e h = ap numberOf e
-  number-part (Runs n) e h = ap numberOf e
-
-  -- the instant that goes with 9
-  uncovered-part : (r : Reply) (s′ : List ℕ) → Answered s q r s′ → refusalNumber r ≡ 9 →
-      isGap (decode s) q (numberOf r) ≡ true
-  uncovered-part (Done label count) s′ a h = absurd (omega arith)
-  uncovered-part (Refused n) s′ a h = absurd (false≢true (sym (ap not (eq-true n 9 h)) ∙ a .instant))
-  uncovered-part (Unsupported t) s′ a h = a .instant
-  uncovered-part Yes s′ a h = absurd (omega arith)
-  uncovered-part No s′ a h = absurd (omega arith)
-  uncovered-part (Runs n) s′ a h = absurd (omega arith)
-
-  pub request-parts : (n : ℕ) (s′ : List ℕ) → AnsweredBy s q n s′ → RequestParts s q n
-  request-parts n s′ w =
-      let r = w .reply in
-      let a = w .answered in
-      let small = request-small s q in
-      let refused : refusalNumber r ≡ refusalNumber (request s q .reply) =
-      sym (refusal-shown r) ∙ ap refusalNumber (a .reply) in
-      let labelled : labelOf r ≡ labelOf (request s q .reply) = sym (label-shown r) ∙ ap labelOf (a .reply) in
-      let back : n / 4294967296 ≡ numberOf r = ap (λ (x : ℕ). x / 4294967296) (w .number) ∙ number-back r in
-      record {
-        refusal =
-            ap (λ (x : ℕ). x % 65536) (w .number)
-            ∙ refusal-back r (subst (λ (x : ℕ). x < 65536) (sym refused) (small .refusal))
-            ∙ refused;
-        label =
-            ap (λ (x : ℕ). x / 65536 % 65536) (w .number)
-            ∙ label-back r (subst (λ (x : ℕ). x < 65536) (sym labelled) (small .label))
-            ∙ labelled;
-        number = λ h. back ∙ number-part r (a .reply) h;
-        uncovered = λ h. subst (λ (t : ℕ). isGap (decode s) q t ≡ true) (sym back)
-            (uncovered-part r s′ a (refused ∙ h));
-      }
+pub request-parts : (s : List ℕ) (q : Request) (n : ℕ) (s′ : List ℕ) → AnsweredBy s q n s′ →
+    RequestParts s q n
+request-parts s q n s′ w =
+    let r = request s q .reply in
+    let small = request-small s q in
+    let number : n / 4294967296 ≡ numberOf r = ap (λ (x : ℕ). x / 4294967296) (w .0) ∙ number-back r in
+    record {
+      refusal = ap (λ (x : ℕ). x % 65536) (w .0) ∙ refusal-back r (small .refusal);
+      label = ap (λ (x : ℕ). x / 65536 % 65536) (w .0) ∙ label-back r (small .label);
+      number = number;
+      uncovered = λ h. number ∙ ap numberOf (uncovered-reply s q h);
+    }
 
 -- ---- the parts of a reply in text
 

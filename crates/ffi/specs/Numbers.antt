@@ -18,7 +18,7 @@ use Rattle.model.specs.declared.OptionTerm.the-variants.{With, Without, Either}
 use Rattle.model.specs.declared.SideTerms.{SideTerms}
 use Rattle.model.specs.declared.Request.{Request}
 use Rattle.model.specs.declared.Access.{Access}
-use Rattle.model.specs.Answers.{Answered, refusalNumber}
+use Rattle.model.specs.Answers.{request, refusalNumber}
 use Rattle.model.specs.Counting.{countedRefusal, countedNumber}
 use Rattle.model.specs.Session.{Written}
 
@@ -117,9 +117,7 @@ pub counted-number-back : (r : Counted) → countedNumber r < 4294967296 →
 counted-number-back (Count n) h = omega arith
 counted-number-back (Declined k) h = omega arith
 
--- ---- what the contract of the exported request says
+-- ---- what the contract of the exported request says: the reply as a number, and the bytes
 
-pub record AnsweredBy (s : List ℕ) (q : Request) (n : ℕ) (s′ : List ℕ) : Type 0 where
-  pub reply : Reply
-  pub answered : Answered s q reply s′
-  pub number : n ≡ packed reply
+abbrev pub AnsweredBy : List ℕ → Request → ℕ → List ℕ → Type 0
+AnsweredBy s q n s′ = (n ≡ packed (request s q .reply)) × (s′ ≡ request s q .lent)

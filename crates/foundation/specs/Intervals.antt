@@ -40,6 +40,11 @@ pub maximal : ℕ → ℕ → (ℕ → Bool) → List Interval
 unfolding maximalFrom
 maximal s e f = maximalFrom f s (suc e - s)
 
+-- where the first of them starts; 0 for none
+abbrev pub firstStart : List Interval → ℕ
+firstStart [] = 0
+firstStart (r ∷ rest) = r .start
+
 abbrev pub none? : List Interval → Bool
 none? [] = true
 none? (r ∷ rs) = false
@@ -267,6 +272,44 @@ pub maximal-unique : (s e : ℕ) (f : ℕ → Bool) (k : ℕ) (rs : List Interva
     ((t : ℕ) → covered rs t ≡ inInterval (interval s e) t && f t) → rs ≡ maximal s e f
 maximal-unique s e f k rs a h =
     unique rs (maximal s e f) k s a (maximal-separate s e f) (λ t. h t ∙ sym (maximal-covered s e f t))
+
+-- t is the first instant from s to e at which f holds
+pub record FirstIn (s e : ℕ) (f : ℕ → Bool) (t : ℕ) : Type 0 where
+  pub low : s ≤ t
+  pub high : t ≤ e
+  pub here : f t ≡ true
+  pub before : (u : ℕ) → s ≤ u → u < t → f u ≡ false
+
+-- it is where the first maximal interval starts,
+pub maximal-first : (s e : ℕ) (f : ℕ → Bool) → none? (maximal s e f) ≡ false →
+    FirstIn s e f (firstStart (maximal s e f))
+maximal-first s e f = go (maximal s e f) (maximal-separate s e f) (maximal-covered s e f)
+  where
+    go : (rs : List Interval) → Separate s rs →
+        ((t : ℕ) → covered rs t ≡ inInterval (interval s e) t && f t) → none? rs ≡ false →
+        FirstIn s e f (firstStart rs)
+    go [] a c n = absurd (false≢true (sym n))
+    go (r ∷ rs) a c n =
+        let w = and-true (inInterval (interval s e) (r .start)) (f (r .start))
+        (sym (c (r .start)) ∙ head-in r rs (r .start) (omega arith) (a .1)) in
+        let i = inInterval-true (interval s e) (r .start) (w .0) in
+        record {
+          low = a .0;
+          high = i .1;
+          here = w .1;
+          before = λ u p q. cases (f u)
+              (λ y. absurd (false≢true (sym (none-below (r ∷ rs) (r .start) u (omega arith, a .1, a .2) q)
+              ∙ c u ∙ rw (inInterval-in (interval s e) u p (omega (arith, i .1)), y))))
+              (λ y. y);
+        }
+
+-- and there is no other
+pub first-one : (s e : ℕ) (f : ℕ → Bool) (t u : ℕ) → FirstIn s e f t → FirstIn s e f u → t ≡ u
+first-one s e f t u v w = cases (ltb t u)
+    (λ l. absurd (false≢true (sym (w .before t (v .low) (true-le (suc t) u l)) ∙ v .here)))
+    (λ l. cases (ltb u t)
+    (λ k. absurd (false≢true (sym (v .before u (w .low) (true-le (suc u) t k)) ∙ w .here)))
+    (λ k. let a = false-le (suc t) u l in let b = false-le (suc u) t k in omega arith))
 
 -- ---- always
 

@@ -1,25 +1,39 @@
 -- Requests over lent bytes: an accepted one leaves the encoding of its effect, a refused one the bytes as
 -- they were.
-use mathlib.Core.Path.{_≡_, sym, ap, _∙_, subst}
+use mathlib.Core.Path.{_≡_, refl, sym, ap, _∙_, subst}
 use mathlib.Core.Logic.{_≢_}
 use Prim.Native.Nat.{ℕ}
 use native.Mathlib.Omega.{arith}
-use mathlib.Core.Bool.{true, false}
-use mathlib.Core.List.{List}
+use mathlib.Core.Bool.{true, false, not, false≢true}
+use mathlib.Core.List.{List, [], _∷_}
 use lib.Dec.{eqb}
 use Rattle.foundation.specs.Tests.{cases, true-eq, false-eq}
 use Rattle.model.specs.declared.Request.{Request}
-use Rattle.model.specs.declared.Reply.the-variants.{Done, Refused}
+use Rattle.model.specs.declared.Reply.the-variants.{Done, Refused, Unsupported}
 use Rattle.model.specs.Base.{Base}
 use Rattle.model.specs.Means.{plainly}
-use Rattle.model.specs.Step.{firstNumber, accepting, refusal, effect}
-use Rattle.model.specs.StepFacts.{answered, turned-away}
+use Rattle.model.specs.Step.{Row, row, firstNumber, accepting, refusal, effect, outOfRange, behindClock}
+use Rattle.model.specs.Step.{badInterval, noObject, noLabel, notPermitted, notSupported, alreadyThere}
+use Rattle.model.specs.Step.{notHeld, notStratified, full, earliestGap, refusalReply}
+use Rattle.model.specs.StepFacts.{answered, turned-away, by-rows, first-all}
 use Rattle.model.specs.Encoding.{encode, decode}
 use Rattle.model.specs.EncodingFacts.{decode-encode, encode-sound}
 use Rattle.model.specs.Soundness.{sound, soundBytes}
 use Rattle.model.specs.SoundnessFacts.{sound-bytes}
-use Rattle.model.specs.Answers.{Answer, answering, refusing, requestTable, request, refusalNumber}
+use Rattle.model.specs.Answers.{Answer, answering, requestTable, request, refusalNumber}
 use Rattle.laws.specs.Preservation.{effect-sound}
+
+-- ---- the reply that refuses
+
+-- it has the number
+pub reply-refusal : (b : Base) (q : Request) (n : ℕ) → refusalNumber (refusalReply plainly b q n) ≡ n
+reply-refusal b q n = cases (eqb n 9)
+    (λ e. rw (e, refusalReply) (sym (true-eq n 9 e)))
+    (λ e. rw (e, refusalReply))
+
+-- and leaves the bytes
+abbrev pub refusedWith : List ℕ → Request → ℕ → Answer
+refusedWith s q n = answering (refusalReply plainly (decode s) q n) s
 
 -- ---- on unsound bytes
 
@@ -28,8 +42,7 @@ pub request-unsound : (s : List ℕ) (q : Request) → soundBytes s ≡ false �
 unfolding request
 request-unsound s q e =
     let n : firstNumber (requestTable s q) ≡ 2 = rw e in
-    turned-away (requestTable s q) (refusing s) _ (λ z. omega (arith, n))
-    ∙ ap (λ (k : ℕ). answering (Refused k) s) n
+    turned-away (requestTable s q) (refusedWith s q) _ (λ z. omega (arith, n)) ∙ ap (refusedWith s q) n
 
 -- ---- on the encoding of a sound base
 
@@ -42,7 +55,7 @@ module _ (b : Base) (q : Request) (s : sound b ≡ true) where
       request (encode b) q ≡ answering (accepting b q (effect plainly b q)) (encode (effect plainly b q))
   unfolding request
   request-accepted z =
-      answered (requestTable (encode b) q) (refusing (encode b))
+      answered (requestTable (encode b) q) (refusedWith (encode b) q)
       (answering (accepting (decode (encode b)) q (effect plainly (decode (encode b)) q))
       (encode (effect plainly (decode (encode b)) q)))
       (encoded-table ∙ z)
@@ -50,28 +63,82 @@ module _ (b : Base) (q : Request) (s : sound b ≡ true) where
       (decode-encode b s)
 
   pub request-refused : refusal plainly b q ≢ 0 →
-      request (encode b) q ≡ answering (Refused (refusal plainly b q)) (encode b)
+      request (encode b) q ≡ answering (refusalReply plainly b q (refusal plainly b q)) (encode b)
   unfolding request
   request-refused n =
-      turned-away (requestTable (encode b) q) (refusing (encode b))
+      turned-away (requestTable (encode b) q) (refusedWith (encode b) q)
       (answering (accepting (decode (encode b)) q (effect plainly (decode (encode b)) q))
       (encode (effect plainly (decode (encode b)) q)))
       (λ z. n (sym encoded-table ∙ z))
-      ∙ ap (λ (k : ℕ). answering (Refused k) (encode b)) encoded-table
+      ∙ (λ i. answering (refusalReply plainly (decode-encode b s i) q (encoded-table i)) (encode b))
 
-  -- the reply tells whether the table lets it pass
+  -- the reply has the number of the first row that applies
+  refused-reply : refusal plainly b q ≢ 0 →
+      refusalNumber (request (encode b) q .reply) ≡ refusal plainly b q
+  refused-reply n =
+      ap (λ (a : Answer). refusalNumber (a .reply)) (request-refused n)
+      ∙ reply-refusal b q (refusal plainly b q)
+
+  -- and so tells whether the table lets the request pass
   pub done-passes : {label count : ℕ} → request (encode b) q .reply ≡ Done label count →
       refusal plainly b q ≡ 0
   done-passes e = cases (eqb (refusal plainly b q) 0)
       (λ x. true-eq (refusal plainly b q) 0 x)
       (λ x. let n = false-eq (refusal plainly b q) 0 x in
-      sym (ap (λ (a : Answer). refusalNumber (a .reply)) (request-refused n)) ∙ ap refusalNumber e)
+      sym (refused-reply n) ∙ ap refusalNumber e)
 
   pub number-refused : refusalNumber (request (encode b) q .reply) ≢ 0 → refusal plainly b q ≢ 0
   number-refused n z = n (ap (λ (a : Answer). refusalNumber (a .reply)) (request-accepted z))
 
   pub refused-number : refusal plainly b q ≢ 0 → refusalNumber (request (encode b) q .reply) ≢ 0
-  refused-number n z = n (sym (ap (λ (a : Answer). refusalNumber (a .reply)) (request-refused n)) ∙ z)
+  refused-number n z = n (sym (refused-reply n) ∙ z)
+
+-- ---- 9
+
+-- where the number is 9, no row but row 9 applied
+pub nine-applies : (s : List ℕ) (q : Request) → refusalNumber (request s q .reply) ≡ 9 →
+    notSupported plainly (decode s) q ≡ true
+unfolding request
+nine-applies s q =
+    let after = effect plainly (decode s) q in
+    by-rows (requestTable s q) (refusedWith s q) (answering (accepting (decode s) q after) (encode after))
+    (λ (a : Answer). refusalNumber (a .reply) ≡ 9 → notSupported plainly (decode s) q ≡ true)
+    (λ e. let nine = sym (reply-refusal (decode s) q (firstNumber (requestTable s q))) ∙ e in
+    cases (notSupported plainly (decode s) q)
+    (λ f. f)
+    (λ f. let same : firstNumber (requestTable s q) ≡ firstNumber otherRows = rw f in
+    let w : not (eqb (firstNumber otherRows) 9) ≡ true = first-all (λ k. not (eqb k 9)) otherRows refl refl in
+    absurd (false≢true (rw (sym same ∙ nine) at w))))
+    (λ z e. absurd (omega arith))
+  where
+    -- the rows without row 9
+    otherRows : List Row
+    otherRows =
+        let b = decode s in
+        (row 2 (not (soundBytes s))
+        ∷ row 3 (outOfRange q)
+        ∷ row 4 (behindClock b q)
+        ∷ row 5 (badInterval q)
+        ∷ row 6 (noObject b q)
+        ∷ row 7 (noLabel b q)
+        ∷ row 8 (notPermitted b q)
+        ∷ row 10 (alreadyThere b q)
+        ∷ row 11 (notHeld b q)
+        ∷ row 12 (notStratified b q)
+        ∷ row 13 (full plainly b q)
+        ∷ [])
+
+-- and the reply tells the earliest uncovered instant
+pub uncovered-reply : (s : List ℕ) (q : Request) → refusalNumber (request s q .reply) ≡ 9 →
+    request s q .reply ≡ Unsupported (earliestGap plainly (decode s) q)
+unfolding request
+uncovered-reply s q =
+    let after = effect plainly (decode s) q in
+    by-rows (requestTable s q) (refusedWith s q) (answering (accepting (decode s) q after) (encode after))
+    (λ (a : Answer). refusalNumber (a .reply) ≡ 9 → a .reply ≡ Unsupported (earliestGap plainly (decode s) q))
+    (λ e. ap (refusalReply plainly (decode s) q)
+    (sym (reply-refusal (decode s) q (firstNumber (requestTable s q))) ∙ e))
+    (λ z e. absurd (omega arith))
 
 -- ---- THEOREM 7 (that a refused request leaves the bytes: `request-refuses` in Refusals)
 

@@ -1,7 +1,6 @@
 -- The library's answers over lent bytes: create, a request, MAY and WHEN, with their refusals (01,
 -- "Requests", "Replies that refuse", "What the promises settle").
 use Prim.Native.Nat.{ℕ, _*_, _/_}
-use mathlib.Core.Path.{_≡_}
 use mathlib.Core.Bool.{Bool, true, not, _&&_}
 use mathlib.Core.List.{List, [], _∷_, _++_}
 use lib.Dec.{ltb, eqb}
@@ -17,7 +16,7 @@ use Rattle.model.specs.Ranges.{isInstant, isSubject, isObject, isMode}
 use Rattle.model.specs.Base.{Base, emptyBase, exists}
 use Rattle.model.specs.Rules.{may, when}
 use Rattle.model.specs.Means.{plainly}
-use Rattle.model.specs.Step.{Row, row, refusedOr, accepting, isGap, table, effect}
+use Rattle.model.specs.Step.{Row, row, refusedOr, accepting, table, effect, refusalReply}
 use Rattle.model.specs.Encoding.{size, encode, decode}
 use Rattle.model.specs.Soundness.{soundBytes}
 
@@ -31,24 +30,6 @@ refusalNumber (Unsupported t) = 9
 refusalNumber Yes = 0
 refusalNumber No = 0
 refusalNumber (Runs n) = 0
-
--- a reply without the instant that goes with 9: what the table and the text session speak of
-abbrev pub shown : Reply → Reply
-shown (Done label count) = Done label count
-shown (Refused n) = Refused n
-shown (Unsupported t) = Refused 9
-shown Yes = Yes
-shown No = No
-shown (Runs n) = Runs n
-
--- 01: "With 9 the library also gives one uncovered instant; all other refusals give only the number"
-abbrev pub instantFits : Base → Request → Reply → Bool
-instantFits b q (Done label count) = true
-instantFits b q (Refused n) = not (eqb n 9)
-instantFits b q (Unsupported t) = isGap b q t
-instantFits b q Yes = true
-instantFits b q No = true
-instantFits b q (Runs n) = true
 
 -- a reply, and the lent bytes or list after it
 pub record Answer : Type 0 where
@@ -74,24 +55,17 @@ create s =
 abbrev pub requestTable : List ℕ → Request → List Row
 requestTable s q = row 2 (not (soundBytes s)) ∷ table plainly (decode s) q
 
--- a request over lent bytes; with 9 the reply is shown without its instant
+-- a request over lent bytes
 unfoldable pub request : List ℕ → Request → Answer
 request s q =
     let after = effect plainly (decode s) q in
     let a = answering (accepting (decode s) q after) (encode after) in
-    refusedOr (requestTable s q) (refusing s) a
+    refusedOr (requestTable s q) (λ n. answering (refusalReply plainly (decode s) q n) s) a
 
 -- the bytes after a list of requests, each on the bytes that the one before left
 abbrev pub requests : List Request → List ℕ → List ℕ
 requests [] s = s
 requests (q ∷ rest) s = requests rest (request s q .lent)
-
--- What the contract of the library's request says: the reply r and the bytes s′ that it leaves in the place
--- of s
-pub record Answered (s : List ℕ) (q : Request) (r : Reply) (s′ : List ℕ) : Type 0 where
-  pub reply : shown r ≡ request s q .reply
-  pub instant : instantFits (decode s) q r ≡ true
-  pub bytes : s′ ≡ request s q .lent
 
 -- ---- questions
 

@@ -8,7 +8,7 @@ use lib.Dec.{leb, ltb, eqb}
 use lib.ListN.{length}
 use Rattle.foundation.specs.Tests.{pick}
 use Rattle.foundation.specs.Lists.{anyb}
-use Rattle.foundation.specs.Intervals.{inInterval, none?}
+use Rattle.foundation.specs.Intervals.{firstStart, none?}
 use Rattle.model.specs.declared.Authorization.{Authorization}
 use Rattle.model.specs.declared.OptionTerm.{OptionTerm}
 use Rattle.model.specs.declared.OptionTerm.the-variants.{With, Without, Either}
@@ -18,12 +18,11 @@ use Rattle.model.specs.declared.SideTerms.{SideTerms}
 use Rattle.model.specs.declared.RuleTerms.{RuleTerms}
 use Rattle.model.specs.declared.Request.{Request}
 use Rattle.model.specs.declared.Reply.{Reply}
-use Rattle.model.specs.declared.Reply.the-variants.{Done, Refused}
+use Rattle.model.specs.declared.Reply.the-variants.{Done, Refused, Unsupported}
 use Rattle.model.specs.Ranges.{between, isInstant, isSubject, isObject, isMode, isLabel, lastLabel}
 use Rattle.model.specs.Ranges.{mostAdministrators, mostReferrers, mostAuthorizations, mostRules}
 use Rattle.model.specs.Ranges.{mostObjects}
 use Rattle.model.specs.Base.{Base, exists, owns, administers, refers, controls, mayRule}
-use Rattle.model.specs.Support.{coveredFor}
 use Rattle.model.specs.Withdrawal.{authorization}
 use Rattle.model.specs.Stratification.{stratified}
 use Rattle.model.specs.Requests.{NEW, GRANT, DENY, REVOKE, REVOKEP, REVOKEN, ADDRULE, DROPRULE}
@@ -141,11 +140,6 @@ notPermitted b q =
     || (is q (ADDRULE ∷ []) && not (mayRule b (q .requester) (q .rule .left .object)
     (q .rule .right .object)))
 
--- 9: what goes with it: t lies in the span and is uncovered
-abbrev pub isGap : Base → Request → ℕ → Bool
-isGap b q t =
-    inInterval (q .interval) t && not (coveredFor (b .authorizations) (newHead (suc (b .last)) q) t)
-
 -- 10: "object exists (NEW); subject is owner or already holds that privilege (GRANTADM, GRANTREF)"
 abbrev pub alreadyThere : Base → Request → Bool
 alreadyThere b q =
@@ -231,6 +225,11 @@ module _ (M : Means) where
       && not (controls b (q .object) (q .requester))
       && not (none? (M .uncovered (b .authorizations) (newHead (suc (b .last)) q) (q .interval)))
 
+  -- what goes with it: the instant "must now be the earliest uncovered one" (02; StepFacts: `earliest-gap`)
+  abbrev pub earliestGap : Base → Request → ℕ
+  earliestGap b q =
+      firstStart (M .uncovered (b .authorizations) (newHead (suc (b .last)) q) (q .interval))
+
   -- 13: "the resulting base would pass a count, no label is left for a new line or rule"
   abbrev pub full : Base → Request → Bool
   full b q = not (countsHold (effect b q)) || (labels q && leb lastLabel (b .last))
@@ -254,12 +253,17 @@ module _ (M : Means) where
   abbrev pub refusal : Base → Request → ℕ
   refusal b q = firstNumber (table b q)
 
+  -- the reply that refuses: with 9 the earliest uncovered instant; "all other refusals give only the number".
+  -- It is looked for with 9 alone.
+  abbrev pub refusalReply : Base → Request → ℕ → Reply
+  refusalReply b q n = elim (eqb n 9) [ true ↦ Unsupported (earliestGap b q) | false ↦ Refused n ]
+
   -- 01: "Nothing lent is altered" by a refusal
   abbrev pub stepBy : Base → Request → Outcome
   stepBy b q =
       let after = effect b q in
       let outcome : Outcome = record { reply = accepting b q after; base = after } in
-      refusedOr (table b q) (λ n. record { reply = Refused n; base = b }) outcome
+      refusedOr (table b q) (λ n. record { reply = refusalReply b q n; base = b }) outcome
 
 -- the outcome by the definition
 unfoldable pub step : Base → Request → Outcome

@@ -2,22 +2,29 @@
 -- passes every row.
 use mathlib.Core.Path.{_≡_, refl, sym, ap, subst, _∙_}
 use mathlib.Core.Logic.{inl, inr, _≢_, ⊎-elim}
-use mathlib.Core.Bool.{Bool, true, false, true≢false, _&&_}
+use mathlib.Core.Bool.{Bool, true, false, true≢false, not, _&&_}
 use mathlib.Core.List.{List, [], _∷_, _++_}
 use Prim.Native.Nat.{ℕ, suc, _≤_, _<_}
 use native.Mathlib.Omega.{arith}
 use lib.Dec.{ltb, eqb}
 use Rattle.foundation.specs.Tests.{pick, cases, eq-true, ne-false, true-eq, false-eq, true-le, and-true}
+use Rattle.foundation.specs.Tests.{not-true}
 use Rattle.foundation.specs.Lists.{Mem, allb, any-false}
+use Rattle.foundation.specs.Intervals.{none?}
+use Rattle.model.specs.declared.Head.{Head}
 use Rattle.model.specs.declared.Request.{Request}
-use Rattle.model.specs.declared.Reply.the-variants.{Refused}
-use Rattle.model.specs.Base.{Base}
+use Rattle.model.specs.declared.Reply.the-variants.{Refused, Unsupported}
+use Rattle.model.specs.Base.{Base, controls}
+use Rattle.model.specs.Support.{gaps}
+use Rattle.model.specs.SupportFacts.{Earliest, gaps-earliest, earliest-only}
+use Rattle.model.specs.Requests.{grants, newHead}
 use Rattle.model.specs.Means.{Means, plainly}
 use Rattle.model.specs.Step.{Row, firstNumber, rangeTests, outOfRange, behindClock, badInterval}
 use Rattle.model.specs.Step.{noObject}
 use Rattle.model.specs.Step.{noLabel, notPermitted, notSupported, alreadyThere, notHeld, notStratified}
 use Rattle.model.specs.Step.{full}
 use Rattle.model.specs.Step.{table, refusal, refusedOr, accepting, effect, Outcome, step}
+use Rattle.model.specs.Step.{earliestGap, refusalReply}
 
 -- ---- the first row that applies
 
@@ -144,6 +151,37 @@ accepted b q z =
 pub in-range : (q : Request) → outOfRange q ≡ false → (x : Bool) → Mem x (rangeTests q) → x ≡ false
 in-range q = any-false (λ y. y) (rangeTests q)
 
+-- ---- the reply that refuses
+
+module _ (b : Base) (q : Request) where
+  -- the authorization that is asked for
+  abbrev asked : Head
+  asked = newHead (suc (b .last)) q
+
+  -- t lies in the span and is not covered, and every instant of the span before it is
+  abbrev pub IsEarliest : ℕ → Type 0
+  IsEarliest = Earliest (b .authorizations) asked (q .interval)
+
+  -- 02: "the earliest uncovered" instant is what goes with 9, where row 9 applies,
+  pub earliest-gap : notSupported plainly b q ≡ true → IsEarliest (earliestGap plainly b q)
+  earliest-gap e =
+      let lacks = not (none? (gaps (b .authorizations) asked (q .interval))) in
+      let outside = not (controls b (q .object) (q .requester)) in
+      gaps-earliest (b .authorizations) asked (q .interval)
+      (not-true (none? (gaps (b .authorizations) asked (q .interval)))
+      (and-true (grants q && outside) lacks e .1))
+
+  -- and no other instant is
+  pub earliest-one : (t : ℕ) → IsEarliest t → t ≡ earliestGap plainly b q
+  earliest-one = earliest-only (b .authorizations) asked (q .interval)
+
+  -- with 9 the instant, with any other number nothing
+  pub reply-nine : refusalReply plainly b q 9 ≡ Unsupported (earliestGap plainly b q)
+  reply-nine = refl
+
+  pub reply-number : (n : ℕ) → n ≢ 9 → refusalReply plainly b q n ≡ Refused n
+  reply-number n e = rw (ne-false n 9 e, refusalReply)
+
 -- ---- the outcome
 
 module _ {A : Type 0} (rows : List Row) (refuse : ℕ → A) (answer : A) where
@@ -162,7 +200,7 @@ module _ {A : Type 0} (rows : List Row) (refuse : ℕ → A) (answer : A) where
 
 module _ (b : Base) (q : Request) where
   abbrev refusing : ℕ → Outcome
-  refusing n = record { reply = Refused n; base = b }
+  refusing n = record { reply = refusalReply plainly b q n; base = b }
 
   abbrev accepted-outcome : Outcome
   accepted-outcome = record { reply = accepting b q (effect plainly b q); base = effect plainly b q }

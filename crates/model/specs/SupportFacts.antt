@@ -4,15 +4,16 @@ use mathlib.Core.Path.{_≡_, refl, sym, ap, _∙_}
 use mathlib.Core.Logic.{_⊎_, inl, inr, _↔_, ⊎-elim}
 use Prim.Native.Nat.{ℕ, zero, suc, _≤_, _<_}
 use native.Mathlib.Omega.{arith}
-use mathlib.Core.Bool.{Bool, true, _&&_, _||_}
+use mathlib.Core.Bool.{Bool, true, false, not, _&&_, _||_, false≢true}
 use mathlib.Core.List.{List, [], _∷_, _++_}
 use Rattle.foundation.specs.Tests.{cases, agree, and-true, or-true-right, or-intro-left, or-cases}
+use Rattle.foundation.specs.Tests.{not-true, not-false}
 use Rattle.foundation.specs.Lists.{anyb, allb, keepIf, Mem, any-mem, mem-any, all-mem, mem-all, mem-left}
 use Rattle.foundation.specs.Lists.{mem-right}
 use Rattle.foundation.specs.Lists.{last-mem, keepIf-mem}
 use Rattle.foundation.specs.declared.Interval.{Interval}
 use Rattle.foundation.specs.Intervals.{inInterval, inInterval-true, inInterval-in, none?, always, always-all}
-use Rattle.foundation.specs.Intervals.{all-always}
+use Rattle.foundation.specs.Intervals.{all-always, firstStart, maximal-first, first-one}
 use Rattle.model.specs.declared.Head.{Head}
 use Rattle.model.specs.declared.Authorization.{Authorization}
 use Rattle.model.specs.Support.{supports, supports-rises, supports-object, supports-mode, supported}
@@ -190,3 +191,43 @@ covered-together xs h i = (
   (λ f. gaps-always xs h i ∙ all-always (i .start) (i .end) (λ u. coveredFor xs h u)
       (λ t p q. let w = f t p q in mem-any (λ k. supports k h) (live t xs) (w .0) (w .1) (w .2))),
 )
+
+-- t is the earliest instant of i that nothing covers for h
+pub record Earliest (xs : List Authorization) (h : Head) (i : Interval) (t : ℕ) : Type 0 where
+  pub within : inInterval i t ≡ true
+  pub uncovered : coveredFor xs h t ≡ false
+  pub before : (u : ℕ) → i .start ≤ u → u < t → coveredFor xs h u ≡ true
+
+module _ (xs : List Authorization) (h : Head) (i : Interval) where
+  -- where there are gaps, the first of them starts there,
+  pub gaps-earliest : none? (gaps xs h i) ≡ false → Earliest xs h i (firstStart (gaps xs h i))
+  unfolding gaps
+  gaps-earliest e =
+      let f = maximal-first (i .start) (i .end) (λ t. not (coveredFor xs h t)) e in
+      record {
+        within = inInterval-in i (firstStart (gaps xs h i)) (f .low) (f .high);
+        uncovered = not-true (coveredFor xs h (firstStart (gaps xs h i))) (f .here);
+        before = λ u p q. not-false (coveredFor xs h u) (f .before u p q);
+      }
+
+  -- where there is such an instant, there are gaps,
+  pub earliest-gaps : (t : ℕ) → Earliest xs h i t → none? (gaps xs h i) ≡ false
+  earliest-gaps t w = cases (none? (gaps xs h i))
+      (λ e. let p = inInterval-true i t (w .within) in absurd (false≢true (sym (w .uncovered)
+      ∙ always-all (i .start) (i .end) (λ u. coveredFor xs h u) (sym (gaps-always xs h i) ∙ e) t
+      (p .0) (p .1))))
+      (λ e. e)
+
+  -- and it is the only one
+  pub earliest-only : (t : ℕ) → Earliest xs h i t → t ≡ firstStart (gaps xs h i)
+  unfolding gaps
+  earliest-only t w =
+      let p = inInterval-true i t (w .within) in
+      first-one (i .start) (i .end) (λ u. not (coveredFor xs h u)) t (firstStart (gaps xs h i))
+      (record {
+        low = p .0;
+        high = p .1;
+        here = ap not (w .uncovered);
+        before = λ u a b. ap not (w .before u a b);
+      })
+      (maximal-first (i .start) (i .end) (λ u. not (coveredFor xs h u)) (earliest-gaps t w))

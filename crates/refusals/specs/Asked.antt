@@ -15,7 +15,7 @@ use Rattle.model.specs.Requests.{NEW, GRANT, DENY, REVOKEP, REVOKEN, ADDRULE, G
 use Rattle.model.specs.Requests.{REVOKEREF, is, grants, newHead, newRule}
 use Rattle.model.specs.Means.{plainly}
 use Rattle.model.specs.Step.{namesObject, namesMode, namesInterval, ruleTermsIn, outOfRange, notSupported}
-use Rattle.model.specs.Step.{isGap}
+use Rattle.model.specs.Step.{earliestGap}
 use Rattle.model.specs.Soundness.{intervalIn, ruleIn}
 use Rattle.model.specs.FitsFacts.{RuleFits, rule-fits}
 use Rattle.model.specs.StepFacts.{in-range}
@@ -98,9 +98,9 @@ rule-request-in q r e =
 
 -- ---- row 9
 
--- what an answer says: an uncovered instant, or that row 9 does not apply
+-- what an answer says: the earliest uncovered instant, or that row 9 does not apply
 abbrev pub UncoveredIs : Base → Request → Gap → Type 0
-UncoveredIs b q (At t) = (notSupported plainly b q ≡ true) × (isGap b q t ≡ true)
+UncoveredIs b q (At t) = (notSupported plainly b q ≡ true) × (t ≡ earliestGap plainly b q)
 UncoveredIs b q None = notSupported plainly b q ≡ false
 
 -- nothing is asked of other requests, nor of owners and administrators
@@ -115,6 +115,5 @@ in-control b q e f = rw (e, f)
 pub uncovered-is : (b : Base) (q : Request) → grants q ≡ true →
     controls b (q .object) (q .requester) ≡ false →
     (r : Gap) → GapIs (b .authorizations) (newHead (suc (b .last)) q) (q .interval) r → UncoveredIs b q r
-uncovered-is b q e f (At t) g =
-    ((λ k. e k && not (f k) && not (g .some k)), (λ k. g .within k && not (g .bare k)))
+uncovered-is b q e f (At t) g = ((λ k. e k && not (f k) && not (g .0 k)), g .1)
 uncovered-is b q e f None g = λ k. e k && not (f k) && not (g k)

@@ -14,7 +14,7 @@ use Rattle.model.specs.declared.Request.{Request}
 use Rattle.model.specs.Base.{Base}
 use Rattle.model.specs.Means.{plainly}
 use Rattle.model.specs.Step.{Row, row, firstNumber, outOfRange, behindClock, badInterval, noObject, noLabel}
-use Rattle.model.specs.Step.{notPermitted, notSupported, isGap, alreadyThere, notHeld, notStratified, full}
+use Rattle.model.specs.Step.{notPermitted, notSupported, earliestGap, alreadyThere, notHeld, notStratified, full}
 use Rattle.model.specs.Step.{refusal}
 use Rattle.model.specs.StepFacts.{Numbered, numbered, first-none, first-append, first-all}
 use Rattle.refusals.specs.declared.Early.{Early}
@@ -48,7 +48,7 @@ module _ (b : Base) (q : Request) where
   abbrev pub saysOf : ℕ → Early → Type 0
   saysOf n Passed = n ≡ 0
   saysOf n (Number m) = (n ≡ m) × (m ≢ 0) × (m ≢ 9)
-  saysOf n (Uncovered t) = (n ≡ 9) × (isGap b q t ≡ true)
+  saysOf n (Uncovered t) = (n ≡ 9) × (t ≡ earliestGap plainly b q)
 
   abbrev pub earlyIs : Early → Type 0
   earlyIs = saysOf (firstNumber earlyRows)

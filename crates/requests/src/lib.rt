@@ -8,7 +8,7 @@ ghost use Rattle.model.specs.declared.Reply.the-variants.{Done};
 ghost use Rattle.model.specs.Requests.{labels, withdraws};
 ghost use Rattle.model.specs.Encoding.{encode, decode};
 ghost use Rattle.model.specs.Soundness.{soundBytes};
-ghost use Rattle.model.specs.Answers.{Answered};
+ghost use Rattle.model.specs.Answers.{answering, request};
 ghost use Rattle.model.specs.Means.{plainly};
 ghost use Rattle.model.specs.Step.{effect};
 ghost use Rattle.effects.specs.Effects.{Allowed};
@@ -88,7 +88,7 @@ fn carry_out(s: &mut [u8], q: Request) -> Reply
 // A request over a base that is known to be sound.
 pub fn step(s: &mut [u8], q: Request) -> Reply
     requires { ⌜ soundBytes (now s) ≡ true ⌝ }
-    ensures { λ r. ⌜ Answered (now (s .entry)) q r (now (s .exit)) ⌝ }
+    ensures { λ r. ⌜ answering r (now (s .exit)) ≡ request (now (s .entry)) q ⌝ }
 {
     let early = refusals::early_refusal(s, q);
     match early {
@@ -100,7 +100,7 @@ pub fn step(s: &mut [u8], q: Request) -> Reply
 
 // A request over lent bytes, of any length.
 pub fn request(s: &mut [u8], q: Request) -> Reply
-    ensures { λ r. ⌜ Answered (now (s .entry)) q r (now (s .exit)) ⌝ }
+    ensures { λ r. ⌜ answering r (now (s .exit)) ≡ request (now (s .entry)) q ⌝ }
 {
     if !soundness::is_sound(s) {
         return Reply::Refused(2);

@@ -11,11 +11,11 @@ use Rattle.foundation.specs.Tests.{true-le, false-le}
 use Rattle.foundation.specs.Lists.{anyb, allb, any-cong}
 use Rattle.foundation.specs.declared.Interval.{Interval}
 use Rattle.foundation.specs.Intervals.{inInterval, inInterval-in, none?, always, always-all, all-always}
-use Rattle.foundation.specs.Intervals.{always-cong}
+use Rattle.foundation.specs.Intervals.{always-cong, firstStart}
 use Rattle.model.specs.declared.Head.{Head}
 use Rattle.model.specs.declared.Authorization.{Authorization}
 use Rattle.model.specs.Support.{supports, supported, live, coveredFor, gaps}
-use Rattle.model.specs.SupportFacts.{hop}
+use Rattle.model.specs.SupportFacts.{hop, Earliest, earliest-gaps, earliest-only}
 use Rattle.support.specs.declared.Want.{Want}
 use Rattle.support.specs.declared.Gap.{Gap}
 use Rattle.support.specs.declared.Gap.the-variants.{At, None}
@@ -69,16 +69,9 @@ covered-by xs h t =
 abbrev pub gapOf : ℕ → ℕ → Gap
 gapOf t b = pick (ltb t b) (At t) None
 
--- t is the earliest instant of i that is not covered for h
-pub record Earliest (xs : List Authorization) (h : Head) (i : Interval) (t : ℕ) : Type 0 where
-  pub within : inInterval i t ≡ true
-  pub bare : coveredFor xs h t ≡ false
-  pub before : (u : ℕ) → i .start ≤ u → u < t → coveredFor xs h u ≡ true
-  pub some : none? (gaps xs h i) ≡ false
-
--- what an answer says of the gaps
+-- what an answer says of the gaps: where the first starts, or that there is none
 abbrev pub GapIs : List Authorization → Head → Interval → Gap → Type 0
-GapIs xs h i (At t) = Earliest xs h i t
+GapIs xs h i (At t) = (none? (gaps xs h i) ≡ false) × (t ≡ firstStart (gaps xs h i))
 GapIs xs h i None = none? (gaps xs h i) ≡ true
 
 -- what is said of the answer to what is wanted: it is the first uncovered instant, and so what the model says
@@ -105,15 +98,15 @@ module _ (xs : List Authorization) (h : Head) (i : Interval) where
       let f = first-of (uncovered (wantOf h) xs) (i .start) (i .end + 1) s in
       record {
         within = inInterval-in i gap (f .low) (omega arith);
-        bare = covered-by xs h gap ∙ not-true (coveredBy (wantOf h) xs gap) (f .here k);
+        uncovered = covered-by xs h gap ∙ not-true (coveredBy (wantOf h) xs gap) (f .here k);
         before = λ u p q. covered-by xs h u ∙ not-false (coveredBy (wantOf h) xs u) (f .before u p q);
-        some = gaps-first xs h i ∙ le-false (i .end + 1) gap k;
       }
 
   -- the first uncovered instant of i, or none, is what the model says
   pub gap-is : GapIs xs h i (gapOf gap (i .end + 1))
   gap-is = cases (ltb gap (i .end + 1))
-      (λ e. rw e (earliest (true-le (suc gap) (i .end + 1) e)))
+      (λ e. let w = earliest (true-le (suc gap) (i .end + 1) e) in
+      rw e (earliest-gaps xs h i gap w, earliest-only xs h i gap w))
       (λ e. let k = false-le (suc gap) (i .end + 1) e in
       rw e (gaps-first xs h i ∙ le-true (i .end + 1) gap (omega arith)))
 

@@ -5,7 +5,7 @@ use mathlib.Core.Bool.{Bool, true, false, not}
 use mathlib.Core.List.{List, [], _∷_, _++_}
 use Prim.Native.Nat.{ℕ, suc, _*_, _/_, _<_, _≤_}
 use native.Mathlib.Omega.{arith}
-use lib.Dec.{ltb}
+use lib.Dec.{ltb, eqb}
 use lib.ListN.{length, drop, length-append}
 use Rattle.foundation.specs.Tests.{cases, pick, true-le}
 use Rattle.foundation.specs.Lists.{allb}
@@ -16,21 +16,23 @@ use Rattle.model.specs.declared.Question.{Question}
 use Rattle.model.specs.declared.Reply.{Reply}
 use Rattle.model.specs.declared.Reply.the-variants.{Done, Refused, Unsupported, Yes, No, Runs}
 use Rattle.model.specs.Ranges.{mostAuthorizations}
+use Rattle.model.specs.Base.{Base}
 use Rattle.model.specs.Rules.{may, when}
 use Rattle.model.specs.Means.{plainly}
-use Rattle.model.specs.Step.{Row, row, firstNumber, refusal, accepting, table, effect}
+use Rattle.model.specs.Step.{Row, row, firstNumber, refusal, accepting, table, effect, refusalReply}
 use Rattle.model.specs.Requests.{labels}
 use Rattle.model.specs.StepFacts.{accepted, first-all, by-rows}
 use Rattle.model.specs.Encoding.{encode, decode}
 use Rattle.model.specs.FitsFacts.{counts-fit}
 use Rattle.model.specs.Soundness.{sound, soundBytes}
 use Rattle.model.specs.SoundnessFacts.{sound-tests, sound-bytes}
-use Rattle.model.specs.Answers.{Answer, answering, refusing, shown, requestTable, mayTable, whenTable}
+use Rattle.model.specs.Answers.{Answer, answering, refusing, requestTable, mayTable, whenTable}
 use Rattle.model.specs.Answers.{mayReply}
 use Rattle.model.specs.Answers.{words, request, mayAnswer, whenAnswer}
-use Rattle.model.specs.Text.{decimal, printReply}
+use Rattle.model.specs.Text.{printReply}
 use Rattle.model.specs.Session.{runsOf}
 use Rattle.laws.specs.Preservation.{effect-sound}
+use Rattle.laws.specs.RequestFacts.{refusedWith}
 use Rattle.laws.specs.Rows.{label-left}
 use Rattle.laws.specs.SessionFacts.{when-most}
 use Rattle.scan.specs.Runs.{words-length}
@@ -88,28 +90,14 @@ short-runs Yes list h = refl
 short-runs No list h = refl
 short-runs (Runs n) list h = absurd h
 
--- a reply is as short as it is shown, and is printed as it is shown: 9 without its instant
-pub shown-short : (r : Reply) → Short (shown r) → Short r
-shown-short (Done label count) h = h
-shown-short (Refused n) h = h
-shown-short (Unsupported t) h = tt
-shown-short Yes h = tt
-shown-short No h = tt
-shown-short (Runs n) h = h
-
-pub shown-text : (r : Reply) (runs : List Interval) → printReply r runs ≡ printReply (shown r) runs
-unfolding decimal
-shown-text (Done label count) runs = refl
-shown-text (Refused n) runs = refl
-shown-text (Unsupported t) runs = refl
-shown-text Yes runs = refl
-shown-text No runs = refl
-shown-text (Runs n) runs = refl
-
 refused-short : (rows : List Row) → allb (λ r. ltb (r .number) 100) rows ≡ true →
     Short (Refused (firstNumber rows))
 refused-short rows e =
     omega (arith, true-le (suc (firstNumber rows)) 100 (first-all (λ n. ltb n 100) rows refl e))
+
+-- a refusal's text is as short with an instant, which is not printed
+reply-short : (b : Base) (q : Request) (n : ℕ) → Short (Refused n) → Short (refusalReply plainly b q n)
+reply-short b q n h = cases (eqb n 9) (λ e. rw (e, refusalReply) tt) (λ e. rw (e, refusalReply) h)
 
 -- ---- the replies to a request and to MAY
 
@@ -132,8 +120,8 @@ unfolding request
 request-short s q =
     let after = effect plainly (decode s) q in
     let t = requestTable s q in
-    by-rows t (refusing s) (answering (accepting (decode s) q after) (encode after))
-    (λ (a : Answer). Short (a .reply)) (refused-short t refl)
+    by-rows t (refusedWith s q) (answering (accepting (decode s) q after) (encode after))
+    (λ (a : Answer). Short (a .reply)) (reply-short (decode s) q (firstNumber t) (refused-short t refl))
     (accepting-short s q)
 
 pub may-short : (s : List ℕ) (q : Question) → Short (mayAnswer s q)

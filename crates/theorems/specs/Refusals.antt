@@ -19,20 +19,22 @@ use Rattle.model.specs.Ranges.{isObject}
 use Rattle.model.specs.Base.{emptyBase, exists}
 use Rattle.model.specs.Rules.{may, when}
 use Rattle.model.specs.Means.{plainly}
-use Rattle.model.specs.Step.{Row, row, firstNumber, refusedOr, accepting, effect}
+use Rattle.model.specs.Step.{Row, row, firstNumber, refusedOr, accepting, effect, earliestGap}
 use Rattle.model.specs.StepFacts.{first-given, answered, turned-away, rising?}
+use Rattle.model.specs.StepFacts.{IsEarliest, earliest-gap, earliest-one}
 use Rattle.model.specs.Encoding.{size, encode, decode}
 use Rattle.model.specs.Soundness.{soundBytes}
 use Rattle.model.specs.SoundnessFacts.{sound-bytes}
-use Rattle.model.specs.Answers.{Answer, answering, refusing, refusalNumber, shown, create, requestTable}
+use Rattle.model.specs.Answers.{Answer, answering, refusing, refusalNumber, create, requestTable}
 use Rattle.model.specs.Answers.{request}
-use Rattle.model.specs.Answers.{Answered, mayTable, whenTable, words, mayReply, mayAnswer, whenAnswer}
+use Rattle.model.specs.Answers.{mayTable, whenTable, words, mayReply, mayAnswer, whenAnswer}
 use Rattle.model.specs.declared.Counted.the-variants.{Count}
 use Rattle.model.specs.Counting.{Counting, counting, declining, countedRefusal}
 use Rattle.model.specs.Report.{isOn, reportOf, reportTable, reportAnswer}
 use Rattle.model.specs.ReportFacts.{report-length}
 use Rattle.model.specs.Text.{Line, order, asksMay, asksWhen, unreadable}
 use Rattle.model.specs.Session.{whenList, byteTurn}
+use Rattle.laws.specs.RequestFacts.{reply-refusal, refusedWith, uncovered-reply, nine-applies}
 
 -- an answer with a number that is not 0 is the refusal by a row, and the number is that row's
 refused : {A : Type 0} (rows : List Row) (refuse : ℕ → A) (answer : A) (number : A → ℕ) →
@@ -75,10 +77,10 @@ pub request-refuses : (s : List ℕ) (q : Request) → refusalNumber (request s 
 unfolding request
 request-refuses s q n =
     let after = effect plainly (decode s) q in
-    let w = refused (requestTable s q) (refusing s)
+    let w = refused (requestTable s q) (refusedWith s q)
     (answering (accepting (decode s) q after) (encode after)) number
-    (λ k. refl) refl n in
-    (w .0, kept (request s q) s (firstNumber (requestTable s q)) (w .1))
+    (reply-refusal (decode s) q) refl n in
+    (w .0, ap (λ (a : Answer). a .lent) (w .1))
 
 -- MAY gets nothing that it could alter
 pub may-refuses : (s : List ℕ) (q : Question) → refusalNumber (mayAnswer s q) ≢ 0 →
@@ -143,23 +145,30 @@ report-fills s o page sound? object there room =
 
 -- ---- the same about the code
 
--- the number does not depend on the instant that goes with 9
-shown-number : (r : Reply) → refusalNumber (shown r) ≡ refusalNumber r
-shown-number (Done label count) = refl
-shown-number (Refused n) = refl
-shown-number (Unsupported t) = refl
-shown-number Yes = refl
-shown-number No = refl
-shown-number (Runs n) = refl
-
 -- by the contract of the library's request
-pub answered-refuses : (s : List ℕ) (q : Request) (r : Reply) (s′ : List ℕ) → Answered s q r s′ →
-    refusalNumber r ≢ 0 → Mem (refusalNumber r) requestNumbers × (s′ ≡ s)
+pub answered-refuses : (s : List ℕ) (q : Request) (r : Reply) (s′ : List ℕ) →
+    answering r s′ ≡ request s q → refusalNumber r ≢ 0 → Mem (refusalNumber r) requestNumbers × (s′ ≡ s)
 answered-refuses s q r s′ a n =
-    let same : refusalNumber (request s q .reply) ≡ refusalNumber r =
-    ap refusalNumber (sym (a .reply)) ∙ shown-number r in
-    let w = request-refuses s q (λ z. n (sym same ∙ z)) in
-    (subst (λ (k : ℕ). Mem k requestNumbers) same (w .0), a .bytes ∙ w .1)
+    let same : request s q .reply ≡ r = ap (λ (x : Answer). x .reply) (sym a) in
+    let w = request-refuses s q (λ z. n (ap refusalNumber (sym same) ∙ z)) in (
+      subst (λ (x : Reply). Mem (refusalNumber x) requestNumbers) same (w .0),
+      ap (λ (x : Answer). x .lent) a ∙ w .1,
+    )
+
+-- 02, CR 3: a refusal with 9 tells the earliest uncovered instant: it lies in the span, nothing covers it,
+-- every instant of the span before it is covered, and no other instant is such
+pub answered-nine : (s : List ℕ) (q : Request) (r : Reply) (s′ : List ℕ) → answering r s′ ≡ request s q →
+    refusalNumber r ≡ 9 →
+    (t : ℕ) × (r ≡ Unsupported t) × IsEarliest (decode s) q t
+    × ((u : ℕ) → IsEarliest (decode s) q u → u ≡ t)
+answered-nine s q r s′ a n =
+    let same : r ≡ request s q .reply = ap (λ (x : Answer). x .reply) a in
+    let nine : refusalNumber (request s q .reply) ≡ 9 = ap refusalNumber (sym same) ∙ n in (
+      earliestGap plainly (decode s) q,
+      same ∙ uncovered-reply s q nine,
+      earliest-gap (decode s) q (nine-applies s q nine),
+      earliest-one (decode s) q,
+    )
 
 -- ---- a line of text
 

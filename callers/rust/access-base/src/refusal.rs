@@ -22,7 +22,7 @@ pub enum Refusal {
     NotPermitted,
     /// 9: the giver of a grant or denial is neither owner nor administrator, and some instant is not covered.
     NotSupported {
-        /// An instant of the span that nothing covers.
+        /// The earliest instant of the span that nothing covers.
         uncovered: u32,
     },
     /// 10: the object exists, or the subject owns it or holds that privilege.
@@ -66,7 +66,7 @@ impl fmt::Display for Refusal {
             Refusal::NoSuchLabel => "no such label: no line or rule has the label any more",
             Refusal::NotPermitted => "not permitted: ask the giver, author or owner",
             Refusal::NotSupported { uncovered } => {
-                return write!(f, "9, not supported: shorten the interval, the instant {uncovered} is not covered")
+                return write!(f, "9, not supported: shorten the interval, {uncovered} is the earliest instant not covered")
             }
             Refusal::AlreadySo => "already so: nothing to do",
             Refusal::NotHeld => "not held: nothing to do",

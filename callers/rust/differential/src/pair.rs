@@ -224,13 +224,9 @@ impl Pair {
                 return Ok(0);
             }
             (oracle::Reply::Refused(9), Some(oracle)) => {
-                // "With 9 the library also gives one uncovered instant"
-                same(reply, (9, 0, reply.2))?;
-                let in_span = q.start <= reply.2 && reply.2 <= q.end;
-                if !in_span || !oracle.is_uncovered(&asked, reply.2) {
-                    let oracle = "9, but this instant is covered or outside the span".to_string();
-                    return Err(Difference { library: format!("9 with instant {}", reply.2), oracle });
-                }
+                // 02, CR 3: "The instant given with 9 must now be the earliest uncovered one"
+                let earliest = oracle.earliest_uncovered(&asked).expect("9 has an uncovered instant");
+                same(reply, (9, 0, earliest))?;
             }
             (oracle::Reply::Refused(row), _) => same(reply, refused(row))?,
             (done, None) => unreachable!("{done:?} without a sound base"),

@@ -180,9 +180,10 @@ impl Oracle {
         (0..self.cells.count()).map(|cell| open.has(cell)).collect()
     }
 
-    /// For a GRANT or DENY that is refused with 9: does the instant lie in its interval, uncovered?
-    pub fn is_uncovered(&self, q: &Request, instant: u32) -> bool {
-        self.uncovered_cells(q).has(self.cells.cell_of(instant))
+    /// For a GRANT or DENY that is refused with 9: "the earliest uncovered" instant of its interval (02, CR 3).
+    pub fn earliest_uncovered(&self, q: &Request) -> Option<u32> {
+        let cell = self.uncovered(q).iter().position(|&open| open)?;
+        Some(self.cells.first(cell))
     }
 
     /// What the request does, and row 13: "the resulting base would pass a count, no label is left for a

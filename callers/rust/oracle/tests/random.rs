@@ -35,11 +35,10 @@ fn bytes_and_back() {
                         if row == 9 {
                             let open = old.uncovered(&q);
                             assert!(open.contains(&true));
-                            for (cell, &is) in open.iter().enumerate() {
-                                let instant = old.cells().first(cell);
-                                assert_eq!(old.is_uncovered(&q, instant), is);
-                                assert!(!is || q.start <= instant && instant <= q.end);
-                            }
+                            let instants = (0..open.len()).map(|cell| old.cells().first(cell));
+                            let gaps: Vec<u32> = instants.zip(&open).filter(|(_, &is)| is).map(|(t, _)| t).collect();
+                            assert!(gaps.iter().all(|&t| q.start <= t && t <= q.end));
+                            assert_eq!(old.earliest_uncovered(&q), gaps.iter().min().copied());
                         }
                     }
                     Reply::Done { lines, .. } => {

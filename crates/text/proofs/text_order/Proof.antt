@@ -1,13 +1,12 @@
--- `text_order`: the reply to a request is short, and is printed as it is shown.
+-- `text_order`: the reply to a request is short.
 use borrow.Author.Needs.{needs}
 use native.Mathlib.Omega.{arith}
 use mathlib.Core.Path.{sym, ap, _∙_, subst}
 use mathlib.Core.List.{[]}
 use denote.Ref.{now}
-use Rattle.model.specs.declared.Reply.{Reply}
-use Rattle.model.specs.Answers.{request}
+use Rattle.model.specs.Answers.{Answer, request}
 use Rattle.model.specs.Text.{order, printReply}
-use Rattle.text.specs.Short.{Short, short-length, short-runs, shown-short, shown-text, request-short}
+use Rattle.text.specs.Short.{Short, short-length, short-runs, request-short}
 use Rattle.text.specs.Writing.{wrote-as, all-written}
 use Rattle.text.proofs.text_order.Statement.{statement}
 use Rattle.text.proofs.text_order.Tie as tie
@@ -15,8 +14,7 @@ use Rattle.text.proofs.text_order.Tie as tie
 short : (c : tie.After-request) → Short (c .request .result)
 short c =
     let a = c .before .before .before .before .before .args in
-    shown-short (c .request .result)
-    (subst Short (sym (c .request .ensures .reply)) (request-short (now (a .base)) (a .q)))
+    subst (λ (x : Answer). Short (x .reply)) (sym (c .request .ensures)) (request-short (now (a .base)) (a .q))
 
 put-short-requires : tie.Need-put-short-requires
 put-short-requires c κs =
@@ -33,10 +31,10 @@ returns c =
     all-written s (order q) (now (d .args .out)) (d .pre)
     (omega (arith, short-length (request s q .reply) [] (request-short s q), d .pre))
     (wrote-as
-    (ap (printReply r) (short-runs r [] (short t)) ∙ shown-text r []
-    ∙ ap (λ (r : Reply). printReply r []) (t .request .ensures .reply))
+    (ap (printReply r) (short-runs r [] (short t))
+    ∙ ap (λ (x : Answer). printReply (x .reply) []) (t .request .ensures))
     (p .put-short .ensures))
-    (t .request .ensures .bytes)
+    (ap (λ (x : Answer). x .lent) (t .request .ensures))
 
 pub text-order-spec : {M : Type 1} → statement M
 text-order-spec =

@@ -3,9 +3,9 @@ use borrow.Author.Needs.{needs}
 use mathlib.Core.Path.{sym, ap, _∙_, subst}
 use mathlib.Core.List.{[]}
 use denote.Ref.{now}
-use Rattle.model.specs.declared.Reply.{Reply}
+use Rattle.model.specs.Answers.{Answer}
 use Rattle.model.specs.Text.{printReply}
-use Rattle.text.specs.Short.{Short, request-short, shown-short, shown-text}
+use Rattle.text.specs.Short.{Short, request-short}
 use Rattle.serving.specs.Replies.{printed-as}
 use Rattle.serving.proofs.turns.serve_order.Statement.{statement}
 use Rattle.serving.proofs.turns.serve_order.Tie as tie
@@ -15,18 +15,16 @@ put-short-requires c κs =
     let t = c .before .before in
     let d = t .before .before .before .before .before in (
       d .pre .1,
-      shown-short (t .step .result)
-          (subst Short (sym (t .step .ensures .reply)) (request-short (now (d .args .s)) (d .args .q))),
+      subst (λ (x : Answer). Short (x .reply)) (sym (t .step .ensures))
+          (request-short (now (d .args .s)) (d .args .q)),
     )
 
 returns : tie.Need-returns
 returns c =
     let p = c .before .before in
     let t = p .before .before .before in (
-      printed-as (shown-text (t .step .result) []
-          ∙ ap (λ (r : Reply). printReply r []) (t .step .ensures .reply))
-          (p .put-short .ensures),
-      t .step .ensures .bytes,
+      printed-as (ap (λ (x : Answer). printReply (x .reply) []) (t .step .ensures)) (p .put-short .ensures),
+      ap (λ (x : Answer). x .lent) (t .step .ensures),
     )
 
 pub serve-order-spec : {M : Type 1} → statement M
