@@ -62,7 +62,7 @@ enum access_base_operator {
     ACCESS_BASE_UNLESS = 4
 };
 
-/* The table of refusals. The lowest number that applies is given, and nothing lent is altered. */
+/* The table of refusals. The lowest number that applies is given, 14 between 8 and 9, and nothing lent is altered. */
 enum access_base_refusal {
     ACCESS_BASE_DONE = 0,
     ACCESS_BASE_INVALID_BASE = 2,  /* wrong length or not sound */
@@ -76,7 +76,8 @@ enum access_base_refusal {
     ACCESS_BASE_ALREADY_SO = 10,   /* the object exists, or the subject owns it or holds that privilege */
     ACCESS_BASE_NOT_HELD = 11,     /* the privilege to withdraw is not there */
     ACCESS_BASE_NOT_STRATIFIED = 12,/* the rule would close a forbidden circle */
-    ACCESS_BASE_FULL = 13          /* a count or the labels would be passed, or the list, page or buffer is too short */
+    ACCESS_BASE_FULL = 13,         /* a count or the labels would be passed, or the list, page or buffer is too short */
+    ACCESS_BASE_BARRED = 14        /* a line denies the requester of a grant or denial that object and mode in its span */
 };
 
 /* The heading of a base and its five bodies, and the numbers that a record of each is. */

@@ -26,7 +26,7 @@ use Rattle.model.specs.Requests.{NEW, ADDRULE, DROPRULE, GRANTADM, REVOKEADM, G
 use Rattle.model.specs.Requests.{is, newHead, newRule, insert, without}
 use Rattle.model.specs.Means.{plainly}
 use Rattle.model.specs.Step.{effect}
-use Rattle.laws.specs.Kinds.{kind-is, is-apart, is-kinds, grantKinds, labelKinds}
+use Rattle.model.specs.Kinds.{kind-is, is-apart, is-kinds, grantKinds, labelKinds}
 use Rattle.laws.specs.Rows.{rule-in, label-left}
 use Rattle.laws.specs.RuleTerms.{ruleTests}
 use Rattle.laws.specs.Preservation.{sound-after}

@@ -23,7 +23,7 @@ use Rattle.model.specs.SoundnessFacts.{Sound}
 use Rattle.model.specs.Requests.{REVOKEADM, REVOKEREF, is, before, insert, without}
 use Rattle.model.specs.Means.{plainly}
 use Rattle.model.specs.Step.{effect, notHeld}
-use Rattle.laws.specs.Kinds.{is-kinds, objectKinds, subjectKinds}
+use Rattle.model.specs.Kinds.{is-kinds, objectKinds, subjectKinds}
 use Rattle.laws.specs.Rows.{requester-in, object-in, subject-in}
 use Rattle.edits.specs.declared.PrivilegeBody.{PrivilegeBody}
 use Rattle.edits.specs.declared.PrivilegeBody.the-variants.{Objects, Administrators, Referrers}

@@ -1,8 +1,9 @@
 -- Intervals of instants, and the maximal intervals on which a test holds (01: longest runs).
 -- Theorem 1: `maximal-separate`, `maximal-covered` and `maximal-unique` at the end.
 use mathlib.Core.Path.{_≡_, refl, sym, ap, ap₂, _∙_}
-use Prim.Native.Nat.{ℕ, zero, suc, _+_, _-_, _≤_, _<_}
+use Prim.Native.Nat.{ℕ, zero, suc, max, _+_, _-_, _≤_, _<_}
 use native.Mathlib.Omega.{arith}
+use mathlib.Core.Logic.{_↔_}
 use mathlib.Core.Bool.{Bool, true, false, not, _&&_, _||_, true≢false, false≢true}
 use mathlib.Core.List.{List, [], _∷_}
 use lib.Dec.{leb, ltb, eqb}
@@ -19,6 +20,10 @@ abbrev pub inInterval : Interval → ℕ → Bool
 inInterval r t = leb (r .start) t && leb t (r .end)
 
 -- the instant lies in one of the intervals
+-- they have an instant in common (`overlap-instant`)
+abbrev pub overlap : Interval → Interval → Bool
+overlap i j = leb (i .start) (j .end) && leb (j .start) (i .end)
+
 abbrev pub covered : List Interval → ℕ → Bool
 covered [] t = false
 covered (r ∷ rs) t = inInterval r t || covered rs t
@@ -71,6 +76,22 @@ inInterval-in r t p q = and-intro (leb (r .start) t) (leb t (r .end)) (le-true (
 
 inInterval-below : (r : Interval) (t : ℕ) → t < r .start → inInterval r t ≡ false
 inInterval-below r t h = rw (le-false (r .start) t h)
+
+-- of two intervals that are not empty
+pub overlap-instant : (i j : Interval) → i .start ≤ i .end → j .start ≤ j .end →
+    (overlap i j ≡ true) ↔ ((t : ℕ) × (inInterval i t ≡ true) × (inInterval j t ≡ true))
+overlap-instant i j p q = (
+  (λ e. let w = and-true (leb (i .start) (j .end)) (leb (j .start) (i .end)) e in
+      let a = true-le (i .start) (j .end) (w .0) in
+      let b = true-le (j .start) (i .end) (w .1) in
+      let t = max (i .start) (j .start) in
+      (t, inInterval-in i t (omega arith) (omega arith), inInterval-in j t (omega arith) (omega arith))),
+  (λ c. let a = inInterval-true i (c .0) (c .1) in
+      let b = inInterval-true j (c .0) (c .2) in
+      and-intro (leb (i .start) (j .end)) (leb (j .start) (i .end))
+      (le-true (i .start) (j .end) (omega (arith, a .0, b .1)))
+      (le-true (j .start) (i .end) (omega (arith, b .0, a .1)))),
+)
 
 pub inInterval-above : (r : Interval) (t : ℕ) → r .end < t → inInterval r t ≡ false
 inInterval-above r t h = cases (leb (r .start) t) (λ e. rw (e, le-false t (r .end) h)) (λ e. rw e)

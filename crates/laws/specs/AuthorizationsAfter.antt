@@ -21,7 +21,7 @@ use Rattle.model.specs.Requests.{leave, affects}
 use Rattle.model.specs.Means.{plainly}
 use Rattle.model.specs.Step.{effect}
 use Rattle.model.specs.SoundnessFacts.{Sound}
-use Rattle.laws.specs.Kinds.{grantKinds, withdrawalKinds, is-apart, not-kind}
+use Rattle.model.specs.Kinds.{grantKinds, withdrawalKinds, is-apart, not-kind}
 use Rattle.laws.specs.Chained.{pairwise-last}
 use Rattle.laws.specs.KeepFacts.{Piece, piece-piece, pieces-of, Precedes, Sorted, keep-sorted}
 use Rattle.laws.specs.SoundFacts.{interval-rises, label-given, sorted}

@@ -1,4 +1,3 @@
-pub mod Kinds
 pub mod Chained
 pub mod KeepFacts
 pub mod SoundFacts

@@ -5,16 +5,16 @@ use mathlib.Core.Logic.{_≢_}
 use Prim.Native.Nat.{ℕ}
 use native.Mathlib.Omega.{arith}
 use mathlib.Core.Bool.{true, false, not, false≢true}
-use mathlib.Core.List.{List, [], _∷_}
+use mathlib.Core.List.{List}
 use lib.Dec.{eqb}
 use Rattle.foundation.specs.Tests.{cases, true-eq, false-eq}
+use Rattle.foundation.specs.Lists.{keepIf}
 use Rattle.model.specs.declared.Request.{Request}
 use Rattle.model.specs.declared.Reply.the-variants.{Done, Refused, Unsupported}
 use Rattle.model.specs.Base.{Base}
 use Rattle.model.specs.Means.{plainly}
-use Rattle.model.specs.Step.{Row, row, firstNumber, accepting, refusal, effect, outOfRange, behindClock}
-use Rattle.model.specs.Step.{badInterval, noObject, noLabel, notPermitted, notSupported, alreadyThere}
-use Rattle.model.specs.Step.{notHeld, notStratified, full, earliestGap, refusalReply}
+use Rattle.model.specs.Step.{Row, firstNumber, accepting, refusal, effect, notSupported, earliestGap}
+use Rattle.model.specs.Step.{refusalReply}
 use Rattle.model.specs.StepFacts.{answered, turned-away, by-rows, first-all}
 use Rattle.model.specs.Encoding.{encode, decode}
 use Rattle.model.specs.EncodingFacts.{decode-encode, encode-sound}
@@ -113,20 +113,7 @@ nine-applies s q =
   where
     -- the rows without row 9
     otherRows : List Row
-    otherRows =
-        let b = decode s in
-        (row 2 (not (soundBytes s))
-        ∷ row 3 (outOfRange q)
-        ∷ row 4 (behindClock b q)
-        ∷ row 5 (badInterval q)
-        ∷ row 6 (noObject b q)
-        ∷ row 7 (noLabel b q)
-        ∷ row 8 (notPermitted b q)
-        ∷ row 10 (alreadyThere b q)
-        ∷ row 11 (notHeld b q)
-        ∷ row 12 (notStratified b q)
-        ∷ row 13 (full plainly b q)
-        ∷ [])
+    otherRows = keepIf (λ r. not (eqb (r .number) 9)) (requestTable s q)
 
 -- and the reply tells the earliest uncovered instant
 pub uncovered-reply : (s : List ℕ) (q : Request) → refusalNumber (request s q .reply) ≡ 9 →

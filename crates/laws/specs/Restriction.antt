@@ -23,7 +23,7 @@ use Rattle.model.specs.Requests.{affects}
 use Rattle.model.specs.Means.{plainly}
 use Rattle.model.specs.Step.{effect}
 use Rattle.model.specs.SoundnessFacts.{Sound}
-use Rattle.laws.specs.Kinds.{is-apart}
+use Rattle.model.specs.Kinds.{is-apart}
 use Rattle.laws.specs.KeepFacts.{live-keep, keep-cong}
 use Rattle.laws.specs.SoundFacts.{all-supported}
 use Rattle.laws.specs.SoundPrivileges.{controls-stays}

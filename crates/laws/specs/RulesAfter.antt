@@ -16,7 +16,7 @@ use Rattle.model.specs.Stratification.{precedes, weight, stratified}
 use Rattle.model.specs.Requests.{ADDRULE, DROPRULE, REVOKEADM, REVOKEREF, is, newRule, drops}
 use Rattle.model.specs.Means.{plainly}
 use Rattle.model.specs.Step.{effect}
-use Rattle.laws.specs.Kinds.{kind-is, not-kind}
+use Rattle.model.specs.Kinds.{kind-is, not-kind}
 
 -- a rule after the request: ADDRULE's, or an old one
 abbrev pub RuleOrigin : Base → Request → Rule → Type 0

@@ -24,9 +24,9 @@ use Rattle.model.specs.Soundness.{chained, rises, intervalIn, authorizationIn, 
 use Rattle.model.specs.Soundness.{denialsPlain, labelsAgree}
 use Rattle.model.specs.SoundnessFacts.{Sound}
 use Rattle.model.specs.SoundTests.{ranges-test, exist-test, labels-test}
-use Rattle.laws.specs.Kinds.{grantKinds, labelKinds, objectKinds, subjectKinds, modeKinds}
-use Rattle.laws.specs.Kinds.{intervalKinds}
-use Rattle.laws.specs.Kinds.{is-kinds, is-apart}
+use Rattle.model.specs.Kinds.{grantKinds, labelKinds, objectKinds, subjectKinds, modeKinds}
+use Rattle.model.specs.Kinds.{intervalKinds}
+use Rattle.model.specs.Kinds.{is-kinds, is-apart}
 use Rattle.laws.specs.Chained.{pairwise-chained}
 use Rattle.laws.specs.KeepFacts.{apart, Precedes, precedes-rises, precedes-apart}
 use Rattle.laws.specs.SoundFacts.{granted-before, label-given, rule-label-given}

@@ -18,7 +18,7 @@ use Rattle.model.specs.Step.{effect}
 use Rattle.model.specs.StepFacts.{Accepted}
 use Rattle.model.specs.Soundness.{authorsMay}
 use Rattle.model.specs.SoundnessFacts.{Sound}
-use Rattle.laws.specs.Kinds.{kind-is}
+use Rattle.model.specs.Kinds.{kind-is}
 use Rattle.laws.specs.Rows.{may-rule}
 use Rattle.laws.specs.SoundPrivileges.{loses, refers-stays, controls-stays}
 use Rattle.laws.specs.RulesAfter.{kept-all}

@@ -21,7 +21,7 @@ use Rattle.model.specs.Step.{countsHold, effect}
 use Rattle.model.specs.StepFacts.{Accepted}
 use Rattle.model.specs.Soundness.{chained, privilegeIn, ownersApart}
 use Rattle.model.specs.SoundnessFacts.{Sound}
-use Rattle.laws.specs.Kinds.{objectKinds, subjectKinds, kind-is, is-kinds, is-apart}
+use Rattle.model.specs.Kinds.{objectKinds, subjectKinds, kind-is, is-kinds, is-apart}
 use Rattle.laws.specs.Rows.{now-in, requester-in, object-in, subject-in, object-exists, object-new}
 use Rattle.laws.specs.Rows.{not-administrator, not-referrer, counts-in, label-left}
 use Rattle.model.specs.SoundTests.{order-test, ranges-test, exist-test, owners-test}

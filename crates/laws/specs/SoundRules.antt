@@ -19,7 +19,7 @@ use Rattle.model.specs.Step.{optionFits, effect}
 use Rattle.model.specs.StepFacts.{Accepted}
 use Rattle.model.specs.Soundness.{chained, ruleIn, startsFirst, starsMatch, rightDenialsPlain}
 use Rattle.model.specs.SoundnessFacts.{Sound}
-use Rattle.laws.specs.Kinds.{kind-is}
+use Rattle.model.specs.Kinds.{kind-is}
 use Rattle.laws.specs.Rows.{requester-in, interval-in, rule-in, starts-first, both-exist, no-circle}
 use Rattle.laws.specs.Rows.{label-left}
 use Rattle.model.specs.SoundTests.{order-test, ranges-test, intervals-test, exist-test}

@@ -21,7 +21,7 @@ use Rattle.model.specs.Step.{effect}
 use Rattle.model.specs.StepFacts.{Accepted}
 use Rattle.model.specs.Soundness.{allSupported}
 use Rattle.model.specs.SoundnessFacts.{Sound}
-use Rattle.laws.specs.Kinds.{grantKinds, withdrawalKinds, is-apart, not-kind}
+use Rattle.model.specs.Kinds.{grantKinds, withdrawalKinds, is-apart, not-kind}
 use Rattle.laws.specs.KeepFacts.{live-keep}
 use Rattle.laws.specs.SoundFacts.{all-supported}
 use Rattle.laws.specs.Rows.{all-covered}

@@ -1,7 +1,8 @@
-// Looking things up in a base: who owns, administers, refers or controls, which objects and labels exist; and
-// what such questions rest on: ranges of numbers, kinds of requests, the order of records.
+// Looking things up in a base: who owns, administers, refers or controls, who is denied, which objects and
+// labels exist; and what such questions rest on: ranges of numbers, kinds of requests, the order of records.
 mod base;
 mod bodies;
+mod denials;
 mod kinds;
 mod order;
 mod ranges;
@@ -20,6 +21,7 @@ pub use bodies::has_label;
 pub use bodies::has_object;
 pub use bodies::is_listed;
 pub use bodies::is_root;
+pub use denials::is_denied;
 pub use kinds::is_grant;
 pub use kinds::is_kind;
 pub use kinds::is_labelling;

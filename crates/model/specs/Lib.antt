@@ -6,6 +6,7 @@ pub mod Stratification
 pub mod Rules
 pub mod Held
 pub mod Requests
+pub mod Kinds
 pub mod Means
 pub mod Questions
 pub mod Step
@@ -17,6 +18,7 @@ pub mod SoundnessFacts
 pub mod SoundTests
 pub mod StepFacts
 pub mod Answers
+pub mod BarredFacts
 pub mod Batch
 pub mod BatchFacts
 pub mod Ledger

@@ -8,7 +8,8 @@ use lib.Dec.{leb, ltb, eqb}
 use lib.ListN.{length}
 use Rattle.foundation.specs.Tests.{pick}
 use Rattle.foundation.specs.Lists.{anyb}
-use Rattle.foundation.specs.Intervals.{firstStart, none?}
+use Rattle.foundation.specs.Intervals.{overlap, firstStart, none?}
+use Rattle.model.specs.declared.Head.{Head}
 use Rattle.model.specs.declared.Authorization.{Authorization}
 use Rattle.model.specs.declared.OptionTerm.{OptionTerm}
 use Rattle.model.specs.declared.OptionTerm.the-variants.{With, Without, Either}
@@ -140,6 +141,24 @@ notPermitted b q =
     || (is q (ADDRULE ∷ []) && not (mayRule b (q .requester) (q .rule .left .object)
     (q .rule .right .object)))
 
+-- 02, CR 4: "a line denying the requester that object and mode"
+abbrev pub denies : Request → Head → Bool
+denies q h =
+    h .negative
+    && eqb (h .subject) (q .requester)
+    && eqb (h .object) (q .object)
+    && eqb (h .mode) (q .mode)
+
+-- some instant of the interval "is covered by" it
+abbrev pub bars : Request → Authorization → Bool
+bars q a = denies q (a .head) && overlap (a .interval) (q .interval)
+
+-- 14: "A GRANT or DENY fails if some instant of its interval is covered by a line denying the requester that
+-- object and mode. Owners and administrators of the object are exempt" (`barred-instant` in BarredFacts)
+abbrev pub barred : Base → Request → Bool
+barred b q =
+    grants q && not (controls b (q .object) (q .requester)) && anyb (bars q) (b .authorizations)
+
 -- 10: "object exists (NEW); subject is owner or already holds that privilege (GRANTADM, GRANTREF)"
 abbrev pub alreadyThere : Base → Request → Bool
 alreadyThere b q =
@@ -176,9 +195,9 @@ pub record Row : Type 0 where
 abbrev pub row : ℕ → Bool → Row
 row n g = record { number = n; given = g }
 
--- The number of the first row whose condition holds, or 0. 01: "The lowest number that applies is given": the
--- rows stand in the order of their numbers, so the first that applies is it (StepFacts: `first-given`,
--- `first-applies`, `first-none`).
+-- The number of the first row whose condition holds, or 0. 01: "The lowest number that applies is given"; 02
+-- puts 14 between 8 and 9. So the rows stand in the order in which they are given (StepFacts: `table-order`),
+-- and the first that applies is it (`first-given`, `first-applies`, `first-none`).
 abbrev pub firstNumber : List Row → ℕ
 firstNumber [] = 0
 firstNumber (r ∷ rest) = let n = firstNumber rest in pick (r .given) (r .number) n
@@ -234,7 +253,7 @@ module _ (M : Means) where
   abbrev pub full : Base → Request → Bool
   full b q = not (countsHold (effect b q)) || (labels q && leb lastLabel (b .last))
 
-  -- rows 3 to 13
+  -- rows 3 to 14, in their order
   abbrev pub table : Base → Request → List Row
   table b q =
       (row 3 (outOfRange q)
@@ -243,6 +262,7 @@ module _ (M : Means) where
       ∷ row 6 (noObject b q)
       ∷ row 7 (noLabel b q)
       ∷ row 8 (notPermitted b q)
+      ∷ row 14 (barred b q)
       ∷ row 9 (notSupported b q)
       ∷ row 10 (alreadyThere b q)
       ∷ row 11 (notHeld b q)

@@ -3,7 +3,7 @@
 use mathlib.Core.Path.{_≡_, refl, sym, ap, subst, _∙_}
 use mathlib.Core.Logic.{inl, inr, _≢_, ⊎-elim}
 use mathlib.Core.Bool.{Bool, true, false, true≢false, not, _&&_}
-use mathlib.Core.List.{List, [], _∷_, _++_}
+use mathlib.Core.List.{List, [], _∷_, _++_, map}
 use Prim.Native.Nat.{ℕ, suc, _≤_, _<_}
 use native.Mathlib.Omega.{arith}
 use lib.Dec.{ltb, eqb}
@@ -21,7 +21,8 @@ use Rattle.model.specs.Requests.{grants, newHead}
 use Rattle.model.specs.Means.{Means, plainly}
 use Rattle.model.specs.Step.{Row, firstNumber, rangeTests, outOfRange, behindClock, badInterval}
 use Rattle.model.specs.Step.{noObject}
-use Rattle.model.specs.Step.{noLabel, notPermitted, notSupported, alreadyThere, notHeld, notStratified}
+use Rattle.model.specs.Step.{noLabel, notPermitted, barred, notSupported, alreadyThere, notHeld}
+use Rattle.model.specs.Step.{notStratified}
 use Rattle.model.specs.Step.{full}
 use Rattle.model.specs.Step.{table, refusal, refusedOr, accepting, effect, Outcome, step}
 use Rattle.model.specs.Step.{earliestGap, refusalReply}
@@ -111,9 +112,10 @@ first-lowest n (s ∷ rest) up r m g =
     past m (x ∷ xs) u (inr k) = let w = and-true (ltb m (x .number)) (rising? (x .number) xs) u in
         let i = past (x .number) xs (w .1) k in omega (arith, true-le (suc m) (x .number) (w .0))
 
--- as they do in the table
-pub table-rises : (M : Means) (b : Base) (q : Request) → rising? 2 (table M b q) ≡ true
-table-rises M b q = refl
+-- In the table they rise but for 14, which 02 has "checked after 8 and before 9"
+pub table-order : (M : Means) (b : Base) (q : Request) →
+    map (λ r. r .number) (table M b q) ≡ 3 ∷ 4 ∷ 5 ∷ 6 ∷ 7 ∷ 8 ∷ 14 ∷ 9 ∷ 10 ∷ 11 ∷ 12 ∷ 13 ∷ []
+table-order M b q = refl
 
 -- every row passed
 pub record Accepted (b : Base) (q : Request) : Type 0 where
@@ -123,6 +125,7 @@ pub record Accepted (b : Base) (q : Request) : Type 0 where
   pub object : noObject b q ≡ false
   pub label : noLabel b q ≡ false
   pub permitted : notPermitted b q ≡ false
+  pub unbarred : barred b q ≡ false
   pub support : notSupported plainly b q ≡ false
   pub fresh : alreadyThere b q ≡ false
   pub held : notHeld b q ≡ false
@@ -140,11 +143,12 @@ accepted b q z =
       object = t _ (inr (inr (inr (inl refl))));
       label = t _ (inr (inr (inr (inr (inl refl)))));
       permitted = t _ (inr (inr (inr (inr (inr (inl refl))))));
-      support = t _ (inr (inr (inr (inr (inr (inr (inl refl)))))));
-      fresh = t _ (inr (inr (inr (inr (inr (inr (inr (inl refl))))))));
-      held = t _ (inr (inr (inr (inr (inr (inr (inr (inr (inl refl)))))))));
-      strata = t _ (inr (inr (inr (inr (inr (inr (inr (inr (inr (inl refl))))))))));
-      room = t _ (inr (inr (inr (inr (inr (inr (inr (inr (inr (inr (inl refl)))))))))));
+      unbarred = t _ (inr (inr (inr (inr (inr (inr (inl refl)))))));
+      support = t _ (inr (inr (inr (inr (inr (inr (inr (inl refl))))))));
+      fresh = t _ (inr (inr (inr (inr (inr (inr (inr (inr (inl refl)))))))));
+      held = t _ (inr (inr (inr (inr (inr (inr (inr (inr (inr (inl refl))))))))));
+      strata = t _ (inr (inr (inr (inr (inr (inr (inr (inr (inr (inr (inl refl)))))))))));
+      room = t _ (inr (inr (inr (inr (inr (inr (inr (inr (inr (inr (inr (inl refl))))))))))));
     }
 
 -- one of the tests of row 3

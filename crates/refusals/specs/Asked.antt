@@ -6,16 +6,16 @@ use native.Mathlib.Omega.{arith}
 use mathlib.Core.Bool.{Bool, true, false, not, _&&_, false≢true}
 use mathlib.Core.List.{List, [], _∷_}
 use lib.Dec.{leb, eqb}
-use Rattle.foundation.specs.Tests.{or-cases, or-false, le-true, true-le, true-eq, and-true, not-false}
+use Rattle.foundation.specs.Tests.{le-true, true-le, and-true, not-false}
 use Rattle.foundation.specs.Lists.{anyb, conjunct}
 use Rattle.model.specs.declared.Request.{Request}
 use Rattle.model.specs.Ranges.{between, isSubject, lastLabel}
 use Rattle.model.specs.Base.{Base, controls}
-use Rattle.model.specs.Requests.{NEW, GRANT, DENY, REVOKEP, REVOKEN, ADDRULE, GRANTADM, REVOKEADM, GRANTREF}
-use Rattle.model.specs.Requests.{REVOKEREF, is, grants, newHead, newRule}
+use Rattle.model.specs.Requests.{GRANT, DENY, REVOKEP, REVOKEN, ADDRULE, is, grants, newHead, newRule}
+use Rattle.model.specs.Kinds.{grantKinds, objectKinds, modeKinds, is-kinds}
 use Rattle.model.specs.Means.{plainly}
 use Rattle.model.specs.Step.{namesObject, namesMode, namesInterval, ruleTermsIn, outOfRange, notSupported}
-use Rattle.model.specs.Step.{earliestGap}
+use Rattle.model.specs.Step.{bars, barred, earliestGap}
 use Rattle.model.specs.Soundness.{intervalIn, ruleIn}
 use Rattle.model.specs.FitsFacts.{RuleFits, rule-fits}
 use Rattle.model.specs.StepFacts.{in-range}
@@ -35,19 +35,6 @@ pub asked-passes : (asked test : Bool) → asked ≡ true → asked && not test 
 asked-passes true test p e = not-false test e
 asked-passes false test p e = absurd (false≢true p)
 
--- a grant or denial names an object and a mode
-grant-kind : {X : Type 0} (q : Request) → grants q ≡ true → (q .kind ≡ 2 → X) → (q .kind ≡ 3 → X) → X
-grant-kind q e f g = or-cases (eqb (q .kind) 2) (anyb (λ k. eqb (q .kind) k) (3 ∷ [])) e
-    (λ p. f (true-eq (q .kind) 2 p))
-    (λ p. g (true-eq (q .kind) 3 (sym (or-false (eqb (q .kind) 3)) ∙ p)))
-
--- by its kind alone
-names-of : (kinds : List ℕ) (q : Request) → grants q ≡ true → anyb (λ k. eqb 2 k) kinds ≡ true →
-    anyb (λ k. eqb 3 k) kinds ≡ true → anyb (λ k. eqb (q .kind) k) kinds ≡ true
-names-of kinds q e f g = grant-kind q e
-    (λ p. ap (λ (n : ℕ). anyb (λ k. eqb n k) kinds) p ∙ f)
-    (λ p. ap (λ (n : ℕ). anyb (λ k. eqb n k) kinds) p ∙ g)
-
 -- the numbers of a grant or denial that is in range
 pub record GrantIn (q : Request) : Type 0 where
   pub object : q .object ≤ 128
@@ -59,11 +46,10 @@ grant-in q r e =
     let t = in-range q r in
     record {
       object = upper 1 128 (q .object) (asked-passes (namesObject q) (between 1 128 (q .object))
-          (names-of (NEW ∷ GRANT ∷ DENY ∷ REVOKEP ∷ REVOKEN ∷ GRANTADM ∷ REVOKEADM ∷ GRANTREF ∷ REVOKEREF
-          ∷ []) q e refl refl)
+          (is-kinds q grantKinds objectKinds refl e)
           (t _ (inr (inr (inr (inl refl))))));
       mode = upper 1 8 (q .mode) (asked-passes (namesMode q) (between 1 8 (q .mode))
-          (names-of (GRANT ∷ DENY ∷ REVOKEP ∷ REVOKEN ∷ []) q e refl refl)
+          (is-kinds q grantKinds modeKinds refl e)
           (t _ (inr (inr (inr (inr (inr (inl refl))))))));
       requester = upper 1 1023 (q .requester) (not-false (between 1 1023 (q .requester))
           (t _ (inr (inr (inl refl)))));
@@ -95,6 +81,20 @@ rule-request-in q r e =
       rule = rule-fits (newRule 1 q) within;
       operator = omega (arith, upper 1 4 (q .rule .operator) (u _ (inr (inr (inl refl)))));
     }
+
+-- ---- row 14
+
+-- nothing is asked of other requests, nor of owners and administrators
+pub other-unbarred : (b : Base) (q : Request) → grants q ≡ false → barred b q ≡ false
+other-unbarred b q e = rw e
+
+pub exempt : (b : Base) (q : Request) → grants q ≡ true → controls b (q .object) (q .requester) ≡ true →
+    barred b q ≡ false
+exempt b q e f = rw (e, f)
+
+pub barred-is : (b : Base) (q : Request) → grants q ≡ true → controls b (q .object) (q .requester) ≡ false →
+    barred b q ≡ anyb (bars q) (b .authorizations)
+barred-is b q e f = rw (e, f)
 
 -- ---- row 9
 

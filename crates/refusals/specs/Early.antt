@@ -1,4 +1,4 @@
--- Rows 3 to 12 of the table of refusals, and what the code answers of them. Row 13 is asked of the effect.
+-- Rows 3 to 12 of the table of refusals, with 14, and what the code answers of them. Row 13 is asked of the effect.
 -- The code asks them in four parts: those before row 9, row 9, which gives an instant too, those behind it,
 -- and row 12.
 use mathlib.Core.Path.{_≡_, refl, sym, _∙_}
@@ -14,7 +14,8 @@ use Rattle.model.specs.declared.Request.{Request}
 use Rattle.model.specs.Base.{Base}
 use Rattle.model.specs.Means.{plainly}
 use Rattle.model.specs.Step.{Row, row, firstNumber, outOfRange, behindClock, badInterval, noObject, noLabel}
-use Rattle.model.specs.Step.{notPermitted, notSupported, earliestGap, alreadyThere, notHeld, notStratified, full}
+use Rattle.model.specs.Step.{notPermitted, barred, notSupported, earliestGap, alreadyThere, notHeld}
+use Rattle.model.specs.Step.{notStratified, full}
 use Rattle.model.specs.Step.{refusal}
 use Rattle.model.specs.StepFacts.{Numbered, numbered, first-none, first-append, first-all}
 use Rattle.refusals.specs.declared.Early.{Early}
@@ -30,6 +31,7 @@ module _ (b : Base) (q : Request) where
       ∷ row 6 (noObject b q)
       ∷ row 7 (noLabel b q)
       ∷ row 8 (notPermitted b q)
+      ∷ row 14 (barred b q)
       ∷ [])
 
   -- the rows between row 9 and row 12

@@ -9,6 +9,7 @@ ghost use Rattle.refusals.specs.Early.{earlyIs};
 ghost use Rattle.refusals.specs.Early.{orElse};
 use crate::Early;
 use crate::circles::not_stratified;
+use crate::cover::barred;
 use crate::cover::uncovered;
 use crate::ranges::bad_interval;
 use crate::ranges::out_of_range;
@@ -42,6 +43,7 @@ fn before_cover(s: &[u8], q: Request) -> u32
     let k = or_else(k, no_object(s, q), 6);
     let k = or_else(k, no_label(s, q), 7);
     let k = or_else(k, not_permitted(s, q), 8);
+    let k = or_else(k, barred(s, q), 14);
     k
 }
 
@@ -55,7 +57,7 @@ fn behind_cover(s: &[u8], q: Request) -> u32
     k
 }
 
-// The first of rows 3 to 11 that applies. Row 9, a dear test, is asked only where none before it applies.
+// The first of rows 3 to 11 that applies, 14 between 8 and 9. Row 9, a dear test, is asked only where none before it applies.
 pub fn before_strata(s: &[u8], q: Request) -> Early
     requires { ⌜ soundBytes (now s) ≡ true ⌝ }
     ensures { λ r. ⌜ saysOf (decode (now (s .entry))) q

@@ -15,7 +15,7 @@ use Rattle.model.specs.Ranges.{between}
 use Rattle.model.specs.Requests.{NEW, REVOKE, REVOKEP, REVOKEN, REVOKEADM, REVOKEREF, is, withdraws}
 use Rattle.model.specs.Step.{outOfRange}
 use Rattle.model.specs.StepFacts.{in-range}
-use Rattle.laws.specs.Kinds.{withdrawalKinds}
+use Rattle.model.specs.Kinds.{withdrawalKinds}
 use Rattle.requests.specs.Room.{keepingKinds}
 
 -- n numbers, from m on

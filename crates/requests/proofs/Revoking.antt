@@ -29,8 +29,8 @@ use Rattle.model.specs.Requests.{REVOKEREF, is, withdraws, before, without, obj
 use Rattle.model.specs.Means.{plainly}
 use Rattle.model.specs.Step.{effect, full, accepting}
 use Rattle.model.specs.SoundnessFacts.{Sound, sound-tests, sound-bytes}
-use Rattle.laws.specs.Kinds.{kind-is, is-apart, is-kinds, objectKinds, subjectKinds, labelKinds}
-use Rattle.laws.specs.Kinds.{withdrawalKinds}
+use Rattle.model.specs.Kinds.{kind-is, is-apart, is-kinds, objectKinds, subjectKinds, labelKinds}
+use Rattle.model.specs.Kinds.{withdrawalKinds}
 use Rattle.laws.specs.KeepFacts.{Sorted}
 use Rattle.laws.specs.SoundFacts.{sorted}
 use Rattle.encoding.specs.declared.Counts.{Counts}

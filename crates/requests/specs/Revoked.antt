@@ -26,7 +26,7 @@ use Rattle.model.specs.Step.{full, effect}
 use Rattle.model.specs.StepFacts.{in-range}
 use Rattle.model.specs.SoundnessFacts.{Sound}
 use Rattle.model.specs.FitsFacts.{counts-fit}
-use Rattle.laws.specs.Kinds.{is-kinds, is-apart, intervalKinds, labelKinds, withdrawalKinds}
+use Rattle.model.specs.Kinds.{is-kinds, is-apart, intervalKinds, labelKinds, withdrawalKinds}
 use Rattle.effects.proofs.Dropping.{kept-length}
 use Rattle.refusals.specs.Asked.{upper, asked-passes}
 use Rattle.withdrawal.specs.declared.Cut.{Cut}

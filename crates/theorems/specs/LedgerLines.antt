@@ -35,7 +35,7 @@ use Rattle.model.specs.Ledger.{enter}
 use Rattle.model.specs.Ledger.{follow, ledger, linesOf}
 use Rattle.laws.specs.LedgerFacts.{Framed, framed-keep, framed-append, live-lines, keep-lines}
 use Rattle.laws.specs.LedgerFacts.{restrict-settle, keep-all, linesOf-append, linesOf-one}
-use Rattle.laws.specs.Kinds.{grantKinds, intervalKinds, withdrawalKinds, is-kinds, is-apart}
+use Rattle.model.specs.Kinds.{grantKinds, intervalKinds, withdrawalKinds, is-kinds, is-apart}
 use Rattle.laws.specs.SoundFacts.{all-supported}
 use Rattle.laws.specs.Rows.{starts-first, interval-in}
 use Rattle.laws.specs.AuthorizationsAfter.{no-takes}

@@ -22,7 +22,7 @@ use Rattle.model.specs.EncodingFacts.{decode-encode, empty-sound}
 use Rattle.model.specs.Soundness.{sound}
 use Rattle.model.specs.Answers.{Answer, request, requests}
 use Rattle.model.specs.Survival.{after}
-use Rattle.laws.specs.Kinds.{grantKinds, labelKinds, is-kinds}
+use Rattle.model.specs.Kinds.{grantKinds, labelKinds, is-kinds}
 use Rattle.laws.specs.SoundPrivileges.{last-stays}
 use Rattle.laws.specs.Preservation.{effect-sound}
 use Rattle.laws.specs.RequestFacts.{request-accepted, request-refused, done-passes}

@@ -60,9 +60,9 @@ number a = refusalNumber (a .reply)
 kept : (a : Answer) (s : List ℕ) (n : ℕ) → a ≡ refusing s n → a .lent ≡ s
 kept a s n e = ap (λ (x : Answer). x .lent) e
 
--- the table's numbers for a request; 1 is a line's that cannot be read
+-- the table's numbers for a request, in its order; 1 is a line's that cannot be read
 abbrev pub requestNumbers : List ℕ
-requestNumbers = 2 ∷ 3 ∷ 4 ∷ 5 ∷ 6 ∷ 7 ∷ 8 ∷ 9 ∷ 10 ∷ 11 ∷ 12 ∷ 13 ∷ []
+requestNumbers = 2 ∷ 3 ∷ 4 ∷ 5 ∷ 6 ∷ 7 ∷ 8 ∷ 14 ∷ 9 ∷ 10 ∷ 11 ∷ 12 ∷ 13 ∷ []
 
 pub create-refuses : (s : List ℕ) → refusalNumber (create s .reply) ≢ 0 →
     Mem (refusalNumber (create s .reply)) (2 ∷ []) × (create s .lent ≡ s)

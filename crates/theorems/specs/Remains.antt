@@ -31,7 +31,7 @@ use Rattle.model.specs.Survival.{Gives, grant, denial, after, Given, TakesBack,
 use Rattle.model.specs.Survival.{Behind}
 use Rattle.model.specs.Survival.{Survives, end, refused, accepted}
 use Rattle.model.specs.SurvivalFacts.{taken}
-use Rattle.laws.specs.Kinds.{grantKinds, labelKinds, is-kinds}
+use Rattle.model.specs.Kinds.{grantKinds, labelKinds, is-kinds}
 use Rattle.laws.specs.KeepFacts.{live-keep}
 use Rattle.laws.specs.SoundFacts.{all-supported}
 use Rattle.laws.specs.SoundPrivileges.{last-stays}

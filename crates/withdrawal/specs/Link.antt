@@ -13,7 +13,7 @@ use Rattle.model.specs.Requests.{REVOKE, REVOKEP, REVOKEN, REVOKEADM, is, withd
 use Rattle.model.specs.Means.{plainly}
 use Rattle.model.specs.Step.{effect}
 use Rattle.model.specs.SoundnessFacts.{Sound}
-use Rattle.laws.specs.Kinds.{is-apart}
+use Rattle.model.specs.Kinds.{is-apart}
 use Rattle.laws.specs.Restriction.{withdrawn-all}
 use Rattle.withdrawal.specs.declared.Cut.{Cut}
 use Rattle.withdrawal.specs.declared.CutKind.the-variants.{Label, Grantor, Name}

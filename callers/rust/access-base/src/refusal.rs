@@ -33,6 +33,9 @@ pub enum Refusal {
     NotStratified,
     /// 13: a count would be passed, no label is left, or the list, the page or the byte list is too short.
     Full,
+    /// 14: a line denies the giver of a grant or denial that object and mode at some instant of it. Asked after 8 and
+    /// before 9; owners and administrators are exempt.
+    Barred,
 }
 
 impl Refusal {
@@ -51,6 +54,7 @@ impl Refusal {
             Refusal::NotHeld => 11,
             Refusal::NotStratified => 12,
             Refusal::Full => 13,
+            Refusal::Barred => 14,
         }
     }
 }
@@ -71,6 +75,7 @@ impl fmt::Display for Refusal {
             Refusal::AlreadySo => "already so: nothing to do",
             Refusal::NotHeld => "not held: nothing to do",
             Refusal::NotStratified => "not stratified: a rule with WHENEVERNOT or UNLESS would feed itself",
+            Refusal::Barred => "barred: leave out the instants at which the giver is denied, or have the denial withdrawn",
             Refusal::Full => "full: withdraw what has passed, or lend a list of 1,100 pairs, a page of 45,056 bytes, a byte for each question",
         };
         write!(f, "{}, {text}", self.number())
@@ -108,6 +113,7 @@ pub(crate) fn checked(reply: Reply) -> Result<Reply, Refusal> {
         11 => Refusal::NotHeld,
         12 => Refusal::NotStratified,
         13 => Refusal::Full,
+        14 => Refusal::Barred,
         other => unreachable!("the contracts have no refusal {other}"),
     })
 }

@@ -5,23 +5,23 @@ use core::fmt;
 /// The counts.
 #[derive(Clone, Debug, Default)]
 pub struct Tally {
-    by_kind: [[u64; 14]; 13], // index 0 of a row is for accepted requests, others for the refusal's number
+    by_kind: [[u64; 15]; 13], // index 0 of a row is for accepted requests, others for the refusal's number
     may: [u64; 2],
-    may_refused: [u64; 14],
+    may_refused: [u64; 15],
     when: u64,
     runs: u64,
     most_runs: u64,
-    when_refused: [u64; 14],
+    when_refused: [u64; 15],
     sheets: u64,
     longest_sheet: usize,
-    sheets_refused: [u64; 14],
+    sheets_refused: [u64; 15],
     texts: u64,
     unreadable: u64,
     longest_text: usize,
     texts_refused: u64,
     rounds: u64,
     round_questions: u64,
-    rounds_refused: [u64; 14],
+    rounds_refused: [u64; 15],
     /// Bases judged: composed, damaged or cut.
     pub judged: u64,
     /// How many of them were sound.
@@ -153,7 +153,7 @@ impl Tally {
 impl fmt::Display for Tally {
     fn fmt(&self, f: &mut fmt::Formatter) -> fmt::Result {
         write!(f, "{:<10}{:>9}", "kind", "accepted")?;
-        (2..14).try_for_each(|row| write!(f, "{row:>8}"))?;
+        (2..15).try_for_each(|row| write!(f, "{row:>8}"))?;
         writeln!(f)?;
         for (word, counts) in WORDS.iter().zip(&self.by_kind) {
             write!(f, "{word:<10}{:>9}", counts[0])?;

@@ -5,8 +5,8 @@ use differential::tally::Tally;
 // For each kind the refusals that it can get from a sound base.
 const ROWS: [(u32, &[usize]); 13] = [
     (1, &[3, 4, 10]),
-    (2, &[3, 4, 5, 6, 9, 13]),
-    (3, &[3, 4, 5, 6, 9, 13]),
+    (2, &[3, 4, 5, 6, 9, 13, 14]),
+    (3, &[3, 4, 5, 6, 9, 13, 14]),
     (4, &[3, 4, 7, 8, 13]),
     (5, &[3, 4, 5, 6, 13]),
     (6, &[3, 4, 5, 6, 13]),

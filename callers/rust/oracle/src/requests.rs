@@ -1,11 +1,11 @@
-//! 01, "Requests" and "Replies that refuse", rows 3 to 13.
+//! 01, "Requests" and "Replies that refuse", rows 3 to 13; 02, CR 4, row 14.
 
 use crate::held::cycle_through_negation;
 use crate::support::restrict_to_supported;
 use crate::*;
 
 impl Oracle {
-    /// "The lowest number that applies is given. Nothing lent is altered."
+    /// "The lowest number that applies is given. Nothing lent is altered." 14 is "checked after 8 and before 9".
     pub fn request(&mut self, q: &Request) -> Reply {
         if self.out_of_range(q) {
             return Reply::Refused(3);
@@ -24,6 +24,9 @@ impl Oracle {
         }
         if self.not_permitted(q) {
             return Reply::Refused(8);
+        }
+        if self.barred(q) {
+            return Reply::Refused(14);
         }
         if self.not_supported(q) {
             return Reply::Refused(9);
@@ -104,6 +107,20 @@ impl Oracle {
             ADDRULE => !self.has_powers_for(q.requester, &q.rule),
             _ => false,
         }
+    }
+
+    /// 14: "A GRANT or DENY fails if some instant of its interval is covered by a line denying the requester that
+    /// object and mode. Owners and administrators of the object are exempt."
+    fn barred(&self, q: &Request) -> bool {
+        if !matches!(q.kind, GRANT | DENY) || self.owns_or_administers(q.requester, q.object) {
+            return false;
+        }
+        let (first, last) = self.span(q);
+        self.entries.values().any(|entry| {
+            entry.negative
+                && (entry.subject, entry.object, entry.mode) == (q.requester, q.object, q.mode)
+                && (first..=last).any(|cell| entry.when.has(cell))
+        })
     }
 
     /// 9: "the giver of a grant or denial is neither owner nor administrator, and some instant of it is

@@ -3,7 +3,7 @@ use native.Mathlib.Omega.{arith}
 use mathlib.Core.Path.{refl}
 use mathlib.Core.List.{[], _∷_}
 use Rattle.model.specs.Requests.{REVOKEADM}
-use Rattle.laws.specs.Kinds.{is-kinds, objectKinds, subjectKinds}
+use Rattle.model.specs.Kinds.{is-kinds, objectKinds, subjectKinds}
 use Rattle.requests.specs.Revoked.{object-most, subject-most, grantor-cut}
 use Rattle.requests.proofs.revocation.cut_by_grantor.Statement.{statement}
 use Rattle.requests.proofs.revocation.cut_by_grantor.Tie as tie

@@ -3,7 +3,7 @@ use native.Mathlib.Omega.{arith}
 use mathlib.Core.Path.{refl}
 use mathlib.Core.List.{[], _∷_}
 use Rattle.model.specs.Requests.{REVOKE}
-use Rattle.laws.specs.Kinds.{is-kinds}
+use Rattle.model.specs.Kinds.{is-kinds}
 use Rattle.requests.specs.Revoked.{labelNamers, label-most, label-cut}
 use Rattle.requests.proofs.revocation.cut_by_label.Statement.{statement}
 use Rattle.requests.proofs.revocation.cut_by_label.Tie as tie

@@ -4,7 +4,7 @@ use mathlib.Core.Path.{refl}
 use mathlib.Core.List.{List, [], _∷_}
 use Prim.Native.Nat.{ℕ}
 use Rattle.model.specs.Requests.{REVOKEP, REVOKEN}
-use Rattle.laws.specs.Kinds.{is-kinds, objectKinds, subjectKinds, modeKinds}
+use Rattle.model.specs.Kinds.{is-kinds, objectKinds, subjectKinds, modeKinds}
 use Rattle.requests.specs.Revoked.{requester-most, object-most, subject-most, mode-most, name-cut}
 use Rattle.requests.proofs.revocation.cut_by_name.Statement.{statement}
 use Rattle.requests.proofs.revocation.cut_by_name.Tie as tie
