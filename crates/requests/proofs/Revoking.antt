@@ -233,7 +233,7 @@ module _ (s : List ℕ) (q : Request) (p : Passed s q) (k : is q (REVOKEADM ∷ 
       × (listed (decode s₀ .administrators) (q .object) (q .subject) ≡ true)
   remove-ready s₀ e =
       let t = administrator-there old q (passed-sound s q p) k
-      (passed-row s q p _ (inr (inr (inr (inr (inr (inr (inr (inr (inl refl)))))))))) in
+      (passed-row s q p _ (inr (inr (inr (inr (inr (inr (inr (inr (inr (inl refl))))))))))) in
       rw e (written-sound s (p .sound), named-privilege, t .0, t .1)
 
   module _ (s₁ : List ℕ) (e₁ : s₁
