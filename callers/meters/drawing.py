@@ -2,6 +2,7 @@
 import bisect
 import datetime
 import html
+import re
 from collections import namedtuple
 
 from stores import LAST, Fault, moment
@@ -250,22 +251,27 @@ DEFS = """<defs>
 LETTER = 6.2  # the width of a letter at 11 pixels, roughly
 
 
+def escaped(words):
+    """Text for an SVG or a page: what XML does not allow at all as a replacement character."""
+    return html.escape(re.sub("[^\t\n\r\x20-\ud7ff\ue000-\ufffd\U00010000-\U0010ffff]", "\ufffd", words))
+
+
 class Svg:
     def __init__(self):
         self.behind, self.parts = [], []
 
     def rect(self, kind, x, y, width, height, tip=None, radius=2, behind=False):
-        title = f"<title>{html.escape(tip)}</title>" if tip else ""
+        title = f"<title>{escaped(tip)}</title>" if tip else ""
         (self.behind if behind else self.parts).append(
             f'<rect class="{kind}" x="{x:.1f}" y="{y:.1f}" width="{max(width, 1.5):.1f}" height="{height:.1f}" rx="{radius}">{title}</rect>')
 
     def path(self, kind, d, tip=None, behind=False):
-        title = f"<title>{html.escape(tip)}</title>" if tip else ""
+        title = f"<title>{escaped(tip)}</title>" if tip else ""
         (self.behind if behind else self.parts).append(f'<path class="{kind}" d="{d}">{title}</path>')
 
     def text(self, kind, x, y, words, anchor="start", behind=False):
         (self.behind if behind else self.parts).append(
-            f'<text class="{kind}" x="{x:.1f}" y="{y:.1f}" text-anchor="{anchor}">{html.escape(words)}</text>')
+            f'<text class="{kind}" x="{x:.1f}" y="{y:.1f}" text-anchor="{anchor}">{escaped(words)}</text>')
 
     def legend(self, y, right, entries):
         """Boxes with their meanings, in as many lines as they take; gives the place below."""
@@ -282,7 +288,7 @@ class Svg:
     def done(self, width, height, label):
         return "\n".join(
             [f'<svg xmlns="http://www.w3.org/2000/svg" viewBox="0 0 {width:.0f} {height:.0f}" width="{width:.0f}" height="{height:.0f}" '
-             f'font-family="DejaVu Sans, Verdana, sans-serif" font-size="11" role="img" aria-label="{html.escape(label, quote=True)}">',
+             f'font-family="DejaVu Sans, Verdana, sans-serif" font-size="11" role="img" aria-label="{escaped(label)}">',
              f"<style>{STYLE}</style>", DEFS, f'<rect width="{width:.0f}" height="{height:.0f}" fill="#fff"/>']
             + self.behind + self.parts + ["</svg>", ""])
 
@@ -305,7 +311,7 @@ def page(svg, title):
     """A self-contained page around a picture."""
     return f"""<!DOCTYPE html>
 <html lang="en"><head><meta charset="utf-8"><meta name="viewport" content="width=device-width, initial-scale=1">
-<title>{html.escape(title)}</title>
+<title>{escaped(title)}</title>
 <style>body{{margin:0;background:#eef1f5}}main{{max-width:max-content;margin:24px auto;background:#fff;box-shadow:0 1px 6px #0002;border-radius:6px;overflow-x:auto}}svg{{display:block}}</style>
 </head><body><main>
 {svg}</main></body></html>

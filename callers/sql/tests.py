@@ -4,10 +4,12 @@ METERS_POSTGRES the folder of a private cluster (without it PostgreSQL's tests a
 programs `examples/replies` and `lines` of the independent implementation and of the Rust callers' random sessions (without it the
 comparison with them is left out), METERS_SECONDS how long each load runs."""
 import glob
+import importlib.machinery
 import multiprocessing
 import os
 import random
 import resource
+import shlex
 import shutil
 import signal
 import sqlite3
@@ -168,24 +170,28 @@ class Sessions(unittest.TestCase):
                     lines_put += 1
                 results.append(base)
             self.assertTrue(all(result == results[0] for result in results), "the engines give other bytes")
+        self.assertGreater(lines_put, 3_500 * len(engines_once), "hardly anything was compared")
         print(f"  {lines_put} lines of stored sessions agree", file=sys.stderr)
 
     @unittest.skipUnless(ORACLE, "no independent implementation")
     def test_independent_implementation(self):
         """Stored sessions, session S of the C and Rust callers among them, and the Rust callers' random ones, against the
         independent implementation: replies, and every byte after every line."""
-        sessions = [[line for line in lines if printable(line)] for lines, _ in transcripts() if len(lines) < 400]
-        sessions += callers_sessions()
-        compared = 0
-        for lines, answers in zip(sessions, oracle_says(sessions)):
-            for name, put, base in engines_once:
-                for line, (expected, after) in zip(lines, answers):
-                    before = base
-                    reply, base = put(base, line)
-                    self.assertEqual(reply, expected, f"{name}: {line}")
-                    self.assertEqual(base, before if after is None else after, f"{name}: the bytes after {line}")
-                    compared += 1
-        print(f"  {compared} replies and bases agree with the independent implementation", file=sys.stderr)
+        stored = [[line for line in lines if printable(line)] for lines, _ in transcripts() if len(lines) < 400]
+        for sessions, least in ((stored, 3_500), (list(callers_sessions()), 1_400)):
+            compared, done = 0, 0
+            for lines, answers in zip(sessions, oracle_says(sessions)):
+                self.assertEqual(len(answers), len(lines))
+                for name, put, base in engines_once:
+                    for line, (expected, after) in zip(lines, answers):
+                        before = base
+                        reply, base = put(base, line)
+                        self.assertEqual(reply, expected, f"{name}: {line}")
+                        self.assertEqual(base, before if after is None else after, f"{name}: the bytes after {line}")
+                        compared, done = compared + 1, done + reply.startswith("done")
+            self.assertGreater(compared, least * len(engines_once), "hardly anything was compared")
+            self.assertGreater(done, compared / 4, "hardly any request was carried out")
+            print(f"  {compared} replies and bases agree with the independent implementation", file=sys.stderr)
 
     @classmethod
     def setUpClass(cls):
@@ -220,7 +226,9 @@ class Store:
             self.importer.new(name, 1, 0)
             self.assertEqual({r.split(" ")[0] for r in self.importer.put_as_written(name, block)}, {"done"})
             base = self.importer.base(name)
-            for body, expected in read_here(base).items():
+            bodies = read_here(base)
+            self.assertGreater(min(map(len, bodies.values())) if n == 0 else len(bodies["authorizations"]), 999 * n, "nothing is compared")
+            for body, expected in bodies.items():
                 self.assertEqual([list(map(int, row.values())) for row in self.importer.records(base, body)], expected, body)
 
     def test_sheet(self):
@@ -261,10 +269,11 @@ class Store:
     def test_lines_that_are_none(self):
         self.importer.new(self.name, 1, 0)
         self.importer.enrol(self.name, self.writer_role, 1)
-        for bad in ("NEW 7\n", "NEW\t7", "NEW \x7f", "NEW ü", "x" * 97, "NEW 7\r"):
-            with self.assertRaises(stores.Fault):
+        for bad, pattern in (("NEW 7\n", "printable"), ("NEW\t7", "printable"), ("NEW \x7f", "printable"), ("NEW ü", "printable"),
+                             ("x" * 97, "more than 96"), ("NEW 7\r", "printable")):
+            with self.assertRaisesRegex(stores.Fault, pattern):
                 self.importer.put_as_written(self.name, ["4 1 NEW 7", bad])
-            with self.assertRaises(stores.Fault):
+            with self.assertRaisesRegex(stores.Fault, pattern):
                 self.put("NEW 7", bad)
         self.assertEqual(self.importer.journal(self.name), [], "nothing of it is kept")
         self.assertEqual(self.importer.put_as_written(self.name, ["'; DROP TABLE journal; --", '"\\ %s', ""]), ["refused 1"] * 3)
@@ -279,7 +288,7 @@ class Store:
             damaged[place] ^= 0xFF
             # another clock or last label is a sound base too
             self.assertEqual(self.importer.is_sound(bytes(damaged)), place in (4, 8))
-            with self.assertRaises(stores.Fault):
+            with self.assertRaisesRegex(stores.Fault, "no sound base"):
                 self.importer.new(self.name + str(place), 1, 0, b"x" + bytes(damaged)[1:])
 
     def test_questions_refused(self):
@@ -302,8 +311,58 @@ class Store:
         self.importer.new(self.name + "2", 1, 0, base)
         self.assertEqual(self.importer.put_as_written(self.name + "2", ["6 1 REVOKE 1"]), ["done 0 0"])
         self.assertIsNone(self.importer.check(self.name + "2"))
-        with self.assertRaises(stores.Fault):
+        with self.assertRaisesRegex(stores.Fault, "of that name already"):
             self.importer.new(self.name, 1, 0)
+
+    def test_import_ahead_of_the_clock(self):
+        """Bytes whose clock is ahead of the new block's would refuse every request: with a unit or an origin of which that is so they
+        are refused, and no block is left; with others they are taken."""
+        self.importer.new(self.name, 1, 0)
+        self.importer.put_as_written(self.name, ["4 1 NEW 7", "100 1 NEW 8"])
+        base, now = self.importer.base(self.name), int(time.time())
+        for unit, origin in ((86400 * 1000, 0), (1, now - 50), (1, now + 50)):
+            with self.assertRaisesRegex(stores.Fault, "clock of these bytes is ahead of the block.*unit and origin"):
+                self.importer.new(self.name + "2", unit, origin, base)
+        self.assertNotIn(self.name + "2", [block.name for block in self.importer.blocks()])
+        self.importer.new(self.name + "2", 1, now - 200, base)
+        self.importer.enrol(self.name + "2", self.writer_role, 1)
+        self.assertEqual(self.put("NEW 9", block=self.name + "2"), ["done 0 0"])
+        self.importer.new(self.name + "3", 1, now + 50, self.importer.empty())  # nobody was shut out by it
+
+    def test_names(self):
+        """A block's name has no control character; every other is taken."""
+        for name in ("", "x" * 201, "a\tb", "a\nb", "a\x1b[31mb", "\x7f", "a\x85b"):
+            with self.assertRaisesRegex(stores.Fault, "no control character"):
+                self.importer.new(name, 1, 0)
+        for name in ("x" * 200, "Größe 木 – 'quoted' \"%s\" <b> \\ [a-z] *?", " "):
+            self.importer.new(name + self.kind[:1] if len(name) < 200 else name, 1, 0)
+
+    def test_unit_and_origin(self):
+        for unit, origin in ((0, 0), (2**40 + 1, 0), (1, 10**12 + 1), (1, -10**12 - 1)):
+            with self.assertRaisesRegex(stores.Fault, "unit is 1 to|origin is at most"):
+                self.importer.new(self.name, unit, origin)
+
+    def test_requesters(self):
+        """Entered, entered again as another subject, and taken out."""
+        self.importer.new(self.name, 1, 0)
+        for subject in (1, 2):
+            self.importer.enrol(self.name, self.writer_role, subject)
+            self.assertEqual([tuple(row) for row in self.importer.requesters(self.name)], [(self.writer_role, subject)])
+        self.assertEqual(self.put("NEW 7"), ["done 0 0"])
+        self.importer.unenrol(self.name, self.writer_role)
+        self.assertEqual(self.importer.requesters(self.name), [])
+        with self.assertRaisesRegex(stores.Fault, "is no requester of"):
+            self.put("NEW 8")
+        for block, role in ((self.name, self.writer_role), (self.name, "nobody at all"), ("no block of that name", self.writer_role)):
+            with self.assertRaisesRegex(stores.Fault, "is no requester of|there is no block"):
+                self.importer.unenrol(block, role)
+        self.assertEqual(len(self.importer.journal(self.name)), 1)
+
+    def test_now_that_is_no_number(self):
+        """What the library cannot read is a reply, not an error about the clock; in both engines."""
+        self.importer.new(self.name, 1, 0)
+        lines = ["99999999999 1 NEW 8", " 4294967294 1 NEW 8", "+4294967294 1 NEW 8", "4294967294", "inf", "infx 1 NEW 8"]
+        self.assertEqual(self.importer.put_as_written(self.name, lines), ["refused 1"] * len(lines))
 
     # ---- load
     def load(self, blocks):
@@ -368,6 +427,16 @@ def client(place, k, blocks, acknowledged, seconds, results):
             results.put((count, worst, told))
 
 
+def first_user(path, k, start, told):
+    """Makes the file and a block in it, at once with others; tells what went wrong."""
+    start.wait()
+    try:
+        stores.Sqlite(path, create=True).new(f"block {k}", 1, 0, None, [("anna", 1)])
+        told.put("")
+    except Exception as error:
+        told.put(f"{type(error).__name__}: {error}")
+
+
 def run_clients(place, kind, blocks, seconds, meanwhile=None):
     """The clients' load for so many seconds; or, with something to do in the middle of it, until the clients end by that."""
     acknowledged = os.path.join(folder, kind)
@@ -409,40 +478,98 @@ class SqliteStore(Store, unittest.TestCase):
             "WITH RECURSIVE fronts(n) AS (SELECT 0 UNION ALL SELECT n + 1 FROM fronts WHERE n < length(?1)) "
             "SELECT n FROM fronts WHERE access_base_is_sound(substr(?1, 1, n))", data)]
 
-    def put(self, *requests):
-        return self.importer.put(self.name, self.writer_role, requests)
+    def put(self, *requests, block=None):
+        return self.importer.put(block or self.name, self.writer_role, requests)
+
+    def refused(self, *given):
+        """Each statement, and what its error says."""
+        for sql, pattern in given:
+            with self.assertRaisesRegex(stores.Fault, pattern, msg=sql):
+                self.importer.one(sql)
 
     def test_triggers(self):
         store = self.importer
         store.new("b", 1, 0)
         store.put_as_written("b", ["4 1 NEW 7"])
         before = store.base("b")
-        for sql in ("UPDATE blocks SET base = access_base_empty()", "UPDATE blocks SET requests = 9", "DELETE FROM blocks",
-                    "UPDATE blocks SET requests = requests + 1, base = access_base_empty()", "UPDATE blocks SET unit = 2",
-                    "UPDATE OR REPLACE blocks SET id = 9", "INSERT OR REPLACE INTO blocks(id, name, base) VALUES (1, 'c', access_base_empty())",
-                    "INSERT OR REPLACE INTO blocks(name, base) VALUES ('b', access_base_empty())", "DELETE FROM journal",
-                    "UPDATE journal SET reply = 'no'", "INSERT INTO journal(block, number, line, reply) VALUES (1, 2, '5 1 NEW 8', 'done 9 9')",
-                    "INSERT OR REPLACE INTO journal(block, number, line, reply) VALUES (1, 1, '5 1 NEW 8', 'done 0 0')",
-                    "INSERT INTO journal(block, number, line, reply) VALUES (1, 3, '5 1 NEW 8', 'done 0 0')",
-                    "INSERT INTO blocks(name, base) VALUES ('d', zeroblob(27936))", "INSERT INTO blocks(name, base) VALUES ('d', NULL)",
-                    "INSERT INTO put_as_written VALUES ('b', NULL)", "INSERT INTO put VALUES ('b', NULL, 'NEW 8')",
-                    "INSERT INTO put_as_written VALUES (NULL, '4 1 NEW 8')", "INSERT INTO put_as_written VALUES ('b', x'ff')",
-                    "INSERT INTO put_as_written VALUES ('b', CAST(x'3420ff' AS TEXT))"):
-            with self.assertRaises(stores.Fault, msg=sql):
-                store.one(sql)
+        by_request, exists, kept = "a base changes by a request alone", "of that name already", "the journal is not altered"
+        journal = "INTO journal(block, number, line, reply) VALUES "
+        self.refused(
+            ("UPDATE blocks SET base = access_base_empty()", by_request),
+            ("UPDATE blocks SET requests = 9", by_request),
+            ("UPDATE blocks SET requests = requests + 1, base = access_base_empty()", by_request),
+            ("UPDATE OR REPLACE blocks SET id = 9", by_request),
+            ("UPDATE blocks SET initial = access_base_empty()", by_request),
+            ("UPDATE blocks SET unit = 2", "a block keeps its name"),
+            ("UPDATE blocks SET name = 'c'", "a block keeps its name"),
+            ("DELETE FROM blocks", "a block is not removed"),
+            ("INSERT OR REPLACE INTO blocks(id, name, base) VALUES (1, 'c', access_base_empty())", exists),
+            ("INSERT OR REPLACE INTO blocks(name, base) VALUES ('b', access_base_empty())", exists),
+            ("INSERT INTO blocks(name, base) VALUES ('d', zeroblob(27936))", "starts from its initial base"),
+            ("INSERT INTO blocks(name, base) VALUES ('d', NULL)", "starts from its initial base"),
+            ("INSERT INTO blocks(name, initial, base) VALUES ('d', zeroblob(9), zeroblob(9))", "refused 2|no sound base"),
+            ("DELETE FROM journal", kept),
+            ("UPDATE journal SET reply = 'no'", kept),
+            (f"INSERT {journal} (1, 2, '5 1 NEW 8', 'done 9 9')", "not the reply to that line"),
+            (f"INSERT OR REPLACE {journal} (1, 1, '5 1 NEW 8', 'done 0 0')", "not the next number"),
+            (f"INSERT {journal} (1, 3, '5 1 NEW 8', 'done 0 0')", "not the next number"),
+            (f"INSERT {journal} (1, 2, 'inf 1 NEW 8', 'done 0 0')", "ahead of the clock"),
+            ("INSERT INTO put_as_written VALUES ('b', NULL)", "the line is no text"),
+            ("INSERT INTO put_as_written VALUES ('b', x'ff')", "the line is no text"),
+            ("INSERT INTO put_as_written VALUES ('b', CAST(x'3420ff' AS TEXT))", "not printable ASCII"),
+            ("INSERT INTO put_as_written VALUES (NULL, '4 1 NEW 8')", "no such block"),
+            ("INSERT INTO put VALUES (NULL, 'x', 'NEW 8')", "no such block"),
+            ("INSERT INTO put VALUES ('b', NULL, 'NEW 8')", "no requester of the block"))
         self.assertEqual(store.base("b"), before)
+        self.assertEqual([block.name for block in store.blocks()], ["b"])
         self.assertIsNone(store.check("b"))
 
     def test_arguments(self):
-        one = self.importer.one
-        for sql in ("access_base_may(NULL, 1, 1, 1, 1)", "access_base_may(access_base_empty(), NULL, 1, 1, 1)", "access_base_reply(NULL, 'x')",
-                    "access_base_reply(access_base_empty(), NULL)", "access_base_reply(access_base_empty(), 5)", "access_base_after('x', 'x')",
-                    "access_base_may(access_base_empty(), 1.5, 1, 1, 1)", "access_base_may(access_base_empty(), '1', 1, 1, 1)",
-                    "access_base_reply(zeroblob(50000000), '4 1 NEW 7')", "access_base_may(access_base_empty(), 1, 1, 1)",
-                    "(SELECT count(*) FROM access_base_runs)", "(SELECT count(*) FROM access_base_rules(NULL))"):
-            with self.assertRaises(stores.Fault, msg=sql):
-                one("SELECT " + sql)
-        self.assertEqual(one("SELECT access_base_is_sound(NULL), access_base_is_sound('x'), access_base_is_sound(5)"), (None, 0, 0))
+        no_blob, no_text, no_number = "the base is no BLOB", "the line is no text", "a number is missing, no integer"
+        self.refused(*(("SELECT " + sql, pattern) for sql, pattern in (
+            ("access_base_may(NULL, 1, 1, 1, 1)", no_blob),
+            ("access_base_reply(NULL, 'x')", no_blob),
+            ("access_base_after('x', 'x')", no_blob),
+            ("access_base_sheet(5, 1)", no_blob),
+            ("(SELECT count(*) FROM access_base_rules(NULL))", no_blob),
+            ("access_base_reply(access_base_empty(), NULL)", no_text),
+            ("access_base_reply(access_base_empty(), 5)", no_text),
+            ("access_base_may(access_base_empty(), NULL, 1, 1, 1)", no_number),
+            ("access_base_may(access_base_empty(), 1.5, 1, 1, 1)", no_number),
+            ("access_base_may(access_base_empty(), '1', 1, 1, 1)", no_number),
+            ("access_base_may(access_base_empty(), 1, 1, 1, 4294967296)", no_number),
+            ("access_base_sheet(access_base_empty(), -1)", no_number),
+            ("(SELECT count(*) FROM access_base_runs(access_base_empty(), 1, NULL, 1))", no_number),
+            ("access_base_reply(zeroblob(50000000), '4 1 NEW 7')", "refused 2"),
+            ("access_base_may(access_base_empty(), 1, 1, 1)", "wrong number of arguments"),
+            ("(SELECT count(*) FROM access_base_runs)", r"give access_base_runs\(base, subject, mode, object\)"),
+            ("(SELECT count(*) FROM access_base_rules)", "give one argument, the base"))))
+        self.assertEqual(self.importer.one("SELECT access_base_is_sound(NULL), access_base_is_sound('x'), access_base_is_sound(5)"),
+                         (None, 0, 0))
+
+    def test_first_users_at_once(self):
+        """Several users of a file that nobody made yet: each gets its block, and none an error."""
+        users, rounds = 8, 4
+        for n in range(rounds):
+            path, told = os.path.join(folder, f"first{n}.db"), multiprocessing.Queue()
+            start = multiprocessing.Barrier(users)
+            made = [multiprocessing.Process(target=first_user, args=(path, k, start, told)) for k in range(users)]
+            for process in made:
+                process.start()
+            self.assertEqual([told.get(timeout=60) for _ in made], [""] * users)
+            for process in made:
+                process.join()
+            store = stores.Sqlite(path)
+            self.assertEqual(len(store.blocks()), users)
+            self.assertEqual((store.check_store(), store.pragma("journal_mode")), ([], "wal"))
+
+    def test_new_is_one_transaction(self):
+        """A block whose requester cannot be entered is not made."""
+        with self.assertRaisesRegex(stores.Fault, "a subject is a number from 1 to 1023"):
+            self.importer.new("b", 1, 0, None, [("anna", 1), ("bert", 1024)])
+        self.assertEqual(self.importer.blocks(), [])
+        self.importer.new("b", 1, 0, None, [("anna", 1), ("bert", 1023)])
+        self.assertEqual(self.importer.requesters("b"), [("anna", 1), ("bert", 1023)])
 
     def test_altered_file_is_found_out(self):
         self.importer.new("b", 1, 0)
@@ -461,10 +588,14 @@ class SqliteStore(Store, unittest.TestCase):
         def kill(clients):
             for process in clients:
                 os.kill(process.pid, signal.SIGKILL)
+        self.importer.db.close()  # nobody but the clients has the file open: the next one recovers it
         acknowledged = run_clients(self.place, self.kind, blocks, SECONDS, kill)[2]
-        self.importer = again = stores.Sqlite(self.place)
+        self.assertGreater(os.path.getsize(self.place + "-wal"), 0, "the clients left nothing to recover")
+        run = subprocess.run([METERS, "--store", self.place, "check"], capture_output=True, encoding="utf-8")
+        self.assertEqual((run.returncode, run.stdout.count("they give the stored bytes")), (0, len(blocks)), run.stderr)
+        self.assertFalse(os.path.exists(self.place + "-wal"), "somebody else had the file open")
+        self.importer = stores.Sqlite(self.place)
         self.assert_kept(blocks, acknowledged, exactly=False)
-        self.assertEqual(again.check_store(), [])
 
     def test_full_disk(self):
         store = self.importer
@@ -524,6 +655,14 @@ class SqliteStore(Store, unittest.TestCase):
         other.close()
         with self.assertRaisesRegex(stores.Fault, "something else"):
             stores.Sqlite(path, create=True)
+        os.remove(path)
+        open(path, "wb").close()
+        with self.assertRaisesRegex(stores.Fault, "is empty: make its first block"):
+            stores.Sqlite(path)
+        newer = stores.Sqlite(path, create=True)
+        newer.one("PRAGMA user_version = 99")
+        with self.assertRaisesRegex(stores.Fault, "another version of meters"):
+            stores.Sqlite(path)
 
 
 @needs_postgres
@@ -543,12 +682,14 @@ class PostgresStore(Store, unittest.TestCase):
         return [row[0] for row in self.importer.all(
             "SELECT n FROM generate_series(0, length(%s::bytea)) n WHERE access_base.is_sound(substr(%s::bytea, 1, n))", data, data)]
 
-    def put(self, *requests):
-        return stores.Postgres(socket_of("anna")).put(self.name, None, requests)
+    def put(self, *requests, block=None):
+        return stores.Postgres(socket_of("anna")).put(block or self.name, None, requests)
 
-    def refused(self, store, sql, pattern):
-        with self.assertRaisesRegex(stores.Fault, pattern, msg=sql):
-            store.one(sql)
+    def refused(self, store, *given):
+        """Each statement, and what its error says."""
+        for sql, pattern in given:
+            with self.assertRaisesRegex(stores.Fault, pattern, msg=sql):
+                store.one(sql)
 
     def test_roles(self):
         self.importer.new("roles", 1, 0)
@@ -560,19 +701,63 @@ class PostgresStore(Store, unittest.TestCase):
                         "INSERT INTO meters.journal(block, number, line, reply) VALUES (1, 99, 'x', 'y')", "TRUNCATE meters.journal",
                         "UPDATE meters.requesters SET subject = 1", "SET ROLE meters_owner", "DROP TABLE meters.journal",
                         "SELECT meters.put_lines(b, '{}') FROM meters.blocks b", "SELECT meters.lock_block('roles')",
-                        "CREATE FUNCTION meters.f() RETURNS int LANGUAGE sql AS 'SELECT 1'", "SELECT 1 FROM meters.blocks FOR UPDATE"):
-                self.refused(store, sql, "permission denied|must be owner")
+                        "CREATE FUNCTION meters.f() RETURNS int LANGUAGE sql AS 'SELECT 1'", "SELECT 1 FROM meters.blocks FOR UPDATE",
+                        "UPDATE meters.clocks SET requests = 0", "ALTER FUNCTION meters.put(text, text) SECURITY INVOKER",
+                        "CREATE OR REPLACE FUNCTION access_base.empty() RETURNS bytea LANGUAGE sql AS 'SELECT NULL::bytea'"):
+                self.refused(store, (sql, "permission denied|must be owner"))
         anna, iris, rita = everybody
-        self.refused(anna, "SELECT meters.put_as_written('roles', ARRAY['4 5 NEW 9'])", "permission denied")
-        self.refused(anna, "SELECT meters.enrol('roles', 'anna', 2)", "permission denied")
-        self.refused(rita, "SELECT meters.put('roles', 'NEW 9')", "permission denied")
-        self.refused(iris, "SELECT meters.put('roles', 'NEW 9')", "permission denied")
+        denied = "permission denied for function"
+        self.refused(anna, ("SELECT meters.put_as_written('roles', ARRAY['4 5 NEW 9'])", denied),
+                     ("SELECT meters.enrol('roles', 'anna', 2)", denied), ("SELECT meters.unenrol('roles', 'anna')", denied),
+                     ("SELECT meters.new_block('another')", denied))
+        self.refused(rita, ("SELECT meters.put('roles', 'NEW 9')", denied), ("SELECT meters.put_many('roles', '{NEW 9}')", denied))
+        self.refused(iris, ("SELECT meters.put('roles', 'NEW 9')", denied))
         anna.one("SELECT set_config('search_path', 'pg_temp', false)")
         self.assertEqual(anna.one("SELECT meters.put('roles', 'NEW 9')")[0], "done 0 0")
         import psycopg
         with psycopg.connect(socket_of("nobody_there"), autocommit=True) as db, self.assertRaises(psycopg.errors.InsufficientPrivilege):
             db.execute("SELECT name FROM meters.blocks")
         self.assertIsNone(rita.check("roles"))
+
+    def test_privileges(self):
+        """All that is granted on anything in the schema, to anybody but its owner: reading, and the functions of each role."""
+        granted = stores.Postgres(socket_of("postgres")).all("""
+            SELECT grantee::regrole::text, name, privilege_type FROM (
+              SELECT relname AS name, relacl AS acl, relowner AS owner FROM pg_class WHERE relnamespace = 'meters'::regnamespace
+              UNION ALL SELECT attname, attacl, relowner FROM pg_attribute a JOIN pg_class c ON c.oid = attrelid
+                WHERE relnamespace = 'meters'::regnamespace AND attacl IS NOT NULL
+              UNION ALL SELECT proname, coalesce(proacl, acldefault('f', proowner)), proowner FROM pg_proc WHERE pronamespace = 'meters'::regnamespace
+              UNION ALL SELECT nspname, nspacl, nspowner FROM pg_namespace WHERE nspname IN ('meters', 'access_base')) things,
+              aclexplode(acl) WHERE grantee <> owner""")
+        tables, imports = ("blocks", "clocks", "journal", "requesters"), ("put_as_written", "new_block", "enrol", "unenrol")
+        self.assertEqual(sorted(granted), sorted(
+            [("meters_reader", table, "SELECT") for table in tables]
+            + [("meters_reader", name, "EXECUTE") for name in ("instant", "check_block")]
+            + [("meters_writer", name, "EXECUTE") for name in ("put", "put_many")]
+            + [("meters_importer", name, "EXECUTE") for name in imports]
+            + [("meters_reader", "meters", "USAGE"), ("meters_reader", "access_base", "USAGE"), ("meters_owner", "access_base", "USAGE")]))
+
+    def test_setup_is_guarded(self):
+        """The schema is not made where somebody else could write past it: an owner who can log in or has members, or a schema for
+        the extension that is somebody else's."""
+        psql = ["psql", "-q", "-h", f"{CLUSTER}/socket", "-U", "postgres"]
+        make = psql + ["-d", "guarded", "-f", os.path.join(HERE, "postgres", "schema.sql")]
+        subprocess.run(psql + ["-d", "postgres", "-c", "CREATE DATABASE guarded"], check=True)
+        for before, after, told in (("ALTER ROLE meters_owner LOGIN", "ALTER ROLE meters_owner NOLOGIN", "can log in"),
+                                    ("GRANT meters_owner TO anna", "REVOKE meters_owner FROM anna", "has members"),
+                                    ("CREATE SCHEMA access_base AUTHORIZATION anna", "DROP SCHEMA access_base", "no superuser")):
+            subprocess.run(psql + ["-d", "guarded", "-c", before], check=True)
+            run = subprocess.run(make, capture_output=True, encoding="utf-8")
+            subprocess.run(psql + ["-d", "guarded", "-c", after], check=True)
+            self.assertNotEqual(run.returncode, 0)
+            self.assertIn(told, run.stderr)
+        subprocess.run(make, check=True, stdout=subprocess.DEVNULL)
+        subprocess.run(psql + ["-d", "postgres", "-c", "DROP DATABASE guarded"], check=True)
+
+    def test_socket_is_private(self):
+        """The private server trusts whoever reaches its socket: nobody but its user may."""
+        self.assertEqual(os.stat(f"{CLUSTER}/socket").st_mode & 0o777, 0o700)
+        self.assertEqual(os.stat(f"{CLUSTER}/data").st_mode & 0o777, 0o700)
 
     def test_drop_extension_is_refused(self):
         with self.assertRaisesRegex(stores.Fault, "cannot drop extension"):
@@ -582,18 +767,28 @@ class PostgresStore(Store, unittest.TestCase):
         one = stores.Postgres(socket_of("rita")).one
         self.assertEqual(one("SELECT access_base.may(NULL, 1, 1, 1, 1)")[0], None)
         self.assertEqual(one("SELECT access_base.runs(access_base.empty(), NULL, 1, 1)")[0], None)
-        for sql in ("SELECT 'x'::bytea::access_base.base", "SELECT access_base.may(access_base.empty(), 1, 1, 1, -1)",
-                    "SELECT access_base.put(access_base.empty(), E'4 1 NEW 7\\n')", "SELECT access_base.put('', '4 1 NEW 7')",
-                    "SELECT access_base.put(access_base.empty(), repeat('x', 1000000))", "SELECT access_base.authorizations('\\x00')",
-                    b"SELECT access_base.put(access_base.empty(), '4 1 NEW \xff')"):
-            with self.assertRaises(stores.Fault, msg=sql):
-                one(sql)
+        self.refused(
+            stores.Postgres(socket_of("rita")),
+            ("SELECT 'x'::bytea::access_base.base", 'violates check constraint "sound"'),
+            ("SELECT access_base.may(access_base.empty(), 1, 1, 1, -1)", "instant is -1, which is not within 0 to 4294967295"),
+            ("SELECT access_base.runs(access_base.empty(), 4294967296, 1, 1)", "subject is 4294967296, which is not within"),
+            ("SELECT access_base.put(access_base.empty(), E'4 1 NEW 7\\n')", "not printable ASCII"),
+            ("SELECT access_base.put('', '4 1 NEW 7')", "refused 2"),
+            ("SELECT access_base.put(access_base.empty(), repeat('x', 1000000))", "more than 96 bytes"),
+            ("SELECT access_base.authorizations('\\x00')", "refused 2"),
+            (b"SELECT access_base.put(access_base.empty(), '4 1 NEW \xff')", "invalid byte sequence"))
         self.importer.new("arguments", 1, 0)
-        for sql in ("SELECT meters.put_as_written('arguments', NULL)", "SELECT meters.put_as_written('arguments', ARRAY[NULL]::text[])",
-                    "SELECT meters.put_as_written(NULL, '{}')", "SELECT meters.new_block(NULL)", "SELECT meters.enrol('arguments', 'nobody_at_all', 1)",
-                    "SELECT meters.enrol('arguments', 'anna', 1024)", "SELECT meters.new_block('x', 0)"):
-            with self.assertRaises(stores.Fault, msg=sql):
-                self.importer.one(sql)
+        self.refused(
+            self.importer,
+            ("SELECT meters.put_as_written('arguments', NULL)", "no line is given"),
+            ("SELECT meters.put_as_written('arguments', ARRAY[NULL]::text[])", "a line is NULL"),
+            ("SELECT meters.put_as_written(NULL, '{}')", "there is no block NULL"),
+            ("SELECT meters.new_block(NULL)", "out of bounds"),
+            ("SELECT meters.new_block('x', 0)", "out of bounds"),
+            ("SELECT meters.new_block('x', 1, NULL)", "out of bounds"),
+            ("SELECT meters.enrol('arguments', 'nobody_at_all', 1)", "there is no role 'nobody_at_all'"),
+            ("SELECT meters.enrol('no block', 'anna', 1)", "there is no block 'no block'"),
+            ("SELECT meters.enrol('arguments', 'anna', 1024)", "a subject is a number from 1 to 1023"))
         self.assertEqual(self.importer.put_as_written("arguments", []), [])
 
     def test_runs_are_multiranges(self):
@@ -667,10 +862,12 @@ class PostgresStore(Store, unittest.TestCase):
 
 # ---- the command and the pictures
 class Command(unittest.TestCase):
-    def meters(self, *words, give="", status=0):
-        run = subprocess.run([METERS, *words], input=give.encode("latin-1"), capture_output=True, cwd=self.folder)
+    def meters(self, *words, give="", status=0, **more):
+        run = subprocess.run([METERS, *words], input=give.encode("latin-1"), capture_output=True, cwd=self.folder, **more)
+        told = (run.stdout if status == 0 else run.stderr).decode()
         self.assertEqual(run.returncode, status, run.stderr.decode())
-        return (run.stdout if status == 0 else run.stderr).decode()
+        self.assertNotIn("Traceback", told)
+        return told
 
     def setUp(self):
         self.folder = tempfile.mkdtemp(dir=folder)
@@ -688,15 +885,50 @@ class Command(unittest.TestCase):
         self.assertEqual(len(self.meters("sheet", "s", "7").splitlines()), 4)
         self.assertIn("refused 6", self.meters("sheet", "s", "8", status=1))
         self.assertIn("9 requests replayed", self.meters("check"))
-        self.meters("export", "s", "s.base")
-        self.meters("import", "t", "s.base")
-        self.assertEqual(self.meters("put", "t", "NEW", "8"), "done 0 4\n")
-        self.assertIn("exists", self.meters("export", "s", "s.base", status=1))
-        self.assertIn("there is no block", self.meters("ask", "u", "WHEN", "3", "1", "7", status=1))
+        self.assertEqual(self.meters("put", "--as-written", "--quiet", "s", give="70 1 NEW 9\n70 1 NEW 9\nWHEN 3 1 7\n"),
+                         "3 lines: 1 done, 1 refused\n")
+
+    def test_export_and_import(self):
+        """The command that export tells makes a block with the same instants."""
+        self.meters("new", "--unit", "minute", "--origin=-86400", "s")
+        self.meters("put", "s", "NEW", "7")
+        told = self.meters("export", "s", "it's s.base").splitlines()[1]
+        words = shlex.split(told.replace("NAME", "t"))
+        self.assertEqual(words[:2], ["meters", "import"])
+        self.meters(*words[1:])
+        self.assertEqual(self.meters("put", "t", "NEW", "8"), "done 0 0\n")
+        listed = [line.split("\t")[2] for line in self.meters("blocks").splitlines()]
+        self.assertEqual(listed[0], listed[1])
+        self.assertIn("since 1969-12-31", listed[0])
+        self.assertIn("exists: give another name", self.meters("export", "s", "it's s.base", status=1))
         self.assertIn("no sound base", self.meters("import", "u", METERS, status=1))
-        self.assertIn("line 2 has a character", self.meters("put", "--as-written", "s", give="4 1 NEW 9\n4 1 NEW \xff9\n", status=1))
-        self.assertIn("a question is", self.meters("ask", "s", "NEW", "9", status=1))
-        self.assertIn("there is no file", self.meters("--store", "nothing.db", "blocks", status=1))
+        self.assertIn("unit and origin that they were made with", self.meters("import", "--unit", "day", "u", "it's s.base", status=1))
+
+    def test_requesters(self):
+        self.meters("new", "--as", "anna", "--subject", "5", "b")
+        self.meters("enrol", "b", "bert", "6")
+        self.assertEqual(self.meters("requesters", "b"), "anna\tsubject 5\nbert\tsubject 6\n")
+        self.meters("put", "--as", "bert", "b", "NEW", "7")
+        self.meters("unenrol", "b", "bert")
+        self.assertIn("no requester", self.meters("put", "--as", "bert", "b", "NEW", "8", status=1))
+        self.assertIn("bert is no requester", self.meters("unenrol", "b", "bert", status=1))
+        self.assertIn("6 NEW 7\tdone 0 0", self.meters("journal", "b"))
+
+    @unittest.skipUnless(os.getuid() == 0, "not root, who alone can become somebody without a name")
+    def test_user_without_a_name(self):
+        """No block is made of which nobody is a requester."""
+        os.chmod(self.folder, 0o777)
+
+        def become_nameless():
+            os.setgid(54321)
+            os.setuid(54321)
+        if subprocess.run(["test", "-r", METERS], preexec_fn=become_nameless).returncode != 0:
+            self.skipTest("others may not read this folder")
+        nameless = {"preexec_fn": become_nameless, "env": {"PATH": os.environ["PATH"]}}
+        self.assertIn("no login name here: give one with --as", self.meters("new", "b", status=1, **nameless))
+        self.assertEqual(self.meters("blocks", **nameless), "")
+        self.assertIn("you (anna) are subject 1", self.meters("new", "--as", "anna", "b", **nameless))
+        self.assertIn("no login name here: give one with --as", self.meters("put", "b", "NEW", "7", status=1, **nameless))
 
     def test_dates(self):
         self.meters("new", "--unit", "day", "--origin", "2020-01-01", "d")
@@ -704,6 +936,86 @@ class Command(unittest.TestCase):
         self.assertEqual(self.meters("put", "d", "GRANT", "1", "1", "2", "now", "2099-12-31", "n"), "done 1 1\n")
         self.assertEqual(self.meters("ask", "d", "MAY", "2", "1", "1", "2099-12-31"), "yes\n")
         self.assertEqual(self.meters("ask", "d", "MAY", "2", "1", "1", "2100-01-01"), "no\n")
+
+    def test_last_day(self):
+        """A date as an end is the last instant of that day, a time is itself; as a start and in a question a date is its first."""
+        self.meters("new", "s")
+        day, last = 4070908800, 4070908800 + 86399  # 2099-01-01
+        lines = ["NEW 1", "NEW 2", "GRANT 1 1 2 2099-01-01 2099-01-01 y", "DENY 1 1 2 2099-01-01T08:00 2099-01-01T09:00:01",
+                 "REVOKEP 1 1 2 2099-01-01 2099-01-01", "REVOKEN 1 1 2 2099-01-01 2099-01-01",
+                 "ADDRULE * 1 1 + WHENEVER * 1 2 + * * 2099-01-01 2099-01-01"]
+        self.assertEqual(self.meters("put", "s", give="\n".join(lines)), "done 0 0\n" * 2 + "done 1 1\ndone 2 2\ndone 0 1\ndone 0 0\ndone 3 0\n")
+        put = [line.split("\t")[2].split(" ", 2)[2] for line in self.meters("journal", "s").splitlines()]
+        self.assertEqual(put[2:], [f"GRANT 1 1 2 {day} {last} y", f"DENY 1 1 2 {day + 28800} {day + 32401}", f"REVOKEP 1 1 2 {day} {last}",
+                                   f"REVOKEN 1 1 2 {day} {last}", f"ADDRULE * 1 1 + WHENEVER * 1 2 + * * {day} {last}"])
+        self.meters("new", "--unit", "hour", "h")
+        self.meters("put", "h", give="NEW 1\nGRANT 1 1 2 2099-01-01 2099-01-02 y\n")
+        self.assertEqual(self.meters("ask", "h", "WHEN", "2", "1", "1"), f"{day // 3600}-{day // 3600 + 47}\n")
+        self.assertEqual(self.meters("ask", "h", "MAY", "2", "1", "1", "2099-01-01"), "yes\n")
+        self.assertEqual(self.meters("ask", "h", "MAY", "2", "1", "1", "2099-01-03"), "no\n")
+
+    def test_messages(self):
+        """What people get wrong: told with what to do, and nothing of it is put or made."""
+        self.meters("new", "b")
+        self.meters("new", "--unit", "day", "--origin", "2020-01-01", "d")
+        self.meters("new", "--origin", "9999-01-01", "later")
+        for told, *words in (
+                ("2027-02-30, which is no date: write one like", "put", "b", "GRANT", "1", "7", "2", "now", "2027-02-30", "y"),
+                ("31.1.2027, which is no date: write one like", "put", "b", "GRANT", "1", "7", "2", "now", "31.1.2027", "y"),
+                ("2027-01-31T24:30, which is no date", "ask", "b", "MAY", "2", "1", "7", "2027-01-31T24:30"),
+                ("before the block's first instant, 2020-01-01", "put", "d", "GRANT", "1", "7", "2", "2019-12-31", "inf", "y"),
+                ("before the block's first instant, 1970-01-01", "ask", "b", "MAY", "2", "1", "7", "1969-12-31"),
+                ("behind the block's last instant, 2106-02-07 06:28:14 in UTC: write 'inf'", "put", "b", "DENY", "1", "7", "2", "now", "2106-02-07"),
+                ("its own now and requester: leave them out, or put it with --as-written", "put", "b", "4", "1", "NEW", "7"),
+                ("its own now and requester", "put", "b", "inf", "1", "NEW", "7"),
+                ("the request has a character that is not printable ASCII", "put", "b", "NEW", "ü"),
+                ("the question has a character that is not printable ASCII", "ask", "b", "MAY", "ü"),
+                ("the request has 97 bytes", "put", "b", "x" * 97),
+                ("a question is MAY", "ask", "b", "NEW", "9"),
+                ("now is outside the instants of block 'later'", "ask", "later", "MAY", "1", "1", "1", "now"),
+                ("clock stands outside the instants", "put", "later", "NEW", "1"),
+                ("there is no block 'u': 'meters blocks' lists them", "ask", "u", "WHEN", "3", "1", "7"),
+                ("there is no block 'u'", "enrol", "u", "anna", "1"),
+                ("there is no block 'u'", "unenrol", "u", "anna"),
+                ("there is no block 'u'", "requesters", "u"),
+                ("of that name already", "new", "b"),
+                ("no control character", "new", "a\x1b[31mb"),
+                ("nothing.db: make it with 'meters new BLOCK'", "--store", "nothing.db", "blocks"),
+                ("pictures are written as FILE.svg or FILE.html", "timeline", "b", "7", "--out", "x.png")):
+            self.assertIn(told, self.meters(*words, status=1))
+        for told, *words in (
+                ("is not UTF-8: write the name in UTF-8", "new", b"\xff"),
+                ("is not UTF-8", "put", "--as", b"\xff", "b", "NEW", "7"),
+                ("is not UTF-8", "enrol", "b", b"\xff", "1"),
+                ("nor seconds since 1970", "new", "--origin", "99999999999999999999", "x"),
+                ("nor seconds since 1970", "new", "--origin", "1000000000001", "x"),
+                ("is no date like 2020-01-01", "new", "--origin", "2020-02-30", "x"),
+                ("number of seconds from 1 to", "new", "--unit", "0", "x"),
+                ("number of seconds from 1 to", "new", "--unit", "9" * 5000, "x"),
+                ("is no number from 1 to 1023", "enrol", "b", "anna", "1024")):
+            self.assertIn(told, self.meters(*words, status=2))
+        self.assertIn("line 2 has 2027-13-01, which is no date", self.meters("put", "b", give="NEW 1\nDENY 1 1 2 now 2027-13-01\n", status=1))
+        self.assertIn("line 2 has a character", self.meters("put", "--as-written", "b", give="4 1 NEW 9\n4 1 NEW \xff9\n", status=1))
+        self.assertEqual(self.meters("journal", "b") + self.meters("journal", "d"), "")
+        self.assertEqual(self.meters("blocks").count("\n"), 3)
+        self.assertEqual(self.meters("put", "b", give="NEW 7\nMAY 1 1 7 now\nMAY 1 1 7 2030-01-01\nWHEN 1 1 7\n"), "done 0 0\nno\nno\nnone\n")
+        self.assertEqual(self.meters("put", "b", "MAY", "1", "1", "7", "now"), "no\n")
+        with open("/dev/full", "wb") as full:
+            run = subprocess.run([METERS, "blocks"], stdout=full, stderr=subprocess.PIPE, cwd=self.folder)
+        self.assertEqual((run.returncode, run.stderr), (1, b"meters: the output cannot be written: No space left on device\n"))
+
+    def test_help(self):
+        """Every command, and every argument of every command, says what it is."""
+        module = importlib.machinery.SourceFileLoader("command", METERS).load_module()
+        commands = next(action for action in module.parser()._actions if action.choices and not action.option_strings)
+        self.assertGreater(len(commands.choices), 14)
+        for name, sub in commands.choices.items():
+            self.assertTrue(sub.description, name)
+            for action in sub._actions:
+                self.assertTrue(action.help, f"{name} {action.dest}")
+        for name, words in (("put", "REVOKEP MODE OBJECT SUBJECT START END"), ("put", "as END the last"), ("ask", "ask birch WHEN 2 1 7"),
+                            ("journal", "parted by tabs"), ("export", "how to import it"), ("enrol", "enrol birch anna 2")):
+            self.assertIn(words, self.meters(name, "--help"))
 
     def test_pictures(self):
         """Both pictures are well-formed and say what is in them, and a browser shows them if there is one."""
@@ -724,6 +1036,17 @@ class Command(unittest.TestCase):
             self.meters(picture, "elm", "7", "--out", picture + ".html")
             self.browser(picture)
         self.assertIn("has no meter 9", self.meters("timeline", "elm", "9", status=1))
+
+    def test_characters_in_pictures(self):
+        """Whatever a name has in it, a picture is well-formed."""
+        self.meters("new", "<b> & \"q\"")
+        self.meters("put", "--as-written", "<b> & \"q\"", give="4 1 NEW 7\n5 1 GRANT 1 7 2 50 200 y\n")
+        with open(os.path.join(self.folder, "names"), "w", encoding="utf-8") as out:
+            out.write("subject 2 a\x01b\x1b[31m\ufffe\nmeter 7 \x00 <m>\n")
+        for picture in ("timeline", "chains"):
+            told = "".join(xml.etree.ElementTree.fromstring(self.meters(picture, "--names", "names", "<b> & \"q\"", "7")).itertext())
+            self.assertIn("a\ufffdb\ufffd[31m\ufffd", told)
+            self.assertIn("Meter 7 (\ufffd <m>) of block <b> & \"q\"", told)
 
     def browser(self, picture):
         """The page in Chromium: it is not blank, and no text is cut off, lies on another, or is longer than its bar."""
