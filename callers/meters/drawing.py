@@ -134,23 +134,27 @@ class Instants:
             return "∞"
         return moment(self.block, t).strftime("%Y-%m-%d %H:%M:%S") if self.dates else str(t)
 
-    def short(self, t, end=False):
+    def short(self, t, end=False, year=True):
         if t >= LAST:
             return "∞"
         if not self.dates:
             return str(t)
-        day = "%-d %b %Y" if self.years else "%-d %b"
+        day = "%-d %b %Y" if self.years and year else "%-d %b"
         m, after = moment(self.block, t), moment(self.block, t + 1)
         if end and after and (after.hour, after.minute, after.second) == (0, 0, 0) or (m.hour, m.minute, m.second) == (0, 0, 0):
             return m.strftime(day)
         return m.strftime(day + " %H:%M")
 
-    def span(self, start, end):
-        first, last = self.short(start), self.short(end, True)
+    def span(self, start, end, year=True):
+        """From start to end, a day or a year that both share said once."""
+        first, last = self.short(start, year=year), self.short(end, True, year)
         if first == last:
             return first
         day, _, time = last.rpartition(" ")
-        return f"{first}–{time if ':' in time and first.startswith(day + ' ') else last}"
+        if ":" in time and first.startswith(day + " "):
+            return f"{first}–{time}"
+        same_year = self.dates and end < LAST and moment(self.block, start).year == moment(self.block, end).year
+        return f"{self.short(start, year=False) if same_year else first}–{last}"
 
     def long_span(self, start, end):
         return f"{self.long(start)} to {self.long(end)}"
@@ -234,7 +238,7 @@ STYLE = """
 text{fill:#2a3342}
 .title{font-size:18px;font-weight:bold}.sub{fill:#667085}.who{font-weight:bold}.mode{fill:#475467}.tick,.note{fill:#667085}
 .tick{stroke:#fff;stroke-width:4px;paint-order:stroke;stroke-linejoin:round}
-.in{font-size:10px}text.light{fill:#fff}
+.in,.beside{font-size:10px}text.light{fill:#fff}
 .band{fill:#f4f6f9}.grid,.track{stroke:#dfe3ea;fill:none}.track{stroke-dasharray:1 4}.clock{stroke:#b45309;stroke-width:1.5;fill:none}.clocktext{fill:#b45309}
 .yes{fill:#23734a}.rule{fill:#a6dcbd;stroke:#23734a;stroke-dasharray:4 2}.deny{fill:url(#deny)}.ruledeny{fill:url(#ruledeny)}
 .grant{fill:#dbe9f8;stroke:#3f7fb8}.denial{fill:#fbdcd8;stroke:#b3372b}.gone{fill:#fff;fill-opacity:.85;stroke:#98a2b3;stroke-dasharray:2 3}
@@ -248,7 +252,7 @@ DEFS = """<defs>
 <pattern id="ruledeny" width="6" height="6" patternTransform="rotate(45)" patternUnits="userSpaceOnUse"><rect width="6" height="6" fill="#fdebd0"/><rect width="2.5" height="6" fill="#c2751a"/></pattern>
 <linearGradient id="infinite"><stop offset="0" stop-color="#8891a5" stop-opacity=".04"/><stop offset="1" stop-color="#8891a5" stop-opacity=".28"/></linearGradient>
 </defs>"""
-LETTER = 6.2  # the width of a letter at 11 pixels, roughly
+LETTER, BOLD = 6.2, 7.3  # the width of a letter at 11 pixels, roughly
 
 
 def escaped(words):
@@ -272,6 +276,12 @@ class Svg:
     def text(self, kind, x, y, words, anchor="start", behind=False):
         (self.behind if behind else self.parts).append(
             f'<text class="{kind}" x="{x:.1f}" y="{y:.1f}" text-anchor="{anchor}">{escaped(words)}</text>')
+
+    def name(self, kind, x, y, words, width, anchor="start"):
+        """A name in so much room: cut if it is longer, and whole where the mouse rests."""
+        short = cut(words, int(width / BOLD))
+        tip = f"<title>{escaped(words)}</title>" if short != words else ""
+        self.parts.append(f'<text class="{kind}" x="{x:.1f}" y="{y:.1f}" text-anchor="{anchor}">{escaped(short)}{tip}</text>')
 
     def legend(self, y, right, entries):
         """Boxes with their meanings, in as many lines as they take; gives the place below."""

@@ -5,6 +5,7 @@ programs `examples/replies` and `lines` of the independent implementation and of
 comparison with them is left out), METERS_SECONDS how long each load runs."""
 import glob
 import importlib.machinery
+import io
 import multiprocessing
 import os
 import random
@@ -20,6 +21,7 @@ import tempfile
 import time
 import unittest
 import xml.etree.ElementTree
+from unittest import mock
 
 HERE = os.path.dirname(os.path.realpath(__file__))
 ROOT = os.path.dirname(os.path.dirname(HERE))
@@ -862,15 +864,33 @@ class PostgresStore(Store, unittest.TestCase):
 
 # ---- the command and the pictures
 class Command(unittest.TestCase):
-    def meters(self, *words, give="", status=0, **more):
-        run = subprocess.run([METERS, *words], input=give.encode("latin-1"), capture_output=True, cwd=self.folder, **more)
-        told = (run.stdout if status == 0 else run.stderr).decode()
-        self.assertEqual(run.returncode, status, run.stderr.decode())
-        self.assertNotIn("Traceback", told)
-        return told
+    def meters(self, *words, give="", status=0):
+        """What the command says, on standard output or, with another status than 0, on standard error. It runs in this process."""
+        files = [io.TextIOWrapper(io.BytesIO(data), encoding="utf-8") for data in (give.encode("latin-1"), b"", b"")]
+        argv = ["meters", *map(os.fsdecode, words)]
+        ended = 0
+        with mock.patch.multiple(sys, argv=argv, stdin=files[0], stdout=files[1], stderr=files[2]):
+            try:
+                self.command.main()
+            except SystemExit as end:
+                ended = end.code or 0
+        out, errors = ((file.flush(), file.buffer.getvalue().decode())[1] for file in files[1:])
+        self.assertEqual(ended, status, f"{words}: {errors}")
+        return errors if status else out
+
+    def run_alone(self, *words, **more):
+        """The command as a process of its own: its status and what it says on standard error."""
+        run = subprocess.run([METERS, *words], stderr=subprocess.PIPE, cwd=self.folder, encoding="utf-8", **more)
+        return run.returncode, run.stderr
+
+    @classmethod
+    def setUpClass(cls):
+        cls.command = importlib.machinery.SourceFileLoader("command", METERS).load_module()
 
     def setUp(self):
         self.folder = tempfile.mkdtemp(dir=folder)
+        self.addCleanup(os.chdir, os.getcwd())
+        os.chdir(self.folder)
 
     def test_session(self):
         """The README's session through the command, and everything around it."""
@@ -924,11 +944,13 @@ class Command(unittest.TestCase):
             os.setuid(54321)
         if subprocess.run(["test", "-r", METERS], preexec_fn=become_nameless).returncode != 0:
             self.skipTest("others may not read this folder")
-        nameless = {"preexec_fn": become_nameless, "env": {"PATH": os.environ["PATH"]}}
-        self.assertIn("no login name here: give one with --as", self.meters("new", "b", status=1, **nameless))
-        self.assertEqual(self.meters("blocks", **nameless), "")
-        self.assertIn("you (anna) are subject 1", self.meters("new", "--as", "anna", "b", **nameless))
-        self.assertIn("no login name here: give one with --as", self.meters("put", "b", "NEW", "7", status=1, **nameless))
+        nameless = {"preexec_fn": become_nameless, "env": {"PATH": os.environ["PATH"]}, "stdout": subprocess.DEVNULL}
+        told = (1, "meters: your user has no login name here: give one with --as NAME\n")
+        self.assertEqual(self.run_alone("new", "b", **nameless), told)
+        self.assertEqual(self.meters("blocks"), "")
+        self.assertEqual(self.run_alone("new", "--as", "anna", "b", **nameless), (0, ""))
+        self.assertEqual(self.meters("requesters", "b"), "anna\tsubject 1\n")
+        self.assertEqual(self.run_alone("put", "b", "NEW", "7", **nameless), told)
 
     def test_dates(self):
         self.meters("new", "--unit", "day", "--origin", "2020-01-01", "d")
@@ -1001,13 +1023,11 @@ class Command(unittest.TestCase):
         self.assertEqual(self.meters("put", "b", give="NEW 7\nMAY 1 1 7 now\nMAY 1 1 7 2030-01-01\nWHEN 1 1 7\n"), "done 0 0\nno\nno\nnone\n")
         self.assertEqual(self.meters("put", "b", "MAY", "1", "1", "7", "now"), "no\n")
         with open("/dev/full", "wb") as full:
-            run = subprocess.run([METERS, "blocks"], stdout=full, stderr=subprocess.PIPE, cwd=self.folder)
-        self.assertEqual((run.returncode, run.stderr), (1, b"meters: the output cannot be written: No space left on device\n"))
+            self.assertEqual(self.run_alone("blocks", stdout=full), (1, "meters: the output cannot be written: No space left on device\n"))
 
     def test_help(self):
         """Every command, and every argument of every command, says what it is."""
-        module = importlib.machinery.SourceFileLoader("command", METERS).load_module()
-        commands = next(action for action in module.parser()._actions if action.choices and not action.option_strings)
+        commands = next(action for action in self.command.parser()._actions if action.choices and not action.option_strings)
         self.assertGreater(len(commands.choices), 14)
         for name, sub in commands.choices.items():
             self.assertTrue(sub.description, name)
@@ -1034,8 +1054,18 @@ class Command(unittest.TestCase):
                 self.assertIn(word, told)
             self.assertIn("<Agent>", "".join(xml.etree.ElementTree.fromstring(self.meters(picture, "--names", names, "elm", "7")).itertext()))
             self.meters(picture, "elm", "7", "--out", picture + ".html")
-            self.browser(picture)
         self.assertIn("has no meter 9", self.meters("timeline", "elm", "9", status=1))
+        self.browser()
+
+    def test_example_pictures(self):
+        """README's pictures are what its commands write."""
+        example = os.path.join(ROOT, "callers", "meters", "example")
+        self.meters("new", "birch")
+        self.meters("put", "--as-written", "--file", f"{example}/requests.txt", "birch")
+        for picture in ("timeline", "chains"):
+            with open(f"{example}/{picture}.svg", encoding="utf-8") as file:
+                self.assertEqual(self.meters(picture, "birch", "12", "--names", f"{example}/names.txt"), file.read(),
+                                 f"write it again: meters {picture} birch 12 --names .. --out {picture}.svg")
 
     def test_characters_in_pictures(self):
         """Whatever a name has in it, a picture is well-formed."""
@@ -1048,28 +1078,31 @@ class Command(unittest.TestCase):
             self.assertIn("a\ufffdb\ufffd[31m\ufffd", told)
             self.assertIn("Meter 7 (\ufffd <m>) of block <b> & \"q\"", told)
 
-    def browser(self, picture):
-        """The page in Chromium: it is not blank, and no text is cut off, lies on another, or is longer than its bar."""
+    def browser(self):
+        """Both pictures in Chromium: not blank, and no text is cut off, lies on another, or is longer than its bar. The second one is
+        put into the page of the first: a browser takes a while to start."""
         if os.environ.get("METERS_NO_BROWSER") or not shutil.which("chromium"):
             return
-        page, png = os.path.join(self.folder, picture + ".html"), os.path.join(self.folder, picture + ".png")
-        with open(page, "a", encoding="utf-8") as out:
-            out.write(LOOK)
+        page, png = os.path.join(self.folder, "both.html"), os.path.join(self.folder, "both.png")
+        timeline, chains = (open(name + ".html", encoding="utf-8").read() for name in ("timeline", "chains"))
+        with open(page, "w", encoding="utf-8") as out:
+            out.write(timeline.replace("</main>", chains.split("<main>")[1].split("</main>")[0] + "</main>") + LOOK)
         look = ["chromium", "--headless=new", "--no-sandbox", "--disable-gpu", "--disable-dev-shm-usage",
-                f"--user-data-dir={self.folder}/profile", f"--screenshot={png}", "--dump-dom", "--window-size=1120,700", f"file://{page}"]
+                f"--user-data-dir={self.folder}/profile", f"--screenshot={png}", "--dump-dom", "--window-size=1500,1500", f"file://{page}"]
         try:
             run = subprocess.run(look, capture_output=True, timeout=120, encoding="utf-8")
         except subprocess.TimeoutExpired:  # a browser that starts slowly is no fault of the picture
             run = subprocess.run(look, capture_output=True, timeout=300, encoding="utf-8")
-        self.assertGreater(os.path.getsize(png), 20_000, "the page is blank")
-        self.assertRegex(run.stdout, r"<title>[1-9]\d+ texts\.</title>")
+        self.assertGreater(os.path.getsize(png), 40_000, "the page is blank")
+        self.assertRegex(run.stdout, r"<title>2 pictures; [1-9]\d\d texts\.</title>")
 
 
-# says in the page's title how many texts it has, and what is wrong with them
+# says in the page's title how many pictures and texts it has, and what is wrong with them
 LOOK = """<script>
 const texts = [...document.querySelectorAll('svg text')], box = x => x.getBoundingClientRect();
-const page = box(document.querySelector('svg')), faults = [];
+const faults = [];
 texts.forEach((text, i) => {
+    const page = box(text.closest('svg'));
     const a = box(text), bar = text.classList.contains('in') ? box(text.previousElementSibling) : page;
     if (a.left < bar.left || a.right > bar.right || a.bottom > page.bottom) faults.push(text.textContent + ' is cut off');
     for (const other of texts.slice(i + 1)) {
@@ -1078,7 +1111,7 @@ texts.forEach((text, i) => {
             faults.push(text.textContent + ' lies on ' + other.textContent);
     }
 });
-document.title = [texts.length + ' texts', ...faults].join('; ') + '.';
+document.title = [document.querySelectorAll('svg').length + ' pictures', texts.length + ' texts', ...faults].join('; ') + '.';
 </script>"""
 
 if __name__ == "__main__":
