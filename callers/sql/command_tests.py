@@ -59,6 +59,9 @@ class Command(unittest.TestCase):
         self.assertIn("9 requests replayed", self.meters("check"))
         self.assertEqual(self.meters("put", "--as-written", "--quiet", "s", give="70 1 NEW 9\n70 1 NEW 9\nWHEN 3 1 7\n"),
                          "3 lines: 1 done, 1 refused\n")
+        self.assertEqual(self.run_alone("put", "--as-written", "--quiet", "s", input="71 1 NEW 10\n70 1 NEW 9\n", stdout=subprocess.DEVNULL),
+                         (0, "meters: line 2 is the first, refused 4: the request is older than the last accepted one: "
+                             "send requests in the order of their times\n"))
 
     def test_export_and_import(self):
         """The command that export tells makes a block with the same instants."""
@@ -139,13 +142,14 @@ class Command(unittest.TestCase):
                 ("2027-01-31T24:30, which is no date", "ask", "b", "MAY", "2", "1", "7", "2027-01-31T24:30"),
                 ("before the block's first instant, 2020-01-01", "put", "d", "GRANT", "1", "7", "2", "2019-12-31", "inf", "y"),
                 ("before the block's first instant, 1970-01-01", "ask", "b", "MAY", "2", "1", "7", "1969-12-31"),
-                ("behind the block's last instant, 2106-02-07 06:28:14 in UTC: write 'inf'", "put", "b", "DENY", "1", "7", "2", "now", "2106-02-07"),
+                ("behind the block's last instant, 2106-02-07 06:28:14 UTC: write 'inf'", "put", "b", "DENY", "1", "7", "2", "now", "2106-02-07"),
                 ("its own now and requester: leave them out, or put it with --as-written", "put", "b", "4", "1", "NEW", "7"),
                 ("its own now and requester", "put", "b", "inf", "1", "NEW", "7"),
                 ("the request has a character that is not printable ASCII", "put", "b", "NEW", "ü"),
                 ("the question has a character that is not printable ASCII", "ask", "b", "MAY", "ü"),
                 ("the request has 97 bytes", "put", "b", "x" * 97),
                 ("a question is MAY", "ask", "b", "NEW", "9"),
+                ("not both", "put", "--file", METERS, "b", "NEW", "9"),
                 ("now is outside the instants of block 'later'", "ask", "later", "MAY", "1", "1", "1", "now"),
                 ("clock stands outside the instants", "put", "later", "NEW", "1"),
                 ("there is no block 'u': 'meters blocks' lists them", "ask", "u", "WHEN", "3", "1", "7"),
@@ -161,6 +165,7 @@ class Command(unittest.TestCase):
                 ("is not UTF-8: write the name in UTF-8", "new", b"\xff"),
                 ("is not UTF-8", "put", "--as", b"\xff", "b", "NEW", "7"),
                 ("is not UTF-8", "enrol", "b", b"\xff", "1"),
+                ("not allowed with argument --as", "put", "--as", "anna", "--as-written", "b", "4", "1", "NEW", "7"),
                 ("nor seconds since 1970", "new", "--origin", "99999999999999999999", "x"),
                 ("nor seconds since 1970", "new", "--origin", "1000000000001", "x"),
                 ("is no date like 2020-01-01", "new", "--origin", "2020-02-30", "x"),
