@@ -162,7 +162,7 @@ static reply run(const struct library *l, enum call call, const request *q, uint
     uint32_t subject = 2 + i % 40, mode = 1 + i % 4, object = 1 + i % 8;
     switch (call) {
     case SOUND:
-        return (reply){0, 0, l->is_sound(kept, ACCESS_BASE_BYTES)};
+        return (reply){l->is_sound(kept, ACCESS_BASE_BYTES) ? 0 : ACCESS_BASE_INVALID_BASE, 0, 0};
     case MAY:
         return l->may(kept, ACCESS_BASE_BYTES, subject, mode, object, 20000 + i * 37 % 9000);
     case WHEN:
@@ -173,13 +173,26 @@ static reply run(const struct library *l, enum call call, const request *q, uint
     }
 }
 
-/* Seconds that so many calls take. */
+/* A call that was to be timed is refused: its time would be that of something else. */
+static void refused(const char *name, const char *what, uint32_t refusal)
+{
+    fprintf(stderr, "%s refuses a timed call, %s, with %" PRIu32 "\n", name, what, refusal);
+    exit(1);
+}
+
+/* Seconds that so many calls take, none of them refused. */
 static double seconds_for(const struct library *l, enum call call, const request *q, uint32_t count)
 {
+    uint32_t refusal = 0;
     double from = seconds();
-    for (uint32_t i = 0; i < count; i++)
-        run(l, call, q, i);
-    return seconds() - from;
+    for (uint32_t i = 0; i < count; i++) {
+        reply r = run(l, call, q, i);
+        refusal = refusal != 0 ? refusal : r.refusal;
+    }
+    double took = seconds() - from;
+    if (refusal != 0)
+        refused(l->name, call_names[call], refusal);
+    return took;
 }
 
 /* Seconds that copying the base so often takes. */
@@ -286,11 +299,17 @@ static void print_request(FILE *f, const request *q)
     }
 }
 
+/* The best time of a session, in which no line is refused. */
 static double session_seconds(const char *program, const char *file)
 {
     char command[512];
-    snprintf(command, sizeof command, "'%s' < '%s' > /dev/null", program, file);
     double best = 1e9;
+    snprintf(command, sizeof command, "! '%s' < '%s' | grep -n -m 1 '^refused' >&2", program, file);
+    if (system(command) != 0) {
+        fprintf(stderr, "%s refuses that line of %s, or does not run\n", program, file);
+        exit(1);
+    }
+    snprintf(command, sizeof command, "'%s' < '%s' > /dev/null", program, file);
     for (int round = 0; round < 5; round++) {
         double from = seconds();
         if (system(command) != 0)
@@ -424,12 +443,16 @@ static void round_row(int lines, int rules)
         q[i] = (struct access_base_question){2 + i % 40, 1 + i % 4, 1 + i % 8, 20000 + i * 37 % 9000};
     for (int n = 0; n < ROUNDS; n++) {
         double from = seconds();
-        access_base_ask_round(kept, sizeof kept, q, ROUND, one_call, ROUND);
+        reply all = access_base_ask_round(kept, sizeof kept, q, ROUND, one_call, ROUND);
         round = lesser(round, seconds() - from);
+        if (all.refusal != 0)
+            refused(proved.name, "a round", all.refusal);
         from = seconds();
         for (uint32_t i = 0; i < ROUND; i++) {
             reply r = proved.may(kept, sizeof kept, q[i].subject, q[i].mode, q[i].object, q[i].instant);
-            alone[i] = (uint8_t)(r.refusal != 0 ? ACCESS_BASE_REPLY_REFUSED + r.refusal : r.number);
+            if (r.refusal != 0)
+                refused(proved.name, "a question of a round", r.refusal);
+            alone[i] = (uint8_t)r.number;
         }
         calls = lesser(calls, seconds() - from);
     }

@@ -3,7 +3,8 @@ import drawing
 from drawing import Instants, Names, Svg, meet, union
 from stores import Fault
 
-CARD, GAP, LINE, MARGIN = 236, 64, 14, 16
+CARD, GAP, LINE, MARGIN, BETWEEN = 236, 64, 14, 16, 14
+SWEEPS = 4
 SPANS = 3  # so many intervals on a card, and the rest counted
 
 
@@ -46,6 +47,21 @@ def depths(entries, sources):
 
 
 # ---- drawing it
+def settled(wishes):
+    """Tops for things below one another in the given order, each (wish, height), together as near to the wishes as can be: where two
+    would overlap they are joined, and stand around the mean of their wishes."""
+    joined, offsets, offset = [], [], 0
+    for wish, height in wishes:
+        offsets.append(offset)
+        joined.append((wish - offset, 1))
+        offset += height
+        while len(joined) > 1 and joined[-2][0] / joined[-2][1] > joined[-1][0] / joined[-1][1]:
+            (total, count), (more, others) = joined[-2:]
+            joined[-2:] = [(total + more, count + others)]
+    tops = [total / count for total, count in joined for _ in range(count)]
+    return [top + offset for top, offset in zip(tops, offsets)]
+
+
 class Panel:
     """The chains of one mode."""
 
@@ -59,47 +75,46 @@ class Panel:
         return 12 + LINE * (2 + min(len(spans(e)), SPANS) + (len(spans(e)) > SPANS))
 
     def place(self):
-        """Columns from left to right; in a column, by where those stand that back them. Gives the place below all."""
+        """Columns from left to right; in a column, what was withdrawn below the others, and each near the middle of those that curves
+        join it to. Gives the place below all."""
         givers = [s for s in self.picture.sources if any(e.grantor == s for e in self.entries)]
-        columns = [[(("source", s), 12 + 2 * LINE) for s in givers]]
-        self.stack(0, columns[0])
+        columns = [{("source", s): 12 + 2 * LINE for s in givers}]
         for column in range(1, max(self.depth.values(), default=0) + 1):
-            cards = sorted((e for e in self.entries if self.depth[e.label] == column), key=self.where)
-            columns.append([(("line", e.label), self.height_of(e)) for e in cards])
-            self.stack(column, columns[-1])
-        self.centre(columns)
+            columns.append({("line", e.label): self.height_of(e) for e in self.entries if self.depth[e.label] == column})
+        for column, cards in enumerate(columns):
+            for i, (key, height) in enumerate(cards.items()):
+                self.places[key] = (MARGIN + column * (CARD + GAP), i * (height + BETWEEN), height)
+        self.settle(columns)
+        up = min(y for _, y, _ in self.places.values()) - self.top - 34
+        self.places = {key: (x, y - up, height) for key, (x, y, height) in self.places.items()}
         return max(y + height for _, y, height in self.places.values()) + 14
 
-    def stack(self, column, cards, wish=lambda key: 0):
-        """The cards of a column below one another, each where it wishes to be, or further down."""
-        y = self.top + 34
-        for key, height in cards:
-            y = max(y, wish(key) - height / 2)
-            self.places[key] = (MARGIN + column * (CARD + GAP), y, height)
-            y += height + 14
+    def settle(self, columns):
+        """Goes to and fro over the columns, each time placing the cards of one by where those on the one side stand, at last on both."""
+        before = {("line", e.label): [key for key, _ in self.from_places(e)] for e in self.entries}
+        behind = {}
+        for key, others in before.items():
+            for other in others:
+                behind.setdefault(other, []).append(key)
+        low = {("line", e.label): (not e.runs, e.negative, e.label) for e in self.entries}
+        for sides in ([before], [behind]) * SWEEPS + ([before, behind],):
+            for cards in columns if before in sides else reversed(columns):
+                wish = {key: self.middle(key, [other for side in sides for other in side.get(key, ())]) for key in cards}
+                order = sorted(cards, key=lambda key: (low.get(key, (False,))[0], wish[key], low.get(key, (False, False, 0))))
+                tops = settled([(wish[key] - cards[key] / 2, cards[key] + BETWEEN) for key in order])
+                for key, y in zip(order, tops):
+                    self.places[key] = (self.places[key][0], y, cards[key])
 
-    def centre(self, columns):
-        """From right to left, each card beside the middle of those that it backs, which keep their order."""
-        backed = {}
-        for e in self.entries:
-            for key, _ in self.from_places(e):
-                backed.setdefault(key, []).append(("line", e.label))
-
-        def wish(key):
-            middles = [y + height / 2 for _, y, height in (self.places[other] for other in backed.get(key, ()))]
-            return (min(middles) + max(middles)) / 2 if middles else 0
-        for column in range(len(columns) - 2, -1, -1):
-            self.stack(column, columns[column], wish)
+    def middle(self, key, others):
+        """The middle of the others' places; of its own, if there are none."""
+        middles = [y + height / 2 for _, y, height in (self.places[other] for other in others or [key])]
+        return sum(middles) / len(middles)
 
     def from_places(self, e):
         """What a curve to it starts at."""
         if e.grantor in self.picture.sources:
             return [(("source", e.grantor), [])]
         return [(("line", b.label), meet(spans(b), spans(e))) for b in backers(e, self.entries)]
-
-    def where(self, e):
-        ys = [self.places[key][1] for key, _ in self.from_places(e) if key in self.places]
-        return (not e.runs, sum(ys) / len(ys) if ys else 0, e.negative, e.label)
 
     def draw(self):
         p = self.picture
@@ -114,12 +129,12 @@ class Panel:
     def source(self, subject, x, y, height):
         p = self.picture
         p.svg.rect("source", x, y, CARD, height, radius=6)
-        p.svg.text("who", x + 10, y + 6 + LINE - 3, drawing.cut(p.names.of("subject", subject), 32))
+        p.svg.name("who", x + 10, y + 6 + LINE - 3, p.names.of("subject", subject), CARD - 20)
         p.svg.text("mode", x + 10, y + 6 + 2 * LINE - 3, p.sources[subject])
 
     def curves(self, e):
         x2, y2, h2 = self.places["line", e.label]
-        origins = [o for o in self.from_places(e) if o[0] in self.places]
+        origins = sorted(self.from_places(e), key=lambda origin: self.places[origin[0]][1])
         for i, (key, shared) in enumerate(origins):
             x1, y1, h1 = self.places[key]
             start, end = y1 + h1 / 2, y2 + h2 * (i + 1) / (len(origins) + 1)
@@ -141,8 +156,9 @@ class Panel:
                 f"at {p.instants.long(e.granted)}: " + ", ".join(p.instants.long_span(*s) for s in spans(e)))
         p.svg.rect(kind, x, y, CARD, height, told + ("" if e.runs else ", withdrawn"), radius=6)
         faint = "" if e.runs else " faint"
-        p.svg.text("who" + faint, x + 10, y + 6 + LINE - 3, drawing.cut(p.names.of("subject", e.subject), 26))
-        p.svg.text("tag" + faint, x + CARD - 10, y + 6 + LINE - 3, f"#{e.label}{' →' if e.transferable else ''}", "end")
+        tag = f"#{e.label}{' →' if e.transferable else ''}"
+        p.svg.name("who" + faint, x + 10, y + 6 + LINE - 3, p.names.of("subject", e.subject), CARD - 28 - drawing.BOLD * len(tag))
+        p.svg.text("tag" + faint, x + CARD - 10, y + 6 + LINE - 3, tag, "end")
         what = ("denied" if e.negative else "granted") + f" {p.instants.short(e.granted)}" + ("" if e.runs else ", withdrawn")
         p.svg.text("mode" + faint, x + 10, y + 6 + 2 * LINE - 3, what)
         shown = [p.instants.span(*s) for s in spans(e)[:SPANS]]
@@ -175,7 +191,7 @@ def render(block, a, entries, owner, administrators):
         panel.draw()
     title = f"{p.names.meter(a.object)} of block {block.name}: who holds from whom"
     p.svg.text("title", MARGIN, 30, title)
-    p.svg.text("sub", MARGIN, 50, "Each card is an authorization; a curve leads to it from what its grantor holds. → may be handed on")
+    p.svg.text("sub", MARGIN, 50, "Each card is an authorization, with its label; a curve leads to it from what its grantor holds. → may be handed on")
     if not panels:
         p.svg.text("note", MARGIN, 78, f"Nobody holds anything on this meter, which is {p.names.of('subject', owner)}'s.")
         return p.svg.done(width, 100, title)

@@ -2,6 +2,7 @@
 import bisect
 import datetime
 import html
+import re
 from collections import namedtuple
 
 from stores import LAST, Fault, moment
@@ -133,23 +134,27 @@ class Instants:
             return "∞"
         return moment(self.block, t).strftime("%Y-%m-%d %H:%M:%S") if self.dates else str(t)
 
-    def short(self, t, end=False):
+    def short(self, t, end=False, year=True):
         if t >= LAST:
             return "∞"
         if not self.dates:
             return str(t)
-        day = "%-d %b %Y" if self.years else "%-d %b"
+        day = "%-d %b %Y" if self.years and year else "%-d %b"
         m, after = moment(self.block, t), moment(self.block, t + 1)
         if end and after and (after.hour, after.minute, after.second) == (0, 0, 0) or (m.hour, m.minute, m.second) == (0, 0, 0):
             return m.strftime(day)
         return m.strftime(day + " %H:%M")
 
-    def span(self, start, end):
-        first, last = self.short(start), self.short(end, True)
+    def span(self, start, end, year=True):
+        """From start to end, a day or a year that both share said once."""
+        first, last = self.short(start, year=year), self.short(end, True, year)
         if first == last:
             return first
         day, _, time = last.rpartition(" ")
-        return f"{first}–{time if ':' in time and first.startswith(day + ' ') else last}"
+        if ":" in time and first.startswith(day + " "):
+            return f"{first}–{time}"
+        same_year = self.dates and end < LAST and moment(self.block, start).year == moment(self.block, end).year
+        return f"{self.short(start, year=False) if same_year else first}–{last}"
 
     def long_span(self, start, end):
         return f"{self.long(start)} to {self.long(end)}"
@@ -233,7 +238,7 @@ STYLE = """
 text{fill:#2a3342}
 .title{font-size:18px;font-weight:bold}.sub{fill:#667085}.who{font-weight:bold}.mode{fill:#475467}.tick,.note{fill:#667085}
 .tick{stroke:#fff;stroke-width:4px;paint-order:stroke;stroke-linejoin:round}
-.in{font-size:10px}text.light{fill:#fff}
+.in,.beside{font-size:10px}text.light{fill:#fff}
 .band{fill:#f4f6f9}.grid,.track{stroke:#dfe3ea;fill:none}.track{stroke-dasharray:1 4}.clock{stroke:#b45309;stroke-width:1.5;fill:none}.clocktext{fill:#b45309}
 .yes{fill:#23734a}.rule{fill:#a6dcbd;stroke:#23734a;stroke-dasharray:4 2}.deny{fill:url(#deny)}.ruledeny{fill:url(#ruledeny)}
 .grant{fill:#dbe9f8;stroke:#3f7fb8}.denial{fill:#fbdcd8;stroke:#b3372b}.gone{fill:#fff;fill-opacity:.85;stroke:#98a2b3;stroke-dasharray:2 3}
@@ -247,7 +252,12 @@ DEFS = """<defs>
 <pattern id="ruledeny" width="6" height="6" patternTransform="rotate(45)" patternUnits="userSpaceOnUse"><rect width="6" height="6" fill="#fdebd0"/><rect width="2.5" height="6" fill="#c2751a"/></pattern>
 <linearGradient id="infinite"><stop offset="0" stop-color="#8891a5" stop-opacity=".04"/><stop offset="1" stop-color="#8891a5" stop-opacity=".28"/></linearGradient>
 </defs>"""
-LETTER = 6.2  # the width of a letter at 11 pixels, roughly
+LETTER, BOLD = 6.2, 7.3  # the width of a letter at 11 pixels, roughly
+
+
+def escaped(words):
+    """Text for an SVG or a page: what XML does not allow at all as a replacement character."""
+    return html.escape(re.sub("[^\t\n\r\x20-\ud7ff\ue000-\ufffd\U00010000-\U0010ffff]", "\ufffd", words))
 
 
 class Svg:
@@ -255,17 +265,23 @@ class Svg:
         self.behind, self.parts = [], []
 
     def rect(self, kind, x, y, width, height, tip=None, radius=2, behind=False):
-        title = f"<title>{html.escape(tip)}</title>" if tip else ""
+        title = f"<title>{escaped(tip)}</title>" if tip else ""
         (self.behind if behind else self.parts).append(
             f'<rect class="{kind}" x="{x:.1f}" y="{y:.1f}" width="{max(width, 1.5):.1f}" height="{height:.1f}" rx="{radius}">{title}</rect>')
 
     def path(self, kind, d, tip=None, behind=False):
-        title = f"<title>{html.escape(tip)}</title>" if tip else ""
+        title = f"<title>{escaped(tip)}</title>" if tip else ""
         (self.behind if behind else self.parts).append(f'<path class="{kind}" d="{d}">{title}</path>')
 
     def text(self, kind, x, y, words, anchor="start", behind=False):
         (self.behind if behind else self.parts).append(
-            f'<text class="{kind}" x="{x:.1f}" y="{y:.1f}" text-anchor="{anchor}">{html.escape(words)}</text>')
+            f'<text class="{kind}" x="{x:.1f}" y="{y:.1f}" text-anchor="{anchor}">{escaped(words)}</text>')
+
+    def name(self, kind, x, y, words, width, anchor="start"):
+        """A name in so much room: cut if it is longer, and whole where the mouse rests."""
+        short = cut(words, int(width / BOLD))
+        tip = f"<title>{escaped(words)}</title>" if short != words else ""
+        self.parts.append(f'<text class="{kind}" x="{x:.1f}" y="{y:.1f}" text-anchor="{anchor}">{escaped(short)}{tip}</text>')
 
     def legend(self, y, right, entries):
         """Boxes with their meanings, in as many lines as they take; gives the place below."""
@@ -282,7 +298,7 @@ class Svg:
     def done(self, width, height, label):
         return "\n".join(
             [f'<svg xmlns="http://www.w3.org/2000/svg" viewBox="0 0 {width:.0f} {height:.0f}" width="{width:.0f}" height="{height:.0f}" '
-             f'font-family="DejaVu Sans, Verdana, sans-serif" font-size="11" role="img" aria-label="{html.escape(label, quote=True)}">',
+             f'font-family="DejaVu Sans, Verdana, sans-serif" font-size="11" role="img" aria-label="{escaped(label)}">',
              f"<style>{STYLE}</style>", DEFS, f'<rect width="{width:.0f}" height="{height:.0f}" fill="#fff"/>']
             + self.behind + self.parts + ["</svg>", ""])
 
@@ -305,7 +321,7 @@ def page(svg, title):
     """A self-contained page around a picture."""
     return f"""<!DOCTYPE html>
 <html lang="en"><head><meta charset="utf-8"><meta name="viewport" content="width=device-width, initial-scale=1">
-<title>{html.escape(title)}</title>
+<title>{escaped(title)}</title>
 <style>body{{margin:0;background:#eef1f5}}main{{max-width:max-content;margin:24px auto;background:#fff;box-shadow:0 1px 6px #0002;border-radius:6px;overflow-x:auto}}svg{{display:block}}</style>
 </head><body><main>
 {svg}</main></body></html>

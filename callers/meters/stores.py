@@ -10,7 +10,7 @@ HERE = os.path.dirname(os.path.realpath(__file__))
 ROOT = os.path.dirname(os.path.dirname(HERE))
 SQL = os.path.join(ROOT, "callers", "sql")
 EXTENSION = os.environ.get("METERS_EXTENSION", os.path.join(ROOT, "target", "sql", "access_base"))
-APPLICATION = 1297236529  # the letters MRB1
+APPLICATION, VERSION = 1297236529, 1  # the letters MRB1; as the schema has them
 LAST = 4294967295
 BASE_BYTES = 27936
 LINE_BYTES = 96
@@ -33,7 +33,7 @@ def line_fault(line):
     if any(not " " <= c <= "~" for c in line):
         return "has a character that is not printable ASCII: write it as docs/SESSION.md has it"
     if len(line) > LINE_BYTES:
-        return f"has {len(line)} bytes with its now and requester, and no request is longer than {LINE_BYTES}"
+        return f"has {len(line)} bytes, and no request has more than {LINE_BYTES}: see docs/SESSION.md"
     return None
 
 
@@ -58,6 +58,10 @@ def replay(entries, put, begin):
             return base, f"request {entry.number} ({entry.line}): the journal has '{entry.reply}', replay '{reply}'"
         expected += 1
     return base, None
+
+
+ENROL = ("INSERT INTO requesters SELECT id, ?, ? FROM blocks WHERE name = ? "
+         "ON CONFLICT (block, role) DO UPDATE SET subject = excluded.subject")
 
 
 class Sqlite:
@@ -88,18 +92,41 @@ class Sqlite:
         self.db.enable_load_extension(False)
 
     def settle(self, create):
-        mark = self.db.execute("PRAGMA application_id").fetchone()[0]
-        tables = self.db.execute("SELECT count(*) FROM sqlite_schema").fetchone()[0]
-        if mark != APPLICATION:
-            if mark != 0 or tables > 0 or not create:
-                raise Fault(f"{self.path} is a database of something else: name another file with --store")
-            with open(os.path.join(SQL, "sqlite", "schema.sql"), encoding="ascii") as schema:
-                self.db.executescript(schema.read())
         for pragma in ("synchronous = FULL", "foreign_keys = ON", "trusted_schema = OFF", "recursive_triggers = ON"):
             self.db.execute("PRAGMA " + pragma)
+        if self.is_empty():
+            if not create:
+                raise Fault(f"{self.path} is empty: make its first block with 'meters new BLOCK'")
+            self.make_tables()
+        if self.pragma("application_id") != APPLICATION:
+            raise Fault(f"{self.path} is a database of something else: name another file with --store")
+        if self.pragma("user_version") != VERSION:
+            raise Fault(f"{self.path} was made by another version of meters: use that one")
+
+    def pragma(self, name):
+        return self.db.execute("PRAGMA " + name).fetchone()[0]
+
+    def is_empty(self):
+        return self.pragma("application_id") == 0 and self.db.execute("SELECT count(*) FROM sqlite_schema").fetchone()[0] == 0
+
+    def make_tables(self):
+        """Makes the tables in a file that was empty a moment ago. Where another made them meanwhile, theirs stand: the script's
+        transaction fails at its first table."""
+        with open(os.path.join(SQL, "sqlite", "schema.sql"), encoding="ascii") as schema:
+            script = schema.read()
+        self.patiently("PRAGMA journal_mode = WAL")
+        try:
+            self.db.executescript(script)
+        except sqlite3.Error:
+            if self.db.in_transaction:
+                self.db.execute("ROLLBACK")
+            if self.is_empty():
+                raise
 
     def fault(self, error):
-        text = str(error)
+        text = str(error).removeprefix("CHECK constraint failed: ")
+        if text.startswith("Could not decode to UTF-8"):
+            return Fault(f"{self.path} has a text that is not UTF-8, which 'meters' does not write: restore a copy")
         advice = {
             "file is not a database": f"{self.path} is no SQLite database: name another file with --store",
             "attempt to write a readonly database": f"{self.path} or its folder is read-only: nothing was written",
@@ -120,17 +147,18 @@ class Sqlite:
     def all(self, sql, *values):
         try:
             return self.db.execute(sql, values).fetchall()
-        except (sqlite3.Error, UnicodeDecodeError) as error:
+        except sqlite3.Error as error:
             raise self.fault(error) from error
 
-    def begin(self):
-        """Takes the write lock, asking again after a short while for WAIT seconds: SQLite's own wait grows, and starves the patient."""
+    def patiently(self, sql):
+        """Runs what takes the write lock, asking again after a short while for WAIT seconds: SQLite's own wait grows, and starves the
+        patient."""
         end = time.monotonic() + WAIT
         self.db.execute("PRAGMA busy_timeout = 0")
         try:
             while True:
                 try:
-                    self.db.execute("BEGIN IMMEDIATE")
+                    self.db.execute(sql)
                     return
                 except sqlite3.OperationalError as error:
                     if str(error) != "database is locked" or time.monotonic() > end:
@@ -141,7 +169,7 @@ class Sqlite:
 
     def transaction(self, work):
         try:
-            self.begin()
+            self.patiently("BEGIN IMMEDIATE")
             try:
                 result = work()
                 self.db.execute("COMMIT")
@@ -164,20 +192,28 @@ class Sqlite:
         rows = self.all("SELECT b.name, unit, origin, requests, instant FROM blocks b JOIN clocks USING (id) ORDER BY b.name")
         return [Block(*row) for row in rows]
 
-    def new(self, name, unit, origin, initial=None):
-        if self.one("SELECT 1 FROM blocks WHERE name = ?", name):
-            raise Fault(f"there is a block '{name}' already: give another name")
-        if initial is not None and not self.one("SELECT access_base_is_sound(?)", initial)[0]:
-            raise Fault("the bytes are no sound base: import what 'meters export' wrote")
-        self.one("INSERT INTO blocks(name, unit, origin, initial, base) VALUES (?, ?, ?, ?, coalesce(?4, access_base_empty()))",
-                 name, unit, origin, initial)
+    def new(self, name, unit, origin, initial=None, enrolled=()):
+        """A new block, and who puts requests to it: pairs of a login name and a subject."""
+        def work():
+            self.db.execute("INSERT INTO blocks(name, unit, origin, initial, base) VALUES (?, ?, ?, ?4, coalesce(?4, access_base_empty()))",
+                            (name, unit, origin, initial))
+            for role, subject in enrolled:
+                self.db.execute(ENROL, (role, subject, name))
+        self.transaction(work)
 
     def enrol(self, name, role, subject):
         self.block(name)
-        self.one("INSERT INTO requesters SELECT id, ?, ? FROM blocks WHERE name = ? "
-                 "ON CONFLICT (block, role) DO UPDATE SET subject = excluded.subject", role, subject, name)
+        self.transaction(lambda: self.db.execute(ENROL, (role, subject, name)))
+
+    def unenrol(self, name, role):
+        self.block(name)
+        removed = self.transaction(lambda: self.db.execute(
+            "DELETE FROM requesters WHERE role = ? AND block = (SELECT id FROM blocks WHERE name = ?)", (role, name)).rowcount)
+        if removed == 0:
+            raise Fault(f"{role} is no requester of block '{name}': 'meters requesters' lists them")
 
     def requesters(self, name):
+        self.block(name)
         return self.all("SELECT role, subject FROM requesters WHERE block = (SELECT id FROM blocks WHERE name = ?) ORDER BY 2, 1", name)
 
     # ---- requests
@@ -279,10 +315,13 @@ class Postgres:
         diagnosis = getattr(error, "diag", None)
         if diagnosis is None or diagnosis.message_primary is None:
             return Fault(str(error).strip() or "the connection ended: what was not acknowledged may not be stored, look at the journal")
-        hint = f": {diagnosis.message_hint}" if diagnosis.message_hint else ""
-        if diagnosis.sqlstate == "42501":
-            hint = ": your role may not do this; a superuser grants meters_reader, meters_writer or meters_importer"
-        return Fault(diagnosis.message_primary + hint)
+        advice = {
+            "25006": "this server or session is read-only: nothing was written, connect to the one that takes writes",
+            "40001": "another was faster: nothing was written, try again",
+            "42501": "your role may not do this; a superuser grants meters_reader, meters_writer or meters_importer",
+        }
+        hint = advice.get(diagnosis.sqlstate, diagnosis.message_hint)
+        return Fault(diagnosis.message_primary + (f": {hint}" if hint else ""))
 
     def cursor(self, sql, values):
         try:
@@ -312,7 +351,11 @@ class Postgres:
     def enrol(self, name, role, subject):
         self.one("SELECT meters.enrol(%s, %s, %s)", name, role, subject)
 
+    def unenrol(self, name, role):
+        self.one("SELECT meters.unenrol(%s, %s)", name, role)
+
     def requesters(self, name):
+        self.block(name)
         return self.all("SELECT role, subject FROM meters.requesters r JOIN meters.blocks b ON b.id = r.block "
                         "WHERE b.name = %s ORDER BY 2, 1", name)
 

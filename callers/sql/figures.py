@@ -9,8 +9,8 @@ import sys
 import time
 
 os.environ["METERS_POSTGRES"] = os.path.realpath(sys.argv[1])
-import tests  # noqa: E402
-from tests import stores  # noqa: E402
+import trial  # noqa: E402
+from trial import stores  # noqa: E402
 
 SECONDS, CHAIN = 4, 800
 
@@ -21,12 +21,11 @@ def filled(lines):
 
 
 def requests(kind, place, blocks, clients, lines):
-    tests.CLIENTS = clients
     store = stores.open_store(place)
     for block in blocks:
         store.new(block, 1, 0)
         store.put_as_written(block, filled(lines))
-    counts, worst, _ = tests.run_clients(place, kind, blocks, SECONDS)
+    counts, worst, _ = trial.run_clients(place, kind, blocks, SECONDS, count=clients)
     print(f"| {kind} | {clients} | {len(blocks)} | {lines} | {sum(counts) / SECONDS:,.0f} | {worst * 1000:,.0f} ms |", flush=True)
 
 
@@ -100,9 +99,9 @@ def chain(name, run):
 
 def main():
     print("load before: %.1f, %.1f, %.1f on %d cores" % (*os.getloadavg(), os.cpu_count()))
-    tests.setUpModule()
-    lite = tests.sqlite_store()
-    post = tests.socket_of("iris")
+    trial.set_up()
+    lite = trial.sqlite_store()
+    post = trial.socket_of("iris")
     print("| store | clients | blocks | authorizations in each | requests a second | longest wait |\n|---|---|---|---|---|---|")
     for kind, place in (("SQLite", lite.path), ("PostgreSQL", post)):
         for number, (blocks, clients, lines) in enumerate(((1, 1, 0), (1, 16, 0), (20, 16, 0), (1, 1, 900))):
@@ -113,13 +112,12 @@ def main():
             questions(kind, place, f"f{number} 0", clients, lines)
     print(f"\n| a chain of {CHAIN} delegations | each in a transaction | all in one | the first withdrawn, and all with it |\n|---|---|---|---|")
     import psycopg
-    with psycopg.connect(tests.socket_of("postgres"), autocommit=True) as db:
+    with psycopg.connect(trial.socket_of("postgres"), autocommit=True) as db:
         roles(db)
         chain("PostgreSQL's own GRANT .. WITH GRANT OPTION, REVOKE .. CASCADE", lambda together: chain_of_grants(db, together))
     for kind, store in (("PostgreSQL", stores.Postgres(post)), ("SQLite", lite)):
         chain(f"the base in {kind}", lambda together: chain_in_base(store, f"chain {together}", together))
     print("\nload after: %.1f, %.1f, %.1f" % os.getloadavg())
-    tests.tearDownModule()
 
 
 if __name__ == "__main__":

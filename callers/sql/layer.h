@@ -7,8 +7,6 @@
 
 /* The longest line that the text session reads. */
 #define ACCESS_BASE_LINE_BYTES 96u
-/* What a thread should have left of its stack before a call: the deepest function takes about 102,000 bytes. */
-#define ACCESS_BASE_STACK_BYTES 262144u
 
 enum { LAYER_TRUTH = 'b', LAYER_SMALL = 's', LAYER_INSTANT = 'i' };
 

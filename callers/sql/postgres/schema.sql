@@ -9,6 +9,16 @@ CREATE EXTENSION IF NOT EXISTS access_base;
 SELECT format('CREATE ROLE %I NOLOGIN', name)
 FROM unnest(ARRAY['meters_owner', 'meters_reader', 'meters_writer', 'meters_importer']) AS name
 WHERE NOT EXISTS (SELECT 1 FROM pg_roles WHERE rolname = name) \gexec
+-- Whoever can become meters_owner, or owns the extension's schema, could write past the functions.
+DO $$ BEGIN
+  IF EXISTS (SELECT 1 FROM pg_roles WHERE rolname = 'meters_owner' AND rolcanlogin)
+    OR EXISTS (SELECT 1 FROM pg_auth_members WHERE roleid = 'meters_owner'::regrole) THEN
+    RAISE EXCEPTION 'role meters_owner can log in, or has members' USING HINT = 'ALTER ROLE meters_owner NOLOGIN, and take its members out';
+  END IF;
+  IF NOT (SELECT rolsuper FROM pg_namespace n JOIN pg_roles r ON r.oid = n.nspowner WHERE nspname = 'access_base') THEN
+    RAISE EXCEPTION 'schema access_base belongs to somebody who is no superuser' USING HINT = 'drop it, and run this file again';
+  END IF;
+END $$;
 GRANT USAGE ON SCHEMA access_base TO meters_owner, meters_reader;
 GRANT meters_reader TO meters_writer;
 GRANT meters_reader TO meters_importer;
@@ -18,7 +28,7 @@ SET LOCAL ROLE meters_owner;
 
 CREATE TABLE meters.blocks (
   id int GENERATED ALWAYS AS IDENTITY PRIMARY KEY,
-  name text NOT NULL UNIQUE CHECK (length(name) BETWEEN 1 AND 200),
+  name text NOT NULL UNIQUE CHECK (length(name) BETWEEN 1 AND 200 AND name !~ '[\u0001-\u001f\u007f-\u009f]'),
   unit bigint NOT NULL DEFAULT 1 CHECK (unit BETWEEN 1 AND 1099511627776),
   origin bigint NOT NULL DEFAULT 0 CHECK (origin BETWEEN -1000000000000 AND 1000000000000),
   requests bigint NOT NULL DEFAULT 0,
@@ -135,16 +145,28 @@ BEGIN
   RETURN meters.put_lines(meters.lock_block(block), lines);
 END $$;
 
+-- A new block, empty or from imported bytes. Bytes with a clock ahead of the block's would refuse every request until then.
 CREATE FUNCTION meters.new_block(name text, unit bigint DEFAULT 1, origin bigint DEFAULT 0, initial bytea DEFAULT NULL) RETURNS void
 LANGUAGE plpgsql SECURITY DEFINER SET search_path = pg_catalog, pg_temp AS $$
+DECLARE last bigint; now_at bigint;
 BEGIN
+  IF NOT access_base.is_sound(initial) THEN
+    RAISE EXCEPTION 'the bytes are no sound base' USING HINT = 'import what ''meters export'' wrote';
+  END IF;
   INSERT INTO meters.blocks(name, unit, origin, initial, base) VALUES (name, unit, origin, initial, coalesce(initial, access_base.empty()));
+  SELECT clock, greatest(meters.instant(unit, origin), 0) INTO last, now_at FROM access_base.heading(initial);
+  IF last > now_at THEN
+    RAISE EXCEPTION 'the clock of these bytes is ahead of the block, which would take no request until then'
+      USING HINT = 'give the unit and origin that they were made with, as ''meters export'' told them',
+        DETAIL = format('The bytes stand at instant %s, the block at %s.', last, now_at);
+  END IF;
 EXCEPTION
   WHEN unique_violation THEN
-    RAISE EXCEPTION 'there is a block % already', quote_literal(name) USING HINT = 'give another name';
-  WHEN check_violation THEN
-    RAISE EXCEPTION 'the bytes are no sound base, or the name, unit or origin is out of bounds'
-      USING HINT = 'import what meters export wrote; a name has 1 to 200 letters, a unit is above 0';
+    RAISE EXCEPTION 'there is a block of that name already' USING HINT = 'give another name';
+  WHEN check_violation OR not_null_violation THEN
+    RAISE EXCEPTION 'the name, unit or origin is out of bounds'
+      USING HINT = 'a name has 1 to 200 characters, and no control character among them; a unit is 1 to 1099511627776 seconds; '
+        'an origin is at most 1000000000000 seconds from 1970';
 END $$;
 
 CREATE FUNCTION meters.enrol(block text, role name, subject int) RETURNS void
@@ -154,10 +176,23 @@ BEGIN
   IF NOT EXISTS (SELECT 1 FROM pg_roles WHERE rolname = enrol.role) THEN
     RAISE EXCEPTION 'there is no role %', quote_nullable(enrol.role) USING HINT = 'CREATE ROLE it first';
   END IF;
+  IF enrol.subject NOT BETWEEN 1 AND 1023 OR enrol.subject IS NULL THEN
+    RAISE EXCEPTION 'a subject is a number from 1 to 1023' USING HINT = 'give the requester''s number in that block';
+  END IF;
   INSERT INTO meters.requesters SELECT id, enrol.role, enrol.subject FROM meters.blocks WHERE name = enrol.block
     ON CONFLICT (block, role) DO UPDATE SET subject = excluded.subject;
   IF NOT FOUND THEN
     RAISE EXCEPTION 'there is no block %', quote_nullable(enrol.block) USING HINT = 'make it first: SELECT meters.new_block(name)';
+  END IF;
+END $$;
+
+CREATE FUNCTION meters.unenrol(block text, role name) RETURNS void
+LANGUAGE plpgsql SECURITY DEFINER SET search_path = pg_catalog, pg_temp AS $$
+BEGIN
+  DELETE FROM meters.requesters r USING meters.blocks b WHERE b.id = r.block AND b.name = unenrol.block AND r.role = unenrol.role;
+  IF NOT FOUND THEN
+    RAISE EXCEPTION 'role % is no requester of block %', quote_nullable(unenrol.role), quote_nullable(unenrol.block)
+      USING HINT = 'meters.requesters has who is';
   END IF;
 END $$;
 
@@ -199,6 +234,6 @@ GRANT SELECT ON ALL TABLES IN SCHEMA meters TO meters_reader;
 GRANT EXECUTE ON FUNCTION meters.instant(bigint, bigint), meters.check_block(text) TO meters_reader;
 GRANT EXECUTE ON FUNCTION meters.put(text, text), meters.put_many(text, text[]) TO meters_writer;
 GRANT EXECUTE ON FUNCTION meters.put_as_written(text, text[]), meters.new_block(text, bigint, bigint, bytea),
-  meters.enrol(text, name, int) TO meters_importer;
+  meters.enrol(text, name, int), meters.unenrol(text, name) TO meters_importer;
 RESET ROLE;
 COMMIT;

@@ -34,10 +34,12 @@ static uint8_t *lent_copy(sqlite3_value *value, size_t *length, const char **fau
     }
     bytes = sqlite3_value_blob(value);
     *length = (size_t)sqlite3_value_bytes(value);
+    if (*length > 0 && bytes == NULL)
+        return NULL;
     if (*length > ACCESS_BASE_BYTES + 1)
         *length = ACCESS_BASE_BYTES + 1;
     copy = sqlite3_malloc64(ACCESS_BASE_BYTES + 1);
-    if (copy != NULL && *length > 0 && bytes != NULL)
+    if (copy != NULL && *length > 0)
         memcpy(copy, bytes, *length);
     return copy;
 }
@@ -72,6 +74,22 @@ static void refuse(sqlite3_context *context, uint32_t refusal)
     sqlite3_free(text);
 }
 
+/* A copy of argument 0 and the numbers behind it, for a function that fails without them: NULL then. */
+static uint8_t *arguments(sqlite3_context *context, int n, sqlite3_value **a, size_t *length, uint32_t *x)
+{
+    const char *fault;
+    uint8_t *base;
+    for (int i = 1; i < n; i++)
+        if (!number_of(a[i], &x[i - 1])) {
+            fail(context, NOT_A_NUMBER);
+            return NULL;
+        }
+    base = lent_copy(a[0], length, &fault);
+    if (base == NULL)
+        fail(context, fault);
+    return base;
+}
+
 /* ---- scalar functions */
 
 static void empty(sqlite3_context *context, int n, sqlite3_value **a)
@@ -79,7 +97,7 @@ static void empty(sqlite3_context *context, int n, sqlite3_value **a)
     uint8_t *base = sqlite3_malloc64(ACCESS_BASE_BYTES);
     (void)n, (void)a;
     if (base == NULL) {
-        sqlite3_result_error_nomem(context);
+        fail(context, NULL);
         return;
     }
     (void)access_base_make(base, ACCESS_BASE_BYTES);
@@ -96,7 +114,7 @@ static void is_sound(sqlite3_context *context, int n, sqlite3_value **a)
         return;
     base = lent_copy(a[0], &length, &fault);
     if (base == NULL && fault == NULL) {
-        sqlite3_result_error_nomem(context);
+        fail(context, NULL);
         return;
     }
     sqlite3_result_int(context, base != NULL && access_base_is_sound(base, length));
@@ -126,11 +144,9 @@ static uint8_t *put_line(sqlite3_context *context, sqlite3_value **a, size_t *le
         fail(context, fault);
         return NULL;
     }
-    base = lent_copy(a[0], length, &fault);
-    if (base == NULL) {
-        fail(context, fault);
+    base = arguments(context, 1, a, length, NULL);
+    if (base == NULL)
         return NULL;
-    }
     memcpy(lent, line, line_length);
     *written = layer_put(base, *length, lent, line_length, out);
     if (*written >= 0 && strcmp(out, "refused 2") != 0)
@@ -143,58 +159,46 @@ static uint8_t *put_line(sqlite3_context *context, sqlite3_value **a, size_t *le
     return NULL;
 }
 
-static void reply(sqlite3_context *context, int n, sqlite3_value **a)
+/* The reply to a line, or the base after it. */
+static void put(sqlite3_context *context, sqlite3_value **a, bool wants_base)
 {
     size_t length;
     long written;
     char *out = sqlite3_malloc64(ACCESS_BASE_TEXT_BYTES);
     uint8_t *base;
-    (void)n;
     if (out == NULL) {
         fail(context, NULL);
         return;
     }
     base = put_line(context, a, &length, out, &written);
-    if (base != NULL)
+    if (base != NULL && wants_base)
+        sqlite3_result_blob64(context, base, length, SQLITE_TRANSIENT);
+    else if (base != NULL)
         sqlite3_result_text(context, out, (int)written, SQLITE_TRANSIENT);
     sqlite3_free(base);
     sqlite3_free(out);
 }
 
+static void reply(sqlite3_context *context, int n, sqlite3_value **a)
+{
+    (void)n;
+    put(context, a, false);
+}
+
 static void after(sqlite3_context *context, int n, sqlite3_value **a)
 {
-    size_t length;
-    long written;
-    char *out = sqlite3_malloc64(ACCESS_BASE_TEXT_BYTES);
-    uint8_t *base;
     (void)n;
-    if (out == NULL) {
-        fail(context, NULL);
-        return;
-    }
-    base = put_line(context, a, &length, out, &written);
-    if (base != NULL)
-        sqlite3_result_blob64(context, base, length, sqlite3_free);
-    sqlite3_free(out);
+    put(context, a, true);
 }
 
 static void may(sqlite3_context *context, int n, sqlite3_value **a)
 {
     size_t length;
     uint32_t x[4];
-    const char *fault;
-    uint8_t *base;
     struct access_base_reply r;
-    for (int i = 1; i < n; i++)
-        if (!number_of(a[i], &x[i - 1])) {
-            fail(context, NOT_A_NUMBER);
-            return;
-        }
-    base = lent_copy(a[0], &length, &fault);
-    if (base == NULL) {
-        fail(context, fault);
+    uint8_t *base = arguments(context, n, a, &length, x);
+    if (base == NULL)
         return;
-    }
     r = access_base_ask_may(base, length, x[0], x[1], x[2], x[3]);
     sqlite3_free(base);
     if (r.refusal != ACCESS_BASE_DONE)
@@ -207,20 +211,11 @@ static void sheet(sqlite3_context *context, int n, sqlite3_value **a)
 {
     size_t length;
     uint32_t object;
-    const char *fault;
-    uint8_t *base;
     char *page;
     struct access_base_reply r;
-    (void)n;
-    if (!number_of(a[1], &object)) {
-        fail(context, NOT_A_NUMBER);
+    uint8_t *base = arguments(context, n, a, &length, &object);
+    if (base == NULL)
         return;
-    }
-    base = lent_copy(a[0], &length, &fault);
-    if (base == NULL) {
-        fail(context, fault);
-        return;
-    }
     page = sqlite3_malloc64(ACCESS_BASE_SHEET_BYTES);
     if (page == NULL) {
         sqlite3_free(base);

@@ -6,14 +6,21 @@ BEGIN IMMEDIATE;
 PRAGMA application_id = 1297236529; -- the letters MRB1, by which a foreign file is told
 PRAGMA user_version = 1;
 
+-- A constraint's name is what an error says: a sentence.
 CREATE TABLE blocks (
   id INTEGER PRIMARY KEY,
-  name TEXT NOT NULL UNIQUE CHECK (length(name) BETWEEN 1 AND 200),
-  unit INTEGER NOT NULL DEFAULT 1 CHECK (unit BETWEEN 1 AND 1099511627776), -- how many seconds an instant lasts
-  origin INTEGER NOT NULL DEFAULT 0 CHECK (origin BETWEEN -1000000000000 AND 1000000000000), -- where instants count from, in seconds since 1970
+  name TEXT NOT NULL UNIQUE
+    CONSTRAINT "a block's name has 1 to 200 characters, and no control character among them: give another"
+      CHECK (length(name) BETWEEN 1 AND 200 AND instr(CAST(name AS BLOB), x'00') = 0
+        AND name NOT GLOB '*[' || char(1) || '-' || char(31) || char(127) || '-' || char(159) || ']*'),
+  unit INTEGER NOT NULL DEFAULT 1                    -- how many seconds an instant lasts
+    CONSTRAINT "a unit is 1 to 1099511627776 seconds" CHECK (unit BETWEEN 1 AND 1099511627776),
+  origin INTEGER NOT NULL DEFAULT 0                  -- where instants count from, in seconds since 1970
+    CONSTRAINT "an origin is at most 1000000000000 seconds from 1970" CHECK (origin BETWEEN -1000000000000 AND 1000000000000),
   requests INTEGER NOT NULL DEFAULT 0,               -- the number of the last one in the journal
-  initial BLOB CHECK (initial IS NULL OR access_base_is_sound(initial)), -- imported bytes; NULL: it began empty
-  base BLOB NOT NULL CHECK (access_base_is_sound(base))
+  initial BLOB,                                      -- imported bytes; NULL: it began empty
+  base BLOB NOT NULL
+    CONSTRAINT "the bytes are no sound base: import what 'meters export' wrote" CHECK (access_base_is_sound(base))
 ) STRICT;
 
 CREATE TABLE journal (
@@ -29,7 +36,7 @@ CREATE TABLE journal (
 CREATE TABLE requesters (
   block INTEGER NOT NULL REFERENCES blocks,
   role TEXT NOT NULL,
-  subject INTEGER NOT NULL CHECK (subject BETWEEN 1 AND 1023),
+  subject INTEGER NOT NULL CONSTRAINT "a subject is a number from 1 to 1023" CHECK (subject BETWEEN 1 AND 1023),
   PRIMARY KEY (block, role)
 ) STRICT, WITHOUT ROWID;
 
@@ -42,9 +49,11 @@ CREATE TRIGGER journal_next BEFORE INSERT ON journal
 WHEN NOT EXISTS (SELECT 1 FROM blocks WHERE id = NEW.block AND requests + 1 = NEW.number)
 BEGIN SELECT RAISE(ABORT, 'not the next number of that block: INSERT INTO put(block, role, request)'); END;
 
--- A number is read as far as its digits go; what is longer than ten digits or no number is refused by the library.
+-- What is longer than ten digits or no number is refused by the library.
 CREATE TRIGGER journal_clock BEFORE INSERT ON journal
-WHEN NEW.line GLOB 'inf *' OR CAST(substr(NEW.line, 1, 11) AS INTEGER) > (SELECT instant FROM clocks WHERE id = NEW.block)
+WHEN NEW.line GLOB 'inf *' OR instr(NEW.line, ' ') BETWEEN 2 AND 11
+  AND substr(NEW.line, 1, instr(NEW.line, ' ') - 1) NOT GLOB '*[^0-9]*'
+  AND CAST(substr(NEW.line, 1, instr(NEW.line, ' ') - 1) AS INTEGER) > (SELECT instant FROM clocks WHERE id = NEW.block)
 BEGIN SELECT RAISE(ABORT, 'the request is ahead of the clock, and would shut out all others until then: give a now that has come'); END;
 
 CREATE TRIGGER journal_true BEFORE INSERT ON journal
@@ -73,10 +82,19 @@ BEGIN SELECT RAISE(ABORT, 'a block keeps its name, and what an instant is once a
 
 CREATE TRIGGER blocks_stay BEFORE DELETE ON blocks BEGIN SELECT RAISE(ABORT, 'a block is not removed'); END;
 
-CREATE TRIGGER blocks_new BEFORE INSERT ON blocks
-WHEN NEW.requests <> 0 OR NEW.base IS NOT coalesce(NEW.initial, access_base_empty())
-  OR EXISTS (SELECT 1 FROM blocks WHERE name = NEW.name OR id = NEW.id)
-BEGIN SELECT RAISE(ABORT, 'the block exists, or does not start from its initial base'); END;
+CREATE TRIGGER blocks_new BEFORE INSERT ON blocks BEGIN
+  SELECT RAISE(ABORT, 'there is a block of that name already: give another name')
+    WHERE EXISTS (SELECT 1 FROM blocks WHERE name = NEW.name OR id = NEW.id);
+  SELECT RAISE(ABORT, 'a block starts from its initial base, with no request: leave base and requests to that')
+    WHERE NEW.requests <> 0 OR NEW.base IS NOT coalesce(NEW.initial, access_base_empty());
+END;
+
+-- A clock ahead of the block's would refuse every request until then.
+CREATE TRIGGER blocks_clock AFTER INSERT ON blocks
+WHEN (SELECT clock FROM access_base_heading(NEW.base)) > (SELECT max(instant, 0) FROM clocks WHERE id = NEW.id)
+BEGIN
+  SELECT RAISE(ABORT, 'the clock of these bytes is ahead of the block, which would take no request until then: give the unit and origin that they were made with, as ''meters export'' told them');
+END;
 
 -- ---- the way in
 -- INSERT INTO put(block, role, request): `now` from the clock, the requester from the table, and the rest as given, where the

@@ -297,7 +297,7 @@ impl Pair {
         };
         let expected_replies = expected.as_ref().unwrap_or(&replies).clone();
         let reply = parts(raw::batch(&self.base, questions.as_flattened(), &mut replies));
-        self.tally.round(expected.as_ref().map(|_| questions.len()).map_err(|row| *row));
+        self.tally.round(expected.as_ref().map(|bytes| &bytes[..questions.len()]).map_err(|row| *row));
         same(reply, refused(expected.err().unwrap_or(0)))?;
         same_bytes(&replies, &expected_replies)?;
         same_bytes(&self.base, &self.before)?;

@@ -21,6 +21,7 @@ pub struct Tally {
     texts_refused: u64,
     rounds: u64,
     round_questions: u64,
+    round_bytes: [u64; 32],
     rounds_refused: [u64; 15],
     /// Bases judged: composed, damaged or cut.
     pub judged: u64,
@@ -73,11 +74,12 @@ impl Tally {
         self.longest_text = self.longest_text.max(text.len());
     }
 
-    pub(crate) fn round(&mut self, reply: Result<usize, u32>) {
+    pub(crate) fn round(&mut self, reply: Result<&[u8], u32>) {
         match reply {
-            Ok(questions) => {
+            Ok(bytes) => {
                 self.rounds += 1;
-                self.round_questions += questions as u64;
+                self.round_questions += bytes.len() as u64;
+                bytes.iter().for_each(|&byte| self.round_bytes[usize::from(byte)] += 1);
             }
             Err(row) => self.rounds_refused[row as usize] += 1,
         }
@@ -86,6 +88,11 @@ impl Tally {
     /// How many rounds were answered, with how many questions, and how many were refused with 2 and 13.
     pub fn rounds(&self) -> (u64, u64, u64, u64) {
         (self.rounds, self.round_questions, self.rounds_refused[2], self.rounds_refused[13])
+    }
+
+    /// How many questions of rounds were answered with the byte.
+    pub fn round_bytes(&self, byte: u8) -> u64 {
+        self.round_bytes[usize::from(byte)]
     }
 
     pub(crate) fn sizes(&mut self, lines: usize, rules: usize) {
@@ -143,6 +150,7 @@ impl Tally {
         self.texts_refused += other.texts_refused;
         self.rounds += other.rounds;
         self.round_questions += other.round_questions;
+        sum(&mut self.round_bytes, &other.round_bytes);
         sum(&mut self.rounds_refused, &other.rounds_refused);
         self.judged += other.judged;
         self.sound += other.sound;

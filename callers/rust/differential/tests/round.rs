@@ -16,4 +16,9 @@ fn rounds() {
     println!("{tally}");
     let (answered, questions, unsound, short) = tally.rounds();
     assert!(answered > 1_000 && questions > 20_000 && unsound > 500 && short > 300);
+    // bytes of every sort: no, yes, refused with 3, refused with 6; and of no other
+    let sorts = [0, 1, 19, 22].map(|byte| tally.round_bytes(byte));
+    println!("bytes of rounds, 0, 1, 19 and 22: {sorts:?}");
+    assert!(sorts.iter().all(|&count| count > 50), "{sorts:?}");
+    assert_eq!(sorts.iter().sum::<u64>(), questions);
 }
