@@ -29,14 +29,17 @@ pub record Opened (c : Channel) : Type 0 where
 pub record Fetched (c : Channel) (buf : List ℕ) (r : Channel) : Type 0 where
   pub seen : r .seen ≡ digest (c .seen) (arrived (r .got) buf)
   pub reads : r .reads ≡ c .reads + 1
-  pub sent : r .sent ≡ c .sent
-  pub ok : r .ok ≡ c .ok
 
 -- nothing was read between `c` and `r`
 pub record Unread (c r : Channel) : Type 0 where
   pub seen : r .seen ≡ c .seen
   pub reads : r .reads ≡ c .reads
   pub got : r .got ≡ c .got
+
+-- nothing was written
+pub record Unwritten (c r : Channel) : Type 0 where
+  pub sent : r .sent ≡ c .sent
+  pub ok : r .ok ≡ c .ok
 
 -- `bytes` were handed to be written, and nothing was read; a write that failed before is not forgotten
 pub record Handed (c : Channel) (bytes : List ℕ) (r : Channel) : Type 0 where
@@ -75,6 +78,13 @@ read-more {input} {buf} {c} {r} w f = record {
   seen = f .seen ∙ ap (λ (n : ℕ). digest n (arrived (r .got) buf)) (w .seen)
       ∙ digest-twice 0 input (arrived (r .got) buf);
   asked = λ z. omega (arith, f .reads);
+}
+
+-- and nothing between that read and `r`
+pub fetched-then : {buf : List ℕ} {b c r : Channel} → Fetched b buf c → Unread c r → Fetched b buf r
+fetched-then {buf} {b} f u = record {
+  seen = u .seen ∙ f .seen ∙ ap (λ (z : ℤ). digest (b .seen) (arrived z buf)) (sym (u .got));
+  reads = u .reads ∙ f .reads;
 }
 
 -- no read in between

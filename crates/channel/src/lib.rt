@@ -7,7 +7,7 @@ ghost use lib.IntN.{pos};
 ghost use lib.ListN.{length};
 ghost use Rattle.io.specs.Counts.{Counts, clamped};
 ghost use Rattle.channel.specs.Digests.{mixed, digest};
-ghost use Rattle.channel.specs.Trace.{Opened, Fetched, Handed, Stopped};
+ghost use Rattle.channel.specs.Trace.{Opened, Fetched, Unwritten, Handed, Stopped};
 use libc::STDERR_FILENO;
 use libc::STDIN_FILENO;
 use libc::STDOUT_FILENO;
@@ -59,7 +59,7 @@ pub fn open() -> Channel
 // Reads a piece of standard input into the front of `buf`.
 pub fn fetch(c: Channel, buf: &mut [u8]) -> Channel
     requires { ⌜ c .reads < 18446744073709551615 ⌝ }
-    ensures { λ r. ⌜ Fetched c (now (buf .exit)) r ⌝ }
+    ensures { λ r. ⌜ Fetched c (now (buf .exit)) r × Unwritten c r ⌝ }
 {
     let got = libc::read(STDIN_FILENO, buf);
     let n = io::count(got, buf);

@@ -12,13 +12,13 @@ returns c =
     let m = c .before in
     let n = m .before .before in
     let buf = n .before .before .before .before .read .last .1 .0 in
-    let seen = n .before .before .before .before .before .before .before .args .c .seen in
-    record {
-      seen = m .mix-all .ensures ∙ ap (λ (k : ℕ). digest seen (take k buf)) (n .count .ensures .1);
-      reads = search needs;
-      sent = search needs;
-      ok = search needs;
-    }
+    let seen = n .before .before .before .before .before .before .before .args .c .seen in (
+      record {
+        seen = m .mix-all .ensures ∙ ap (λ (k : ℕ). digest seen (take k buf)) (n .count .ensures .1);
+        reads = search needs;
+      },
+      search needs,
+    )
 
 pub fetch-spec : {M : Type 1} → statement M
 fetch-spec =
