@@ -3,13 +3,15 @@
 // pipe and at a terminal. At the end of the input it answers the line that is not ended. A read or a write
 // that fails ends it, and then that line is not answered.
 //
-// The program reads and writes through crate `channel` alone. To be read by eye: `open` is called once, and
-// each channel that `fetch` or `put` gives back is handed to the next of them.
+// It reads and writes through crate `channel`, and depends on no other crate that can. A channel is a value,
+// and could be copied: that `open` is called once, and that `fetch` and `put` each go on from the channel that
+// the last of them gave back, is to be read by eye.
 ghost use mathlib.Core.Path.{_≡_};
 ghost use mathlib.Core.Bool.{true};
 ghost use mathlib.Core.List.{List};
 ghost use Prim.Native.Nat.{ℕ, _≤_, _<_};
 ghost use lib.ListN.{length};
+ghost use Rattle.model.specs.Encoding.{size};
 ghost use Rattle.model.specs.Soundness.{soundBytes};
 ghost use Rattle.channel.specs.Trace.{arrived, Fetched, Unread, Handed};
 ghost use Rattle.serving.specs.Turns.{Kept};
@@ -18,7 +20,7 @@ ghost use Rattle.session.specs.Input.{Ready, Answered, Served, Ran};
 use channel::Channel;
 use model::BASE_BYTES;
 
-// How many bytes are kept of the line that is not ended yet, and where its bytes come from and go to.
+// How many bytes are kept of the line that is not ended yet, and the channel so far.
 struct Going {
     len: usize,
     channel: Channel,
@@ -69,16 +71,11 @@ fn serve_some(s: &mut [u8], line: &mut [u8; 97], g: Going, buf: &mut [u8], out: 
 {
     let c = channel::fetch(g.channel, buf);
     let n = channel::last_read(c, buf);
-    serve_piece(
-        s,
-        line,
-        Going {
-            len: g.len,
-            channel: c,
-        },
-        &buf[..n],
-        out,
-    )
+    let h = Going {
+        len: g.len,
+        channel: c,
+    };
+    serve_piece(s, line, h, &buf[..n], out)
 }
 
 // Answers the line that the end of the input ends.
@@ -120,9 +117,9 @@ fn serve_input(
     g.channel
 }
 
-// Serves the whole input, from an empty base on.
+// Makes an empty base of the bytes that are lent, and serves the whole input on it.
 fn run(s: &mut [u8]) -> Channel
-    requires { ⌜ length (now s) ≡ 27936 ⌝ }
+    requires { ⌜ length (now s) ≡ size ⌝ }
     ensures { λ r. ⌜ ((input : List ℕ) × Ran input r (now (s .exit))) ⌝ }
 {
     base::create(s);
@@ -141,6 +138,7 @@ fn tell(c: Channel) {
     }
 }
 
+// Lends the bytes: so that the contract of `run` can speak of them.
 fn main() {
     let mut s = [0u8; BASE_BYTES];
     tell(run(&mut s));
