@@ -2,7 +2,7 @@
 -- written, how many reads there were, what the last one answered, and whether every write worked. That a read
 -- gives what was sent, and that what is handed over is written, is left to trust.
 use mathlib.Core.Path.{_≡_, refl, sym, ap, _∙_}
-use mathlib.Core.Logic.{_⊎_}
+use mathlib.Core.Logic.{_⊎_, ⊎-elim}
 use mathlib.Core.Bool.{true}
 use mathlib.Core.List.{List, [], _++_}
 use Prim.Native.Nat.{ℕ, _+_, _≤_, _<_}
@@ -67,8 +67,7 @@ Stopped c = c .ok ≡ true → Through c ⊎ (18446744073709551615 ≤ c .reads)
 pub read-none : {c : Channel} → Opened c → Read [] c
 read-none o = record {
   seen = o .seen ∙ sym (digest-none 0);
-  asked = λ z. let w : _≡_ {A = ℤ} (pos 1) (pos 0) = sym (o .got) ∙ z in
-      let n : _≡_ {A = ℕ} 1 0 = cc in omega arith;
+  asked = λ z. let n : _≡_ {A = ℕ} 1 0 = cc in omega arith;
 }
 
 -- one read more
@@ -103,3 +102,12 @@ unread-then u v = record {
   reads = v .reads ∙ u .reads;
   got = v .got ∙ u .got;
 }
+
+-- where nothing was read and every write worked, the program is not to stop
+pub unread-goes-on : {b c : Channel} → Opened b → Unread b c → c .ok ≡ true → Stopped c → ⊥
+unread-goes-on o u ok stop = ⊎-elim
+    (λ t. ⊎-elim
+    (λ z. let n : _≡_ {A = ℕ} 1 0 = cc in omega arith)
+    (λ z. let n : _≡_ {A = ℕ} 1 0 = cc in omega arith) t)
+    (λ h. omega (arith, o .reads, u .reads))
+    (stop ok)

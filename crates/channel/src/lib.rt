@@ -1,5 +1,5 @@
-// Standard input and standard output, with a trace of what passed there. Nothing else of the program reads or
-// writes, and no other crate can set a field of the trace.
+// Standard input and standard output, with a trace of what passed there. The fields are private: another
+// crate makes and changes a channel by `open`, `fetch` and `put` only.
 ghost use mathlib.Core.Path.{_≡_};
 ghost use mathlib.Core.Bool.{true, false};
 ghost use Prim.Native.Nat.{_<_};
@@ -12,8 +12,8 @@ use libc::STDERR_FILENO;
 use libc::STDIN_FILENO;
 use libc::STDOUT_FILENO;
 
-// The digest of the bytes that were read, how many reads there were, what the last one answered, the digest of
-// the bytes that were handed to be written, and whether every write worked.
+// The digest of the bytes that were read, how many reads there were, what the last one answered, the digest
+// of the bytes that were handed to be written, and whether every write worked.
 pub struct Channel {
     seen: u32,
     reads: u64,
@@ -43,7 +43,7 @@ fn mix_all(before: u32, bytes: &[u8]) -> u32
     d
 }
 
-// Nothing was read or written yet.
+// Nothing was read or written yet. That is not a place to stop: the answer is neither 0 nor -1.
 pub fn open() -> Channel
     ensures { λ r. ⌜ Opened r ⌝ }
 {
@@ -108,7 +108,8 @@ pub fn writes_work(c: Channel) -> bool
     c.ok
 }
 
-// The last read neither failed nor said that the input has ended, every write worked, and reads can be counted.
+// The last read neither failed nor said that the input has ended, every write worked, and one more read can
+// be counted.
 pub fn goes_on(c: Channel) -> bool
     ensures { λ r. ⌜ (r ≡ true → (c .ok ≡ true) × (c .reads < 18446744073709551615))
         × (r ≡ false → Stopped c) ⌝ }

@@ -1,7 +1,7 @@
--- What the program has done with its input: which bytes of the base and which line are there, and by the trace
--- that the channel keeps, which bytes were read and which were handed to be written.
+-- What the program has done with its input: which bytes of the base and which line are there, and by the
+-- trace that the channel keeps, which bytes were read and which were handed to be written.
 use mathlib.Core.Path.{_≡_, refl, sym, ap, _∙_, subst}
-use Prim.Native.Nat.{ℕ, _≤_, _<_}
+use Prim.Native.Nat.{ℕ, _≤_}
 use mathlib.Core.Logic.{inl}
 use mathlib.Core.Bool.{true}
 use mathlib.Core.List.{List, [], _++_, append-nil}
@@ -170,8 +170,8 @@ module _ {s pending : List ℕ} where
         }
 
     -- the input did not end
-    pub served-cut : (g .channel .ok ≡ true → g .channel .got ≡ pos 0 → ⊥) → Stopped (g .channel) → soundBytes s′ ≡ true →
-        Served s pending input (g .channel) s′
+    pub served-cut : (g .channel .ok ≡ true → g .channel .got ≡ pos 0 → ⊥) → Stopped (g .channel) →
+        soundBytes s′ ≡ true → Served s pending input (g .channel) s′
     served-cut none stop sound =
         let f = a .answers in
         record {

@@ -4,8 +4,8 @@
 // that fails ends it, and then that line is not answered.
 //
 // It reads and writes through crate `channel`, and depends on no other crate that can. A channel is a value,
-// and could be copied: that `open` is called once, and that `fetch` and `put` each go on from the channel that
-// the last of them gave back, is to be read by eye.
+// and could be copied: that `open` is called once, and that `fetch` and `put` each go on from the channel
+// that the last of them gave back, is to be read by eye.
 ghost use mathlib.Core.Path.{_≡_};
 ghost use mathlib.Core.Bool.{true};
 ghost use mathlib.Core.List.{List};

@@ -4,7 +4,7 @@ use native.Mathlib.Omega.{arith}
 use mathlib.Core.Path.{_≡_, refl, sym, _∙_}
 use mathlib.Core.Bool.{true, true≢false}
 use mathlib.Core.List.{List}
-use Prim.Native.Nat.{ℕ, _-_, _≤_, _<_}
+use Prim.Native.Nat.{ℕ, _-_, _≤_}
 use denote.Ref.{now}
 use lib.ListN.{length, drop}
 use lib.Seq.{length-take-le, drop-length}
@@ -60,14 +60,17 @@ slice-reshare-prefix-put : tie.Need-slice-reshare-prefix-put Inv-loop μ-loop
 slice-reshare-prefix-put c =
     let t = c .before .before .before .before in
     let i = t .before .before .before .before .before .loop .inv in
-    t .serve-lines .ensures .0 _ (kept-front (i .few) (i .size)) .few
+    let k = t .serve-lines .ensures .0 _ (kept-front (i .few) (i .size)) in
+    omega (arith, k .few)
 
 slice-aggregate-put : tie.Need-slice-aggregate-put Inv-loop μ-loop
 slice-aggregate-put c =
     let t = c .before .before .before .before .before in
     let i = t .before .before .before .before .before .loop .inv in
     let k = t .serve-lines .ensures .0 _ (kept-front (i .few) (i .size)) in
-    sym (length-take-le (t .serve-lines .result .n) (t .serve-lines .last .1 .1 .1 .1 .1 .0) (k .few))
+    let out = t .serve-lines .last .1 .1 .1 .1 .1 .0 in
+    let n = sym (length-take-le (t .serve-lines .result .n) out (k .few)) in
+    search needs
 
 same-length : tie.Need-same-length Inv-loop μ-loop
 same-length c =

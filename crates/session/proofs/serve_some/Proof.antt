@@ -2,7 +2,6 @@
 use borrow.Author.Needs.{needs}
 use mathlib.Core.Path.{_≡_, sym, ap, _∙_}
 use Prim.Native.Nat.{ℕ}
-use mathlib.Core.List.{List}
 use lib.IntN.{ℤ}
 use lib.ListN.{take}
 use Rattle.channel.specs.Trace.{arrived, fetched-then}
