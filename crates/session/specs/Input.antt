@@ -1,22 +1,21 @@
--- What the program has done with its input: which bytes of the base and which line are there, and the digests
--- of the bytes that were read and of those that were handed to be written. That a read gives what was sent,
--- and that what is handed over is written, is left to trust.
+-- What the program has done with its input: which bytes of the base and which line are there, and by the
+-- trace that the channel keeps, which bytes were read and which were handed to be written.
 use mathlib.Core.Path.{_≡_, refl, sym, ap, _∙_, subst}
-use Prim.Native.Nat.{ℕ, suc, _+_, _*_, _%_, _≤_, _<_}
-use mathlib.Core.Logic.{_⊎_, inl, inr}
+use Prim.Native.Nat.{ℕ, _≤_}
+use mathlib.Core.Logic.{inl}
 use mathlib.Core.Bool.{true}
-use mathlib.Core.List.{List, [], _∷_, _++_, append-nil}
-use lib.IntN.{ℤ, pos, negsuc}
-use lib.ListN.{length, take, drop, getD}
-use lib.Seq.{drop-cons}
-use native.Mathlib.Omega.{arith}
-use Rattle.io.specs.Counts.{clamped}
+use mathlib.Core.List.{List, [], _++_, append-nil}
+use lib.IntN.{pos}
+use lib.ListN.{length, take, drop}
 use Rattle.model.specs.Soundness.{soundBytes}
 use Rattle.model.specs.Base.{emptyBase}
 use Rattle.model.specs.Encoding.{encode}
 use Rattle.model.specs.Session.{session, bytesAfter}
 use Rattle.theorems.specs.Demand3.{Demand3}
 use Rattle.theorems.specs.Orders.{orders, demand3-text}
+use Rattle.channel.specs.declared.Channel.{Channel}
+use Rattle.channel.specs.Digests.{digest, digest-twice, digest-none}
+use Rattle.channel.specs.Trace.{Handed, Read, Stopped, read-same}
 use Rattle.serving.specs.declared.steps.Stepped.{Stepped}
 use Rattle.serving.specs.Turns.{Kept}
 use Rattle.serving.specs.Stream.{Fed, feed, finish, finishBytes, ending, Feeds}
@@ -28,44 +27,6 @@ use Rattle.session.specs.declared.Going.{Going}
 -- a sound base, room for a reply of any length, and of a line at most the first 97 bytes
 abbrev pub Ready : List ℕ → List ℕ → ℕ → List ℕ → Type 0
 Ready s line len out = (soundBytes s ≡ true) × (24001 ≤ length out) × (len ≤ 97) × (length line ≡ 97)
-
--- The digest of bytes, going on from that of bytes before them: every byte and its place bear on it.
--- 4294967291 is the largest prime below 2 ^ 32
-abbrev pub mixed : ℕ → ℕ → ℕ
-mixed sent byte = (sent * 257 + byte + 1) % 4294967291
-
-unfoldable pub digest : ℕ → List ℕ → ℕ
-digest sent [] = sent
-digest sent (c ∷ text) = digest (mixed sent c) text
-
--- what a read that answered `got` left at the front of the buffer
-abbrev pub arrived : ℤ → List ℕ → List ℕ
-arrived got buf = take (clamped got (length buf)) buf
-
--- `r` has one read more than `g`, whose bytes are at the front of `buf`
-pub record Fetched (g : Going) (buf : List ℕ) (r : Going) : Type 0 where
-  pub seen : r .seen ≡ digest (g .seen) (arrived (r .got) buf)
-  pub reads : r .reads ≡ g .reads + 1
-
--- nothing was read between `g` and `r`
-pub record Unread (g r : Going) : Type 0 where
-  pub seen : r .seen ≡ g .seen
-  pub reads : r .reads ≡ g .reads
-  pub got : r .got ≡ g .got
-
--- `input` has the digest that was kept of what was read; and where the last read is said to have answered 0,
--- one was counted
-pub record Read (input : List ℕ) (r : Going) : Type 0 where
-  pub seen : r .seen ≡ digest 0 input
-  pub asked : r .got ≡ pos 0 → 0 < r .reads
-
--- the last read said that the input has ended, or failed
-abbrev pub Through : Going → Type 0
-Through r = (r .got ≡ pos 0) ⊎ (r .got ≡ negsuc 0)
-
--- where every write worked, that is why the program stopped, or its reads can no longer be counted
-abbrev pub Stopped : Going → Type 0
-Stopped r = r .ok ≡ true → Through r ⊎ (18446744073709551615 ≤ r .reads)
 
 -- of `input`, behind the line `pending`, all but `rest` is answered: the bytes of the base are s′, `left` is
 -- the line that is not ended yet, and its first bytes are kept; `text` was handed to be written
@@ -79,11 +40,11 @@ pub record Answers (s pending input rest : List ℕ) (sent len sent′ : ℕ) (s
 -- the front of the input is answered, and all of it where every write worked
 pub record Answered (s pending input : List ℕ) (sent : ℕ) (r : Going) (s′ line′ : List ℕ) : Type 0 where
   pub rest : List ℕ
-  pub answers : Answers s pending input rest sent (r .len) (r .sent) s′ line′
-  pub all : r .ok ≡ true → rest ≡ []
+  pub answers : Answers s pending input rest sent (r .len) (r .channel .sent) s′ line′
+  pub all : r .channel .ok ≡ true → rest ≡ []
 
 -- the program is through with its input
-pub record Served (s pending input : List ℕ) (r : Going) (s′ : List ℕ) : Type 0 where
+pub record Served (s pending input : List ℕ) (r : Channel) (s′ : List ℕ) : Type 0 where
   pub read : Read input r
   pub stopped : Stopped r
   -- the input ended: all of it is answered, and so is its end
@@ -101,7 +62,7 @@ pub record Served (s pending input : List ℕ) (r : Going) (s′ : List ℕ) : T
   pub sound : soundBytes s′ ≡ true
 
 -- the program has run on an empty base
-pub record Ran (input : List ℕ) (r : Going) (s′ : List ℕ) : Type 0 where
+pub record Ran (input : List ℕ) (r : Channel) (s′ : List ℕ) : Type 0 where
   pub read : Read input r
   pub stopped : Stopped r
   -- the input ended: the text of the session over it was handed to be written,
@@ -115,45 +76,6 @@ pub record Ran (input : List ℕ) (r : Going) (s′ : List ℕ) : Type 0 where
   pub handed : r .sent ≡ digest 0 text
 
 -- ---- laws
-
--- two texts are one
-digest-twice : (sent : ℕ) (a b : List ℕ) → digest (digest sent a) b ≡ digest sent (a ++ b)
-unfolding digest
-digest-twice sent [] b = refl
-digest-twice sent (c ∷ a) b = digest-twice (mixed sent c) a b
-
-pub digest-none : (sent : ℕ) → digest sent [] ≡ sent
-unfolding digest
-digest-none sent = refl
-
--- one byte of the rest
-pub digest-next : (sent i : ℕ) (text : List ℕ) → i < length text →
-    digest sent (drop i text) ≡ digest (mixed sent (getD text i 0)) (drop (suc i) text)
-unfolding digest
-digest-next sent i text h = rw (drop-cons text i 0 h)
-
--- one read more
-pub read-more : {input buf : List ℕ} {g r : Going} → Read input g → Fetched g buf r →
-    Read (input ++ arrived (r .got) buf) r
-read-more {input} {buf} {g} {r} w f = record {
-  seen = f .seen ∙ ap (λ (n : ℕ). digest n (arrived (r .got) buf)) (w .seen)
-      ∙ digest-twice 0 input (arrived (r .got) buf);
-  asked = λ z. omega (arith, f .reads);
-}
-
--- and nothing between that read and `r`
-pub fetched-then : {buf : List ℕ} {g h r : Going} → Fetched g buf h → Unread h r → Fetched g buf r
-fetched-then {buf} {g} f u = record {
-  seen = u .seen ∙ f .seen ∙ ap (λ (z : ℤ). digest (g .seen) (arrived z buf)) (sym (u .got));
-  reads = u .reads ∙ f .reads;
-}
-
--- no read in between
-pub read-same : {input : List ℕ} {g r : Going} → Read input g → Unread g r → Read input r
-read-same w u = record {
-  seen = u .seen ∙ w .seen;
-  asked = λ z. omega (arith, u .reads, w .asked (sym (u .got) ∙ z));
-}
 
 module _ {s pending : List ℕ} where
   pub answers-none : {line : List ℕ} {len : ℕ} (input : List ℕ) (sent : ℕ) → Kept pending len line →
@@ -190,10 +112,19 @@ module _ {s pending : List ℕ} where
       record { text = take (r .n) out; left = k .left; feeds = k .feeds; kept = k .kept; handed = e }
       )
 
+  -- no input yet
+  pub answered-none : {line : List ℕ} {g : Going} → Kept pending (g .len) line → g .channel .sent ≡ 0 →
+      Answered s pending [] 0 g s line
+  answered-none {line} {g} k e = record {
+    rest = [];
+    answers = subst (λ (n : ℕ). Answers s pending [] [] 0 (g .len) n s line) (sym e) (answers-none [] 0 k);
+    all = λ z. refl;
+  }
+
   -- all the input so far, and more of it
   pub answered-then : {input more s′ line′ s″ line″ : List ℕ} {sent : ℕ} {g r : Going} →
-      (a : Answered s pending input sent g s′ line′) → g .ok ≡ true →
-      Answered s′ (a .answers .left) more (g .sent) r s″ line″ →
+      (a : Answered s pending input sent g s′ line′) → g .channel .ok ≡ true →
+      Answered s′ (a .answers .left) more (g .channel .sent) r s″ line″ →
       Answered s pending (input ++ more) sent r s″ line″
   answered-then {more = more} a e b =
       let f = a .answers in
@@ -211,26 +142,26 @@ module _ {s pending : List ℕ} where
         all = b .all;
       }
 
-  module _ {input s′ line′ : List ℕ} {g : Going} (w : Read input g)
+  module _ {input s′ line′ : List ℕ} {g : Going} (w : Read input (g .channel))
       (a : Answered s pending input 0 g s′ line′) where
     -- the end of the input was answered
-    pub served-ended : {r : Going} {s″ : List ℕ} → g .ok ≡ true → g .got ≡ pos 0 → Unread g r →
-        s″ ≡ finishBytes s′ (a .answers .left) → r .sent ≡ digest (g .sent) (finish s′ (a .answers .left)) →
+    pub served-ended : {r : Channel} {s″ : List ℕ} → g .channel .ok ≡ true → g .channel .got ≡ pos 0 →
+        s″ ≡ finishBytes s′ (a .answers .left) → Handed (g .channel) (finish s′ (a .answers .left)) r →
         soundBytes s″ ≡ true → Served s pending input r s″
-    served-ended {r} ok over u bytes handed sound =
+    served-ended {r} ok over bytes handed sound =
         let f = a .answers in
         let t = finish s′ (f .left) in
         let e = feeds-all (f .feeds) (a .all ok) in
         let n : r .sent ≡ digest 0 (f .text ++ t) =
-        handed ∙ ap (λ (n : ℕ). digest n t) (f .handed) ∙ digest-twice 0 (f .text) t in
+        handed .sent ∙ ap (λ (n : ℕ). digest n t) (f .handed) ∙ digest-twice 0 (f .text) t in
         record {
-          read = read-same w u;
-          stopped = λ p. inl (inl (u .got ∙ over));
+          read = read-same w (handed .unread);
+          stopped = λ p. inl (inl (handed .unread .got ∙ over));
           ended = λ p q. (
             bytes ∙ ap (λ (x : Fed). finishBytes (x .lent) (x .pending)) (sym e),
             n ∙ ap (λ (x : Fed). digest 0 (ending x)) (sym e),
           );
-          cut = λ p q. absurd (q (u .got ∙ over));
+          cut = λ p q. absurd (q (handed .unread .got ∙ over));
           text = f .text ++ t;
           rest = [];
           front = ap ending e ∙ sym (append-nil (f .text ++ t));
@@ -239,8 +170,8 @@ module _ {s pending : List ℕ} where
         }
 
     -- the input did not end
-    pub served-cut : (g .ok ≡ true → g .got ≡ pos 0 → ⊥) → Stopped g → soundBytes s′ ≡ true →
-        Served s pending input g s′
+    pub served-cut : (g .channel .ok ≡ true → g .channel .got ≡ pos 0 → ⊥) → Stopped (g .channel) →
+        soundBytes s′ ≡ true → Served s pending input (g .channel) s′
     served-cut none stop sound =
         let f = a .answers in
         record {
@@ -259,7 +190,7 @@ module _ {s pending : List ℕ} where
         }
 
 -- from an empty base and no line on
-pub served-run : {s input s′ : List ℕ} {r : Going} → s ≡ encode emptyBase → Served s [] input r s′ →
+pub served-run : {s input s′ : List ℕ} {r : Channel} → s ≡ encode emptyBase → Served s [] input r s′ →
     Ran input r s′
 served-run {s} {input} {s′} {r} z w =
     let e : ending (feed s [] input) ≡ session input = rw z (stream-session input) in

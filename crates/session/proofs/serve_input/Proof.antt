@@ -2,26 +2,24 @@
 use borrow.Author.Needs.{needs}
 use native.Mathlib.Omega.{arith}
 use mathlib.Core.Path.{_≡_, refl, sym, _∙_}
-use mathlib.Core.Logic.{inl, inr}
 use mathlib.Core.Bool.{true, true≢false}
 use mathlib.Core.List.{List, [], _++_}
-use Prim.Native.Nat.{ℕ, suc, _-_, _≤_, _<_}
+use Prim.Native.Nat.{ℕ, _-_, _≤_}
 use denote.Ref.{now}
 use lib.ListN.{length}
-use Rattle.foundation.specs.Tests.{cases, true-le, false-le, and-true}
 use Rattle.model.specs.Soundness.{soundBytes}
 use Rattle.model.specs.EncodingFacts.{sound-length}
+use Rattle.channel.specs.Trace.{arrived, Read, read-none, read-more}
 use Rattle.serving.specs.Turns.{Kept}
 use Rattle.serving.specs.Pieces.{kept-front}
 use Rattle.session.specs.declared.Going.{Going}
-use Rattle.session.specs.Input.{arrived, Read, Answered, digest-none, read-more, answers-none}
-use Rattle.session.specs.Input.{answered-then, Stopped, served-ended, served-cut}
+use Rattle.session.specs.Input.{Answered, answered-none, answered-then, served-ended, served-cut}
 use Rattle.session.proofs.serve_input.Statement.{statement}
 use Rattle.session.proofs.serve_input.Tie as tie
 
 pub record Inv (s₀ line₀ : List ℕ) (len : ℕ) (buf₀ out₀ s line buf out : List ℕ) (g : Going) : Type 0 where
   pub input : List ℕ
-  pub read : Read input g
+  pub read : Read input (g .channel)
   pub answered : (pending : List ℕ) → Kept pending len line₀ → Answered s₀ pending input 0 g s line
   pub sound : soundBytes s ≡ true
   pub few : g .len ≤ 97
@@ -33,15 +31,16 @@ abbrev Inv-loop : tie.InvT-loop
 Inv-loop s₀ line₀ len buf₀ out₀ g₀ s line buf out g = Inv s₀ line₀ len buf₀ out₀ s line buf out g
 
 abbrev μ-loop : tie.MeasureT-loop
-μ-loop s₀ line₀ len buf₀ out₀ g₀ s line buf out g = 18446744073709551615 - g .reads
+μ-loop s₀ line₀ len buf₀ out₀ g₀ s line buf out g = 18446744073709551615 - g .channel .reads
 
 loop-holds : tie.Need-loop-holds Inv-loop μ-loop
 loop-holds c =
-    let d = c .before .before .before in
+    let d = c .before .before .before .before in
+    let o = c .open .ensures in
     record {
       input = [];
-      read = record { seen = sym (digest-none 0); asked = λ z. let w : _≡_ {A = ℕ} 0 1 = cc in omega arith };
-      answered = λ q k. record { rest = []; answers = answers-none [] 0 k; all = λ z. refl };
+      read = read-none o;
+      answered = λ q k. answered-none k (o .sent);
       sound = d .pre .0;
       few = d .pre .2;
       size = d .pre .3;
@@ -52,35 +51,27 @@ loop-holds c =
 serve-some-requires : tie.Need-serve-some-requires Inv-loop μ-loop
 serve-some-requires c κs =
     let n = c .before .before .before .before in
-    let l = n .before .before .before in
-    let i = l .loop .inv in
-    let test = and-true (n .before .before .goes-on .result) _ (n .if1 .taken) .1 in (
-      (i .sound, omega (arith, i .room, l .before .before .before .before .pre .1), i .few, i .size),
-      true-le (suc (l .loop .g .reads)) 18446744073709551615 test,
+    let l = n .before .before in
+    let i = l .loop .inv in (
+      (i .sound, omega (arith, i .room, l .before .before .before .before .before .pre .1), i .few, i .size),
+      n .before .goes-on .ensures .0 (n .if1 .taken) .1,
     )
 
 loop-less : tie.Need-loop-less Inv-loop μ-loop
 loop-less c =
     let t = c .before .before .before .before .before .before in
     let n = t .before .before .before .before .before in
-    let l = n .before .before .before in
-    let test = and-true (n .before .before .goes-on .result) _ (n .if1 .taken) .1 in
-    omega (
-      arith,
-      t .serve-some .ensures .1 .reads,
-      true-le (suc (l .loop .g .reads)) 18446744073709551615 test,
-    )
+    omega (arith, t .serve-some .ensures .1 .reads, n .before .goes-on .ensures .0 (n .if1 .taken) .1)
 
 loop-again : tie.Need-loop-again Inv-loop μ-loop
 loop-again c =
     let t = c .before .before .before .before .before .before in
     let n = t .before .before .before .before .before in
-    let i = n .before .before .before .loop .inv in
+    let i = n .before .before .loop .inv in
     let e = t .serve-some .ensures in
-    let ok = n .before .before .goes-on .ensures .0 (and-true (n .before .before .goes-on .result) _
-    (n .if1 .taken) .0) in
+    let ok = n .before .goes-on .ensures .0 (n .if1 .taken) .0 in
     record {
-      input = i .input ++ arrived (t .serve-some .result .got) (t .serve-some .last .1 .1 .1 .0);
+      input = i .input ++ arrived (t .serve-some .result .channel .got) (t .serve-some .last .1 .1 .1 .0);
       read = read-more (i .read) (e .1);
       answered = λ q h. let a = i .answered q h in
           answered-then a ok (e .0 (a .answers .left) (a .answers .kept));
@@ -93,45 +84,45 @@ loop-again c =
 
 serve-last-requires : tie.Need-serve-last-requires Inv-loop μ-loop
 serve-last-requires c κs =
-    let l = c .before .before .before .before .before .before .before .before in
+    let l = c .before .before .before .before .before .before .before in
     let i = l .loop .inv in
-    (i .sound, omega (arith, i .room, l .before .before .before .before .pre .1), i .few, i .size)
+    (i .sound, omega (arith, i .room, l .before .before .before .before .before .pre .1), i .few, i .size)
 
 same-length : tie.Need-same-length Inv-loop μ-loop
 same-length c =
     let t = c .before .before .before .before in
-    let d = t .before .before .before .before .before .before .before .before .before .before .before .before
-    .before in
-    sound-length _ (t .serve-last .ensures .2) ∙ sym (sound-length (now (d .args .s)) (d .pre .0))
+    let l = t .before .before .before .before .before .before .before .before in
+    let d = l .before .before .before .before .before in
+    sound-length _ (t .serve-last .ensures .1) ∙ sym (sound-length (now (d .args .s)) (d .pre .0))
 
 same-length-2 : tie.Need-same-length-2 Inv-loop μ-loop
 same-length-2 c =
     let t = c .before .before .before .before in
-    t .before .before .before .before .before .before .before .before .before .loop .inv .same
+    t .before .before .before .before .before .before .before .before .loop .inv .same
 
 same-length-3 : tie.Need-same-length-3 Inv-loop μ-loop
 same-length-3 c =
     let t = c .before .before .before .before in
     t .serve-last .kept .1 .1 .1 .0
-    ∙ t .before .before .before .before .before .before .before .before .before .loop .inv .room
+    ∙ t .before .before .before .before .before .before .before .before .loop .inv .room
 
 returns : tie.Need-returns Inv-loop μ-loop
 returns c =
     let t = c .before .before .before .before in
     let n = t .before .before .before .before in
-    let i = n .before .before .before .before .before .loop .inv in
+    let i = n .before .before .before .before .loop .inv in
     let e = t .serve-last .ensures in
     let over = n .before .has-ended .ensures .0 (n .if2 .taken) in (
       i .input,
       λ q h. let a = i .answered q h in
           let last = e .0 (a .answers .left) (a .answers .kept) in
-          served-ended (i .read) a (over .0) (over .1) (e .1) (last .0) (last .1) (e .2),
+          served-ended (i .read) a (over .0) (over .1) (last .0) (last .1) (e .1),
     )
 
 same-length-4 : tie.Need-same-length-4 Inv-loop μ-loop
 same-length-4 c =
     let l = c .before .before .before .before .before in
-    let d = l .before .before .before .before in
+    let d = l .before .before .before .before .before in
     sound-length _ (l .loop .inv .sound) ∙ sym (sound-length (now (d .args .s)) (d .pre .0))
 
 same-length-5 : tie.Need-same-length-5 Inv-loop μ-loop
@@ -142,24 +133,20 @@ same-length-6 c = c .before .before .before .before .before .loop .inv .room
 
 returns-2 : tie.Need-returns-2 Inv-loop μ-loop
 returns-2 c =
-    let t = c .before .before in
-    let o = t .before .before in
-    let l = o .before in
-    let i = l .loop .inv in
-    let n = c .before .has-ended .ensures .1 in
-    let stop : Stopped (l .loop .g) = λ ok. cases (o .goes-on .result)
-    (λ p. let k = false-le (suc (l .loop .g .reads)) 18446744073709551615 (rw p at (t .if1 .left)) in
-    let m : 18446744073709551615 ≤ l .loop .g .reads = omega arith in inr m)
-    (λ p. inl (o .goes-on .ensures .1 p ok)) in (
+    let n = c .before in
+    let o = n .before .before in
+    let i = o .before .before .loop .inv in
+    let ended = n .before .has-ended .ensures .1 in (
       i .input,
       λ q h. served-cut (i .read) (i .answered q h)
-          (λ ok zero. true≢false (sym (n ok zero) ∙ c .if2 .left)) stop
+          (λ ok zero. true≢false (sym (ended ok zero) ∙ n .if2 .left))
+          (o .before .goes-on .ensures .1 (o .if1 .left))
           (i .sound),
     )
 
 pub serve-input-spec : {M : Type 1} → statement M
 serve-input-spec =
     tie.close
-    (tie.spec Inv-loop μ-loop loop-holds (λ c κs. search needs) serve-some-requires loop-less loop-again
-    (λ c κs. search needs) serve-last-requires same-length same-length-2 same-length-3 returns same-length-4
-    same-length-5 same-length-6 returns-2)
+    (tie.spec Inv-loop μ-loop (λ c κs. search needs) loop-holds (λ c κs. search needs) serve-some-requires
+    loop-less loop-again (λ c κs. search needs) serve-last-requires same-length same-length-2 same-length-3
+    returns same-length-4 same-length-5 same-length-6 returns-2)

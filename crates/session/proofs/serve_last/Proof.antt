@@ -1,8 +1,10 @@
 -- `serve_last` meets its contract: what `serve_end` printed is handed over.
 use borrow.Author.Needs.{needs}
-use mathlib.Core.Path.{sym, ap, _∙_}
+use mathlib.Core.Path.{sym, subst}
+use mathlib.Core.List.{List}
+use Prim.Native.Nat.{ℕ}
 use lib.Seq.{length-take-le}
-use Rattle.session.specs.Input.{digest}
+use Rattle.channel.specs.Trace.{Handed}
 use Rattle.session.proofs.serve_last.Statement.{statement}
 use Rattle.session.proofs.serve_last.Tie as tie
 
@@ -13,10 +15,15 @@ slice-aggregate-put c =
 
 returns : tie.Need-returns
 returns c =
-    let p = c .before in
-    let e = p .before .before .before .before .before .before .serve-end .ensures in
-    let d = p .before .before .before .before .before .before .before .before .before .before .before in
-    (λ q k. (e .0 q k .1, p .put .ensures ∙ ap (digest (d .args .g .sent)) (e .0 q k .0)), search needs, e .3)
+    let t = c .before .before .before .before .before .before in
+    let e = t .serve-end .ensures in
+    let g = t .before .before .before .before .before .args .g in (
+      λ q k. (
+        e .0 q k .1,
+        subst (λ (text : List ℕ). Handed (g .channel) text (c .put .result)) (e .0 q k .0) (c .put .ensures),
+      ),
+      e .3,
+    )
 
 pub serve-last-spec : {M : Type 1} → statement M
 serve-last-spec =

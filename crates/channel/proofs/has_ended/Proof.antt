@@ -5,12 +5,12 @@ use lib.Dec.{eqb}
 use mir.Syntax.{w64}
 use mir.Val.{toZ, ofZ}
 use Rattle.foundation.specs.Tests.{and-true, true-eq}
-use Rattle.session.proofs.has_ended.Statement.{statement}
-use Rattle.session.proofs.has_ended.Tie as tie
+use Rattle.channel.proofs.has_ended.Statement.{statement}
+use Rattle.channel.proofs.has_ended.Tie as tie
 
 returns : tie.Need-returns
 returns c =
-    let g = c .before .before .before .args .g in
+    let g = c .before .before .before .args .c in
     let bits : toZ w64 (ofZ w64 (g .got)) ≡ g .got = search needs in (
       λ e. let p = and-true (g .ok) (eqb (ofZ w64 (g .got)) 0) e in
           (p .0, sym bits ∙ ap (toZ w64) (true-eq (ofZ w64 (g .got)) 0 (p .1))),

@@ -6,9 +6,9 @@ use mathlib.Core.Path.{_≡_, refl, sym, ap, _∙_}
 use Prim.Native.Nat.{ℕ, suc, _-_, _≤_, _<_}
 use lib.ListN.{length, drop}
 use lib.Seq.{drop-length}
-use Rattle.session.specs.Input.{digest, digest-none, digest-next}
-use Rattle.session.proofs.mix_all.Statement.{statement}
-use Rattle.session.proofs.mix_all.Tie as tie
+use Rattle.channel.specs.Digests.{digest, digest-none, digest-next}
+use Rattle.channel.proofs.mix_all.Statement.{statement}
+use Rattle.channel.proofs.mix_all.Tie as tie
 
 abbrev Inv-loop : tie.InvT-loop
 Inv-loop sent bytes d₀ i₀ d i = (i ≤ length bytes) × (digest sent bytes ≡ digest d (drop i bytes))
