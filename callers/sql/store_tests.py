@@ -372,6 +372,9 @@ class SqliteStore(Store, unittest.TestCase):
         self.importer.db.execute("DROP TRIGGER journal_kept")
         self.importer.db.execute("UPDATE journal SET line = '5 1 GRANT 1 7 2 50 199 y' WHERE number = 2")
         self.assertIn("other bytes", self.importer.check("b"))
+        self.importer.db.execute("INSERT INTO requesters VALUES (1, CAST(x'ff' AS TEXT), 1)")
+        with self.assertRaisesRegex(stores.Fault, "has a text that is not UTF-8"):
+            self.importer.requesters("b")
 
     def test_kill_clients(self):
         """kill -9 of every client in the middle of a load: nothing acknowledged is lost."""
