@@ -194,7 +194,8 @@ def render(block, a, entries, owner, administrators):
         panel.draw()
     title = f"{p.names.meter(a.object)} of block {block.name}: who holds from whom"
     p.svg.text("title", MARGIN, 30, title)
-    p.svg.text("sub", MARGIN, 50, "Each card is an authorization, with its label; a curve leads to it from what its grantor holds. → may be handed on")
+    p.svg.text("sub", MARGIN, 50, "Each card is an authorization, with its label; a curve leads to it from what its grantor holds. "
+               "→ may be handed on")
     if not panels:
         p.svg.text("note", MARGIN, 78, f"Nobody holds anything on this meter, which is {p.names.of('subject', owner)}'s.")
         return p.svg.done(width, 100, title)

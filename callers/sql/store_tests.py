@@ -525,7 +525,8 @@ class PostgresStore(Store, unittest.TestCase):
               SELECT relname AS name, relacl AS acl, relowner AS owner FROM pg_class WHERE relnamespace = 'meters'::regnamespace
               UNION ALL SELECT attname, attacl, relowner FROM pg_attribute a JOIN pg_class c ON c.oid = attrelid
                 WHERE relnamespace = 'meters'::regnamespace AND attacl IS NOT NULL
-              UNION ALL SELECT proname, coalesce(proacl, acldefault('f', proowner)), proowner FROM pg_proc WHERE pronamespace = 'meters'::regnamespace
+              UNION ALL SELECT proname, coalesce(proacl, acldefault('f', proowner)), proowner FROM pg_proc
+                WHERE pronamespace = 'meters'::regnamespace
               UNION ALL SELECT nspname, nspacl, nspowner FROM pg_namespace WHERE nspname IN ('meters', 'access_base')) things,
               aclexplode(acl) WHERE grantee <> owner""")
         tables, imports = ("blocks", "clocks", "journal", "requesters"), ("put_as_written", "new_block", "enrol", "unenrol")
