@@ -96,13 +96,16 @@ class Panel:
         for key, others in before.items():
             for other in others:
                 behind.setdefault(other, []).append(key)
-        low = {("line", e.label): (not e.runs, e.negative, e.label) for e in self.entries}
+        rank = {("line", e.label): (not e.runs, e.negative, e.label) for e in self.entries}
         for sides in ([before], [behind]) * SWEEPS + ([before, behind],):
-            for cards in columns if before in sides else reversed(columns):
+            for cards in columns if sides[0] is before else reversed(columns):
                 wish = {key: self.middle(key, [other for side in sides for other in side.get(key, ())]) for key in cards}
-                order = sorted(cards, key=lambda key: (low.get(key, (False,))[0], wish[key], low.get(key, (False, False, 0))))
-                tops = settled([(wish[key] - cards[key] / 2, cards[key] + BETWEEN) for key in order])
-                for key, y in zip(order, tops):
+
+                def order(key):
+                    withdrawn, *rest = rank.get(key, (False, False, 0))
+                    return withdrawn, wish[key], rest
+                ordered = sorted(cards, key=order)
+                for key, y in zip(ordered, settled([(wish[key] - cards[key] / 2, cards[key] + BETWEEN) for key in ordered])):
                     self.places[key] = (self.places[key][0], y, cards[key])
 
     def middle(self, key, others):
@@ -191,7 +194,8 @@ def render(block, a, entries, owner, administrators):
         panel.draw()
     title = f"{p.names.meter(a.object)} of block {block.name}: who holds from whom"
     p.svg.text("title", MARGIN, 30, title)
-    p.svg.text("sub", MARGIN, 50, "Each card is an authorization, with its label; a curve leads to it from what its grantor holds. → may be handed on")
+    p.svg.text("sub", MARGIN, 50, "Each card is an authorization, with its label; a curve leads to it from what its grantor holds. "
+               "→ may be handed on")
     if not panels:
         p.svg.text("note", MARGIN, 78, f"Nobody holds anything on this meter, which is {p.names.of('subject', owner)}'s.")
         return p.svg.done(width, 100, title)

@@ -59,7 +59,8 @@ class Command(unittest.TestCase):
         self.assertIn("9 requests replayed", self.meters("check"))
         self.assertEqual(self.meters("put", "--as-written", "--quiet", "s", give="70 1 NEW 9\n70 1 NEW 9\nWHEN 3 1 7\n"),
                          "3 lines: 1 done, 1 refused\n")
-        self.assertEqual(self.run_alone("put", "--as-written", "--quiet", "s", input="71 1 NEW 10\n70 1 NEW 9\n", stdout=subprocess.DEVNULL),
+        older = {"input": "71 1 NEW 10\n70 1 NEW 9\n", "stdout": subprocess.DEVNULL}
+        self.assertEqual(self.run_alone("put", "--as-written", "--quiet", "s", **older),
                          (0, "meters: line 2 is the first, refused 4: the request is older than the last accepted one: "
                              "send requests in the order of their times\n"))
 
@@ -121,7 +122,8 @@ class Command(unittest.TestCase):
         lines = ["NEW 1", "NEW 2", "GRANT 1 1 2 2099-01-01 2099-01-01 y", "DENY 1 1 2 2099-01-01T08:00 2099-01-01T09:00:01",
                  "REVOKEP 1 1 2 2099-01-01 2099-01-01", "REVOKEN 1 1 2 2099-01-01 2099-01-01",
                  "ADDRULE * 1 1 + WHENEVER * 1 2 + * * 2099-01-01 2099-01-01"]
-        self.assertEqual(self.meters("put", "s", give="\n".join(lines)), "done 0 0\n" * 2 + "done 1 1\ndone 2 2\ndone 0 1\ndone 0 0\ndone 3 0\n")
+        self.assertEqual(self.meters("put", "s", give="\n".join(lines)).splitlines(),
+                         ["done 0 0", "done 0 0", "done 1 1", "done 2 2", "done 0 1", "done 0 0", "done 3 0"])
         put = [line.split("\t")[2].split(" ", 2)[2] for line in self.meters("journal", "s").splitlines()]
         self.assertEqual(put[2:], [f"GRANT 1 1 2 {day} {last} y", f"DENY 1 1 2 {day + 28800} {day + 32401}", f"REVOKEP 1 1 2 {day} {last}",
                                    f"REVOKEN 1 1 2 {day} {last}", f"ADDRULE * 1 1 + WHENEVER * 1 2 + * * {day} {last}"])
@@ -142,7 +144,8 @@ class Command(unittest.TestCase):
                 ("2027-01-31T24:30, which is no date", "ask", "b", "MAY", "2", "1", "7", "2027-01-31T24:30"),
                 ("before the block's first instant, 2020-01-01", "put", "d", "GRANT", "1", "7", "2", "2019-12-31", "inf", "y"),
                 ("before the block's first instant, 1970-01-01", "ask", "b", "MAY", "2", "1", "7", "1969-12-31"),
-                ("behind the block's last instant, 2106-02-07 06:28:14 UTC: write 'inf'", "put", "b", "DENY", "1", "7", "2", "now", "2106-02-07"),
+                ("behind the block's last instant, 2106-02-07 06:28:14 UTC: write 'inf'",
+                 "put", "b", "DENY", "1", "7", "2", "now", "2106-02-07"),
                 ("its own now and requester: leave them out, or put it with --as-written", "put", "b", "4", "1", "NEW", "7"),
                 ("its own now and requester", "put", "b", "inf", "1", "NEW", "7"),
                 ("the request has a character that is not printable ASCII", "put", "b", "NEW", "ü"),
@@ -173,11 +176,13 @@ class Command(unittest.TestCase):
                 ("number of seconds from 1 to", "new", "--unit", "9" * 5000, "x"),
                 ("is no number from 1 to 1023", "enrol", "b", "anna", "1024")):
             self.assertIn(told, self.meters(*words, status=2))
-        self.assertIn("line 2 has 2027-13-01, which is no date", self.meters("put", "b", give="NEW 1\nDENY 1 1 2 now 2027-13-01\n", status=1))
-        self.assertIn("line 2 has a character", self.meters("put", "--as-written", "b", give="4 1 NEW 9\n4 1 NEW \xff9\n", status=1))
+        for told, lines, *words in (("line 2 has 2027-13-01, which is no date", "NEW 1\nDENY 1 1 2 now 2027-13-01\n", "b"),
+                                    ("line 2 has a character", "4 1 NEW 9\n4 1 NEW \xff9\n", "--as-written", "b")):
+            self.assertIn(told, self.meters("put", *words, give=lines, status=1))
         self.assertEqual(self.meters("journal", "b") + self.meters("journal", "d"), "")
         self.assertEqual(self.meters("blocks").count("\n"), 3)
-        self.assertEqual(self.meters("put", "b", give="NEW 7\nMAY 1 1 7 now\nMAY 1 1 7 2030-01-01\nWHEN 1 1 7\n"), "done 0 0\nno\nno\nnone\n")
+        self.assertEqual(self.meters("put", "b", give="NEW 7\nMAY 1 1 7 now\nMAY 1 1 7 2030-01-01\nWHEN 1 1 7\n"),
+                         "done 0 0\nno\nno\nnone\n")
         self.assertEqual(self.meters("put", "b", "MAY", "1", "1", "7", "now"), "no\n")
         with open("/dev/full", "wb") as full:
             self.assertEqual(self.run_alone("blocks", stdout=full), (1, "meters: the output cannot be written: No space left on device\n"))
@@ -202,14 +207,14 @@ class Command(unittest.TestCase):
         names = os.path.join(self.folder, "names")
         with open(names, "w", encoding="utf-8") as out:
             out.write("subject 2 <Agent> & Söhne\nmode 1 read\n")
+        def told(*words):
+            tree = xml.etree.ElementTree.fromstring(self.meters(*words))
+            return " | ".join("".join(part.itertext()) for part in tree.iter("{http://www.w3.org/2000/svg}text"))
         for picture, words in (("timeline", ["subject 9", "everybody else", "50–59", "#4 withdrawn", "Rule #11"]),
                                ("chains", ["administrator", "#4 →", "denied 60, withdrawn"])):
-            svg = self.meters(picture, "elm", "7")
-            tree = xml.etree.ElementTree.fromstring(svg)
-            told = " | ".join("".join(part.itertext()) for part in tree.iter("{http://www.w3.org/2000/svg}text"))
             for word in words:
-                self.assertIn(word, told)
-            self.assertIn("<Agent>", "".join(xml.etree.ElementTree.fromstring(self.meters(picture, "--names", names, "elm", "7")).itertext()))
+                self.assertIn(word, told(picture, "elm", "7"))
+            self.assertIn("<Agent>", told(picture, "--names", names, "elm", "7"))
             self.meters(picture, "elm", "7", "--out", picture + ".html")
         self.assertIn("has no meter 9", self.meters("timeline", "elm", "9", status=1))
         self.browser()
@@ -234,13 +239,14 @@ class Command(unittest.TestCase):
         """What README says of PostgreSQL, with another database and other roles on the tests' server."""
         lines = [line for line in self.readme("Keep blocks in PostgreSQL") if not re.match("apt-get|.*private_cluster", line)]
         script = "\n".join(lines)
-        for old, new in (("/tmp/cluster", CLUSTER), ("DATABASE meters", "DATABASE readme"), ("-d meters", "-d readme"), ("///meters?", "///readme?"),
-                         ("iris", "ivo"), ("anna", "ada"), ("callers/", ROOT + "/callers/"), ("./meters", METERS)):
+        for old, new in (("/tmp/cluster", CLUSTER), ("DATABASE meters", "DATABASE readme"), ("-d meters", "-d readme"),
+                         ("///meters?", "///readme?"), ("iris", "ivo"), ("anna", "ada"), ("callers/", ROOT + "/callers/"), ("./meters", METERS)):
             self.assertIn(old, script)
             script = script.replace(old, new)
         run = subprocess.run(["bash", "-eu"], input=script, capture_output=True, encoding="utf-8")
         self.assertEqual(run.returncode, 0, run.stderr)
-        for words in ("15 lines: 15 done, 0 refused", "ada is subject 1", "done 12 11\nyes\n", "16 requests replayed", "{[1710460800,1714521600),"):
+        for words in ("15 lines: 15 done, 0 refused", "ada is subject 1", "done 12 11\nyes\n", "16 requests replayed",
+                      "{[1710460800,1714521600),"):
             self.assertIn(words, run.stdout)
 
     def test_example_pictures(self):

@@ -372,6 +372,9 @@ class SqliteStore(Store, unittest.TestCase):
         self.importer.db.execute("DROP TRIGGER journal_kept")
         self.importer.db.execute("UPDATE journal SET line = '5 1 GRANT 1 7 2 50 199 y' WHERE number = 2")
         self.assertIn("other bytes", self.importer.check("b"))
+        self.importer.db.execute("INSERT INTO requesters VALUES (1, CAST(x'ff' AS TEXT), 1)")
+        with self.assertRaisesRegex(stores.Fault, "has a text that is not UTF-8"):
+            self.importer.requesters("b")
 
     def test_kill_clients(self):
         """kill -9 of every client in the middle of a load: nothing acknowledged is lost."""
@@ -522,7 +525,8 @@ class PostgresStore(Store, unittest.TestCase):
               SELECT relname AS name, relacl AS acl, relowner AS owner FROM pg_class WHERE relnamespace = 'meters'::regnamespace
               UNION ALL SELECT attname, attacl, relowner FROM pg_attribute a JOIN pg_class c ON c.oid = attrelid
                 WHERE relnamespace = 'meters'::regnamespace AND attacl IS NOT NULL
-              UNION ALL SELECT proname, coalesce(proacl, acldefault('f', proowner)), proowner FROM pg_proc WHERE pronamespace = 'meters'::regnamespace
+              UNION ALL SELECT proname, coalesce(proacl, acldefault('f', proowner)), proowner FROM pg_proc
+                WHERE pronamespace = 'meters'::regnamespace
               UNION ALL SELECT nspname, nspacl, nspowner FROM pg_namespace WHERE nspname IN ('meters', 'access_base')) things,
               aclexplode(acl) WHERE grantee <> owner""")
         tables, imports = ("blocks", "clocks", "journal", "requesters"), ("put_as_written", "new_block", "enrol", "unenrol")

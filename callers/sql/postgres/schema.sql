@@ -128,7 +128,9 @@ BEGIN
   IF now_at NOT BETWEEN 0 AND 4294967294 THEN
     RAISE EXCEPTION 'the clock stands outside the instants of the block' USING HINT = 'look at its unit and origin';
   END IF;
-  RETURN meters.put_lines(b, ARRAY(SELECT now_at || ' ' || who || ' ' || regexp_replace(q, ' now(?= |$)', ' ' || now_at, 'g') FROM unnest(requests) WITH ORDINALITY AS t(q, n) ORDER BY n));
+  RETURN meters.put_lines(b, ARRAY(
+    SELECT now_at || ' ' || who || ' ' || regexp_replace(q, ' now(?= |$)', ' ' || now_at, 'g')
+    FROM unnest(requests) WITH ORDINALITY AS t(q, n) ORDER BY n));
 END $$;
 
 CREATE FUNCTION meters.put(block text, request text) RETURNS text

@@ -109,7 +109,8 @@ CREATE TRIGGER put_request INSTEAD OF INSERT ON put BEGIN
     FROM clocks WHERE name = NEW.block AND instant NOT BETWEEN 0 AND 4294967294;
   INSERT INTO put_as_written(block, line)
     SELECT NEW.block, c.instant || ' ' || r.subject || ' ' || substr(q, 1, length(q) - 1)
-    FROM (SELECT *, replace(replace(NEW.request || ' ', ' now ', ' ' || instant || ' '), ' now ', ' ' || instant || ' ') AS q FROM clocks) c JOIN requesters r ON r.block = c.id WHERE c.name = NEW.block AND r.role = NEW.role;
+    FROM (SELECT *, replace(replace(NEW.request || ' ', ' now ', ' ' || instant || ' '), ' now ', ' ' || instant || ' ') AS q FROM clocks) c
+      JOIN requesters r ON r.block = c.id WHERE c.name = NEW.block AND r.role = NEW.role;
 END;
 
 -- INSERT INTO put_as_written(block, line): a line with its own now and requester, for an import.
