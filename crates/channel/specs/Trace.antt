@@ -20,9 +20,9 @@ arrived got buf = take (clamped got (length buf)) buf
 -- nothing has passed, and no read has said that the input has ended
 pub record Opened (c : Channel) : Type 0 where
   pub seen : c .seen ≡ 0
+  pub sent : c .sent ≡ 0
   pub reads : c .reads ≡ 0
   pub got : c .got ≡ pos 1
-  pub sent : c .sent ≡ 0
   pub ok : c .ok ≡ true
 
 -- `r` has one read more than `c`, whose bytes are at the front of `buf`

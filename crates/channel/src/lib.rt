@@ -12,13 +12,14 @@ use libc::STDERR_FILENO;
 use libc::STDIN_FILENO;
 use libc::STDOUT_FILENO;
 
-// The digest of the bytes that were read, how many reads there were, what the last one answered, the digest
-// of the bytes that were handed to be written, and whether every write worked.
+// The digests of the bytes that were read and of those that were handed to be written, how many reads there
+// were, what the last one answered, and whether every write worked. The digests stand side by side: nothing
+// at run time looks at them, and then the compiler leaves them out.
 pub struct Channel {
     seen: u32,
+    sent: u32,
     reads: u64,
     got: isize,
-    sent: u32,
     ok: bool,
 }
 
@@ -49,9 +50,9 @@ pub fn open() -> Channel
 {
     Channel {
         seen: 0,
+        sent: 0,
         reads: 0,
         got: 1,
-        sent: 0,
         ok: true,
     }
 }
@@ -66,9 +67,9 @@ pub fn fetch(c: Channel, buf: &mut [u8]) -> Channel
     let seen = mix_all(c.seen, &buf[..n]);
     Channel {
         seen: seen,
+        sent: c.sent,
         reads: c.reads + 1,
         got: got,
-        sent: c.sent,
         ok: c.ok,
     }
 }
@@ -89,9 +90,9 @@ pub fn put(c: Channel, bytes: &[u8]) -> Channel
     let ok = io::write_all(STDOUT_FILENO, bytes);
     Channel {
         seen: c.seen,
+        sent: sent,
         reads: c.reads,
         got: c.got,
-        sent: sent,
         ok: c.ok & ok,
     }
 }
