@@ -90,6 +90,11 @@ static void replies(void)
                     .start = 8, .end = ACCESS_BASE_LAST), ACCESS_BASE_NOT_SUPPORTED, 0, 8), "a denial's, at its start");
     expect(is(ORDER(.kind = ACCESS_BASE_GRANT, .now = 6, .requester = 4, .mode = 1, .object = 7, .subject = 3,
                     .start = 40, .end = 41), ACCESS_BASE_NOT_SUPPORTED, 0, 40), "of one who holds nothing");
+    ORDER(.kind = ACCESS_BASE_DENY, .now = 6, .requester = 1, .mode = 1, .object = 7, .subject = 2, .start = 40, .end = 40);
+    expect(is(ORDER(.kind = ACCESS_BASE_GRANT, .now = 7, .requester = 2, .mode = 1, .object = 7, .subject = 3,
+                    .start = 35, .end = 40), ACCESS_BASE_BARRED, 0, 0), "14 gives no instant");
+    ORDER(.kind = ACCESS_BASE_REVOKEN, .now = 7, .requester = 1, .mode = 1, .object = 7, .subject = 2, .start = 0,
+          .end = ACCESS_BASE_LAST);
     expect(is(access_base_ask_may(base, ACCESS_BASE_BYTES, 2, 1, 7, 20), 0, 0, 1), "MAY yes");
     expect(is(access_base_ask_may(base, ACCESS_BASE_BYTES, 2, 1, 7, 21), 0, 0, 0), "MAY no");
     expect(is(access_base_ask_may(base, ACCESS_BASE_BYTES, 2, 1, 8, 21), ACCESS_BASE_NO_SUCH_OBJECT, 0, 0), "MAY 6");

@@ -19,11 +19,11 @@ interval a b = record { start = a; end = b }
 abbrev pub inInterval : Interval → ℕ → Bool
 inInterval r t = leb (r .start) t && leb t (r .end)
 
--- the instant lies in one of the intervals
 -- they have an instant in common (`overlap-instant`)
 abbrev pub overlap : Interval → Interval → Bool
 overlap i j = leb (i .start) (j .end) && leb (j .start) (i .end)
 
+-- the instant lies in one of the intervals
 abbrev pub covered : List Interval → ℕ → Bool
 covered [] t = false
 covered (r ∷ rs) t = inInterval r t || covered rs t

@@ -1,25 +1,27 @@
 -- Requests over lent bytes: an accepted one leaves the encoding of its effect, a refused one the bytes as
 -- they were.
 use mathlib.Core.Path.{_≡_, refl, sym, ap, _∙_, subst}
-use mathlib.Core.Logic.{_≢_}
+use mathlib.Core.Logic.{_≢_, inl, inr}
 use Prim.Native.Nat.{ℕ}
 use native.Mathlib.Omega.{arith}
-use mathlib.Core.Bool.{true, false, not, false≢true}
-use mathlib.Core.List.{List}
+use mathlib.Core.Bool.{Bool, true, false, not, false≢true}
+use mathlib.Core.List.{List, [], _∷_}
 use lib.Dec.{eqb}
-use Rattle.foundation.specs.Tests.{cases, true-eq, false-eq}
-use Rattle.foundation.specs.Lists.{keepIf}
+use Rattle.foundation.specs.Tests.{cases, true-eq, false-eq, eq-true, not-true, not-false}
+use Rattle.foundation.specs.Lists.{Mem, allb, keepIf}
 use Rattle.model.specs.declared.Request.{Request}
 use Rattle.model.specs.declared.Reply.the-variants.{Done, Refused, Unsupported}
 use Rattle.model.specs.Base.{Base}
 use Rattle.model.specs.Means.{plainly}
-use Rattle.model.specs.Step.{Row, firstNumber, accepting, refusal, effect, notSupported, earliestGap}
+use Rattle.model.specs.Step.{Row, row, firstNumber, accepting, refusal, effect, outOfRange, behindClock}
+use Rattle.model.specs.Step.{badInterval, noObject, noLabel, notPermitted, barred, notSupported, earliestGap}
 use Rattle.model.specs.Step.{refusalReply}
-use Rattle.model.specs.StepFacts.{answered, turned-away, by-rows, first-all}
+use Rattle.model.specs.StepFacts.{answered, turned-away, by-rows, first-all, first-none, numbered}
 use Rattle.model.specs.Encoding.{encode, decode}
 use Rattle.model.specs.EncodingFacts.{decode-encode, encode-sound}
 use Rattle.model.specs.Soundness.{sound, soundBytes}
-use Rattle.model.specs.SoundnessFacts.{sound-bytes}
+use Rattle.model.specs.SoundnessFacts.{sound-bytes, sound-tests}
+use Rattle.model.specs.GrantFacts.{Barred, barred-instant}
 use Rattle.model.specs.Answers.{Answer, answering, requestTable, request, refusalNumber}
 use Rattle.laws.specs.Preservation.{effect-sound}
 
@@ -95,37 +97,92 @@ module _ (b : Base) (q : Request) (s : sound b ≡ true) where
 
 -- ---- 9
 
--- where the number is 9, no row but row 9 applied
-pub nine-applies : (s : List ℕ) (q : Request) → refusalNumber (request s q .reply) ≡ 9 →
-    notSupported plainly (decode s) q ≡ true
+-- the reply has the number of the first row that applies
+pub request-number : (s : List ℕ) (q : Request) →
+    refusalNumber (request s q .reply) ≡ firstNumber (requestTable s q)
 unfolding request
-nine-applies s q =
+request-number s q =
     let after = effect plainly (decode s) q in
     by-rows (requestTable s q) (refusedWith s q) (answering (accepting (decode s) q after) (encode after))
-    (λ (a : Answer). refusalNumber (a .reply) ≡ 9 → notSupported plainly (decode s) q ≡ true)
-    (λ e. let nine = sym (reply-refusal (decode s) q (firstNumber (requestTable s q))) ∙ e in
-    cases (notSupported plainly (decode s) q)
-    (λ f. f)
-    (λ f. let same : firstNumber (requestTable s q) ≡ firstNumber otherRows = rw f in
-    let w : not (eqb (firstNumber otherRows) 9) ≡ true = first-all (λ k. not (eqb k 9)) otherRows refl refl in
-    absurd (false≢true (rw (sym same ∙ nine) at w))))
-    (λ z e. absurd (omega arith))
-  where
-    -- the rows without row 9
-    otherRows : List Row
-    otherRows = keepIf (λ r. not (eqb (r .number) 9)) (requestTable s q)
+    (λ (a : Answer). refusalNumber (a .reply) ≡ firstNumber (requestTable s q))
+    (reply-refusal (decode s) q (firstNumber (requestTable s q))) sym
 
--- and the reply tells the earliest uncovered instant
-pub uncovered-reply : (s : List ℕ) (q : Request) → refusalNumber (request s q .reply) ≡ 9 →
-    request s q .reply ≡ Unsupported (earliestGap plainly (decode s) q)
-unfolding request
-uncovered-reply s q =
-    let after = effect plainly (decode s) q in
-    by-rows (requestTable s q) (refusedWith s q) (answering (accepting (decode s) q after) (encode after))
-    (λ (a : Answer). refusalNumber (a .reply) ≡ 9 → a .reply ≡ Unsupported (earliestGap plainly (decode s) q))
-    (λ e. ap (refusalReply plainly (decode s) q)
-    (sym (reply-refusal (decode s) q (firstNumber (requestTable s q))) ∙ e))
-    (λ z e. absurd (omega arith))
+-- the rows without one
+abbrev rowsBut : List ℕ → Request → ℕ → List Row
+rowsBut s q k = keepIf (λ r. not (eqb (r .number) k)) (requestTable s q)
+
+module _ (s : List ℕ) (q : Request) where
+  -- a condition holds where, if it did not, rows would decide of which none has the number that is given
+  must-hold : (k : ℕ) (c : Bool) (others : List Row) →
+      (c ≡ false → firstNumber (requestTable s q) ≡ firstNumber others) → not (eqb 0 k) ≡ true →
+      allb (λ r. not (eqb (r .number) k)) others ≡ true → refusalNumber (request s q .reply) ≡ k → c ≡ true
+  must-hold k c others same z e n = cases c (λ f. f) (λ f.
+      let w : not (eqb (firstNumber others) k) ≡ true = first-all (λ m. not (eqb m k)) others z e in
+      let given : firstNumber others ≡ k = sym (same f) ∙ sym (request-number s q) ∙ n in
+      absurd (false≢true (sym (ap not (eq-true (firstNumber others) k given)) ∙ w)))
+
+  -- where 9 is given, the condition of row 9 holds,
+  pub nine-applies : refusalNumber (request s q .reply) ≡ 9 → notSupported plainly (decode s) q ≡ true
+  nine-applies = must-hold 9 (notSupported plainly (decode s) q) (rowsBut s q 9) (λ f. rw f) refl refl
+
+  -- and the reply tells the earliest uncovered instant
+  pub uncovered-reply : refusalNumber (request s q .reply) ≡ 9 →
+      request s q .reply ≡ Unsupported (earliestGap plainly (decode s) q)
+  unfolding request
+  uncovered-reply =
+      let after = effect plainly (decode s) q in
+      by-rows (requestTable s q) (refusedWith s q) (answering (accepting (decode s) q after) (encode after))
+      (λ (a : Answer). refusalNumber (a .reply) ≡ 9 → a .reply ≡ Unsupported (earliestGap plainly (decode s) q))
+      (λ e. ap (refusalReply plainly (decode s) q)
+      (sym (reply-refusal (decode s) q (firstNumber (requestTable s q))) ∙ e))
+      (λ z e. absurd (omega arith))
+
+  -- ---- 14
+
+  -- where 14 is given, the condition of row 14 holds, and the span is a good one
+  fourteen-applies : refusalNumber (request s q .reply) ≡ 14 → barred (decode s) q ≡ true
+  fourteen-applies = must-hold 14 (barred (decode s) q) (rowsBut s q 14) (λ f. rw f) refl refl
+
+  fourteen-span : refusalNumber (request s q .reply) ≡ 14 → badInterval q ≡ false
+  fourteen-span n =
+      let b = decode s in
+      let front = row 2 (not (soundBytes s)) ∷ row 3 (outOfRange q) ∷ row 4 (behindClock b q) ∷ row 5 true ∷ [] in
+      not-true (badInterval q) (must-hold 14 (not (badInterval q)) front
+      (λ f. let g = not-false (badInterval q) f in rw g) refl refl n)
+
+  -- 02, CR 4: so a requester that is told 14 is barred,
+  pub fourteen-barred : refusalNumber (request s q .reply) ≡ 14 → Barred (decode s) q
+  fourteen-barred n = cases (soundBytes s)
+      (λ e. barred-instant (decode s) q (sound-tests (decode s) (sound-bytes s e .1)) (fourteen-span n) .0
+      (fourteen-applies n))
+      (λ e. absurd (omega (arith, sym n ∙ ap (λ (a : Answer). refusalNumber (a .reply)) (request-unsound s q e))))
+
+  -- the rows before row 14
+  abbrev pub rowsBefore : List Row
+  rowsBefore =
+      row 3 (outOfRange q) ∷ row 4 (behindClock (decode s) q) ∷ row 5 (badInterval q)
+      ∷ row 6 (noObject (decode s) q) ∷ row 7 (noLabel (decode s) q) ∷ row 8 (notPermitted (decode s) q) ∷ []
+
+  -- and one that is barred is told 14, where nothing before it applies
+  pub barred-fourteen : soundBytes s ≡ true → firstNumber rowsBefore ≡ 0 → Barred (decode s) q →
+      request s q ≡ answering (Refused 14) s
+  unfolding request
+  barred-fourteen e z w =
+      let f : (r : Row) → Mem r rowsBefore → r .given ≡ false =
+      first-none rowsBefore (numbered rowsBefore refl) z in
+      let i = f _ (inr (inr (inl refl))) in
+      let given = barred-instant (decode s) q (sound-tests (decode s) (sound-bytes s e .1)) i .1 w in
+      let n : firstNumber (requestTable s q) ≡ 14 = rw (
+        e,
+        f _ (inl refl),
+        f _ (inr (inl refl)),
+        i,
+        f _ (inr (inr (inr (inl refl)))),
+        f _ (inr (inr (inr (inr (inl refl))))),
+        f _ (inr (inr (inr (inr (inr (inl refl)))))),
+        given,
+      ) in
+      turned-away (requestTable s q) (refusedWith s q) _ (λ y. omega (arith, n)) ∙ ap (refusedWith s q) n
 
 -- ---- THEOREM 7 (that a refused request leaves the bytes: `request-refuses` in Refusals)
 

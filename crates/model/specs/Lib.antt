@@ -18,7 +18,7 @@ pub mod SoundnessFacts
 pub mod SoundTests
 pub mod StepFacts
 pub mod Answers
-pub mod BarredFacts
+pub mod GrantFacts
 pub mod Batch
 pub mod BatchFacts
 pub mod Ledger

@@ -154,7 +154,7 @@ abbrev pub bars : Request → Authorization → Bool
 bars q a = denies q (a .head) && overlap (a .interval) (q .interval)
 
 -- 14: "A GRANT or DENY fails if some instant of its interval is covered by a line denying the requester that
--- object and mode. Owners and administrators of the object are exempt" (`barred-instant` in BarredFacts)
+-- object and mode. Owners and administrators of the object are exempt" (`barred-instant` in GrantFacts)
 abbrev pub barred : Base → Request → Bool
 barred b q =
     grants q && not (controls b (q .object) (q .requester)) && anyb (bars q) (b .authorizations)

@@ -4,11 +4,11 @@ use mathlib.Core.Path.{_≡_, refl, sym, ap, _∙_}
 use mathlib.Core.Logic.{inl, inr, _↔_}
 use Prim.Native.Nat.{ℕ, zero, suc, _≤_, _<_}
 use native.Mathlib.Omega.{arith}
-use mathlib.Core.Bool.{Bool, true, not, _&&_, _||_}
+use mathlib.Core.Bool.{Bool, true, false, not, _&&_, _||_}
 use mathlib.Core.List.{List, [], _∷_}
 use lib.Dec.{leb, ltb, eqb}
 use Rattle.foundation.specs.Tests.{pick, cases, agree, true-le, true-eq, and-true, and-intro, or-true-right}
-use Rattle.foundation.specs.Tests.{or-false}
+use Rattle.foundation.specs.Tests.{or-false, not-true, eq-true, le-true}
 use Rattle.foundation.specs.Lists.{anyb, Mem, any-mem, mem-any, any-cong, any-none, conjunct}
 use Rattle.foundation.specs.declared.Interval.{Interval}
 use Rattle.foundation.specs.Intervals.{inInterval, maximal}
@@ -109,6 +109,36 @@ module _ (k h : Head) (s : supports k h ≡ true) where
 
   pub supports-mode : k .mode ≡ h .mode
   supports-mode = true-eq (k .mode) (h .mode) (passes _ (inr (inl refl)))
+
+-- field by field, in 01's words
+pub record Supports (k h : Head) : Type 0 where
+  pub object : k .object ≡ h .object
+  pub mode : k .mode ≡ h .mode
+  pub positive : k .negative ≡ false
+  pub transferable : k .option ≡ true
+  pub receiver : k .subject ≡ h .grantor
+  pub rises : k .granted < h .granted
+
+pub supports-is : (k h : Head) → (supports k h ≡ true) ↔ Supports k h
+unfolding supports
+supports-is k h = (
+  (λ s. record {
+    object = supports-object k h s;
+    mode = supports-mode k h s;
+    positive = not-true (k .negative) (passes k h s _ (inr (inr (inl refl))));
+    transferable = passes k h s _ (inr (inr (inr (inl refl))));
+    receiver = true-eq (k .subject) (h .grantor) (passes k h s _ (inr (inr (inr (inr (inl refl))))));
+    rises = supports-rises k h s;
+  }),
+  (λ w. rw (
+    eq-true (k .object) (h .object) (w .object),
+    eq-true (k .mode) (h .mode) (w .mode),
+    w .positive,
+    w .transferable,
+    eq-true (k .subject) (h .grantor) (w .receiver),
+    le-true (suc (k .granted)) (h .granted) (w .rises),
+  )),
+)
 
 -- ---- supported is the existence of a chain
 

@@ -34,7 +34,9 @@ use Rattle.model.specs.Report.{isOn, reportOf, reportTable, reportAnswer}
 use Rattle.model.specs.ReportFacts.{report-length}
 use Rattle.model.specs.Text.{Line, order, asksMay, asksWhen, unreadable}
 use Rattle.model.specs.Session.{whenList, byteTurn}
+use Rattle.model.specs.GrantFacts.{Barred}
 use Rattle.laws.specs.RequestFacts.{reply-refusal, refusedWith, uncovered-reply, nine-applies}
+use Rattle.laws.specs.RequestFacts.{fourteen-barred}
 
 -- an answer with a number that is not 0 is the refusal by a row, and the number is that row's
 refused : {A : Type 0} (rows : List Row) (refuse : ℕ → A) (answer : A) (number : A → ℕ) →
@@ -169,6 +171,12 @@ answered-nine s q r s′ a n =
       earliest-gap (decode s) q (nine-applies s q nine),
       earliest-one (decode s) q,
     )
+
+-- 02, CR 4: a requester that is told 14 is one that its row names
+pub answered-fourteen : (s : List ℕ) (q : Request) (r : Reply) (s′ : List ℕ) →
+    answering r s′ ≡ request s q → refusalNumber r ≡ 14 → Barred (decode s) q
+answered-fourteen s q r s′ a n =
+    fourteen-barred s q (ap (λ (x : Answer). refusalNumber (x .reply)) (sym a) ∙ n)
 
 -- ---- a line of text
 

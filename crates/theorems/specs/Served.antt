@@ -1,5 +1,6 @@
--- DEMAND 3 ABOUT THE CODE: it cites the contract of the library's request alone, and that of create. Of the bytes that a program leaves which answers one request after the other, each on the bytes
--- that the one before left, and the first on those that create left, demand 3 holds: `demand3-code`.
+-- DEMAND 3 ABOUT THE CODE: it cites the contract of the library's request alone, and that of create. Of the
+-- bytes that a program leaves which answers one request after the other, each on the bytes that the one before
+-- left, and the first on those that create left, demand 3 holds: `demand3-code`.
 use mathlib.Core.Path.{_≡_, sym, ap, _∙_, subst}
 use Prim.Native.Nat.{ℕ}
 use mathlib.Core.List.{List, [], _∷_}

@@ -3,7 +3,8 @@ use crate::raw::Reply;
 use core::error::Error;
 use core::fmt;
 
-/// Why a request or question was refused. Nothing lent was altered. Where several apply, the lowest number is given.
+/// Why a request or question was refused. Nothing lent was altered. Where several apply, the first is given of
+/// 2 to 8, 14, 9 to 13.
 #[derive(Clone, Copy, Debug, PartialEq, Eq)]
 pub enum Refusal {
     /// 2: the bytes have another length than a base, or are not sound.
