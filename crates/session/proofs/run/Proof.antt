@@ -8,7 +8,7 @@ use lib.ListN.{replicate, length-replicate}
 use Rattle.model.specs.Base.{emptyBase}
 use Rattle.model.specs.Soundness.{soundBytes}
 use Rattle.model.specs.EncodingFacts.{encode-sound, empty-sound}
-use Rattle.serving.specs.Pieces.{kept-none}
+use Rattle.serving.proofs.PieceFacts.{kept-none}
 use Rattle.session.specs.Input.{served-run}
 use Rattle.session.proofs.run.Statement.{statement}
 use Rattle.session.proofs.run.Tie as tie

@@ -12,7 +12,7 @@ use Rattle.foundation.specs.Tests.{cases, true-le, false-le, and-true}
 use Rattle.model.specs.Soundness.{soundBytes}
 use Rattle.model.specs.EncodingFacts.{sound-length}
 use Rattle.serving.specs.Turns.{Kept}
-use Rattle.serving.specs.Pieces.{kept-front}
+use Rattle.serving.proofs.PieceFacts.{kept-front}
 use Rattle.session.specs.declared.Going.{Going}
 use Rattle.session.specs.Input.{arrived, Read, Answered, digest-none, read-more, answers-none}
 use Rattle.session.specs.Input.{answered-then, Stopped, served-ended, served-cut}
