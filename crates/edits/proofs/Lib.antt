@@ -3,3 +3,4 @@
 pub mod EditedBytes
 pub mod BodyEdits
 pub mod Kept
+pub mod Written

@@ -1,17 +1,13 @@
 -- A base with one of its parts replaced, and the bytes that an edit starts from.
-use mathlib.Core.Path.{_≡_, ap}
+use mathlib.Core.Path.{_≡_}
 use Prim.Native.Nat.{ℕ, suc, _+_, _-_}
-use mathlib.Core.Bool.{true}
 use mathlib.Core.List.{List, _++_}
 use lib.ListN.{length, take, drop, replicate}
 use Rattle.model.specs.declared.Privilege.{Privilege}
 use Rattle.model.specs.Base.{Base}
 use Rattle.model.specs.Effects.{withClock, withLast, withObjects, withAdministrators, withReferrers}
 use Rattle.model.specs.Encoding.{encode, decode}
-use Rattle.model.specs.Soundness.{soundBytes}
-use Rattle.model.specs.SoundnessFacts.{sound-bytes}
-use Rattle.model.specs.FitsFacts.{BaseFits, base-fits}
-use Rattle.model.specs.EncodingFacts.{decode-fits}
+use Rattle.model.specs.FitsFacts.{BaseFits}
 use Rattle.encoding.specs.declared.Counts.{Counts}
 use Rattle.encoding.specs.Format.{administratorsAt, referrersAt}
 use Rattle.edits.specs.declared.PrivilegeBody.{PrivilegeBody}
@@ -108,11 +104,3 @@ resized at old new s =
 pub record Written (s : List ℕ) : Type 0 where
   pub encoded : encode (decode s) ≡ s
   pub fits : BaseFits (decode s)
-
-pub written-sound : (s : List ℕ) → soundBytes s ≡ true → Written s
-written-sound s e =
-    let t = sound-bytes s e in
-    record { encoded = t .0; fits = base-fits (decode s) (t .1) }
-
-pub written-encode : (b : Base) → BaseFits b → Written (encode b)
-written-encode b f = record { encoded = ap encode (decode-fits b f); fits = rw (decode-fits b f) f }

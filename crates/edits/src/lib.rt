@@ -214,12 +214,12 @@ pub fn remove_privilege(s: &mut [u8], k: PrivilegeBody, i: usize)
     );
 }
 
-// Makes the m authorizations of a body those of the base.
-pub fn replace_authorizations(s: &mut [u8], body: &[u8], m: usize)
-    requires { ⌜ Written (now s) × (m ≤ mostAuthorizations) × (m * 24 ≤ length (now body))
-        × (take (24 * m) (now body) ≡ each (records 24 authorizationOf m (now body)) authorizationBytes) ⌝ }
+// Makes the m authorizations that were built those of the base.
+pub fn replace_authorizations(s: &mut [u8], built: &[u8], m: usize)
+    requires { ⌜ Written (now s) × (m ≤ mostAuthorizations) × (m * 24 ≤ length (now built))
+        × (take (24 * m) (now built) ≡ each (records 24 authorizationOf m (now built)) authorizationBytes) ⌝ }
     ensures { λ _. ⌜ now (s .exit)
-        ≡ encode (withAuthorizations (records 24 authorizationOf m (now (body .entry)))
+        ≡ encode (withAuthorizations (records 24 authorizationOf m (now (built .entry)))
         (decode (now (s .entry)))) ⌝ }
 {
     let c = encoding::counts_of(s);
@@ -231,7 +231,7 @@ pub fn replace_authorizations(s: &mut [u8], body: &[u8], m: usize)
         AUTHORIZATION_BYTES * m,
         with_authorization_count(c, m as u16),
     );
-    fields::copy(s, at, body, AUTHORIZATION_BYTES * m);
+    fields::copy(s, at, built, AUTHORIZATION_BYTES * m);
 }
 
 // Sets the clock.

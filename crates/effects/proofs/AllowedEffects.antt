@@ -31,7 +31,8 @@ use Rattle.laws.specs.Rows.{rule-in, label-left}
 use Rattle.laws.specs.RuleTerms.{ruleTests}
 use Rattle.laws.specs.Preservation.{sound-after}
 use Rattle.edits.specs.declared.PrivilegeBody.the-variants.{Objects}
-use Rattle.edits.specs.Edits.{Written, written-sound, written-encode, withStamp}
+use Rattle.edits.specs.Edits.{Written, withStamp}
+use Rattle.edits.proofs.Written.{written-sound, written-encode}
 use Rattle.model.specs.Effects.{withAuthorizations, withRules, withReferrers}
 use Rattle.edits.specs.Edits.{withPrivileges, privilegesOf}
 use Rattle.edits.proofs.Kept.{fits-clock}

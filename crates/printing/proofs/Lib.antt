@@ -3,3 +3,4 @@
 pub mod Placed
 pub mod Digits
 pub mod Pairs
+pub mod Lengths

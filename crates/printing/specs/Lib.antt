@@ -1,3 +1,2 @@
 -- `Print` has what the contracts of printing say, and `Lengths` how long the texts are.
 pub mod Print
-pub mod Lengths

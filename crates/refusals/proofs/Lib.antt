@@ -1,3 +1,5 @@
 pub mod Tests
 pub mod ByKind
 pub mod Added
+pub mod AskedFacts
+pub mod EarlyFacts

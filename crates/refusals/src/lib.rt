@@ -1,13 +1,13 @@
 // The table of refusals: rows 3 to 12, asked of the bytes of a sound base and a request. Row 13 is asked of
 // what the request would leave.
 mod circles;
-mod cover;
+mod grants;
 mod ranges;
 mod rows;
 mod table;
 
 pub use circles::not_stratified;
-pub use cover::uncovered;
+pub use grants::uncovered;
 pub use ranges::bad_interval;
 pub use ranges::out_of_range;
 pub use rows::already_there;

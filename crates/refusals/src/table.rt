@@ -9,8 +9,8 @@ ghost use Rattle.refusals.specs.Early.{earlyIs};
 ghost use Rattle.refusals.specs.Early.{orElse};
 use crate::Early;
 use crate::circles::not_stratified;
-use crate::cover::barred;
-use crate::cover::uncovered;
+use crate::grants::barred;
+use crate::grants::uncovered;
 use crate::ranges::bad_interval;
 use crate::ranges::out_of_range;
 use crate::rows::already_there;
@@ -19,8 +19,8 @@ use crate::rows::no_label;
 use crate::rows::no_object;
 use crate::rows::not_held;
 use crate::rows::not_permitted;
+use cover::Gap;
 use model::Request;
-use support::Gap;
 
 // The number so far, or else that of a row that applies.
 fn or_else(k: u32, applies: bool, number: u32) -> u32

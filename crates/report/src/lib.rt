@@ -3,7 +3,6 @@ ghost use mathlib.Core.Path.{_≡_};
 ghost use Rattle.model.specs.Counting.{counting};
 ghost use Rattle.model.specs.Report.{reportAnswer};
 
-mod rows;
 mod sheet;
 
 use model::Counted;

@@ -12,7 +12,7 @@ ghost use Rattle.model.specs.Report.{isOn, rowsOn, reportRow, reportAnswer};
 ghost use Rattle.encoding.specs.Format.{authorizationsIn};
 ghost use Rattle.printing.specs.Print.{Printed};
 ghost use Rattle.report.specs.Sheet.{Lines, filled};
-use crate::rows::put_row;
+use columns::put_row;
 use model::Authorization;
 use model::Counted;
 

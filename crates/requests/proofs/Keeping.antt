@@ -16,7 +16,7 @@ use Rattle.model.specs.Requests.{NEW, REVOKE, REVOKEP, REVOKEN, REVOKEADM, REVO
 use Rattle.model.specs.Step.{outOfRange}
 use Rattle.model.specs.StepFacts.{in-range}
 use Rattle.model.specs.Kinds.{withdrawalKinds}
-use Rattle.requests.specs.Room.{keepingKinds}
+use Rattle.requests.specs.KeepingKinds.{keepingKinds}
 
 -- n numbers, from m on
 abbrev pub numbersFrom : ℕ → ℕ → List ℕ

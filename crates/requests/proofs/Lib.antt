@@ -1,3 +1,3 @@
 pub mod Keeping
 pub mod Replies
-pub mod Revoking
+pub mod RoomFacts

@@ -20,8 +20,9 @@ use Rattle.encoding.specs.Format.{countsOf}
 use Rattle.encoding.proofs.FormatFacts.{decoded-lengths}
 use Rattle.effects.specs.Effects.{Allowed}
 use Rattle.effects.proofs.AllowedEffects.{Holds, holds, after-fits, last-read}
-use Rattle.requests.specs.Carried.{Passed, Carried, passed-accepted}
-use Rattle.requests.specs.Room.{keepingKinds}
+use Rattle.revocation.specs.Carried.{Passed, Carried}
+use Rattle.requests.specs.KeepingKinds.{keepingKinds}
+use Rattle.revocation.proofs.CarriedFacts.{passed-accepted}
 use Rattle.requests.proofs.Keeping.{keeping}
 
 -- ---- what is read

@@ -1,3 +1,1 @@
-pub mod Carried
-pub mod Revoked
-pub mod Room
+pub mod KeepingKinds

@@ -12,10 +12,9 @@ ghost use Rattle.model.specs.Answers.{answering, request};
 ghost use Rattle.model.specs.Means.{plainly};
 ghost use Rattle.model.specs.Step.{effect};
 ghost use Rattle.effects.specs.Effects.{Allowed};
-ghost use Rattle.requests.specs.Carried.{Passed, Carried};
-ghost use Rattle.requests.specs.Room.{keepingKinds};
+ghost use Rattle.revocation.specs.Carried.{Passed, Carried};
+ghost use Rattle.requests.specs.KeepingKinds.{keepingKinds};
 
-mod revocation;
 mod room;
 
 use model::Reply;

@@ -9,7 +9,8 @@ use lib.Seq.{drop-drop, drop-length, take-add}
 use Rattle.foundation.specs.Tests.{cases, true-eq, false-eq}
 use Rattle.serving.specs.declared.steps.Stepped.{Stepped}
 use Rattle.serving.specs.Turns.{Kept}
-use Rattle.serving.specs.Stream.{Feeds, feeds-none, feeds-then}
+use Rattle.serving.specs.Stream.{Feeds, feeds-then}
+use Rattle.serving.proofs.StreamFacts.{feeds-none}
 use Rattle.serving.specs.Steps.{Steps}
 
 -- what the borrow checker says of a buffer whose end came back: it is the end that was lent, behind the same

@@ -1,17 +1,10 @@
 -- A reply on a line of its own in a buffer, and a line that was answered.
-use mathlib.Core.Path.{_≡_, ap, _∙_}
-use Prim.Native.Nat.{ℕ, suc, _+_, _≤_}
-use native.Mathlib.Omega.{arith}
-use mathlib.Core.Bool.{true}
+use mathlib.Core.Path.{_≡_}
+use Prim.Native.Nat.{ℕ, _≤_}
 use mathlib.Core.List.{List, [], _∷_, _++_}
-use lib.ListN.{length, take, set, length-set}
-use lib.Seq.{take-suc-set}
-use Rattle.model.specs.Soundness.{soundBytes}
-use Rattle.model.specs.Text.{Line, order, asksMay, asksWhen, unreadable, newline, readLine, printReply}
+use lib.ListN.{length, take}
+use Rattle.model.specs.Text.{Line, newline, printReply}
 use Rattle.model.specs.Session.{byteTurn}
-use Rattle.laws.specs.RequestFacts.{request-sound}
-use Rattle.printing.specs.Print.{longestReply}
-use Rattle.serving.specs.Turns.{Turned}
 
 -- the text and a newline stand at the front, n bytes in all
 pub record PrintedLine (text before after : List ℕ) (n : ℕ) : Type 0 where
@@ -19,50 +12,6 @@ pub record PrintedLine (text before after : List ℕ) (n : ℕ) : Type 0 where
   pub few : n ≤ 24001
   pub room : length after ≡ length before
 
--- a newline behind a reply
-pub line-ended : {text before : List ℕ} (out : List ℕ) (n : ℕ) → 24001 ≤ length before → take n out ≡ text →
-    n ≤ longestReply → length out ≡ length before → PrintedLine text before (set out n newline) (n + 1)
-line-ended out n h e few room = record {
-  front = ap (λ (k : ℕ). take k (set out n newline)) (add-one n)
-      ∙ take-suc-set out n newline (omega (arith, h, few, room)) ∙ ap (λ (t : List ℕ). t ++ (newline ∷ [])) e;
-  few = omega (arith, few);
-  room = length-set out n newline ∙ room;
-}
-  where
-    add-one : (n : ℕ) → n + 1 ≡ suc n
-    add-one n = omega arith
-
--- the same text by another name
-pub printed-as : {text text′ before after : List ℕ} {n : ℕ} → text ≡ text′ → PrintedLine text before after n →
-    PrintedLine text′ before after n
-printed-as e p = record {
-  front = p .front ∙ ap (λ (t : List ℕ). t ++ (newline ∷ [])) e;
-  few = p .few;
-  room = p .room;
-}
-
 -- what is printed of the answer to a line
 abbrev pub turnText : List ℕ → Line → List ℕ
 turnText s l = let x = byteTurn s l in printReply (x .reply) (x .runs)
-
--- ---- a line that was answered
-
-pub turn-sound : (s : List ℕ) (l : Line) → soundBytes s ≡ true → soundBytes (byteTurn s l .lent) ≡ true
-turn-sound s (order q) e = request-sound s q e
-turn-sound s (asksMay q) e = e
-turn-sound s (asksWhen x) e = e
-turn-sound s unreadable e = e
-
--- where the line says l, and the bytes are left as l leaves them
-pub turned : {line before after s′ : List ℕ} {n : ℕ} (s : List ℕ) (l : Line) → soundBytes s ≡ true →
-    l ≡ readLine line → PrintedLine (turnText s l) before after n → s′ ≡ byteTurn s l .lent →
-    Turned s line n after s′ × (length after ≡ length before)
-turned s l e said p left = (
-  record {
-    text = p .front ∙ ap (λ (l : Line). turnText s l ++ (newline ∷ [])) said;
-    few = p .few;
-    bytes = left ∙ ap (λ (l : Line). byteTurn s l .lent) said;
-    sound = ap soundBytes left ∙ turn-sound s l e;
-  },
-  p .room,
-)

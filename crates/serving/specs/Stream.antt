@@ -3,7 +3,6 @@
 -- (`stream-session`).
 use mathlib.Core.Path.{_≡_, refl, sym, ap, _∙_}
 use Prim.Native.Nat.{ℕ}
-use mathlib.Core.Bool.{true, false, true≢false}
 use mathlib.Core.List.{List, [], _∷_, _++_, append-assoc, append-nil}
 use lib.Dec.{eqb}
 use lib.Seq.{append-snoc}
@@ -14,7 +13,6 @@ use Rattle.model.specs.Text.{newline, extend, split, closed, printReply}
 use Rattle.model.specs.Session.{session, byteTranscript, byteSession, turns, bytesAfter}
 use Rattle.laws.specs.SessionFacts.{session-bytes}
 use Rattle.serving.specs.Turns.{turnOf, replyText}
-use Rattle.serving.specs.Pieces.{ends}
 
 -- what a piece has led to: the text that was printed, the bytes of the base, and the line that is not ended
 -- yet
@@ -49,16 +47,6 @@ finishBytes s (c ∷ p) = turnOf s (c ∷ p) .lent
 abbrev pub ending : Fed → List ℕ
 ending f = f .text ++ finish (f .lent) (f .pending)
 
--- ---- one line of a piece
-
--- without a newline all of it belongs to the line
-pub feed-goes-on : (s pending w : List ℕ) → ends w ≡ false →
-    feed s pending w ≡ record { text = []; lent = s; pending = pending ++ w }
-feed-goes-on s pending [] e = rw (append-nil pending)
-feed-goes-on s pending (c ∷ w) e = cases (eqb c newline)
-    (λ p. absurd (true≢false (rw p at e)))
-    (λ p. rw p (feed-goes-on s (pending ++ (c ∷ [])) w (rw p at e) ∙ rw (append-snoc pending c w)))
-
 -- ---- where the input is cut is of no account
 
 printed-twice : (a b : List ℕ) (f : Fed) → printed a (printed b f) ≡ printed (a ++ b) f
@@ -76,51 +64,12 @@ feed-append s pending (c ∷ v) w = cases (eqb c newline)
     ∙ printed-twice (replyText s pending) (f .text) (feed (f .lent) (f .pending) w)))
     (λ p. rw p (feed-append s (pending ++ (c ∷ [])) v w))
 
--- a line and its newline: it is answered
-pub feed-line : (s pending l : List ℕ) → ends l ≡ false →
-    feed s pending (l ++ (newline ∷ []))
-    ≡ record { text = replyText s (pending ++ l); lent = turnOf s (pending ++ l) .lent; pending = [] }
-feed-line s pending l e =
-    feed-append s pending l (newline ∷ []) ∙ rw (
-      feed-goes-on s pending l e,
-      append-nil (replyText s (pending ++ l)),
-    )
-
 -- all of `input` but `rest` was fed: `text` was printed, the bytes are s′, and `left` is the line that is not
 -- ended
 pub record Feeds (s pending input rest text s′ left : List ℕ) : Type 0 where
   pub done : List ℕ
   pub parts : done ++ rest ≡ input
   pub fed : feed s pending done ≡ record { text = text; lent = s′; pending = left }
-
-pub feeds-none : (s pending input : List ℕ) → Feeds s pending input input [] s pending
-feeds-none s pending input = record { done = []; parts = refl; fed = refl }
-
-module _ {s pending input rest text s′ left : List ℕ} (f : Feeds s pending input rest text s′ left) where
-  through : rest ≡ [] → f .done ≡ input
-  through e = sym (append-nil (f .done)) ∙ ap (λ (v : List ℕ). f .done ++ v) (sym e) ∙ f .parts
-
-  -- where nothing is left over
-  pub feeds-all : rest ≡ [] → feed s pending input ≡ record { text = text; lent = s′; pending = left }
-  feeds-all e = ap (feed s pending) (sym (through e)) ∙ f .fed
-
-  -- input that comes behind it is still to be fed
-  pub feeds-more : (more : List ℕ) → rest ≡ [] → Feeds s pending (input ++ more) more text s′ left
-  feeds-more more e = record {
-    done = f .done;
-    parts = ap (λ (v : List ℕ). v ++ more) (through e);
-    fed =
-        f .fed;
-  }
-
-  -- what was printed comes first of all that is to be printed
-  pub feeds-front : ending (feed s pending input) ≡ text ++ ending (feed s′ left rest)
-  feeds-front =
-      let g = feed s′ left rest in
-      let e : feed s pending (f .done ++ rest) ≡ printed text g =
-      feed-append s pending (f .done) rest ∙ rw (f .fed) in
-      ap (λ (v : List ℕ). ending (feed s pending v)) (sym (f .parts)) ∙ ap ending e
-      ∙ append-assoc text (g .text) (finish (g .lent) (g .pending))
 
 pub feeds-then : {s pending input middle text s′ left rest text′ s″ left′ : List ℕ} →
     Feeds s pending input middle text s′ left → Feeds s′ left middle rest text′ s″ left′ →

@@ -8,7 +8,7 @@ ghost use Rattle.model.specs.Soundness.{soundBytes};
 ghost use Rattle.serving.specs.Turns.{Kept, Turned};
 ghost use Rattle.serving.specs.Stream.{finish, finishBytes};
 ghost use Rattle.serving.specs.Steps.{Steps};
-use crate::pieces::take_line;
+use crate::taking::take_line;
 use crate::turns::serve_line;
 
 // Where a step has come to: how many bytes it printed, how many of the line are kept, and the place in the

@@ -19,7 +19,8 @@ use Rattle.channel.specs.Trace.{Handed, Read, Stopped, read-same}
 use Rattle.serving.specs.declared.steps.Stepped.{Stepped}
 use Rattle.serving.specs.Turns.{Kept}
 use Rattle.serving.specs.Stream.{Fed, feed, finish, finishBytes, ending, Feeds}
-use Rattle.serving.specs.Stream.{feeds-none, feeds-all, feeds-more, feeds-front, feeds-then, stream-session}
+use Rattle.serving.specs.Stream.{feeds-then, stream-session}
+use Rattle.serving.proofs.StreamFacts.{feeds-none, feeds-all, feeds-more, feeds-front}
 use Rattle.serving.specs.Stream.{stream-base}
 use Rattle.serving.specs.Steps.{Steps}
 use Rattle.session.specs.declared.Going.{Going}

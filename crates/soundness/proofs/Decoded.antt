@@ -21,7 +21,7 @@ use Rattle.encoding.specs.Format.{rulesAt, endAt, authorizationClean, ruleClean
 use Rattle.encoding.specs.Format.{formatFits}
 use Rattle.encoding.proofs.FormatFacts.{decoded-objects, decoded-administrators, decoded-referrers}
 use Rattle.encoding.proofs.FormatFacts.{decoded-authorizations, decoded-rules, decoded-counts}
-use Rattle.soundness.specs.Parts.{objectsPart, privilegesPart, authorizationsPart, rulesPart}
+use Rattle.bodies.specs.Parts.{objectsPart, privilegesPart, authorizationsPart, rulesPart}
 use Rattle.soundness.specs.Parts.{sound-parts}
 use Rattle.soundness.specs.BodiesAsked.{baseOf, partsHold}
 use Rattle.lookup.proofs.SoundBodies.{rest-of}

@@ -1,2 +1,1 @@
-pub mod FormatTests
 pub mod Decoded

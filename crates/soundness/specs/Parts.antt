@@ -1,9 +1,8 @@
 -- Soundness body by body, as code asks it: `sound-parts` says that a base is sound exactly if every part
--- passes.
+-- passes. The steps to this claim stand here too: specs/ cannot lean on the proofs/ of its own crate.
 use mathlib.Core.Path.{_≡_, refl}
 use mathlib.Core.Logic.{inl, inr}
-use Prim.Native.Nat.{ℕ, suc}
-use mathlib.Core.Bool.{Bool, true, not, _&&_, _||_, Bool·beq}
+use mathlib.Core.Bool.{Bool, true, not, _&&_, Bool·beq}
 use mathlib.Core.List.{List, [], _∷_}
 use lib.Dec.{leb, ltb, eqb}
 use Rattle.foundation.specs.Tests.{agree, and-true, and-intro}
@@ -16,76 +15,17 @@ use Rattle.model.specs.Base.{Base, listed, exists, owns, mayRule}
 use Rattle.model.specs.Requests.{before}
 use Rattle.model.specs.Stratification.{isStar, stratified}
 use Rattle.model.specs.Step.{countsHold, optionFits}
-use Rattle.model.specs.Soundness.{chained, rises, privilegeIn, authorizationIn, ruleIn, startsFirst, sameHead}
+use Rattle.model.specs.Soundness.{chained, rises, privilegeIn, authorizationIn, ruleIn, startsFirst}
 use Rattle.model.specs.Soundness.{allSupported, sound}
 use Rattle.model.specs.SoundnessFacts.{Sound, sound-tests, tests-sound}
 use Rattle.lookup.specs.Numbers.{existsIn}
 use Rattle.model.specs.SoundTests.{order-test, ranges-test, intervals-test, exist-test, owners-test}
 use Rattle.model.specs.SoundTests.{labels-test}
+use Rattle.bodies.specs.Parts.{objectsPart, privilegeTest, privilegesPart, neighbours, authorizationTest}
+use Rattle.bodies.specs.Parts.{authorizationsPart, mayRuleIn, ruleTest, rulesPart}
+use Rattle.bodies.proofs.Chains.{all-both, all-left, all-right, chained-two, chained-one}
 
--- ---- the parts
-
--- objects rise by number, in range
-abbrev pub objectsPart : List Privilege → Bool
-objectsPart os = chained (λ p r. ltb (p .object) (r .object)) os && allb privilegeIn os
-
--- a privilege in range, of an object that exists, and not its owner's
-abbrev pub privilegeTest : List Privilege → Privilege → Bool
-privilegeTest os p = privilegeIn p && existsIn os (p .object) && not (listed os (p .object) (p .subject))
-
-abbrev pub privilegesPart : List Privilege → List Privilege → Bool
-privilegesPart os ps = chained before ps && allb (privilegeTest os) ps
-
--- two authorizations next to each other: they rise, and those of one label agree, with an instant missing
--- between
-abbrev pub neighbours : Authorization → Authorization → Bool
-neighbours a c =
-    rises a c
-    && (not (eqb (a .head .label) (c .head .label))
-    || (sameHead (a .head) (c .head) && ltb (suc (a .interval .end)) (c .interval .start)))
-
--- one authorization by itself, beside the objects and the rules
-abbrev pub authorizationTest : List Privilege → List Rule → ℕ → ℕ → Authorization → Bool
-authorizationTest os rs clock last a =
-    authorizationIn a
-    && startsFirst (a .interval)
-    && (leb (a .head .granted) (a .interval .start) && leb (a .head .granted) clock)
-    && not (a .head .negative && a .head .option)
-    && existsIn os (a .head .object)
-    && not (anyb (λ r. eqb (r .label) (a .head .label)) rs)
-    && leb (a .head .label) last
-
-abbrev pub authorizationsPart : List Privilege → List Rule → ℕ → ℕ → List Authorization → Bool
-authorizationsPart os rs clock last xs = chained neighbours xs && allb (authorizationTest os rs clock last) xs
-
--- who owns or administers, and who may refer
-abbrev pub mayRuleIn : List Privilege → List Privilege → List Privilege → ℕ → ℕ → ℕ → Bool
-mayRuleIn os ads rfs s left right =
-    (listed os left s || listed ads left s)
-    && ((listed os right s || listed ads right s) || listed rfs right s)
-
--- a star of subject or mode is on both sides or on neither
-abbrev pub starsMeet : Rule → Bool
-starsMeet r =
-    Bool·beq (isStar (r .left .subject)) (isStar (r .right .subject))
-    && Bool·beq (isStar (r .left .mode)) (isStar (r .right .mode))
-
--- one rule by itself, beside the privileges
-abbrev pub ruleTest : List Privilege → List Privilege → List Privilege → ℕ → Rule → Bool
-ruleTest os ads rfs last r =
-    ruleIn r
-    && startsFirst (r .interval)
-    && (existsIn os (r .left .object) && existsIn os (r .right .object))
-    && leb (r .label) last
-    && mayRuleIn os ads rfs (r .author) (r .left .object) (r .right .object)
-    && starsMeet r
-    && optionFits (r .right .negative) (r .option)
-
-abbrev pub rulesPart : List Privilege → List Privilege → List Privilege → ℕ → List Rule → Bool
-rulesPart os ads rfs last rs =
-    chained (λ r u. ltb (r .label) (u .label)) rs && allb (ruleTest os ads rfs last) rs
-
--- all of them
+-- all the parts
 abbrev pub parts : Base → Bool
 parts b =
     countsHold b
@@ -98,46 +38,6 @@ parts b =
     && rulesPart (b .objects) (b .administrators) (b .referrers) (b .last) (b .rules)
     && allSupported b
     && stratified (b .rules)
-
--- ---- lists
-
--- two tests of each, one after the other or both at once
-pub all-both : {A : Type 0} (p q : A → Bool) (xs : List A) → allb p xs ≡ true → allb q xs ≡ true →
-    allb (λ x. p x && q x) xs ≡ true
-all-both p q xs e f = mem-all (λ x. p x && q x) xs
-    (λ x m. and-intro (p x) (q x) (all-mem p xs e x m) (all-mem q xs f x m))
-
-pub all-left : {A : Type 0} (p q : A → Bool) (xs : List A) → allb (λ x. p x && q x) xs ≡ true →
-    allb p xs ≡ true
-all-left p q xs e = mem-all p xs (λ x m. and-true (p x) (q x) (all-mem (λ x. p x && q x) xs e x m) .0)
-
-pub all-right : {A : Type 0} (p q : A → Bool) (xs : List A) → allb (λ x. p x && q x) xs ≡ true →
-    allb q xs ≡ true
-all-right p q xs e = mem-all q xs (λ x m. and-true (p x) (q x) (all-mem (λ x. p x && q x) xs e x m) .1)
-
-pub chained-two : {A : Type 0} (p q : A → A → Bool) (xs : List A) → chained p xs ≡ true →
-    chained q xs ≡ true →
-    chained (λ x y. p x y && q x y) xs ≡ true
-chained-two p q [] e f = refl
-chained-two p q (x ∷ []) e f = refl
-chained-two p q (x ∷ y ∷ xs) e f =
-    let u = and-true (p x y) (chained p (y ∷ xs)) e in
-    let v = and-true (q x y) (chained q (y ∷ xs)) f in
-    and-intro (p x y && q x y) (chained (λ x y. p x y && q x y) (y ∷ xs))
-    (and-intro (p x y) (q x y) (u .0) (v .0)) (chained-two p q (y ∷ xs) (u .1) (v .1))
-
-pub chained-one : {A : Type 0} (p q : A → A → Bool) (xs : List A) →
-    chained (λ x y. p x y && q x y) xs ≡ true →
-    (chained p xs ≡ true) × (chained q xs ≡ true)
-chained-one p q [] e = (refl, refl)
-chained-one p q (x ∷ []) e = (refl, refl)
-chained-one p q (x ∷ y ∷ xs) e =
-    let u = and-true (p x y && q x y) (chained (λ x y. p x y && q x y) (y ∷ xs)) e in
-    let v = and-true (p x y) (q x y) (u .0) in
-    let w = chained-one p q (y ∷ xs) (u .1) in (
-      and-intro (p x y) (chained p (y ∷ xs)) (v .0) (w .0),
-      and-intro (q x y) (chained q (y ∷ xs)) (v .1) (w .1),
-    )
 
 -- ---- the theorem
 

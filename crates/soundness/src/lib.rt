@@ -2,11 +2,7 @@
 ghost use mathlib.Core.Path.{_≡_};
 ghost use Rattle.model.specs.Soundness.{soundBytes};
 
-mod bodies;
-mod format;
-mod orders;
 mod parts;
-mod tests;
 
 use format::format_fits;
 use parts::parts_hold;

@@ -1,75 +1,15 @@
 // Soundness, body by body.
 ghost use mathlib.Core.Path.{_≡_};
 ghost use mathlib.Core.Bool.{true};
-ghost use Prim.Native.Nat.{_*_, _≤_};
-ghost use lib.ListN.{length};
 ghost use Rattle.model.specs.Encoding.{decode};
 ghost use Rattle.model.specs.Soundness.{sound};
-ghost use Rattle.encoding.specs.Format.{formatFits, privilegesIn, authorizationsIn, rulesIn};
-ghost use Rattle.soundness.specs.Parts.{objectsPart, privilegesPart, authorizationsPart, rulesPart};
+ghost use Rattle.encoding.specs.Format.{formatFits};
 ghost use Rattle.soundness.specs.BodiesAsked.{baseOf, BodiesFit, bodiesHold, partsHold};
-use crate::bodies::authorizations_test_all;
-use crate::bodies::privileges_in;
-use crate::bodies::privileges_test_all;
-use crate::bodies::rules_test_all;
-use crate::orders::authorizations_agree;
-use crate::orders::objects_rise;
-use crate::orders::privileges_rise;
-use crate::orders::rules_rise;
+use bodies::authorizations_hold;
+use bodies::objects_hold;
+use bodies::privileges_hold;
+use bodies::rules_hold;
 use encoding::Counts;
-
-fn objects_hold(s: &[u8], n: usize) -> bool
-    requires { ⌜ n * 4 ≤ length (now s) ⌝ }
-    ensures { λ r. ⌜ r ≡ objectsPart (privilegesIn n (now (s .entry))) ⌝ }
-{
-    objects_rise(s, n) & privileges_in(s, n)
-}
-
-fn privileges_hold(objects: &[u8], no: usize, s: &[u8], n: usize) -> bool
-    requires { ⌜ (no * 4 ≤ length (now objects)) × (n * 4 ≤ length (now s)) ⌝ }
-    ensures { λ r. ⌜ r ≡ privilegesPart (privilegesIn no (now (objects .entry)))
-        (privilegesIn n (now (s .entry))) ⌝ }
-{
-    privileges_rise(s, n) & privileges_test_all(objects, no, s, n)
-}
-
-fn authorizations_hold(
-    objects: &[u8],
-    no: usize,
-    rules: &[u8],
-    nr: usize,
-    clock: u32,
-    last: u16,
-    s: &[u8],
-    n: usize,
-) -> bool
-    requires { ⌜ (no * 4 ≤ length (now objects)) × (nr * 28 ≤ length (now rules))
-        × (n * 24 ≤ length (now s)) ⌝ }
-    ensures { λ r. ⌜ r ≡ authorizationsPart (privilegesIn no (now (objects .entry)))
-        (rulesIn nr (now (rules .entry))) clock last (authorizationsIn n (now (s .entry))) ⌝ }
-{
-    authorizations_agree(s, n) & authorizations_test_all(objects, no, rules, nr, clock, last, s, n)
-}
-
-fn rules_hold(
-    objects: &[u8],
-    no: usize,
-    administrators: &[u8],
-    na: usize,
-    referrers: &[u8],
-    nf: usize,
-    last: u16,
-    s: &[u8],
-    n: usize,
-) -> bool
-    requires { ⌜ (no * 4 ≤ length (now objects)) × (na * 4 ≤ length (now administrators))
-        × (nf * 4 ≤ length (now referrers)) × (n * 28 ≤ length (now s)) ⌝ }
-    ensures { λ r. ⌜ r ≡ rulesPart (privilegesIn no (now (objects .entry)))
-        (privilegesIn na (now (administrators .entry))) (privilegesIn nf (now (referrers .entry))) last
-        (rulesIn n (now (s .entry))) ⌝ }
-{
-    rules_rise(s, n) & rules_test_all(objects, no, administrators, na, referrers, nf, last, s, n)
-}
 
 // Each body holds beside the others.
 fn bodies_hold(

@@ -1,4 +1,1 @@
-pub mod First
-pub mod Cover
-pub mod Sweep
-pub mod Gaps
+pub mod Hops

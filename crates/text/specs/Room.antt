@@ -13,7 +13,7 @@ use Rattle.model.specs.Answers.{request, mayAnswer, whenAnswer}
 use Rattle.model.specs.Text.{Line, order, asksMay, asksWhen, unreadable, readLine}
 use Rattle.model.specs.Session.{byteTurn, whenList, Written, shortestBuffer, textAnswer}
 use Rattle.printing.specs.Print.{longestReply}
-use Rattle.printing.specs.Lengths.{reply-most}
+use Rattle.printing.proofs.Lengths.{reply-most}
 use Rattle.text.specs.Short.{short-length, request-short, may-short, when-fits}
 use Rattle.text.specs.Writing.{turnText, answerTo, too-short, no-room, has-room, text-answer}
 

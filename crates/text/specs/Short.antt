@@ -1,8 +1,8 @@
 -- The replies to requests and to MAY are short: with its newline none is longer than 16 bytes. Those to WHEN
--- fit the list of 1,100 pairs.
+-- fit the list of 1,100 pairs. The laws that stand here lead to the claims of `Room`.
 use mathlib.Core.Path.{_≡_, refl}
 use mathlib.Core.Bool.{Bool, true, false, not}
-use mathlib.Core.List.{List, [], _∷_, _++_}
+use mathlib.Core.List.{List, _∷_, _++_}
 use Prim.Native.Nat.{ℕ, suc, _*_, _/_, _<_, _≤_}
 use native.Mathlib.Omega.{arith}
 use lib.Dec.{ltb, eqb}
@@ -26,11 +26,9 @@ use Rattle.model.specs.Encoding.{encode, decode}
 use Rattle.model.specs.FitsFacts.{counts-fit}
 use Rattle.model.specs.Soundness.{sound, soundBytes}
 use Rattle.model.specs.SoundnessFacts.{sound-tests, sound-bytes}
-use Rattle.model.specs.Answers.{Answer, answering, refusing, requestTable, mayTable, whenTable}
-use Rattle.model.specs.Answers.{mayReply}
+use Rattle.model.specs.Answers.{Answer, answering, refusing, requestTable, mayTable, whenTable, mayReply}
 use Rattle.model.specs.Answers.{words, request, mayAnswer, whenAnswer}
 use Rattle.model.specs.Text.{printReply}
-use Rattle.model.specs.Session.{runsOf}
 use Rattle.laws.specs.Preservation.{effect-sound}
 use Rattle.laws.specs.RequestFacts.{refusedWith}
 use Rattle.laws.specs.Rows.{label-left}
@@ -38,7 +36,7 @@ use Rattle.laws.specs.SessionFacts.{when-most}
 use Rattle.scan.specs.Runs.{words-length}
 use Rattle.printing.specs.Print.{RunsFit}
 use Rattle.model.specs.TextFacts.{decimal-below}
-use Rattle.printing.specs.Lengths.{done-length, refused-length}
+use Rattle.printing.proofs.Lengths.{done-length, refused-length}
 
 -- ---- rows of a table
 
@@ -72,23 +70,6 @@ short-length (Unsupported t) runs h = omega arith
 short-length Yes runs h = omega arith
 short-length No runs h = omega arith
 short-length (Runs n) runs h = absurd h
-
-pub short-fits : (r : Reply) (list : List ℕ) → Short r → RunsFit r list
-short-fits (Done label count) list h = tt
-short-fits (Refused n) list h = tt
-short-fits (Unsupported t) list h = tt
-short-fits Yes list h = tt
-short-fits No list h = tt
-short-fits (Runs n) list h = absurd h
-
--- its text is the same whatever the list
-pub short-runs : (r : Reply) (list : List ℕ) → Short r → runsOf r list ≡ []
-short-runs (Done label count) list h = refl
-short-runs (Refused n) list h = refl
-short-runs (Unsupported t) list h = refl
-short-runs Yes list h = refl
-short-runs No list h = refl
-short-runs (Runs n) list h = absurd h
 
 refused-short : (rows : List Row) → allb (λ r. ltb (r .number) 100) rows ≡ true →
     Short (Refused (firstNumber rows))

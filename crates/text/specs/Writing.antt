@@ -1,5 +1,6 @@
--- What the functions of this crate write, and the definition's answer by cases: refused, or written.
-use mathlib.Core.Path.{_≡_, refl, sym, ap, _∙_}
+-- What the functions of this crate write, and the definition's answer by cases: refused, or written. The laws
+-- that stand here lead to the claims of `Room`.
+use mathlib.Core.Path.{_≡_, refl, ap, _∙_}
 use mathlib.Core.Bool.{Bool, true, false, _||_}
 use mathlib.Core.List.{List, [], _∷_, _++_}
 use Prim.Native.Nat.{ℕ, suc, _≤_, _<_}
@@ -22,16 +23,6 @@ pub record Wrote (text before after : List ℕ) (w : TextReply) : Type 0 where
   pub refusal : w .refusal ≡ 0
   pub count : w .count ≡ length (text ++ (newline ∷ []))
   pub bytes : after ≡ (text ++ (newline ∷ [])) ++ drop (length (text ++ (newline ∷ []))) before
-
--- the same text by another name
-pub wrote-as : {text text′ before after : List ℕ} {w : TextReply} → text ≡ text′ → Wrote text before after w →
-    Wrote text′ before after w
-wrote-as {before = before} e p = record {
-  refusal = p .refusal;
-  count = p .count ∙ ap (λ (t : List ℕ). length (t ++ (newline ∷ []))) e;
-  bytes = p .bytes
-      ∙ ap (λ (t : List ℕ). (t ++ (newline ∷ [])) ++ drop (length (t ++ (newline ∷ []))) before) e;
-}
 
 -- ---- the answer to what a line says
 
@@ -96,20 +87,7 @@ module _ (s : List ℕ) (l : Line) (out : List ℕ) where
         (omega (arith, length-append text (newline ∷ []))) in
         answered rows refusing answering (rw (a, b))
 
-    -- the text was written, and the base is left as the definition says
-    pub all-written : {s′ out′ : List ℕ} {w : TextReply} → Wrote (turnText (byteTurn s l)) out out′ w →
-        s′ ≡ byteTurn s l .lent → written w s′ out′ ≡ answerTo
-    all-written p e =
-        let q : written _ _ _ ≡ answering =
-        λ i. record { refusal = p .refusal i; count = p .count i; lent = e i; out = p .bytes i } in
-        q ∙ sym has-room
-
 -- the answer to a line of text is that to what it says
 pub text-answer : (s line out : List ℕ) → textAnswer s line out ≡ answerTo s (readLine line) out
 unfolding textAnswer answerTo
 text-answer s line out = refl
-
--- so what answers what it says answers it
-pub answers-line : {x : Written} (s line out : List ℕ) (l : Line) → l ≡ readLine line → x ≡ answerTo s l out →
-    x ≡ textAnswer s line out
-answers-line s line out l e w = w ∙ ap (λ (l : Line). answerTo s l out) e ∙ sym (text-answer s line out)

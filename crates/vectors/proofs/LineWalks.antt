@@ -13,7 +13,8 @@ use lib.Seq.{length-take-le}
 use Rattle.foundation.specs.Tests.{cases, pick, agree, and-true, and-intro, true-le, eq-true, true-eq}
 use Rattle.foundation.specs.Bytes.{eqList, eqList-eq, eqList-refl}
 use Rattle.model.specs.Text.{newline, space, extend, split, closed, lines}
-use Rattle.serving.specs.Pieces.{ends, before, behind, before-all, split-ended, split-whole}
+use Rattle.serving.specs.Pieces.{ends, before, behind}
+use Rattle.serving.proofs.PieceFacts.{before-all, split-ended, split-whole}
 use Rattle.vectors.specs.declared.lines.Span.{Span}
 use Rattle.model.specs.Base.{emptyBase}
 use Rattle.model.specs.Encoding.{encode}
@@ -22,7 +23,7 @@ use Rattle.model.specs.Soundness.{soundBytes}
 use Rattle.model.specs.Answers.{create}
 use Rattle.laws.specs.Created.{created}
 use Rattle.serving.specs.Turns.{Turned}
-use Rattle.vectors.specs.Transcripts.{marked, opens, asks, body, Stage, stage, fresh, stands, next}
+use Rattle.vectors.specs.Transcripts.{marked, opens, asks, unmarked, Stage, stage, fresh, stands, next}
 use Rattle.vectors.specs.Transcripts.{agrees, standing, reached, remaining}
 use Rattle.vectors.specs.Said.{next-opens, next-asks, next-other}
 use Rattle.vectors.specs.LinePlaces.{Spans, Leads, Checks}
@@ -146,7 +147,7 @@ module _ (s line : List ℕ) where
       }
 
   pub leads-asks : {n : ℕ} {out s′ : List ℕ} → opens line ≡ false → asks line ≡ true →
-      Turned s (body line) n out s′ →
+      Turned s (unmarked line) n out s′ →
       Leads s line n s′ out
   leads-asks o a t = record {
     stages = ap₂ {C = Stage} (λ (b w : List ℕ). stage b w) (t .bytes) (t .text)

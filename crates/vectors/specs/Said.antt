@@ -18,7 +18,7 @@ use Rattle.model.specs.Text.{newline, space, printReply}
 use Rattle.model.specs.Session.{transcript, byteTranscript}
 use Rattle.laws.specs.SessionFacts.{same-transcript}
 use Rattle.serving.specs.Turns.{turnOf, replyText}
-use Rattle.vectors.specs.Transcripts.{marked, opens, asks, tells, body, Stage, stage, fresh, stands}
+use Rattle.vectors.specs.Transcripts.{marked, opens, asks, tells, unmarked, Stage, stage, fresh, stands}
 use Rattle.vectors.specs.Transcripts.{next}
 use Rattle.vectors.specs.Transcripts.{agrees}
 
@@ -27,14 +27,14 @@ use Rattle.vectors.specs.Transcripts.{agrees}
 -- the lines of the session before the next title
 abbrev pub asked : List (List ℕ) → List (List ℕ)
 asked [] = []
-asked (l ∷ rest) = let more = asked rest in pick (opens l) [] (pick (asks l) (body l ∷ more) more)
+asked (l ∷ rest) = let more = asked rest in pick (opens l) [] (pick (asks l) (unmarked l ∷ more) more)
 
 -- the replies before it, each with its newline
 abbrev pub told : List (List ℕ) → List ℕ
 told [] = []
 told (l ∷ rest) =
     let more = told rest in
-    pick (opens l) [] (pick (tells l) ((body l ++ (newline ∷ [])) ++ more) more)
+    pick (opens l) [] (pick (tells l) ((unmarked l ++ (newline ∷ [])) ++ more) more)
 
 -- ---- marks part
 
@@ -57,9 +57,9 @@ no-bytes [] e = refl
 no-bytes (c ∷ s) e = absurd (omega (arith, true-eq (length (c ∷ s)) 0 e))
 
 module _ (g : Stage) (l : List ℕ) where
-  stands-told : tells l ≡ true → stands g l ≡ true → body l ++ (newline ∷ []) ≡ g .owed
+  stands-told : tells l ≡ true → stands g l ≡ true → unmarked l ++ (newline ∷ []) ≡ g .owed
   unfolding stands
-  stands-told t e = eqList-eq (body l ++ (newline ∷ [])) (g .owed) (rw t at e)
+  stands-told t e = eqList-eq (unmarked l ++ (newline ∷ [])) (g .owed) (rw t at e)
 
   stands-other : tells l ≡ false → stands g l ≡ true → g .owed ≡ []
   unfolding stands
@@ -72,7 +72,7 @@ module _ (g : Stage) (l : List ℕ) where
   next-opens o = rw o
 
   pub next-asks : opens l ≡ false → asks l ≡ true →
-      next g l ≡ stage (turnOf (g .base) (body l) .lent) (replyText (g .base) (body l))
+      next g l ≡ stage (turnOf (g .base) (unmarked l) .lent) (replyText (g .base) (unmarked l))
   unfolding next
   next-asks o a = rw (o, a)
 
@@ -94,7 +94,7 @@ module _ (g : Stage) (l : List ℕ) (rest : List (List ℕ)) (s : stands g l ≡
   said-asks : opens l ≡ false → asks l ≡ true → answers g (l ∷ rest) ≡ told (l ∷ rest)
   said-asks o a =
       let t = one-mark 62 60 l refl a in
-      let x = turnOf (g .base) (body l) in
+      let x = turnOf (g .base) (unmarked l) in
       rw (o, a, t, stands-other g l t s)
       (sym (append-assoc (printReply (x .reply) (x .runs)) (newline ∷ [])
       (byteTranscript (asked rest) (x .lent)))
@@ -105,7 +105,7 @@ module _ (g : Stage) (l : List ℕ) (rest : List (List ℕ)) (s : stands g l ≡
       let m = ap (λ (h : Stage). answers h rest) (sym (next-other g l o a)) ∙ more in
       cases (tells l)
       (λ t. rw (o, a, t) (rw (← stands-told g l t s)
-      (ap (λ (r : List ℕ). (body l ++ (newline ∷ [])) ++ r) m)))
+      (ap (λ (r : List ℕ). (unmarked l ++ (newline ∷ [])) ++ r) m)))
       (λ t. rw (o, a, t, stands-other g l t s) m)
 
 case-bytes : (g : Stage) (ls : List (List ℕ)) → agrees g ls ≡ true → answers g ls ≡ told ls

@@ -30,8 +30,8 @@ abbrev pub tells : List ℕ → Bool
 tells l = marked 60 l
 
 -- what stands behind the mark
-abbrev pub body : List ℕ → List ℕ
-body l = drop 2 l
+abbrev pub unmarked : List ℕ → List ℕ
+unmarked l = drop 2 l
 
 -- ---- going through the lines
 
@@ -49,13 +49,13 @@ fresh = stage (encode emptyBase) []
 -- a line stands: it tells the reply that is owed, or none is owed and it is of another known kind
 unfoldable pub stands : Stage → List ℕ → Bool
 stands g l = pick (tells l)
-    (eqList (body l ++ (newline ∷ [])) (g .owed))
+    (eqList (unmarked l ++ (newline ∷ [])) (g .owed))
     (eqb (length (g .owed)) 0 && (eqb (length l) 0 || (opens l || asks l)))
 
 -- what is owed of a reply is owed once; a new case forgets the base of the one before
 unfoldable pub next : Stage → List ℕ → Stage
 next g l = pick (opens l) fresh
-    (pick (asks l) (stage (turnOf (g .base) (body l) .lent) (replyText (g .base) (body l)))
+    (pick (asks l) (stage (turnOf (g .base) (unmarked l) .lent) (replyText (g .base) (unmarked l)))
     (stage (g .base) []))
 
 -- every line stands, and no reply is owed at the end

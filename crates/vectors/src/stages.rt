@@ -9,7 +9,7 @@ ghost use Rattle.foundation.specs.Bytes.{eqList};
 ghost use Rattle.model.specs.Soundness.{soundBytes};
 ghost use Rattle.model.specs.Text.{newline};
 ghost use Rattle.vectors.specs.Transcripts.{marked as Transcripts·marked, stands as Transcripts·stands};
-ghost use Rattle.vectors.specs.Transcripts.{opens, body, stage};
+ghost use Rattle.vectors.specs.Transcripts.{opens, unmarked, stage};
 ghost use Rattle.vectors.specs.LinePlaces.{Leads};
 
 // Whether a line begins with a mark and a space.
@@ -25,7 +25,7 @@ pub fn marked(line: &[u8], mark: u8) -> bool
 // Whether a line tells the reply that is owed, which ends with a newline.
 fn tells_owed(line: &[u8], owed: &[u8]) -> bool
     requires { ⌜ 2 ≤ length (now line) ⌝ }
-    ensures { λ r. ⌜ r ≡ eqList (body (now (line .entry)) ++ (newline ∷ [])) (now (owed .entry)) ⌝ }
+    ensures { λ r. ⌜ r ≡ eqList (unmarked (now (line .entry)) ++ (newline ∷ [])) (now (owed .entry)) ⌝ }
 {
     if owed.len() == 0 {
         return false;

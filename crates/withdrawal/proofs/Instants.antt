@@ -11,7 +11,7 @@ use Rattle.foundation.specs.BytesFacts.{Bytes, bytes-drop}
 use Rattle.model.specs.declared.Authorization.{Authorization}
 use Rattle.model.specs.Encoding.{authorizationOf}
 use Rattle.encoding.specs.Format.{authorizationsIn}
-use Rattle.withdrawal.specs.Cuts.{behindAll}
+use Rattle.pieces.specs.Cuts.{behindAll}
 
 -- w bytes hold less than 256 ^ w
 le-below : (w : ℕ) (s : List ℕ) → Bytes s → le w s < 256 ^ w

@@ -1,12 +1,4 @@
-pub mod Stretches
 pub mod Stays
-pub mod Cuts
-pub mod Nearest
-pub mod Building
-pub mod Parts
-pub mod Putting
 pub mod Times
 pub mod Turns
 pub mod Rounds
-pub mod Walks
-pub mod Link

@@ -8,21 +8,21 @@ ghost use Prim.Native.Nat.{_+_, _*_, _≤_, _<_};
 ghost use lib.ListN.{length, drop};
 ghost use Rattle.model.specs.Withdrawal.{keep, restrict};
 ghost use Rattle.laws.specs.KeepFacts.{Sorted};
-ghost use Rattle.support.specs.Cover.{rootsIn};
+ghost use Rattle.support.specs.Hops.{rootsIn};
 ghost use Rattle.encoding.specs.Format.{authorizationsIn};
-ghost use Rattle.withdrawal.specs.Cuts.{spared, CutOrdered};
-ghost use Rattle.withdrawal.specs.Building.{Body, Holds, Room, Makes, Built};
+ghost use Rattle.pieces.specs.Cuts.{spared, CutOrdered};
+ghost use Rattle.pieces.specs.Building.{Body, Holds, Room, Makes, Built};
 ghost use Rattle.withdrawal.specs.Times.{InTime, pullOf, raiseOf, endOf};
 ghost use Rattle.withdrawal.specs.Turns.{pieceOf, leading, inOf, byOf, Turns};
 ghost use Rattle.withdrawal.specs.Rounds.{stayers};
-use crate::Cut;
-use crate::Put;
 use crate::Turn;
-use crate::cuts::taken;
-use crate::granting::earlier;
-use crate::pieces::put_pieces;
 use model::AUTHORIZATION_BYTES;
 use model::Authorization;
+use pieces::Cut;
+use pieces::Put;
+use pieces::earlier;
+use pieces::put_pieces;
+use pieces::taken;
 
 // Whether x is a piece of a, as its label and its start tell.
 fn is_piece(a: Authorization, x: Authorization) -> bool

@@ -24,13 +24,13 @@ reshape-requires c κs =
     let p = c .before .before .before in
     let n = p .before in
     let d = n .before .before .before .before in
-    let ys = records 24 authorizationOf (d .args .m) (now (d .args .body)) in
+    let ys = records 24 authorizationOf (d .args .m) (now (d .args .built)) in
     let e = replacement authorizations (now (d .args .s)) (d .pre .0) (n .counts-of .result)
     (n .counts-of .ensures)
     (p .authorizations-at .result) (d .args .m) ys (c .with-authorization-count .result)
     (p .authorizations-at .ensures)
     (c .with-authorization-count .ensures)
-    (sym (length-records 24 authorizationOf (d .args .m) (now (d .args .body))))
+    (sym (length-records 24 authorizationOf (d .args .m) (now (d .args .built))))
     (d .pre .1) in
     (e .old-room, e .new-room, omega (arith, e .long), e .counts)
 
@@ -41,13 +41,13 @@ copy-requires c κs =
     let p = w .before .before .before in
     let n = p .before in
     let d = n .before .before .before .before in
-    let ys = records 24 authorizationOf (d .args .m) (now (d .args .body)) in
+    let ys = records 24 authorizationOf (d .args .m) (now (d .args .built)) in
     let e = replacement authorizations (now (d .args .s)) (d .pre .0) (n .counts-of .result)
     (n .counts-of .ensures)
     (p .authorizations-at .result) (d .args .m) ys (w .with-authorization-count .result)
     (p .authorizations-at .ensures)
     (w .with-authorization-count .ensures)
-    (sym (length-records 24 authorizationOf (d .args .m) (now (d .args .body))))
+    (sym (length-records 24 authorizationOf (d .args .m) (now (d .args .built))))
     (d .pre .1) in
     (omega (arith, e .new-room, r .reshape .kept .0), omega (arith, d .pre .2))
 
@@ -59,13 +59,13 @@ returns c =
     let p = w .before .before .before in
     let n = p .before in
     let d = n .before .before .before .before in
-    let ys = records 24 authorizationOf (d .args .m) (now (d .args .body)) in
+    let ys = records 24 authorizationOf (d .args .m) (now (d .args .built)) in
     let e = replacement authorizations (now (d .args .s)) (d .pre .0) (n .counts-of .result)
     (n .counts-of .ensures)
     (p .authorizations-at .result) (d .args .m) ys (w .with-authorization-count .result)
     (p .authorizations-at .ensures)
     (w .with-authorization-count .ensures)
-    (sym (length-records 24 authorizationOf (d .args .m) (now (d .args .body))))
+    (sym (length-records 24 authorizationOf (d .args .m) (now (d .args .built))))
     (d .pre .1) in
     edited e (r .reshape .ensures)
     (u .copy .ensures ∙ ap (λ (x : List ℕ). splice (p .authorizations-at .result) x (r .reshape .last .0))

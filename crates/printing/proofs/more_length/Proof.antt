@@ -6,7 +6,7 @@ use lib.ListN.{length}
 use denote.Ref.{now}
 use Rattle.model.specs.Text.{printMore}
 use Rattle.model.specs.Session.{pairsOf}
-use Rattle.printing.specs.Lengths.{run-most, more-most}
+use Rattle.printing.proofs.Lengths.{run-most, more-most}
 use Rattle.printing.proofs.Pairs.{pairAt, more-last-length}
 use borrow.Author.Needs.{needs}
 use Rattle.printing.proofs.more_length.Statement.{statement}

@@ -1,7 +1,7 @@
 -- `print_reply` meets its contract: no reply is longer than 24,000 bytes.
 use native.Mathlib.Omega.{arith}
 use denote.Ref.{now}
-use Rattle.printing.specs.Lengths.{reply-most, fit-in}
+use Rattle.printing.proofs.Lengths.{reply-most, fit-in}
 use Rattle.printing.proofs.Placed.{printed-room, printed-front}
 use borrow.Author.Needs.{needs}
 use Rattle.printing.proofs.print_reply.Statement.{statement}

@@ -3,7 +3,7 @@ use native.Mathlib.Omega.{arith}
 use mathlib.Core.List.{_++_}
 use lib.ListN.{length-append}
 use Rattle.model.specs.Text.{ascii, decimal}
-use Rattle.printing.specs.Lengths.{done-length}
+use Rattle.printing.proofs.Lengths.{done-length}
 use Rattle.printing.proofs.Placed.{printed-room, printed-then}
 use borrow.Author.Needs.{needs}
 use Rattle.printing.proofs.put_done.Statement.{statement}

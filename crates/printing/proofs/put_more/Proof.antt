@@ -8,7 +8,7 @@ use denote.Ref.{now}
 use Rattle.model.specs.Text.{printRun, printMore}
 use Rattle.model.specs.Session.{pairsOf}
 use Rattle.printing.specs.Print.{Printed}
-use Rattle.printing.specs.Lengths.{more-rises}
+use Rattle.printing.proofs.Lengths.{more-rises}
 use Rattle.printing.proofs.Placed.{printed-none, printed-room, printed-then, printed-as}
 use Rattle.printing.proofs.Pairs.{pairAt, more-last, more-last-length}
 use borrow.Author.Needs.{needs}

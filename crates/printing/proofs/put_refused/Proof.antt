@@ -1,6 +1,6 @@
 -- `put_refused` meets its contract: the number stands behind the word.
 use native.Mathlib.Omega.{arith}
-use Rattle.printing.specs.Lengths.{refused-length}
+use Rattle.printing.proofs.Lengths.{refused-length}
 use Rattle.printing.proofs.Placed.{printed-room, printed-then}
 use borrow.Author.Needs.{needs}
 use Rattle.printing.proofs.put_refused.Statement.{statement}

@@ -3,7 +3,7 @@ use native.Mathlib.Omega.{arith}
 use lib.ListN.{length-append}
 use Rattle.foundation.specs.Intervals.{interval}
 use Rattle.model.specs.Text.{ascii, printInstant}
-use Rattle.printing.specs.Lengths.{run-length}
+use Rattle.printing.proofs.Lengths.{run-length}
 use Rattle.printing.proofs.Placed.{printed-room, printed-then}
 use borrow.Author.Needs.{needs}
 use Rattle.printing.proofs.put_run.Statement.{statement}

@@ -10,7 +10,7 @@ use Rattle.model.specs.Text.{printReply}
 use Rattle.model.specs.Session.{runsOf}
 use Rattle.printing.specs.Print.{RunsFit}
 use Rattle.model.specs.TextFacts.{decimal-most}
-use Rattle.printing.specs.Lengths.{done-length, refused-length}
+use Rattle.printing.proofs.Lengths.{done-length, refused-length}
 use borrow.Author.Needs.{needs}
 use Rattle.printing.proofs.reply_length.Statement.{statement}
 use Rattle.printing.proofs.reply_length.Tie as tie

@@ -2,7 +2,7 @@
 use native.Mathlib.Omega.{arith}
 use Rattle.foundation.specs.Intervals.{interval}
 use Rattle.model.specs.TextFacts.{instant-most}
-use Rattle.printing.specs.Lengths.{run-length}
+use Rattle.printing.proofs.Lengths.{run-length}
 use borrow.Author.Needs.{needs}
 use Rattle.printing.proofs.run_length.Statement.{statement}
 use Rattle.printing.proofs.run_length.Tie as tie

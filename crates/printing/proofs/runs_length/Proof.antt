@@ -6,7 +6,7 @@ use lib.ListN.{length}
 use denote.Ref.{now}
 use Rattle.model.specs.Text.{printRuns}
 use Rattle.model.specs.Session.{pairsOf}
-use Rattle.printing.specs.Lengths.{runs-length}
+use Rattle.printing.proofs.Lengths.{runs-length}
 use borrow.Author.Needs.{needs}
 use Rattle.printing.proofs.runs_length.Statement.{statement}
 use Rattle.printing.proofs.runs_length.Tie as tie

@@ -3,7 +3,7 @@ use borrow.Author.Needs.{needs}
 use mathlib.Core.Path.{sym, _∙_}
 use denote.Ref.{now}
 use Rattle.foundation.specs.Tests.{not-true, not-false}
-use Rattle.requests.specs.Carried.{unsound-answered}
+use Rattle.revocation.proofs.CarriedFacts.{unsound-answered}
 use Rattle.requests.proofs.request.Statement.{statement}
 use Rattle.requests.proofs.request.Tie as tie
 

@@ -4,7 +4,8 @@ use mathlib.Core.Path.{subst}
 use denote.Ref.{now}
 use Rattle.model.specs.Encoding.{decode}
 use Rattle.refusals.specs.Early.{earlyIs}
-use Rattle.requests.specs.Carried.{Passed, number-answered, uncovered-answered, passed-answered}
+use Rattle.revocation.specs.Carried.{Passed}
+use Rattle.revocation.proofs.CarriedFacts.{number-answered, uncovered-answered, passed-answered}
 use Rattle.requests.proofs.step.Statement.{statement}
 use Rattle.requests.proofs.step.Tie as tie
 

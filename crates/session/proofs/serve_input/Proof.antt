@@ -11,7 +11,7 @@ use Rattle.model.specs.Soundness.{soundBytes}
 use Rattle.model.specs.EncodingFacts.{sound-length}
 use Rattle.channel.specs.Trace.{arrived, Read, read-none, read-more}
 use Rattle.serving.specs.Turns.{Kept}
-use Rattle.serving.specs.Pieces.{kept-front}
+use Rattle.serving.proofs.PieceFacts.{kept-front}
 use Rattle.session.specs.declared.Going.{Going}
 use Rattle.session.specs.Input.{Answered, answered-none, answered-then, served-ended, served-cut}
 use Rattle.session.proofs.serve_input.Statement.{statement}

@@ -13,7 +13,7 @@ use Rattle.model.specs.Soundness.{soundBytes}
 use Rattle.model.specs.EncodingFacts.{sound-length}
 use Rattle.channel.specs.Trace.{Unread, unread-none, unread-then}
 use Rattle.serving.specs.Turns.{Kept}
-use Rattle.serving.specs.Pieces.{kept-front}
+use Rattle.serving.proofs.PieceFacts.{kept-front}
 use Rattle.session.specs.declared.Going.{Going}
 use Rattle.session.specs.Input.{Answers, answers-none, answers-step}
 use Rattle.session.proofs.serve_piece.Statement.{statement}

@@ -7,7 +7,7 @@ use lib.ListN.{length-append}
 use denote.Ref.{now}
 use Rattle.model.specs.Text.{newline, printReply}
 use Rattle.model.specs.Session.{runsOf}
-use Rattle.printing.specs.Lengths.{reply-most, fit-in}
+use Rattle.printing.proofs.Lengths.{reply-most, fit-in}
 use Rattle.text.proofs.Lines.{line-ended}
 use Rattle.text.proofs.put_line.Statement.{statement}
 use Rattle.text.proofs.put_line.Tie as tie

@@ -8,7 +8,8 @@ use Rattle.model.specs.declared.Reply.the-variants.{Refused}
 use Rattle.model.specs.Text.{order, asksMay, asksWhen, unreadable, readLine}
 use Rattle.reading.specs.Lines.{lineOf, askedOf}
 use Rattle.text.specs.Short.{short-length}
-use Rattle.text.specs.Writing.{too-short, all-written, answers-line}
+use Rattle.text.specs.Writing.{too-short}
+use Rattle.text.proofs.WritingFacts.{all-written, answers-line}
 use Rattle.text.proofs.text.Statement.{statement}
 use Rattle.text.proofs.text.Tie as tie
 

@@ -9,7 +9,8 @@ use Rattle.model.specs.Text.{asksWhen, printReply}
 use Rattle.model.specs.Session.{runsOf, whenList, byteTurn}
 use Rattle.printing.specs.Print.{RunsFit}
 use Rattle.text.specs.Short.{when-fits}
-use Rattle.text.specs.Writing.{turnText, wrote-as, no-room, all-written}
+use Rattle.text.specs.Writing.{turnText, no-room}
+use Rattle.text.proofs.WritingFacts.{wrote-as, all-written}
 use Rattle.text.proofs.text_when.Statement.{statement}
 use Rattle.text.proofs.text_when.Tie as tie
 

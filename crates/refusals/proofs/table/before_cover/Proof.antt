@@ -1,7 +1,7 @@
 -- `refusals::table::before_cover`: `next` at each row. `search` reaches nine rows; a tenth wants a second
 -- function.
 use borrow.Author.Needs.{needs}
-use Rattle.refusals.specs.Early.{next, before-found}
+use Rattle.refusals.proofs.EarlyFacts.{next, before-found}
 use Rattle.refusals.proofs.table.before_cover.Statement.{statement}
 use Rattle.refusals.proofs.table.before_cover.Tie as tie
 

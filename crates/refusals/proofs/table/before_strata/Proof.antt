@@ -7,10 +7,10 @@ use denote.Ref.{now}
 use Rattle.model.specs.Encoding.{decode}
 use Rattle.model.specs.Means.{plainly}
 use Rattle.model.specs.Step.{firstNumber, notSupported}
-use Rattle.support.specs.declared.Gap.the-variants.{At}
+use Rattle.cover.specs.declared.Gap.the-variants.{At}
 use Rattle.refusals.specs.Asked.{UncoveredIs}
-use Rattle.refusals.specs.Early.{rowsBeforeCover, before-range, before-stands, cover-decides}
-use Rattle.refusals.specs.Early.{behind-stands}
+use Rattle.refusals.specs.Early.{rowsBeforeCover}
+use Rattle.refusals.proofs.EarlyFacts.{before-range, before-stands, cover-decides, behind-stands}
 use Rattle.refusals.proofs.table.before_strata.Statement.{statement}
 use Rattle.refusals.proofs.table.before_strata.Tie as tie
 

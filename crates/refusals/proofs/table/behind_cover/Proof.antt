@@ -1,6 +1,6 @@
 -- `refusals::table::behind_cover`: `next` at each row.
 use borrow.Author.Needs.{needs}
-use Rattle.refusals.specs.Early.{next, behind-found}
+use Rattle.refusals.proofs.EarlyFacts.{next, behind-found}
 use Rattle.refusals.proofs.table.behind_cover.Statement.{statement}
 use Rattle.refusals.proofs.table.behind_cover.Tie as tie
 

@@ -8,7 +8,8 @@ use denote.Ref.{now}
 use Rattle.model.specs.Encoding.{decode}
 use Rattle.model.specs.Step.{firstNumber}
 use Rattle.refusals.specs.declared.Early.the-variants.{Number, Uncovered}
-use Rattle.refusals.specs.Early.{rowsBeforeStrata, saysOf, early-stands, early-last, passed-range}
+use Rattle.refusals.specs.Early.{rowsBeforeStrata, saysOf}
+use Rattle.refusals.proofs.EarlyFacts.{early-stands, early-last, passed-range}
 use Rattle.refusals.proofs.table.early_refusal.Statement.{statement}
 use Rattle.refusals.proofs.table.early_refusal.Tie as tie
 

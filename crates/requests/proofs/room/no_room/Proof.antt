@@ -22,7 +22,7 @@ use Rattle.encoding.specs.declared.Counts.{Counts}
 use Rattle.encoding.specs.Format.{countsOf}
 use Rattle.encoding.proofs.FormatFacts.{decoded-lengths}
 use Rattle.effects.proofs.AllowedEffects.{last-read}
-use Rattle.requests.specs.Room.{noRoom, room-is}
+use Rattle.requests.proofs.RoomFacts.{noRoom, room-is}
 use Rattle.requests.proofs.room.no_room.Statement.{statement}
 use Rattle.requests.proofs.room.no_room.Tie as tie
 

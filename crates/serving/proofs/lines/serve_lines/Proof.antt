@@ -11,7 +11,7 @@ use Rattle.model.specs.Soundness.{soundBytes}
 use Rattle.model.specs.EncodingFacts.{sound-length}
 use Rattle.serving.specs.declared.steps.Stepped.{Stepped}
 use Rattle.serving.specs.Turns.{Kept}
-use Rattle.serving.specs.Pieces.{kept-front}
+use Rattle.serving.proofs.PieceFacts.{kept-front}
 use Rattle.serving.proofs.Behind.{Stands, stands-none, stands-then, began}
 use Rattle.serving.proofs.lines.serve_lines.Statement.{statement}
 use Rattle.serving.proofs.lines.serve_lines.Tie as tie

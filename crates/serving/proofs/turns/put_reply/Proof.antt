@@ -1,6 +1,6 @@
 -- `turns::put_reply`: the newline stands behind the reply.
 use borrow.Author.Needs.{needs}
-use Rattle.serving.specs.Replies.{line-ended}
+use Rattle.serving.proofs.ReplyFacts.{line-ended}
 use Rattle.serving.proofs.turns.put_reply.Statement.{statement}
 use Rattle.serving.proofs.turns.put_reply.Tie as tie
 

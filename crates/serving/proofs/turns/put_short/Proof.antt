@@ -2,8 +2,8 @@
 use borrow.Author.Needs.{needs}
 use mathlib.Core.Path.{ap}
 use Rattle.model.specs.Text.{printReply}
-use Rattle.text.specs.Short.{short-fits, short-runs}
-use Rattle.serving.specs.Replies.{printed-as}
+use Rattle.text.proofs.ShortFacts.{short-fits, short-runs}
+use Rattle.serving.proofs.ReplyFacts.{printed-as}
 use Rattle.serving.proofs.turns.put_short.Statement.{statement}
 use Rattle.serving.proofs.turns.put_short.Tie as tie
 

@@ -4,7 +4,7 @@ use mathlib.Core.Path.{_≡_, refl, sym, ap, _∙_}
 use denote.Ref.{now}
 use Rattle.model.specs.Text.{readLine}
 use Rattle.reading.specs.Lines.{lineOf, askedOf}
-use Rattle.serving.specs.Replies.{turned}
+use Rattle.serving.proofs.ReplyFacts.{turned}
 use Rattle.serving.proofs.turns.serve_line.Statement.{statement}
 use Rattle.serving.proofs.turns.serve_line.Tie as tie
 

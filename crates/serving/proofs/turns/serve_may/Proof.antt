@@ -6,7 +6,7 @@ use denote.Ref.{now}
 use Rattle.model.specs.declared.Reply.{Reply}
 use Rattle.model.specs.Text.{printReply}
 use Rattle.text.specs.Short.{Short, may-short}
-use Rattle.serving.specs.Replies.{printed-as}
+use Rattle.serving.proofs.ReplyFacts.{printed-as}
 use Rattle.serving.proofs.turns.serve_may.Statement.{statement}
 use Rattle.serving.proofs.turns.serve_may.Tie as tie
 

@@ -6,7 +6,7 @@ use denote.Ref.{now}
 use Rattle.model.specs.Answers.{Answer}
 use Rattle.model.specs.Text.{printReply}
 use Rattle.text.specs.Short.{Short, request-short}
-use Rattle.serving.specs.Replies.{printed-as}
+use Rattle.serving.proofs.ReplyFacts.{printed-as}
 use Rattle.serving.proofs.turns.serve_order.Statement.{statement}
 use Rattle.serving.proofs.turns.serve_order.Tie as tie
 

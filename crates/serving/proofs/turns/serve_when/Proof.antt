@@ -7,7 +7,7 @@ use Rattle.model.specs.Text.{printReply}
 use Rattle.model.specs.Session.{runsOf, whenList}
 use Rattle.printing.specs.Print.{RunsFit}
 use Rattle.text.specs.Short.{when-fits}
-use Rattle.serving.specs.Replies.{printed-as}
+use Rattle.serving.proofs.ReplyFacts.{printed-as}
 use Rattle.serving.proofs.turns.serve_when.Statement.{statement}
 use Rattle.serving.proofs.turns.serve_when.Tie as tie
 

@@ -9,12 +9,12 @@ use denote.Ref.{now}
 use Rattle.foundation.specs.BytesFacts.{bytes-drop}
 use Rattle.model.specs.declared.Authorization.{Authorization}
 use Rattle.model.specs.Encoding.{authorizationOf}
-use Rattle.support.specs.Cover.{rootsIn}
+use Rattle.support.specs.Hops.{rootsIn}
 use Rattle.encoding.specs.Format.{authorizationsIn}
 use Rattle.foundation.specs.Records.{rest, rest-all, rest-step, rest-end}
-use Rattle.withdrawal.specs.Cuts.{behindAll}
-use Rattle.withdrawal.specs.Turns.{turns-at, turns-full}
-use Rattle.withdrawal.specs.Walks.{Walk, walk-start, walk-pos, walk-end, walk-next, walk-full}
+use Rattle.pieces.specs.Cuts.{behindAll}
+use Rattle.withdrawal.proofs.TurnFacts.{turns-at, turns-full}
+use Rattle.withdrawal.proofs.Walks.{Walk, walk-start, walk-pos, walk-end, walk-next, walk-full}
 use Rattle.withdrawal.proofs.Instants.{end-below}
 use Rattle.withdrawal.proofs.rounds.do_round.Statement.{statement}
 use Rattle.withdrawal.proofs.rounds.do_round.Tie as tie

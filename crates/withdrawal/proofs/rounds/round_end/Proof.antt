@@ -12,7 +12,8 @@ use Rattle.model.specs.declared.Authorization.{Authorization}
 use Rattle.model.specs.Encoding.{authorizationOf}
 use Rattle.encoding.specs.Format.{authorizationsIn}
 use Rattle.foundation.specs.Records.{rest, rest-all, rest-step, rest-end}
-use Rattle.withdrawal.specs.Times.{endOf, end-cons, end-nil, pullOf, raiseOf}
+use Rattle.withdrawal.specs.Times.{endOf, pullOf, raiseOf}
+use Rattle.withdrawal.proofs.TimeFacts.{end-cons, end-nil}
 use Rattle.withdrawal.proofs.rounds.round_end.Statement.{statement}
 use Rattle.withdrawal.proofs.rounds.round_end.Tie as tie
 

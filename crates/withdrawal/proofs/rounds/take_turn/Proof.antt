@@ -5,9 +5,10 @@ use Rattle.model.specs.Encoding.{authorizationOf}
 use Rattle.encoding.specs.Format.{authorizationsIn}
 use Rattle.foundation.specs.Lists.{placed}
 use Rattle.foundation.specs.Records.{length-records}
-use Rattle.withdrawal.specs.Building.{Body, makes-lines, makes-full, placed-more}
-use Rattle.withdrawal.specs.Parts.{partsOf}
-use Rattle.withdrawal.specs.Turns.{turn-full, turn-in, turn-by, turn-out}
+use Rattle.pieces.specs.Building.{Body}
+use Rattle.pieces.proofs.BodyFacts.{makes-lines, makes-full, placed-more}
+use Rattle.pieces.specs.Parts.{partsOf}
+use Rattle.withdrawal.proofs.TurnFacts.{turn-full, turn-in, turn-by, turn-out}
 use Rattle.withdrawal.proofs.rounds.take_turn.Statement.{statement}
 use Rattle.withdrawal.proofs.rounds.take_turn.Tie as tie
 

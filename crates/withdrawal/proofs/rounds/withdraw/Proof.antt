@@ -8,12 +8,13 @@ use Prim.Native.Nat.{_-_, _≤_, _<_}
 use lib.ListN.{length}
 use denote.Ref.{now}
 use Rattle.model.specs.declared.Head.{Head}
-use Rattle.support.specs.Cover.{rootsIn}
+use Rattle.support.specs.Hops.{rootsIn}
 use Rattle.encoding.specs.Format.{authorizationsIn}
-use Rattle.withdrawal.specs.Building.{Body, makes-lines, makes-full}
-use Rattle.withdrawal.specs.Times.{end-le, end-above, end-ordered}
+use Rattle.pieces.specs.Building.{Body}
+use Rattle.pieces.proofs.BodyFacts.{makes-lines, makes-full}
+use Rattle.withdrawal.proofs.TimeFacts.{end-le, end-above, end-ordered}
 use Rattle.withdrawal.specs.Rounds.{stayers}
-use Rattle.withdrawal.specs.Walks.{rounds-start, rounds-end, rounds-full}
+use Rattle.withdrawal.proofs.Walks.{rounds-start, rounds-end, rounds-full}
 use Rattle.withdrawal.proofs.Instants.{granted-below}
 use Rattle.withdrawal.proofs.rounds.withdraw.Statement.{statement}
 use Rattle.withdrawal.proofs.rounds.withdraw.Tie as tie

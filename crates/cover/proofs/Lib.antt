@@ -1,0 +1,4 @@
+pub mod FirstFacts
+pub mod CoverFacts
+pub mod SweepFacts
+pub mod GapFacts

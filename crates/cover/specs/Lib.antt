@@ -1,0 +1,4 @@
+pub mod First
+pub mod Cover
+pub mod Sweep
+pub mod Gaps

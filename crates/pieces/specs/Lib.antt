@@ -1,0 +1,5 @@
+pub mod Stretches
+pub mod Cuts
+pub mod Nearest
+pub mod Building
+pub mod Parts

@@ -1,0 +1,3 @@
+pub mod CarriedFacts
+pub mod Revoked
+pub mod Revoking
