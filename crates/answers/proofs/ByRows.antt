@@ -6,7 +6,8 @@ use mathlib.Core.Logic.{_≢_}
 use mathlib.Core.Bool.{Bool, true, false, not, _&&_}
 use mathlib.Core.List.{List, [], _∷_, _++_}
 use native.Mathlib.Omega.{arith}
-use lib.ListN.{length, take, drop}
+use lib.Dec.{ltb}
+use lib.ListN.{length, drop}
 use Rattle.foundation.specs.Tests.{and-true, and-intro, agree, le-true, le-false}
 use Rattle.model.specs.declared.Access.{Access}
 use Rattle.model.specs.declared.Question.{Question}
@@ -21,7 +22,7 @@ use Rattle.model.specs.Encoding.{decode}
 use Rattle.model.specs.Soundness.{soundBytes}
 use Rattle.model.specs.Answers.{Answer, answering, refusing, accessIn, mayTable, whenTable, words, mayReply}
 use Rattle.model.specs.Answers.{mayAnswer, whenAnswer}
-use Rattle.answers.specs.Asking.{accessRows, roomRows, replyRuns}
+use Rattle.answers.specs.Asking.{accessRows}
 
 -- where neither row 3 nor row 6 applies, what is asked about is in range
 pub asked-in : (b : Base) (x : Access) → firstNumber (accessRows b x) ≡ 0 → accessIn x ≡ true
@@ -38,21 +39,6 @@ behind : {A : Type 0} (g h : Bool) (rows : List Row) (refuse : ℕ → A) (a : A
 behind true h rows refuse a = refl
 behind false true rows refuse a = refl
 behind false false rows refuse a = refl
-
--- row 13 applies, or not
-module _ (runs : List ℕ) (n : ℕ) (list : List ℕ) where
-  abbrev written : Answer
-  written = answering (Runs n) (take (2 * n) runs ++ drop (2 * n) list)
-
-  pub runs-refused : length list / 2 < n → replyRuns runs n list ≡ refusing list 13
-  runs-refused h =
-      ap (λ (g : Bool). refusedOr (row 13 g ∷ []) (refusing list) written)
-      (le-true (suc (length list / 2)) n h)
-
-  pub runs-written : n ≤ length list / 2 → replyRuns runs n list ≡ written
-  runs-written h =
-      ap (λ (g : Bool). refusedOr (row 13 g ∷ []) (refusing list) written)
-      (le-false (suc (length list / 2)) n (omega arith))
 
 -- ---- MAY
 
@@ -93,43 +79,49 @@ module _ (s : List ℕ) (q : Question) where
 -- ---- WHEN
 
 module _ (s : List ℕ) (x : Access) (list : List ℕ) where
-  -- what it answers where rows 2, 3 and 6 do not apply, of n intervals and their numbers
-  abbrev listed : ℕ → List ℕ → Answer
-  listed n runs = refusedOr (roomRows list n) (refusing list) (answering (Runs n) (runs ++ drop (2 * n) list))
+  -- how many intervals there are, and the answer where the list has room for them
+  abbrev count : ℕ
+  count = length (when (decode s) x)
 
-  abbrev all : Answer
-  all = listed (length (when (decode s) x)) (words (when (decode s) x))
+  abbrev written : Answer
+  written = answering (Runs count) (words (when (decode s) x) ++ drop (2 * count) list)
+
+  -- row 13, or not
+  abbrev short : Bool → Answer
+  short short? = refusedOr (row 13 short? ∷ []) (refusing list) written
 
   -- row 2, or not
   abbrev over-list : Bool → Answer
   over-list sound? =
-      let n = length (when (decode s) x) in
-      refusedOr (row 2 (not sound?) ∷ whenTable (decode s) x (length list / 2) n) (refusing list)
-      (answering (Runs n) (words (when (decode s) x) ++ drop (2 * n) list))
+      refusedOr (row 2 (not sound?) ∷ whenTable (decode s) x (length list / 2) count) (refusing list) written
 
   pub when-unsound : soundBytes s ≡ false → whenAnswer s x list ≡ refusing list 2
   unfolding whenAnswer
   when-unsound e = ap over-list e
 
-  when-rows : soundBytes s ≡ true → whenAnswer s x list
-      ≡ refusedOr (accessRows (decode s) x) (refusing list) all
+  when-rows : soundBytes s ≡ true →
+      whenAnswer s x list
+      ≡ refusedOr (accessRows (decode s) x) (refusing list) (short (ltb (length list / 2) count))
   unfolding whenAnswer
   when-rows e =
-      let n = length (when (decode s) x) in
       ap over-list e
-      ∙ behind (not (accessIn x)) (not (exists (decode s) (x .object))) (roomRows list n) (refusing list)
-      (answering (Runs n) (words (when (decode s) x) ++ drop (2 * n) list))
+      ∙ behind (not (accessIn x)) (not (exists (decode s) (x .object)))
+      (row 13 (ltb (length list / 2) count) ∷ []) (refusing list) written
 
   pub when-refused : soundBytes s ≡ true → firstNumber (accessRows (decode s) x) ≢ 0 →
       whenAnswer s x list ≡ refusing list (firstNumber (accessRows (decode s) x))
-  when-refused e n = when-rows e ∙ turned-away (accessRows (decode s) x) (refusing list) all n
-
-  -- n and the first pairs of `runs` are as many as there are, and those
-  pub when-answered : soundBytes s ≡ true → firstNumber (accessRows (decode s) x) ≡ 0 →
-      (n : ℕ) (runs : List ℕ) →
-      n ≡ length (when (decode s) x) → take (2 * n) runs ≡ words (when (decode s) x) →
-      whenAnswer s x list ≡ replyRuns runs n list
-  when-answered e z n runs c w =
+  when-refused e n =
       when-rows e
-      ∙ answered (accessRows (decode s) x) (refusing list) all z
-      ∙ (λ k. listed (sym c k) (sym w k))
+      ∙ turned-away (accessRows (decode s) x) (refusing list) (short (ltb (length list / 2) count)) n
+
+  -- rows 2, 3 and 6 do not apply: row 13 does, or not
+  module _ (e : soundBytes s ≡ true) (z : firstNumber (accessRows (decode s) x) ≡ 0) where
+    when-room : whenAnswer s x list ≡ short (ltb (length list / 2) count)
+    when-room =
+        when-rows e ∙ answered (accessRows (decode s) x) (refusing list) (short (ltb (length list / 2) count)) z
+
+    pub when-short : length list / 2 < count → whenAnswer s x list ≡ refusing list 13
+    when-short h = when-room ∙ ap short (le-true (suc (length list / 2)) count h)
+
+    pub when-listed : count ≤ length list / 2 → whenAnswer s x list ≡ written
+    when-listed h = when-room ∙ ap short (le-false (suc (length list / 2)) count (omega arith))

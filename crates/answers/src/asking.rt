@@ -1,14 +1,11 @@
 // MAY and WHEN over the bytes of a sound base: their refusals, and their replies.
 ghost use mathlib.Core.Path.{_≡_};
 ghost use mathlib.Core.Bool.{true};
-ghost use mathlib.Core.List.{_++_};
-ghost use Prim.Native.Nat.{_≤_};
-ghost use lib.ListN.{length, take, drop};
 ghost use Rattle.model.specs.Encoding.{decode};
 ghost use Rattle.model.specs.Soundness.{soundBytes};
 ghost use Rattle.model.specs.Step.{firstNumber};
 ghost use Rattle.model.specs.Answers.{answering, accessIn, mayReply, mayAnswer, whenAnswer};
-ghost use Rattle.answers.specs.Asking.{accessRows, replyRuns};
+ghost use Rattle.answers.specs.Asking.{accessRows};
 use model::Access;
 use model::Question;
 use model::Reply;
@@ -36,18 +33,6 @@ fn refusal_of(s: &[u8], x: Access) -> u32
     0
 }
 
-// Copies the first k numbers.
-fn copy_words(from: &[u32; 2200], k: usize, list: &mut [u32])
-    requires { ⌜ (k ≤ length (now list)) × (k ≤ 2200) × (length (now from) ≡ 2200) ⌝ }
-    ensures { λ _. ⌜ now (list .exit) ≡ take k (now (from .entry)) ++ drop k (now (list .entry)) ⌝ }
-{
-    let mut i = 0;
-    while i < k {
-        list[i] = from[i];
-        i += 1;
-    }
-}
-
 // The reply to MAY, where the rules say `yes`.
 fn may_reply(yes: bool) -> Reply
     ensures { λ r. ⌜ r ≡ mayReply yes ⌝ }
@@ -56,19 +41,6 @@ fn may_reply(yes: bool) -> Reply
         return Reply::Yes;
     }
     Reply::No
-}
-
-// The reply to WHEN, where the n intervals are in `runs`: the list is written only if it has room for all of
-// them.
-fn when_reply(runs: &[u32; 2200], n: usize, list: &mut [u32]) -> Reply
-    requires { ⌜ (n ≤ 1100) × (length (now runs) ≡ 2200) ⌝ }
-    ensures { λ r. ⌜ answering r (now (list .exit)) ≡ replyRuns (now (runs .entry)) n (now (list .entry)) ⌝ }
-{
-    if list.len() / 2 < n {
-        return Reply::Refused(13);
-    }
-    copy_words(runs, 2 * n, list);
-    Reply::Runs(n as u32)
 }
 
 // MAY over a base that is known to be sound.
@@ -93,7 +65,10 @@ pub fn when_sound(s: &[u8], x: Access, list: &mut [u32]) -> Reply
     if n != 0 {
         return Reply::Refused(n);
     }
-    let mut runs = [0u32; 2200];
-    let count = list_runs(s, x, &mut runs);
-    when_reply(&runs, count, list)
+    let pairs = list.len() / 2;
+    let count = list_runs(s, x, list);
+    if pairs < count {
+        return Reply::Refused(13);
+    }
+    Reply::Runs(count as u32)
 }

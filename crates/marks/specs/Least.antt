@@ -1,11 +1,11 @@
 -- The next mark is the least instant above the given one at which an authorization or a rule starts, or
--- directly after the end of one (`next-mark-least`, `next-mark-is`), and there is none exactly if no such
--- instant is left (`next-mark-none`). `next-least`, `next-is` and `next-none` say the same of any marks.
+-- directly after the end of one, and there is none exactly if no such instant is left (`NextMark`,
+-- `next-mark`). `next-least`, `next-is` and `next-none` say the same of any marks.
 use mathlib.Core.Path.{_≡_, refl, sym, ap, _∙_}
 use mathlib.Core.Logic.{_⊎_, inl, inr, _↔_}
 use Prim.Native.Nat.{ℕ, suc, _≤_, _<_}
 use native.Mathlib.Omega.{arith}
-use mathlib.Core.Bool.{false, _&&_}
+use mathlib.Core.Bool.{true, false, _&&_}
 use mathlib.Core.List.{List, [], _∷_, _++_}
 use lib.Dec.{ltb}
 use Rattle.foundation.specs.Tests.{cases, and-true, true-le, false-le, le-true}
@@ -14,6 +14,9 @@ use Rattle.foundation.specs.declared.Interval.{Interval}
 use Rattle.foundation.specs.Marks.{next}
 use Rattle.model.specs.declared.Authorization.{Authorization}
 use Rattle.model.specs.declared.Rule.{Rule}
+use Rattle.model.specs.Base.{Base}
+use Rattle.model.specs.Soundness.{sound}
+use Rattle.model.specs.FitsFacts.{IntervalFits, base-fits}
 use Rattle.model.specs.Means.{boundaries, marksOf, ruleMarks, marks}
 
 -- ---- any marks: t is the given instant, and d is the answer for none
@@ -122,25 +125,60 @@ module _ (auths : List Authorization) (rules : List Rule) where
       back (inr w) = mem-right m (marksOf auths) (ruleMarks rules)
           (rw rule-marks-each (bound-each (λ r. r .interval) rules m w))
 
-  module _ (t d : ℕ) where
-    -- the next mark: nothing can change earlier,
-    pub next-mark-least : (m : ℕ) → Turns auths rules m → t < m → m < d → next t (marks auths rules) d ≤ m
-    next-mark-least m k h l = next-least t d (marks auths rules) m (mark-turns m .1 k) h l
+  -- an instant above t at which something can change
+  abbrev pub Ahead : ℕ → ℕ → Type 0
+  Ahead t m = Turns auths rules m × (t < m) × (m < 4294967296)
 
-    -- something can change there,
-    pub next-mark-is : (next t (marks auths rules) d ≡ d)
-        ⊎ (Turns auths rules (next t (marks auths rules) d)
-        × (t < next t (marks auths rules) d) × (next t (marks auths rules) d < d))
-    next-mark-is = go (next t (marks auths rules) d) (next-is t d (marks auths rules))
-      where
-        go : (m : ℕ) → Found t d (marks auths rules) m → (m ≡ d) ⊎ (Turns auths rules m × (t < m) × (m < d))
-        go m (inl e) = inl e
-        go m (inr w) = inr (mark-turns m .0 (w .0), w .1, w .2)
+  -- 02, "Marks without a list": "the least instant above a given one at which a line or rule starts, or
+  -- directly after the end of one, and none exactly if there is none". m is the mark found above t, where 2^32
+  -- stands for none
+  pub record NextMark (t m : ℕ) : Type 0 where
+    pub found : m < 4294967296 → Ahead t m
+    pub least : (k : ℕ) → Ahead t k → m ≤ k
+    pub none : (m ≡ 4294967296) ↔ ((k : ℕ) → Ahead t k → ⊥)
 
-    -- and there is none exactly if nothing changes any more
-    pub next-mark-none : (next t (marks auths rules) d ≡ d) ↔
-        ((m : ℕ) → Turns auths rules m → t < m → m < d → ⊥)
-    next-mark-none = (
-      (λ e m k. next-none t d (marks auths rules) .0 e m (mark-turns m .1 k)),
-      (λ f. next-none t d (marks auths rules) .1 (λ m k. f m (mark-turns m .0 k))),
-    )
+  pub next-mark : (t : ℕ) → NextMark t (next t (marks auths rules) 4294967296)
+  next-mark t =
+      let ms = marks auths rules in
+      let none = next-none t 4294967296 ms in
+      record {
+        found = λ h. there h (next-is t 4294967296 ms);
+        least = λ k w. next-least t 4294967296 ms k (mark-turns k .1 (w .0)) (w .1) (w .2);
+        none = (
+          (λ e k w. none .0 e k (mark-turns k .1 (w .0)) (w .1) (w .2)),
+          (λ f. none .1 (λ k i h l. f k (mark-turns k .0 i, h, l))),
+        );
+      }
+    where
+      there : {m : ℕ} → m < 4294967296 → Found t 4294967296 (marks auths rules) m → Ahead t m
+      there h (inl e) = absurd (omega arith)
+      there h (inr w) = (mark-turns _ .0 (w .0), w .1, w .2)
+
+  -- no other number is the mark found
+  pub next-mark-only : {t m k : ℕ} → NextMark t m → NextMark t k → m ≡ k
+  next-mark-only {t} p q = omega (arith, not-above p q, not-above q p)
+    where
+      bounded : {m : ℕ} → NextMark t m → m ≤ 4294967296
+      bounded {m} p = cases (ltb 4294967296 m)
+          (λ e. let h = true-le 4294967297 m e in
+          omega (arith, p .none .1 (λ k w. omega (arith, p .least k w, w .2))))
+          (λ e. omega (arith, false-le 4294967297 m e))
+
+      not-above : {m k : ℕ} → NextMark t m → NextMark t k → m ≤ k
+      not-above {m} {k} p q = cases (ltb k 4294967296)
+          (λ e. p .least k (q .found (true-le (suc k) 4294967296 e)))
+          (λ e. omega (arith, bounded p, false-le (suc k) 4294967296 e))
+
+-- In a sound base nothing changes behind 2^32, so that only what ends with the last instant has no mark behind
+-- it
+pub turns-until : (b : Base) → sound b ≡ true → (m : ℕ) → Turns (b .authorizations) (b .rules) m →
+    m ≤ 4294967296
+turns-until b e m w = until w
+  where
+    within : (i : Interval) → IntervalFits i → Bounds i m → m ≤ 4294967296
+    within i f (inl q) = omega (arith, f .start)
+    within i f (inr q) = omega (arith, f .end)
+
+    until : Turns (b .authorizations) (b .rules) m → m ≤ 4294967296
+    until (inl w) = within (w .0 .interval) (base-fits b e .authorizations (w .0) (w .1) .interval) (w .2)
+    until (inr w) = within (w .0 .interval) (base-fits b e .rules (w .0) (w .1) .interval) (w .2)

@@ -1,5 +1,5 @@
 // The next mark: the least instant above a given one at which something can change, because an authorization
-// or a rule starts there or ended right before.
+// or a rule starts there or ended right before. No list of marks is kept: all records are gone over again.
 ghost use mathlib.Core.Path.{_≡_};
 ghost use mathlib.Core.List.{_++_};
 ghost use Prim.Native.Nat.{_+_, _*_, _≤_};
@@ -8,6 +8,7 @@ ghost use Rattle.foundation.specs.Bytes.{records};
 ghost use Rattle.foundation.specs.Marks.{next};
 ghost use Rattle.model.specs.Encoding.{authorizationOf, ruleOf};
 ghost use Rattle.model.specs.Means.{marksOf, ruleMarks};
+ghost use Rattle.marks.specs.Least.{NextMark};
 ghost use Rattle.marks.specs.Marks.{sooner, marksIn};
 use model::AUTHORIZATION_BYTES;
 use model::RULE_BYTES;
@@ -50,6 +51,8 @@ pub fn next_mark(lines: &[u8], n: usize, rules: &[u8], k: usize, t: u32) -> u64
         ++ ruleMarks (records 28 ruleOf k (now (rules .entry))))
         4294967296
         ⌝ }
+    ensures { λ r. ⌜ NextMark (records 24 authorizationOf n (now (lines .entry)))
+        (records 28 ruleOf k (now (rules .entry))) t r ⌝ }
 {
     let d = next_in(rules, k, RULE_BYTES, 20, t, 4294967296);
     next_in(lines, n, AUTHORIZATION_BYTES, 16, t, d)

@@ -1,3 +1,4 @@
+pub mod Filled
 pub mod Relevant
 pub mod Runs
 pub mod Walk

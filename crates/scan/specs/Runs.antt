@@ -1,37 +1,29 @@
--- The maximal intervals where a test holds, written down from left to right: what is in the list when an
--- instant is reached (`Reached`), and when it has been asked there (`Asked`).
+-- The maximal intervals where a test holds, written down from left to right: what is counted, and in the list,
+-- when an instant is reached (`Reached`), and when it has been asked there (`Asked`).
 use mathlib.Core.Path.{_≡_, refl, sym, ap, _∙_, subst}
-use Prim.Native.Nat.{ℕ, suc, _+_, _*_, _-_, _≤_, _<_}
+use Prim.Native.Nat.{ℕ, suc, _+_, _-_, _≤_, _<_}
 use native.Mathlib.Omega.{arith}
 use native.Mathlib.Numerals.{add-one}
 use mathlib.Core.Bool.{Bool, true, false, false≢true}
 use mathlib.Core.List.{List, [], _∷_, _++_, append-assoc, append-nil}
 use lib.Dec.{ltb}
-use lib.ListN.{length, take, set, length-append, length-set}
-use lib.Seq.{take-suc-set}
+use lib.ListN.{length, length-append}
 use Rattle.foundation.specs.Tests.{pick, cases, true-le, false-le}
 use Rattle.foundation.specs.declared.Interval.{Interval}
 use Rattle.foundation.specs.Intervals.{interval, maximal}
 use Rattle.foundation.specs.Runs.{maximal-past, maximal-skip, maximal-run}
-use Rattle.model.specs.Answers.{words}
 use Rattle.scan.specs.declared.Track.{Track}
+use Rattle.scan.specs.Filled.{filled, withPair, filled-more}
 
--- words of two lists of intervals
-pub words-append : (xs ys : List Interval) → words (xs ++ ys) ≡ words xs ++ words ys
-words-append [] ys = refl
-words-append (i ∷ xs) ys = ap (λ (l : List ℕ). i .start ∷ i .end ∷ l) (words-append xs ys)
-
-pub words-length : (xs : List Interval) → length (words xs) ≡ 2 * length xs
-words-length [] = refl
-words-length (i ∷ xs) = omega (arith, words-length xs)
-
-module _ (f : ℕ → Bool) (e : ℕ) where
-  -- `count` intervals are in the list, and the others begin at `from` on
+-- `lent` is the list as it was lent
+module _ (f : ℕ → Bool) (e : ℕ) (lent : List ℕ) where
+  -- `count` intervals are done, as many of them in the list as it has room for, and the others begin at `from`
+  -- on
   pub record Listed (count from : ℕ) (list : List ℕ) : Type 0 where
     pub done : List Interval
     pub all : maximal 0 e f ≡ done ++ maximal from e f
     pub count-is : count ≡ length done
-    pub list-is : take (2 * count) list ≡ words done
+    pub list-is : list ≡ filled done lent
 
   -- f holds from a on, before t
   abbrev pub Holding : ℕ → ℕ → Type 0
@@ -49,8 +41,9 @@ module _ (f : ℕ → Bool) (e : ℕ) where
     pub answer : w .inside ≡ f t
 
   -- at the start there is nothing
-  pub start : (list : List ℕ) (from : ℕ) → Reached 0 (record { count = 0; inside = false; from = from }) list
-  start list from = record {
+  pub start : (from : ℕ) → Reached 0 (record { count = 0; inside = false; from = from }) lent
+  unfolding filled
+  start from = record {
     listed = record { done = []; all = refl; count-is = refl; list-is = refl };
     held = λ z. absurd (false≢true z);
   }
@@ -90,7 +83,7 @@ module _ (f : ℕ → Bool) (e : ℕ) where
         (maximal-run (w .from) m e f (omega (arith, z .0)) h (λ u x y. z .1 u x (omega arith)) stop)
         ∙ sym (append-assoc (l .done) (interval (w .from) (m - 1) ∷ []) (maximal m e f))
 
-    -- there is room for it: the list never has more than all
+    -- there are never more than all
     pub fewer : w .inside ≡ true → t ≤ suc e → (t ≤ e → f t ≡ false) → suc (w .count) ≤ length (maximal 0 e f)
     fewer o h stop =
         let l = r .listed in
@@ -104,10 +97,9 @@ module _ (f : ℕ → Bool) (e : ℕ) where
           length-append (l .done) run,
         )
 
-    -- it closes: one more is in the list
+    -- it closes: one more is done
     pub closes : w .inside ≡ true → t ≤ suc e → (t ≤ e → f t ≡ false) → (list′ : List ℕ) →
-        take (2 * suc (w .count)) list′ ≡ take (2 * w .count) list ++ (w .from ∷ (t - 1) ∷ []) →
-        Listed (suc (w .count)) t list′
+        list′ ≡ withPair (w .count) (w .from) (t - 1) list → Listed (suc (w .count)) t list′
     closes o h stop list′ k =
         let l = r .listed in
         let run = interval (w .from) (t - 1) ∷ [] in
@@ -115,13 +107,13 @@ module _ (f : ℕ → Bool) (e : ℕ) where
           done = l .done ++ run;
           all = ended t o refl h stop;
           count-is = omega (arith, l .count-is, length-append (l .done) run);
-          list-is = k ∙ ap (λ (x : List ℕ). x ++ (w .from ∷ (t - 1) ∷ [])) (l .list-is)
-              ∙ sym (words-append (l .done) run);
+          list-is = k ∙ (λ i. withPair (l .count-is i) (w .from) (t - 1) (l .list-is i))
+              ∙ sym (filled-more (l .done) (interval (w .from) (t - 1)) lent);
         }
 
     -- it closes at t, where f fails
     pub closed : w .inside ≡ true → t ≤ e → f t ≡ false → (list′ : List ℕ) →
-        take (2 * suc (w .count)) list′ ≡ take (2 * w .count) list ++ (w .from ∷ (t - 1) ∷ []) →
+        list′ ≡ withPair (w .count) (w .from) (t - 1) list →
         Asked t (record { count = w .count + 1; inside = false; from = t }) list′
     closed o h a list′ k = record {
       listed = subst (λ (n : ℕ). Listed n t list′) (sym (add-one (w .count)))
@@ -166,46 +158,31 @@ module _ (f : ℕ → Bool) (e : ℕ) where
 
   -- ---- at the end
 
-  -- behind the end all are in the list
-  pub complete : (count : ℕ) (list : List ℕ) → Listed count (suc e) list →
-      (count ≡ length (maximal 0 e f)) × (take (2 * count) list ≡ words (maximal 0 e f))
+  -- behind the end all are done
+  complete : (count : ℕ) (list : List ℕ) → Listed count (suc e) list →
+      (count ≡ length (maximal 0 e f)) × (list ≡ filled (maximal 0 e f) lent)
   complete count list l =
       let all : maximal 0 e f ≡ l .done =
       l .all ∙ ap (λ (rest : List Interval). l .done ++ rest) (maximal-past (suc e) e f (omega arith))
       ∙ append-nil (l .done) in (
         l .count-is ∙ sym (ap (λ (x : List Interval). length x) all),
-        l .list-is ∙ sym (ap words all),
+        l .list-is ∙ sym (ap (λ (x : List Interval). filled x lent) all),
       )
 
-  -- behind the end, where an interval was open that is now in the list, or none was
+  -- behind the end, where an interval was open that is now done, or none was
   module _ (w : Track) (list : List ℕ) (r : Reached (suc e) w list) where
-    pub complete-open : w .inside ≡ true → (list′ : List ℕ) →
-        take (2 * suc (w .count)) list′ ≡ take (2 * w .count) list ++ (w .from ∷ e ∷ []) →
-        (w .count + 1 ≡ length (maximal 0 e f)) × (take (2 * (w .count + 1)) list′ ≡ words (maximal 0 e f))
+    pub complete-open : w .inside ≡ true → (list′ : List ℕ) → list′ ≡ withPair (w .count) (w .from) e list →
+        (w .count + 1 ≡ length (maximal 0 e f)) × (list′ ≡ filled (maximal 0 e f) lent)
     complete-open o list′ k =
         let m : e ≡ suc e - 1 = omega arith in
         complete (w .count + 1) list′
         (subst (λ (n : ℕ). Listed n (suc e) list′) (sym (add-one (w .count)))
         (closes (suc e) w list r o (omega arith) (λ z. absurd (omega arith)) list′
-        (k ∙ ap (λ (u : ℕ). take (2 * w .count) list ++ (w .from ∷ u ∷ [])) m)))
+        (k ∙ ap (λ (u : ℕ). withPair (w .count) (w .from) u list) m)))
 
     pub complete-none : w .inside ≡ false →
-        (w .count ≡ length (maximal 0 e f)) × (take (2 * w .count) list ≡ words (maximal 0 e f))
+        (w .count ≡ length (maximal 0 e f)) × (list ≡ filled (maximal 0 e f) lent)
     complete-none o =
         complete (w .count) list
         (subst (λ (k : ℕ). Listed (w .count) k list) (ap (λ (b : Bool). pick b (w .from) (suc e)) o)
         (r .listed))
-
--- ---- one more pair in a list
-
-pub pair-put : (l : List ℕ) (c a b : ℕ) → 2 * c + 1 < length l →
-    take (2 * suc c) (set (set l (2 * c) a) (2 * c + 1) b) ≡ take (2 * c) l ++ (a ∷ b ∷ [])
-pair-put l c a b h =
-    let l₁ = set l (2 * c) a in
-    let n : 2 * suc c ≡ suc (2 * c + 1) = omega arith in
-    let m : 2 * c + 1 ≡ suc (2 * c) = omega arith in
-    ap (λ (k : ℕ). take k (set l₁ (2 * c + 1) b)) n
-    ∙ take-suc-set l₁ (2 * c + 1) b (omega (arith, length-set l (2 * c) a))
-    ∙ ap (λ (k : ℕ). take k l₁ ++ (b ∷ [])) m
-    ∙ ap (λ (x : List ℕ). x ++ (b ∷ [])) (take-suc-set l (2 * c) a (omega arith))
-    ∙ append-assoc (take (2 * c) l) (a ∷ []) (b ∷ [])

@@ -2,14 +2,14 @@
 -- change before the next mark (`steady`), and WHEN has no more intervals than fit (`most`).
 use mathlib.Core.Path.{_≡_, refl, sym, ap, ap₂, _∙_, subst}
 use mathlib.Core.Logic.{inl, inr}
-use Prim.Native.Nat.{ℕ, zero, suc, _+_, _*_, _-_, _≤_, _<_}
+use Prim.Native.Nat.{ℕ, zero, suc, _+_, _*_, _-_, _/_, _≤_, _<_}
 use native.Mathlib.Omega.{arith}
 use mathlib.Core.Bool.{Bool, true, false, not, _&&_, _||_}
 use mathlib.Core.List.{List, [], _++_}
 use lib.Bits.{bitAnd}
-use lib.Dec.{leb, eqb}
-use lib.ListN.{length, take, getD}
-use Rattle.foundation.specs.Tests.{le-true, true-le, eq-true, ne-false, and-true, and-intro, or-true-right}
+use lib.Dec.{leb, ltb, eqb}
+use lib.ListN.{length, drop, getD}
+use Rattle.foundation.specs.Tests.{pick, le-true, le-false, true-le, eq-true, ne-false, and-true, and-intro, or-true-right}
 use Rattle.foundation.specs.Tests.{or-false}
 use Rattle.foundation.specs.Lists.{anyb}
 use Rattle.foundation.specs.declared.Interval.{Interval}
@@ -36,6 +36,7 @@ use Rattle.foundation.specs.Records.{length-records}
 use Rattle.questions.specs.Drawn.{indexOf, among, counted, placeOf}
 use Rattle.plan.specs.Scene.{derivesOn, bareBase, baseIn, Prepared, At}
 use Rattle.plan.specs.Reading.{read-off}
+use Rattle.scan.specs.Filled.{filled, filled-all}
 
 -- ---- MAY and WHEN look at a base's authorizations and rules only
 
@@ -97,12 +98,32 @@ mode-fits x a =
     (and-true i m (and-true (i && m) (isObject (x .object)) a .0) .1) in
     (true-le 1 (x .mode) (o .0), true-le (x .mode) 8 (o .1))
 
--- the n intervals stand in the list, and there are no more than can be
-pub record Listing (intervals : List Interval) (n : ℕ) (list : List ℕ) : Type 0 where
+-- the intervals are counted, and as many of them as the list has room for stand at its front
+pub record Filling (intervals : List Interval) (n : ℕ) (list list′ : List ℕ) : Type 0 where
+  pub count : n ≡ length intervals
+  pub lent : list′ ≡ filled intervals list
+
+-- the intervals at the front of the list, if it has room for all of them; else the list as it was
+abbrev pub listed : List Interval → List ℕ → List ℕ
+listed xs list = pick (ltb (length list / 2) (length xs)) list (words xs ++ drop (2 * length xs) list)
+
+-- the intervals are counted, and listed; there are no more than can be
+pub record Listing (intervals : List Interval) (n : ℕ) (list list′ : List ℕ) : Type 0 where
   pub count : n ≡ length intervals
   pub few : n ≤ 1089
-  pub there : take (2 * n) list ≡ words intervals
-  pub size : length list ≡ 2200
+  pub lent : list′ ≡ listed intervals list
+
+-- the list is too short, or not
+pub listed-short : (xs : List Interval) (list : List ℕ) → length list / 2 < length xs → listed xs list ≡ list
+listed-short xs list h =
+    ap (λ (g : Bool). pick g list (words xs ++ drop (2 * length xs) list))
+    (le-true (suc (length list / 2)) (length xs) h)
+
+pub listed-all : (xs : List Interval) (list : List ℕ) → length xs ≤ length list / 2 →
+    listed xs list ≡ words xs ++ drop (2 * length xs) list
+listed-all xs list h =
+    ap (λ (g : Bool). pick g list (words xs ++ drop (2 * length xs) list))
+    (le-false (suc (length list / 2)) (length xs) (omega arith))
 
 module _ (lines : List ℕ) (total : ℕ) (body : List ℕ) (n : ℕ) where
   -- an authorization is for the access with that sign, or a rule of the word derives it
@@ -164,26 +185,42 @@ module _ (lines : List ℕ) (total : ℕ) (body : List ℕ) (n : ℕ) where
       (next-clear t (marks (authorizationsIn total lines) (rulesIn n body)) 4294967296 u (omega (arith, e)))
 
   -- no more intervals than there are authorizations and rules, and one
-  pub most : (x : Access) → total ≤ 1024 → n ≤ 64 → length (maximal 0 lastInstant (λ t. mayIn x t)) ≤ 1089
-  unfolding when
-  most x h k = omega (
+  pub most : (x : Access) → length (whenIn x) ≤ total + n + 1
+  most x = omega (
     arith,
     when-count (baseIn lines total body n) x,
     length-records 24 authorizationOf total lines,
     length-records 28 ruleOf n body,
   )
 
-  pub listing : (x : Access) (r : ℕ) (list : List ℕ) → total ≤ 1024 → n ≤ 64 →
-      (r ≡ length (maximal 0 lastInstant (λ t. mayIn x t)))
-      × (take (2 * r) list ≡ words (maximal 0 lastInstant (λ t. mayIn x t))) → length list ≡ 2200 →
-      Listing (whenIn x) r list
+  -- the intervals where MAY says yes are WHEN's
+  pub few-runs : (x : Access) → total ≤ 1024 → n ≤ 64 →
+      length (maximal 0 lastInstant (λ t. mayIn x t)) ≤ 1089
   unfolding when
-  listing x r list h k e z = record {
-    count = e .0;
-    few = omega (arith, e .0, most x h k);
-    there =
-        e .1;
-    size = z;
+  few-runs x h k = omega (arith, most x)
+
+  pub filling : (x : Access) (r : ℕ) (list list′ : List ℕ) →
+      (r ≡ length (maximal 0 lastInstant (λ t. mayIn x t)))
+      × (list′ ≡ filled (maximal 0 lastInstant (λ t. mayIn x t)) list) → Filling (whenIn x) r list list′
+  unfolding when
+  filling x r list list′ e = record { count = e .0; lent = e .1 }
+
+  -- what a list is filled with is all of it, where it has room
+  pub listing : (x : Access) (r : ℕ) (list list′ : List ℕ) → total ≤ 1024 → n ≤ 64 →
+      length (whenIn x) ≤ length list / 2 → Filling (whenIn x) r list list′ → Listing (whenIn x) r list list′
+  listing x r list list′ h k room w = record {
+    count = w .count;
+    few = omega (arith, w .count, most x);
+    lent = w .lent ∙ filled-all (whenIn x) list (omega arith) ∙ sym (listed-all (whenIn x) list room);
+  }
+
+  -- and a list that has none is as it was
+  pub listing-short : (x : Access) (r : ℕ) (list : List ℕ) → total ≤ 1024 → n ≤ 64 →
+      length list / 2 < length (whenIn x) → r ≡ length (whenIn x) → Listing (whenIn x) r list list
+  listing-short x r list h k short e = record {
+    count = e;
+    few = omega (arith, e, most x);
+    lent = sym (listed-short (whenIn x) list short);
   }
 
   -- the next mark is behind t, and none is behind 2^32

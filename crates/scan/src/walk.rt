@@ -10,7 +10,7 @@ ghost use Rattle.model.specs.Rules.{when};
 ghost use Rattle.model.specs.Soundness.{soundBytes};
 ghost use Rattle.questions.specs.Drawn.{indexOf};
 ghost use Rattle.plan.specs.Scene.{Grounds, Prepared};
-ghost use Rattle.scan.specs.Walk.{heldBy, mayIn, whenIn, ReadOff, Listing};
+ghost use Rattle.scan.specs.Walk.{heldBy, mayIn, whenIn, ReadOff, Filling, Listing};
 use crate::Track;
 use crate::relevant::narrow;
 use crate::runs::finish;
@@ -141,7 +141,8 @@ pub fn holds_at(s: &[u8], x: Access, t: u32) -> bool
     )
 }
 
-// Writes the maximal intervals where MAY says yes, the tables being prepared; how many they are.
+// Puts the maximal intervals where MAY says yes at the front of the list, as many as it has room for, the tables
+// being prepared; how many there are.
 fn scan(
     lines: &[u8],
     total: usize,
@@ -156,16 +157,15 @@ fn scan(
     spots: &[u16; 1024],
     looks: &[u64; 520],
     x: Access,
-    runs: &mut [u32; 2200],
+    list: &mut [u32],
 ) -> usize
     requires { ⌜ Prepared (now lines) total (now body) n (take (o .subjects) (now u)) (now levels) (now sides)
         (now feed)
         (now masks) (now spots) (now looks) (o .lead) (o .negating) (o .top) ⌝ }
     requires { ⌜ (length (take (o .subjects) (now u)) ≡ o .subjects)
-        × (indexOf (x .subject) (take (o .subjects) (now u)) ≡ 0) × (accessIn x ≡ true)
-        × (length (now runs) ≡ 2200) ⌝ }
-    ensures { λ r. ⌜ Listing (whenIn (now (lines .entry)) total (now (body .entry)) n x) r
-        (now (runs .exit)) ⌝ }
+        × (indexOf (x .subject) (take (o .subjects) (now u)) ≡ 0) × (accessIn x ≡ true) ⌝ }
+    ensures { λ r. ⌜ Filling (whenIn (now (lines .entry)) total (now (body .entry)) n x) r
+        (now (list .entry)) (now (list .exit)) ⌝ }
 {
     let mut before = [0u64; 520];
     let mut direct = [0u64; 520];
@@ -199,26 +199,18 @@ fn scan(
             &mut changed,
         );
         let yes = verdict(lines, total, body, n, &table, x, a);
-        w = note(runs, w, a, yes);
+        w = note(list, w, a, yes);
         before = table;
         t = next_mark(lines, total, body, n, a);
     }
-    finish(runs, w, 4294967295)
+    finish(list, w, 4294967295)
 }
 
-// Writes the maximal intervals where MAY says yes, by the bodies of the authorizations and rules; how many
-// they are.
-fn runs_in(
-    lines: &[u8],
-    total: usize,
-    body: &[u8],
-    n: usize,
-    x: Access,
-    runs: &mut [u32; 2200],
-) -> usize
-    requires { ⌜ Grounds (now lines) total (now body) n × (accessIn x ≡ true) × (length (now runs) ≡ 2200) ⌝ }
-    ensures { λ r. ⌜ Listing (whenIn (now (lines .entry)) total (now (body .entry)) n x) r
-        (now (runs .exit)) ⌝ }
+// The same by the bodies of the authorizations and rules.
+fn runs_in(lines: &[u8], total: usize, body: &[u8], n: usize, x: Access, list: &mut [u32]) -> usize
+    requires { ⌜ Grounds (now lines) total (now body) n × (accessIn x ≡ true) ⌝ }
+    ensures { λ r. ⌜ Filling (whenIn (now (lines .entry)) total (now (body .entry)) n x) r
+        (now (list .entry)) (now (list .exit)) ⌝ }
 {
     let mut u = [0u16; 65];
     let mut levels = [0u16; 65];
@@ -256,8 +248,33 @@ fn runs_in(
         &spots,
         &looks,
         x,
-        runs,
+        list,
     )
+}
+
+// Puts the maximal intervals where MAY says yes at the front of the list, if it has room for all of them; how many
+// there are. A list that may be too short is not lent before they are counted.
+fn runs_if_room(
+    lines: &[u8],
+    total: usize,
+    body: &[u8],
+    n: usize,
+    x: Access,
+    list: &mut [u32],
+) -> usize
+    requires { ⌜ Grounds (now lines) total (now body) n × (accessIn x ≡ true) ⌝ }
+    ensures { λ r. ⌜ Listing (whenIn (now (lines .entry)) total (now (body .entry)) n x) r
+        (now (list .entry)) (now (list .exit)) ⌝ }
+{
+    let pairs = list.len() / 2;
+    if pairs <= total + n {
+        let mut none = [0u32; 0];
+        let r = runs_in(lines, total, body, n, x, &mut none);
+        if pairs < r {
+            return r;
+        }
+    }
+    runs_in(lines, total, body, n, x, list)
 }
 
 // The same by those of the authorizations that matter.
@@ -267,21 +284,22 @@ fn runs_narrowed(
     body: &[u8],
     n: usize,
     x: Access,
-    runs: &mut [u32; 2200],
+    list: &mut [u32],
 ) -> usize
-    requires { ⌜ Grounds (now lines) total (now body) n × (accessIn x ≡ true) × (length (now runs) ≡ 2200) ⌝ }
+    requires { ⌜ Grounds (now lines) total (now body) n × (accessIn x ≡ true) ⌝ }
     ensures { λ r. ⌜ Listing (whenIn (now (lines .entry)) total (now (body .entry)) n x) r
-        (now (runs .exit)) ⌝ }
+        (now (list .entry)) (now (list .exit)) ⌝ }
 {
     let mut kept = [0u8; 24576];
     let k = narrow(lines, total, body, n, x, &mut kept);
-    runs_in(&kept, k, body, n, x, runs)
+    runs_if_room(&kept, k, body, n, x, list)
 }
 
-// Writes the maximal intervals where MAY says yes; how many they are.
-pub fn list_runs(s: &[u8], x: Access, runs: &mut [u32; 2200]) -> usize
-    requires { ⌜ (soundBytes (now s) ≡ true) × (accessIn x ≡ true) × (length (now runs) ≡ 2200) ⌝ }
-    ensures { λ r. ⌜ Listing (when (decode (now (s .entry))) x) r (now (runs .exit)) ⌝ }
+// Puts the maximal intervals where MAY says yes at the front of the list, if it has room for all of them, and else
+// leaves it as it is; how many there are.
+pub fn list_runs(s: &[u8], x: Access, list: &mut [u32]) -> usize
+    requires { ⌜ (soundBytes (now s) ≡ true) × (accessIn x ≡ true) ⌝ }
+    ensures { λ r. ⌜ Listing (when (decode (now (s .entry))) x) r (now (list .entry)) (now (list .exit)) ⌝ }
 {
     let c = encoding::counts_of(s);
     let la = encoding::authorizations_at(c);
@@ -292,6 +310,6 @@ pub fn list_runs(s: &[u8], x: Access, runs: &mut [u32; 2200]) -> usize
         &s[ra..],
         c.rules as usize,
         x,
-        runs,
+        list,
     )
 }

@@ -33,7 +33,7 @@ use Rattle.laws.specs.Preservation.{effect-sound}
 use Rattle.laws.specs.RequestFacts.{refusedWith}
 use Rattle.laws.specs.Rows.{label-left}
 use Rattle.laws.specs.SessionFacts.{when-most}
-use Rattle.scan.specs.Runs.{words-length}
+use Rattle.scan.specs.Filled.{words-length}
 use Rattle.printing.specs.Print.{RunsFit}
 use Rattle.model.specs.TextFacts.{decimal-below}
 use Rattle.printing.proofs.Lengths.{done-length, refused-length}

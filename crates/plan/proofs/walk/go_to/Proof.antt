@@ -58,7 +58,7 @@ up-to-requires c κs =
     let a = c .before .before .before .before .before .before .before .before .before .before .before .args in
     let l = c .before .before .loop in (
       behind (now (a .lines)) (a .total) (now (a .body)) (a .n) (l .a) (c .next-mark .result) (search needs)
-          (c .next-mark .ensures),
+          (c .next-mark .ensures .0),
       search needs,
     )
 
@@ -75,7 +75,7 @@ derive-requires-2 c κs =
         serves-next (now (a .lines)) (a .total) (now (a .body)) (a .n) (take (a .o .subjects) (now (a .u)))
             (l .a)
             (c .before .before .before .before .before .up-to .result) (l .table) (e .0)
-            (omega (arith, e .1, c .before .before .before .before .before .before .next-mark .ensures))
+            (omega (arith, e .1, c .before .before .before .before .before .before .next-mark .ensures .0))
             (l .inv .1),
       ),
     )

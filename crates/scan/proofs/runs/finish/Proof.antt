@@ -1,4 +1,4 @@
--- `answers::runs::finish`: an interval that is open at the end is the last one.
+-- `scan::runs::finish`: an interval that is open at the end is the last one.
 use borrow.Author.Needs.{needs}
 use denote.Ref.{now}
 use Rattle.scan.specs.Runs.{complete-open, complete-none}
@@ -6,25 +6,25 @@ use Rattle.scan.proofs.runs.finish.Statement.{statement}
 use Rattle.scan.proofs.runs.finish.Tie as tie
 
 put-run-requires : tie.Need-put-run-requires
-put-run-requires c κs = (c .before .before .pre .0 (c .before .if1 .taken), c .before .before .pre .1)
+put-run-requires c κs = c .before .before .before .pre (c .before .if1 .taken)
 
 add-result : tie.Need-add-result
 add-result c =
-    let t = c .before .before .before in
-    let z = t .before .pre .0 (t .if1 .taken) in
+    let t = c .before .before .before .before .before in
+    let z = t .before .before .pre (t .if1 .taken) in
     search needs
 
 returns : tie.Need-returns
 returns c =
-    let t = c .before .before .before in
-    let a = t .before .args in
-    let k = c .before .put-run .ensures in
-    (λ f r. complete-open f (a .e) (a .w) (now (a .list)) r (t .if1 .taken) _ (k .0), k .1)
+    let t = c .before .before .before .before .before in
+    let a = t .before .before .args in
+    λ f lent r. complete-open f (a .e) lent (a .w) (now (a .list)) r (t .if1 .taken) _
+    (c .before .before .before .put-run .ensures)
 
 returns-2 : tie.Need-returns-2
 returns-2 c =
-    let a = c .before .args in
-    (λ f r. complete-none f (a .e) (a .w) (now (a .list)) r (c .if1 .left), c .before .pre .1)
+    let a = c .before .before .args in
+    λ f lent r. complete-none f (a .e) lent (a .w) (now (a .list)) r (c .if1 .left)
 
 pub finish-spec : {M : Type 1} → statement M
-finish-spec = tie.close (tie.spec put-run-requires add-result returns returns-2)
+finish-spec = tie.close (tie.spec put-run-requires add-result (λ c. search needs) returns returns-2)
