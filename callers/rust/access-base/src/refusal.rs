@@ -33,6 +33,8 @@ pub enum Refusal {
     NotStratified,
     /// 13: a count would be passed, no label is left, or the list, the page or the byte list is too short.
     Full,
+    /// 15, from [`simple_may`](crate::simple_may) alone: feeding leads from some rule back to it.
+    Circular,
 }
 
 impl Refusal {
@@ -51,6 +53,7 @@ impl Refusal {
             Refusal::NotHeld => 11,
             Refusal::NotStratified => 12,
             Refusal::Full => 13,
+            Refusal::Circular => 15,
         }
     }
 }
@@ -72,6 +75,7 @@ impl fmt::Display for Refusal {
             Refusal::NotHeld => "not held: nothing to do",
             Refusal::NotStratified => "not stratified: a rule with WHENEVERNOT or UNLESS would feed itself",
             Refusal::Full => "full: withdraw what has passed, or lend a list of 1,100 pairs, a page of 45,056 bytes, a byte for each question",
+            Refusal::Circular => "circular: ask `may`, which serves all rules",
         };
         write!(f, "{}, {text}", self.number())
     }
@@ -108,6 +112,7 @@ pub(crate) fn checked(reply: Reply) -> Result<Reply, Refusal> {
         11 => Refusal::NotHeld,
         12 => Refusal::NotStratified,
         13 => Refusal::Full,
+        15 => Refusal::Circular,
         other => unreachable!("the contracts have no refusal {other}"),
     })
 }
