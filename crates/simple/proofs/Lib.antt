@@ -1,1 +1,2 @@
 pub mod Depth
+pub mod Places

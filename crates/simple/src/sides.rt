@@ -37,12 +37,13 @@ pub fn asked(x: Access, negative: bool) -> Pattern
 fn fits(h: Head, p: Pattern) -> bool
     ensures { λ x. ⌜ x ≡ model.fits p h ⌝ }
 {
+    let x = p.access;
     let o = p.option;
     let sign = alike(h.negative, p.negative);
     let option = fits_option(o, h.option);
-    (h.subject as u32 == p.access.subject)
-        & (h.mode as u32 == p.access.mode)
-        & (h.object as u32 == p.access.object)
+    (h.subject as u32 == x.subject)
+        & (h.mode as u32 == x.mode)
+        & (h.object as u32 == x.object)
         & sign
         & ((p.grantor == 0) | (p.grantor == h.grantor))
         & option
@@ -72,12 +73,13 @@ pub fn may_give(r: Rule, p: Pattern) -> bool
     ensures { λ x. ⌜ ((b : Base) → x ≡ model.derivesFor b p r) ⌝ }
 {
     let left = r.left;
+    let x = p.access;
     let o = p.option;
     let sign = alike(left.negative, p.negative);
     let option = fits_option(o, false);
-    ((left.subject == 0) | (left.subject as u32 == p.access.subject))
-        & ((left.mode == 0) | (left.mode as u32 == p.access.mode))
-        & (left.object as u32 == p.access.object)
+    ((left.subject == 0) | (left.subject as u32 == x.subject))
+        & ((left.mode == 0) | (left.mode as u32 == x.mode))
+        & (left.object as u32 == x.object)
         & sign
         & ((p.grantor == 0) | (p.grantor == r.author))
         & option

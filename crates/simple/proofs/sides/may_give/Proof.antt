@@ -1,0 +1,17 @@
+-- `may_give` meets its contract: its tests are the definition's, one by one.
+use borrow.Author.Needs.{needs}
+use Rattle.model.specs.Rules.{standsFor, derivesFor}
+use Rattle.simple.proofs.sides.may_give.Statement.{statement}
+use Rattle.simple.proofs.sides.may_give.Tie as tie
+
+returns : tie.Need-returns
+unfolding derivesFor standsFor
+returns c b =
+    let f = c .before .before .before .before .before .before .before .before .before .before .before in
+    rw (f .fits-option .ensures, f .before .alike .ensures)
+
+pub may-give-spec : {M : Type 1} → statement M
+may-give-spec =
+    tie.close
+    (tie.spec (λ c κs. search needs) (λ c κs. search needs) (λ c. search needs) (λ c. search needs)
+    (λ c. search needs) returns)
