@@ -1,2 +1,3 @@
 pub mod Depth
 pub mod Places
+pub mod Steps
