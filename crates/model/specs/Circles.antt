@@ -1,5 +1,5 @@
--- Circles of feeding of any sort (02, change request 6): a WHENEVERNOT or UNLESS may be on them or not, beside
--- the forbidden ones of Stratification. `circular-path`: the test finds exactly the circles.
+-- Circles of feeding of any sort (02, change request 6), a WHENEVERNOT or UNLESS on them or not, beside the
+-- forbidden ones of Stratification. `circular-path`: the test finds exactly the circles.
 use mathlib.Core.Path.{_≡_, sym, subst}
 use mathlib.Core.Logic.{_↔_}
 use mathlib.Core.Bool.{Bool, true, and-true}

@@ -51,7 +51,8 @@ module _ (s : List ℕ) (q : Question) where
   behind : (c : Bool) → circular (decode s .rules) ≡ c →
       simpleAnswer s q ≡ refusedOr rows Refused (pick c (Refused 15) said)
   unfolding simpleAnswer
-  behind c e = refused-append rows (row 15 (circular (decode s .rules)) ∷ []) Refused said (numbered rows refl)
+  behind c e =
+      refused-append rows (row 15 (circular (decode s .rules)) ∷ []) Refused said (numbered rows refl)
       ∙ ap (refusedOr rows Refused) (ap (λ (g : Bool). refusedOr (row 15 g ∷ []) Refused said) e ∙ asked c)
     where
       asked : (c : Bool) → refusedOr (row 15 c ∷ []) Refused said ≡ pick c (Refused 15) said
@@ -121,8 +122,8 @@ module _ (s : List ℕ) (q : Question) where
       (Circle (decode s .rules) → ⊥) → r ≡ r′
   same-may r r′ e e′ h = e ∙ simple-main h ∙ sym e′
 
-  -- THEOREM. 02: "Turned away: 15, circular, ... exactly if some feeding circle exists; it comes last": no row of
-  -- the main one's table applies
+  -- THEOREM. 02: "Turned away: 15, circular, ... exactly if some feeding circle exists; it comes last": the
+  -- main one is not refused, and there is a circle
   pub simple-circular : (simpleAnswer s q ≡ Refused 15)
       ↔ ((refusalNumber (mayAnswer s q) ≡ 0) × Circle (decode s .rules))
   simple-circular = (

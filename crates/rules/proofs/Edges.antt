@@ -160,7 +160,8 @@ edges-turn every n s j edges more counts c few l rows row left i h = cases (eqb 
     rw z (subst (λ (k : ℕ). Row every n s j more k) (sym (getD-set-same counts j c 0 l)) row))
     (λ q. let z = false-eq i j q in
     subst (λ (k : ℕ). Row every n s i more k) (sym (getD-set-other counts j i c 0 z))
-    (row-kept every n s i edges more (getD counts i 0) few (λ k m. left k (omega arith)) (rows i (omega arith))))
+    (row-kept every n s i edges more (getD counts i 0) few (λ k m. left k (omega arith))
+    (rows i (omega arith))))
 
 -- ---- a round
 

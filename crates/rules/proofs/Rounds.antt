@@ -1,5 +1,5 @@
--- Tables filled place by place, and rounds of ranks: ranks that a round does not change are settled, and ranks
--- that change in one round more than there are rules betray a circle.
+-- Tables filled place by place, and rounds of ranks: ranks that a round does not change are settled, and
+-- ranks that change in one round more than there are rules betray a circle.
 use mathlib.Core.Path.{_≡_, sym, ap, _∙_}
 use mathlib.Core.Bool.{Bool, true, false}
 use mathlib.Core.List.{List}

@@ -38,8 +38,8 @@ abbrev pub raised : Bool → List Rule → (Rule → ℕ) → Rule → ℕ
 raised every rules f r =
     max (count (ownOf every r)) (most (λ q. countOf every q r + f q) (keepIf (λ q. precedes q r) rules))
 
--- what the rounds answer of n rules, and the table that they leave: no step that counts is on a circle, and the
--- most that a path counts which ends in a rule
+-- what the rounds answer of n rules, and the table that they leave: that no step which counts is on a circle,
+-- and the most that a path counts which ends in a rule
 pub record Ranked (every : Bool) (n : ℕ) (s ranks : List ℕ) (answer : Bool) : Type 0 where
   pub test : answer ≡ not (cyclic precedes (heavy (countOf every)) (rulesIn n s))
   pub table : answer ≡ true → Holds n s (rank precedes (countOf every) (ownOf every) (rulesIn n s)) ranks

@@ -47,8 +47,8 @@ pub fn fits_option(o: OptionTerm, has: bool) -> bool
     }
 }
 
-// Whether q's left side, which is never transferable, can fit r's right side. Most rules are of other objects,
-// so that is asked first.
+// Whether q's left side, which is never transferable, can fit r's right side. Most rules are of other
+// objects, so that is asked first.
 pub fn feeds(q: Rule, r: Rule) -> bool
     ensures { λ x. ⌜ x ≡ model.feeds q r ⌝ }
 {

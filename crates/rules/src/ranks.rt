@@ -1,6 +1,6 @@
-// The tests for circles and the strata, of up to 65 rules: those of a full base and one more. Which rule looks
-// at which is asked once, and noted as edges with weights. Where `every` is true each step counts one, so that
-// every circle is found; else steps count as in a stratum.
+// The tests for circles and the strata, of up to 65 rules: those of a full base and one more. Which rule
+// looks at which is asked once, and noted as edges with weights. Where `every` is true each step counts one,
+// so that every circle is found; else steps count as in a stratum.
 ghost use mathlib.Core.Path.{_≡_};
 ghost use mathlib.Core.Bool.{Bool, true};
 ghost use mathlib.Core.List.{List};
@@ -57,14 +57,21 @@ fn put_edge(edges: &mut [u8; 4225], at: usize, c: usize, i: usize, step: u8) -> 
 // Puts the edges into the j-th of n rules in its row, and leaves the rows before it; how many they are.
 fn put_row(s: &[u8], n: usize, every: bool, j: usize, edges: &mut [u8; 4225]) -> usize
     requires { ⌜ (n * 28 ≤ length (now s)) × (n ≤ 65) × (j < n) × (length (now edges) ≡ 4225) ⌝ }
-    ensures { λ c. ⌜ Row every n (now (s .entry)) j (now (edges .exit)) c × (length (now (edges .exit)) ≡ 4225)
+    ensures { λ c. ⌜ Row every n (now (s .entry)) j (now (edges .exit)) c
+        × (length (now (edges .exit)) ≡ 4225)
         × ((k : ℕ) → k < j * 65 → getD (now (edges .exit)) k 0 ≡ getD (now (edges .entry)) k 0) ⌝ }
 {
     let r = rule_at(s, j * RULE_BYTES);
     let mut c = 0;
     let mut i = 0;
     while i < n {
-        c = put_edge(edges, j * 65, c, i, step(rule_at(s, i * RULE_BYTES), r, every));
+        c = put_edge(
+            edges,
+            j * 65,
+            c,
+            i,
+            step(rule_at(s, i * RULE_BYTES), r, every),
+        );
         i += 1;
     }
     c

@@ -24,6 +24,7 @@ use Rattle.model.specs.Encoding.{ruleOf, decode}
 use Rattle.encoding.specs.Format.{countsOf}
 use Rattle.encoding.proofs.FormatFacts.{decoded-rules}
 use Rattle.simple.specs.Stored.{rulesFrom, ruleIn}
+use Rattle.simple.specs.Engine.{grantedAt, givesIn}
 
 -- ---- held
 
@@ -32,24 +33,20 @@ pub rule-mem : (s : List ℕ) (i : ℕ) (r : Rule) → r ≡ ruleIn s i → i < 
     Mem r (decode s .rules)
 rule-mem s i r e h = rw (e, decoded-rules s) (record-mem 28 ruleOf (countsOf s .rules) (rulesFrom s) i h)
 
--- a rule gives p at t
-abbrev pub gives : Base → Pattern → ℕ → Rule → Bool
-gives b p t r = derivesFor b p r && derived b (fact r (p .access) t)
-
--- some rule of n does
+-- some rule of n gives p at t
 abbrev pub given : List ℕ → Pattern → ℕ → ℕ → Bool
-given s p t n = anyb (gives (decode s) p t) (records 28 ruleOf n (rulesFrom s))
+given s p t n = anyb (givesIn (decode s) p t) (records 28 ruleOf n (rulesFrom s))
 
 -- where an authorization gives it, or else a rule
-pub held-granted : (b : Base) (p : Pattern) (t : ℕ) → anyb (fits p) (live t (b .authorizations)) ≡ true →
-    true ≡ holds always b t p
-held-granted b p t e = sym (holds-law b t p ∙ rw e)
+pub held-granted : (s : List ℕ) (p : Pattern) (t : ℕ) → grantedAt s p t ≡ true →
+    true ≡ holds always (decode s) t p
+held-granted s p t e = sym (holds-law (decode s) t p ∙ rw e)
 
 pub held-given : (s : List ℕ) (p : Pattern) (t n : ℕ) → n ≡ countsOf s .rules →
-    anyb (fits p) (live t (decode s .authorizations)) ≡ false → given s p t n ≡ holds always (decode s) t p
+    grantedAt s p t ≡ false → given s p t n ≡ holds always (decode s) t p
 held-given s p t n k e =
     ap (given s p t) k
-    ∙ ap (anyb (gives (decode s) p t)) (sym (decoded-rules s))
+    ∙ ap (anyb (givesIn (decode s) p t)) (sym (decoded-rules s))
     ∙ sym (holds-law (decode s) t p ∙ rw e)
 
 -- ---- gives
@@ -58,12 +55,13 @@ module _ (b : Base) (strata : stratified (b .rules) ≡ true) (r : Rule) (m : Me
     (t : ℕ) where
   -- what the operator is to say of the right side
   abbrev pub says : Operator → Bool
-  says o = operate always o (λ u. holding b u (rightOf r (p .access))) (λ u. holding b u (rightOf r (p .access)))
-      (r .interval .start) t
+  says o =
+      let right = rightOf r (p .access) in
+      operate always o (λ u. holding b u right) (λ u. holding b u right) (r .interval .start) t
 
   -- its left side is something else, or t is not in its interval
   pub gives-not : (left inside : Bool) → left ≡ derivesFor b p r → inside ≡ inInterval (r .interval) t →
-      not left || not inside ≡ true → false ≡ gives b p t r
+      not left || not inside ≡ true → false ≡ givesIn b p t r
   gives-not left inside l i e = or-cases (not left) (not inside) e
       (λ n. sym (rw (sym l ∙ not-true left n)))
       (λ n. sym (rw (derived-law b strata r m (p .access) t, sym i ∙ not-true inside n)
@@ -71,7 +69,7 @@ module _ (b : Base) (strata : stratified (b .rules) ≡ true) (r : Rule) (m : Me
 
   -- else its operator decides
   pub gives-says : (left inside : Bool) → left ≡ derivesFor b p r → inside ≡ inInterval (r .interval) t →
-      not left || not inside ≡ false → (o : Operator) → r .operator ≡ o → says o ≡ gives b p t r
+      not left || not inside ≡ false → (o : Operator) → r .operator ≡ o → says o ≡ givesIn b p t r
   gives-says left inside l i e o q =
       let n = or-none (not left) (not inside) e in
       sym (rw (
@@ -83,9 +81,6 @@ module _ (b : Base) (strata : stratified (b .rules) ≡ true) (r : Rule) (m : Me
 -- ---- throughout
 
 -- an instant is as it is wanted
-abbrev pub wantedAt : Base → Pattern → Bool → ℕ → Bool
-wantedAt b p wanted u = pick wanted (holding b u p) (not (holding b u p))
-
 pub alike-wanted : (h wanted : Bool) → Bool·beq h wanted ≡ pick wanted h (not h)
 alike-wanted true true = refl
 alike-wanted true false = refl

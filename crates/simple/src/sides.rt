@@ -3,13 +3,11 @@
 ghost use mathlib.Core.Path.{_≡_};
 ghost use mathlib.Core.Bool.{true};
 ghost use Rattle.foundation.specs.Tests.{pick};
-ghost use Rattle.foundation.specs.Lists.{anyb};
 ghost use Rattle.model.specs.Base.{Base};
-ghost use Rattle.model.specs.Encoding.{decode};
 ghost use Rattle.model.specs.Soundness.{soundBytes};
-ghost use Rattle.model.specs.Support.{live};
 ghost use Rattle.model.specs.Stratification.{isStar};
 ghost use Rattle.model.specs.Rules as model;
+ghost use Rattle.simple.specs.Engine.{grantedAt};
 use crate::stored::authorization;
 use crate::stored::authorization_count;
 use lookup::has_instant;
@@ -18,7 +16,6 @@ use model::Head;
 use model::OptionTerm;
 use model::Pattern;
 use model::Rule;
-use rules::alike;
 use rules::fits_option;
 
 // The access, from any grantor, with the option or without it.
@@ -39,20 +36,18 @@ fn fits(h: Head, p: Pattern) -> bool
 {
     let x = p.access;
     let o = p.option;
-    let sign = alike(h.negative, p.negative);
-    let option = fits_option(o, h.option);
-    (h.subject as u32 == x.subject)
+    let same = (h.subject as u32 == x.subject)
         & (h.mode as u32 == x.mode)
         & (h.object as u32 == x.object)
-        & sign
-        & ((p.grantor == 0) | (p.grantor == h.grantor))
-        & option
+        & (h.negative == p.negative)
+        & ((p.grantor == 0) | (p.grantor == h.grantor));
+    same & fits_option(o, h.option)
 }
 
 // Whether some authorization that covers t is what is sought.
 pub fn is_granted(s: &[u8], p: Pattern, t: u32) -> bool
     requires { ⌜ soundBytes (now s) ≡ true ⌝ }
-    ensures { λ x. ⌜ x ≡ anyb (model.fits p) (live t (decode (now (s .entry)) .authorizations)) ⌝ }
+    ensures { λ x. ⌜ x ≡ grantedAt (now (s .entry)) p t ⌝ }
 {
     let n = authorization_count(s);
     let mut i = 0;
@@ -75,14 +70,12 @@ pub fn may_give(r: Rule, p: Pattern) -> bool
     let left = r.left;
     let x = p.access;
     let o = p.option;
-    let sign = alike(left.negative, p.negative);
-    let option = fits_option(o, false);
-    ((left.subject == 0) | (left.subject as u32 == x.subject))
+    let same = ((left.subject == 0) | (left.subject as u32 == x.subject))
         & ((left.mode == 0) | (left.mode as u32 == x.mode))
         & (left.object as u32 == x.object)
-        & sign
-        & ((p.grantor == 0) | (p.grantor == r.author))
-        & option
+        & (left.negative == p.negative)
+        & ((p.grantor == 0) | (p.grantor == r.author));
+    same & fits_option(o, false)
 }
 
 // A number of the right side; its star stands for x.

@@ -199,9 +199,7 @@ pub fn may(base: &[u8], x: Access, instant: u32) -> Reply {
 
 /// `access_base_simple_may`.
 pub fn simple_may(base: &[u8], x: Access, instant: u32) -> Reply {
-    unpacked(unsafe {
-        linked::access_base_simple_may(base.as_ptr(), base.len(), x.subject, x.mode, x.object, instant)
-    })
+    unpacked(unsafe { linked::access_base_simple_may(base.as_ptr(), base.len(), x.subject, x.mode, x.object, instant) })
 }
 
 /// `access_base_when`, with a list of any length, odd ones too.

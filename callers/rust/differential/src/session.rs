@@ -130,9 +130,11 @@ fn told(name: &str, generator: &mut Generator) -> Result<Pair, Box<Failure>> {
 pub fn round_session(seed: u64, counts: &[usize]) -> Result<Tally, Box<Failure>> {
     let mut random = Random::new(seed);
     let world = World::random(&mut random);
-    questioned(&format!("round session {seed}"), Generator { random: &mut random, world }, |pair, generator, is_last| {
-        rounds(pair, generator, if is_last { counts } else { &[0, 1, 5] })
-    })
+    questioned(
+        &format!("round session {seed}"),
+        Generator { random: &mut random, world },
+        |pair, generator, is_last| rounds(pair, generator, if is_last { counts } else { &[0, 1, 5] }),
+    )
 }
 
 /// A short random session, and questions to the simple engine over its last base and over damaged bases that come of it.

@@ -44,13 +44,7 @@ impl Oracle {
     }
 
     /// "whether a rule gives it depends on what is held"
-    fn gives_at(
-        &self,
-        standing: &StandingRule,
-        wanted: &Wanted,
-        instant: u32,
-        looks: &mut u64,
-    ) -> Option<bool> {
+    fn gives_at(&self, standing: &StandingRule, wanted: &Wanted, instant: u32, looks: &mut u64) -> Option<bool> {
         let start = self.cells.first(standing.first);
         if instant < start || self.cells.last(standing.last) < instant {
             return Some(false);

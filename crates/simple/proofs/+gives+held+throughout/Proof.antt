@@ -11,21 +11,19 @@ use denote.Ref.{now}
 use borrow.Fn.Kinds.{In}
 use borrow.Fn.PlainCycle.{Measures, is, falls, and}
 use Rattle.foundation.specs.Tests.{not-true, not-false, or-none}
-use Rattle.foundation.specs.Lists.{anyb}
 use Rattle.foundation.specs.Intervals.{inInterval-true, always, all-always}
 use Rattle.model.specs.declared.Pattern.{Pattern}
 use Rattle.model.specs.declared.Operator.{Operator}
 use Rattle.model.specs.declared.Operator.the-variants.{Whenever, AsLongAs, WheneverNot, Unless}
 use Rattle.model.specs.Stratification.{stratified}
-use Rattle.model.specs.Support.{live}
-use Rattle.model.specs.Rules.{fits, operate}
+use Rattle.model.specs.Rules.{operate}
 use Rattle.model.specs.HoldsLaws.{holding}
 use Rattle.model.specs.Encoding.{ruleOf, decode}
 use Rattle.encoding.specs.Format.{countsOf}
 use Rattle.lookup.proofs.SoundBodies.{base-sound}
 use Rattle.lookup.proofs.Loops.{AnyFrom, any-starts, any-fails, any-passes, any-ends}
 use Rattle.simple.specs.Stored.{rulesFrom}
-use Rattle.simple.specs.Served.{Served}
+use Rattle.simple.specs.Engine.{Served, grantedAt, givesIn, wantedIn}
 use Rattle.simple.proofs.Depth.{depthFor, reach, reach-rule, reach-right}
 use Rattle.simple.proofs.Steps as steps
 use Rattle.simple.proofs.gives.Reads as gives
@@ -38,7 +36,6 @@ use Rattle.simple.proofs.throughout.Reads as throughout
 use Rattle.simple.proofs.throughout.Kinds as throughout-kinds
 use Rattle.simple.proofs.+gives+held+throughout.Lts-throughout as throughout-lts
 use Rattle.lookup.proofs.has_instant.Reads as has-instant-reads
-use Rattle.rules.proofs.alike.Reads as alike-reads
 use Rattle.simple.proofs.sides.is_granted.Reads as is-granted-reads
 use Rattle.simple.proofs.sides.may_give.Reads as may-give-reads
 use Rattle.simple.proofs.sides.right_of.Reads as right-of-reads
@@ -105,7 +102,9 @@ held-claims t = (
 )
 
 abbrev throughout-claims : ℕ → throughout-lts.Claims
-throughout-claims t = (held-below t, held.Post, alike-reads.Asked, alike-reads.Learnt)
+throughout-claims t = (held-below t, held.Post)
+
+-- below, t is what the measure is where a function is entered
 
 module _ (t : ℕ) where
   -- ---- gives
@@ -129,11 +128,12 @@ module _ (t : ℕ) where
 
   -- behind the test its operator decides
   decided : (c : Passed) →
-      (let a = c .before .before .before .before .before .args in
+      (let d = c .before .before .before .before .before in
+      let a = d .args in
+      let b = decode (now (a .s)) in
       (o : Operator) → a .r .operator ≡ o →
-      steps.says (decode (now (a .s))) (strata (now (a .s)) (c .before .before .before .before .before .pre .1 .0))
-      (a .r) (c .before .before .before .before .before .pre .1 .1) (a .p) (a .t) o
-      ≡ steps.gives (decode (now (a .s))) (a .p) (a .t) (a .r))
+      steps.says b (strata (now (a .s)) (d .pre .1 .0)) (a .r) (d .pre .1 .1) (a .p) (a .t) o
+      ≡ givesIn b (a .p) (a .t) (a .r))
   decided c =
       let h = c .before in
       let l = h .before in
@@ -144,8 +144,7 @@ module _ (t : ℕ) where
       (l .may-give .result) (h .has-instant .result) (l .may-give .ensures b) (h .has-instant .ensures)
       (c .if1 .left)
 
-  -- and what is known there: the left side fits, the interval has begun, and fewer rules are left on a feeding
-  -- path
+  -- and this is known: its left side is p, its interval has begun, and fewer rules are left on a feeding path
   abbrev Asking : Type 0
   Asking = gives-lts.After-right-of (gives-claims t) (gives-at t) gives.Post
 
@@ -239,7 +238,7 @@ module _ (t : ℕ) where
 
 abbrev held-Inv-loop : held-lts.InvT-loop
 held-Inv-loop s p t n i₀ i =
-    (n ≡ countsOf s .rules) × AnyFrom 28 ruleOf (steps.gives (decode s) p t) n (rulesFrom s) i
+    (n ≡ countsOf s .rules) × AnyFrom 28 ruleOf (givesIn (decode s) p t) n (rulesFrom s) i
 
 abbrev held-μ-loop : held-lts.MeasureT-loop
 held-μ-loop s p t n i₀ i = n - i
@@ -253,7 +252,7 @@ module _ (t : ℕ) where
   held-returns c =
       let g = c .before in
       let a = g .before .before .args in
-      steps.held-granted (decode (now (a .s))) (a .p) (a .t) (sym (g .is-granted .ensures) ∙ c .if1 .taken)
+      steps.held-granted (now (a .s)) (a .p) (a .t) (sym (g .is-granted .ensures) ∙ c .if1 .taken)
 
   held-rule-count-requires : held-lts.Need-rule-count-requires (held-claims t) (held-at t) held.Post
       held-Inv-loop held-μ-loop
@@ -264,8 +263,11 @@ module _ (t : ℕ) where
       let a = c .before .before .before .before .args in
       let n = c .rule-count in (
         n .ensures,
-        (search needs, any-starts 28 ruleOf (steps.gives (decode (now (a .s))) (a .p) (a .t)) (n .result)
-        (rulesFrom (now (a .s)))),
+        (
+          search needs,
+          any-starts 28 ruleOf (givesIn (decode (now (a .s))) (a .p) (a .t)) (n .result)
+              (rulesFrom (now (a .s))),
+        ),
       )
 
   held-rule-requires : held-lts.Need-rule-requires (held-claims t) (held-at t) held.Post held-Inv-loop
@@ -287,7 +289,7 @@ module _ (t : ℕ) where
   -- no authorization gives it
   ungranted : (c : held-lts.At-loop (held-claims t) (held-at t) held.Post held-Inv-loop held-μ-loop) →
       (let a = c .before .before .before .before .before .args in
-      anyb (fits (a .p)) (live (a .t) (decode (now (a .s)) .authorizations)) ≡ false)
+      grantedAt (now (a .s)) (a .p) (a .t) ≡ false)
   ungranted c =
       let e = c .before .before in
       sym (e .before .is-granted .ensures) ∙ e .if1 .left
@@ -298,7 +300,7 @@ module _ (t : ℕ) where
       let l = g .before .before .before in
       let a = l .before .before .before .before .before .args in
       let s = now (a .s) in
-      any-passes 28 ruleOf (steps.gives (decode s) (a .p) (a .t)) _ (rulesFrom s) (l .loop .i) _ _ (search needs)
+      any-passes 28 ruleOf (givesIn (decode s) (a .p) (a .t)) _ (rulesFrom s) (l .loop .i) _ _ (search needs)
       (g .gives .ensures) (g .before .rule .ensures) (c .if2 .taken) (l .loop .inv .1)
       ∙ steps.held-given s (a .p) (a .t) _ (l .loop .inv .0) (ungranted l)
 
@@ -309,8 +311,11 @@ module _ (t : ℕ) where
       let a = l .before .before .before .before .before .args in
       let s = now (a .s) in (
         l .loop .inv .0,
-        (search needs, any-fails 28 ruleOf (steps.gives (decode s) (a .p) (a .t)) _ (rulesFrom s) (l .loop .i) _ _
-        (search needs) (g .gives .ensures) (g .before .rule .ensures) (c .if2 .left) (l .loop .inv .1)),
+        (
+          search needs,
+          any-fails 28 ruleOf (givesIn (decode s) (a .p) (a .t)) _ (rulesFrom s) (l .loop .i) _ _
+              (search needs) (g .gives .ensures) (g .before .rule .ensures) (c .if2 .left) (l .loop .inv .1),
+        ),
       )
 
   held-returns-3 : held-lts.Need-returns-3 (held-claims t) (held-at t) held.Post held-Inv-loop held-μ-loop
@@ -318,7 +323,7 @@ module _ (t : ℕ) where
       let l = c .before in
       let a = l .before .before .before .before .before .args in
       let s = now (a .s) in
-      any-ends 28 ruleOf (steps.gives (decode s) (a .p) (a .t)) _ (rulesFrom s) (l .loop .i) (search needs)
+      any-ends 28 ruleOf (givesIn (decode s) (a .p) (a .t)) _ (rulesFrom s) (l .loop .i) (search needs)
       (l .loop .inv .1)
       ∙ steps.held-given s (a .p) (a .t) _ (l .loop .inv .0) (ungranted l)
 
@@ -327,7 +332,7 @@ module _ (t : ℕ) where
 abbrev throughout-Inv-loop : throughout-lts.InvT-loop
 throughout-Inv-loop s p from to wanted u₀ u =
     (from ≤ u) × (u ≤ to)
-    × ((v : ℕ) → from ≤ v → v < u → steps.wantedAt (decode s) p wanted v ≡ true)
+    × ((v : ℕ) → from ≤ v → v < u → wantedIn (decode s) p wanted v ≡ true)
 
 abbrev throughout-μ-loop : throughout-lts.MeasureT-loop
 throughout-μ-loop s p from to wanted u₀ u = to - u
@@ -344,38 +349,36 @@ module _ (t : ℕ) where
       (omega (arith, d .pre .0), d .pre .1 .0)
 
   -- what is asked of an instant
-  wanted : (c : throughout-lts.After-alike (throughout-claims t) (throughout-at t) throughout.Post
+  wanted : (c : throughout-lts.After-held (throughout-claims t) (throughout-at t) throughout.Post
       throughout-Inv-loop throughout-μ-loop) →
-      (let l = c .before .before .before in
+      (let l = c .before .before in
       let a = l .before .before .args in
-      c .alike .result ≡ steps.wantedAt (decode (now (a .s))) (a .p) (a .wanted) (l .loop .u))
+      Bool·beq (c .held .result) (a .wanted)
+      ≡ wantedIn (decode (now (a .s))) (a .p) (a .wanted) (l .loop .u))
   wanted c =
-      let h = c .before in
-      let a = h .before .before .before .before .args in
-      c .alike .ensures ∙ ap (λ (x : Bool). Bool·beq x (a .wanted)) (h .held .ensures)
-      ∙ steps.alike-wanted _ (a .wanted)
+      let a = c .before .before .before .before .args in
+      ap (λ (x : Bool). Bool·beq x (a .wanted)) (c .held .ensures) ∙ steps.alike-wanted _ (a .wanted)
 
   throughout-returns : throughout-lts.Need-returns (throughout-claims t) (throughout-at t) throughout.Post
       throughout-Inv-loop throughout-μ-loop
   throughout-returns c =
-      let l = c .before .before .before .before in
+      let l = c .before .before .before in
       let a = l .before .before .args in
-      steps.not-throughout (a .from) (a .to) (steps.wantedAt (decode (now (a .s))) (a .p) (a .wanted)) (l .loop .u)
-      (l .loop .inv .0) (l .loop .inv .1)
-      (sym (wanted (c .before)) ∙ not-true (c .before .alike .result) (c .if1 .taken))
+      steps.not-throughout (a .from) (a .to) (wantedIn (decode (now (a .s))) (a .p) (a .wanted)) (l .loop .u)
+      (l .loop .inv .0) (l .loop .inv .1) (sym (wanted (c .before)) ∙ not-true _ (c .if1 .taken))
 
   -- so it was up to this one
   so-far : (c : throughout-lts.Else1 (throughout-claims t) (throughout-at t) throughout.Post
       throughout-Inv-loop throughout-μ-loop) →
-      (let l = c .before .before .before .before in
+      (let l = c .before .before .before in
       let a = l .before .before .args in
       (v : ℕ) → a .from ≤ v → v < l .loop .u + 1 →
-      steps.wantedAt (decode (now (a .s))) (a .p) (a .wanted) v ≡ true)
+      wantedIn (decode (now (a .s))) (a .p) (a .wanted) v ≡ true)
   so-far c =
-      let l = c .before .before .before .before in
+      let l = c .before .before .before in
       let a = l .before .before .args in
-      steps.one-more (a .from) (steps.wantedAt (decode (now (a .s))) (a .p) (a .wanted)) (l .loop .u)
-      (l .loop .inv .2) (sym (wanted (c .before)) ∙ not-false (c .before .alike .result) (c .if1 .left))
+      steps.one-more (a .from) (wantedIn (decode (now (a .s))) (a .p) (a .wanted)) (l .loop .u)
+      (l .loop .inv .2) (sym (wanted (c .before)) ∙ not-false _ (c .if1 .left))
 
   throughout-loop-again : throughout-lts.Need-loop-again (throughout-claims t) (throughout-at t)
       throughout.Post throughout-Inv-loop throughout-μ-loop
@@ -388,9 +391,9 @@ module _ (t : ℕ) where
   throughout-returns-3 : throughout-lts.Need-returns-3 (throughout-claims t) (throughout-at t)
       throughout.Post throughout-Inv-loop throughout-μ-loop
   throughout-returns-3 c =
-      let l = c .before .before .before .before .before in
+      let l = c .before .before .before .before in
       let a = l .before .before .args in
-      sym (all-always (a .from) (a .to) (steps.wantedAt (decode (now (a .s))) (a .p) (a .wanted))
+      sym (all-always (a .from) (a .to) (wantedIn (decode (now (a .s))) (a .p) (a .wanted))
       (λ v h k. so-far (c .before) v h (omega arith)))
 
 pub +gives+held+throughout-spec : {M : Type 1} → statement M
@@ -405,6 +408,6 @@ pub +gives+held+throughout-spec : {M : Type 1} → statement M
     (held-rule-requires t) (held-gives-requires t) (held-returns-2 t) (λ c. search needs) (λ c. search needs)
     (held-loop-again t) (held-returns-3 t))
     (λ t. throughout-lts.spec (throughout-claims t) (throughout-at t) throughout.Post throughout-Inv-loop
-    throughout-μ-loop (throughout-loop-holds t) (throughout-held-requires t) (λ c κs. search needs)
-    (throughout-returns t) (λ c. search needs) (λ c. search needs) (throughout-loop-again t)
-    (throughout-returns-2 t) (throughout-returns-3 t))
+    throughout-μ-loop (throughout-loop-holds t) (throughout-held-requires t) (throughout-returns t)
+    (λ c. search needs) (λ c. search needs) (throughout-loop-again t) (throughout-returns-2 t)
+    (throughout-returns-3 t))

@@ -20,7 +20,7 @@ use Rattle.model.specs.Encoding.{decode}
 use Rattle.model.specs.Soundness.{soundBytes}
 use Rattle.model.specs.Answers.{accessIn, mayReply}
 use Rattle.model.specs.Simple.{simpleAnswer}
-use Rattle.simple.specs.Served.{Served}
+use Rattle.simple.specs.Engine.{Served}
 use Rattle.simple.proofs.simple_may.Statement.{statement}
 use Rattle.simple.proofs.simple_may.Tie as tie
 
@@ -71,7 +71,8 @@ said-in : (c : tie.After-access-in) →
     in-range (bytes (c .before .before)) (question (c .before .before)) ≡ c .access-in .result
 said-in c =
     let t = question (c .before .before) .instant in
-    (λ k. sym (c .access-in .ensures) k && le-true t lastInstant (omega arith) k) ∙ and-true (c .access-in .result)
+    (λ k. sym (c .access-in .ensures) k && le-true t lastInstant (omega arith) k)
+    ∙ and-true (c .access-in .result)
 
 ranged : (c : tie.Else2) →
     in-range (bytes (c .before .before .before)) (question (c .before .before .before)) ≡ true
@@ -92,8 +93,8 @@ served c = record {
 returns : tie.Need-returns
 returns c =
     let e = c .before in
-    by-tests (bytes e) (question e) false _ _ _ _ _ (sym (e .is-sound .ensures) ∙ not-true _ (c .if1 .taken)) refl
-    refl refl refl refl
+    by-tests (bytes e) (question e) false _ _ _ _ _
+    (sym (e .is-sound .ensures) ∙ not-true _ (c .if1 .taken)) refl refl refl refl refl
 
 returns-2 : tie.Need-returns-2
 returns-2 c =
@@ -109,7 +110,8 @@ returns-3 : tie.Need-returns-3
 returns-3 c =
     let x = c .before in
     let e = x .before .before .before .before in
-    by-tests (bytes e) (question e) true true false _ _ _ (sound (x .before .before .before)) (ranged (x .before))
+    by-tests (bytes e) (question e) true true false _ _ _ (sound (x .before .before .before))
+    (ranged (x .before))
     (sym (x .exists .ensures) ∙ not-true _ (c .if3 .taken)) refl refl refl
 
 has-circle-requires : tie.Need-has-circle-requires
@@ -120,7 +122,8 @@ returns-4 c =
     let h = c .before in
     let x = h .before .before in
     let e = x .before .before .before .before in
-    by-tests (bytes e) (question e) true true true true _ _ (sound (x .before .before .before)) (ranged (x .before))
+    by-tests (bytes e) (question e) true true true true _ _ (sound (x .before .before .before))
+    (ranged (x .before))
     (existing (h .before)) (sym (h .has-circle .ensures) ∙ c .if4 .taken) refl refl
 
 held-requires : tie.Need-held-requires
@@ -142,19 +145,21 @@ answered c held? denied? p d =
     (ranged (x .before)) (existing (h .before)) (served c .uncircular) p d
 
 -- what is asked about
-said-held : (c : tie.After-held) →
-    (let e = c .before .before .before .before .before .before .before .before .before in
-    positive (bytes e) (question e) ≡ c .held .result)
+abbrev place : tie.After-held → tie.After-is-sound
+place c = c .before .before .before .before .before .before .before .before .before
+
+said-held : (c : tie.After-held) → positive (bytes (place c)) (question (place c)) ≡ c .held .result
 said-held c =
-    let e = c .before .before .before .before .before .before .before .before .before in
-    sym (c .held .ensures ∙ ap (holds always (decode (bytes e)) (question e .instant)) (c .before .asked .ensures))
+    let e = place c in
+    let at = holds always (decode (bytes e)) (question e .instant) in
+    sym (c .held .ensures ∙ ap at (c .before .asked .ensures))
 
 said-denied : (c : tie.After-held2) →
-    (let e = c .before .before .before .before .before .before .before .before .before .before .before .before in
-    denial (bytes e) (question e) ≡ c .held2 .result)
+    (let e = place (c .before .before .before) in denial (bytes e) (question e) ≡ c .held2 .result)
 said-denied c =
-    let e = c .before .before .before .before .before .before .before .before .before .before .before .before in
-    sym (c .held2 .ensures ∙ ap (holds always (decode (bytes e)) (question e .instant)) (c .before .asked2 .ensures))
+    let e = place (c .before .before .before) in
+    let at = holds always (decode (bytes e)) (question e .instant) in
+    sym (c .held2 .ensures ∙ ap at (c .before .asked2 .ensures))
 
 returns-5 : tie.Need-returns-5
 returns-5 c =

@@ -38,7 +38,8 @@ loop-holds c =
       c .put-own .ensures .0,
       p .put-edges .ensures,
       c .put-own .ensures .1,
-      first-ranks (b .args .every) (b .args .n) (now (b .args .s)) (c .put-own .last .1 .1 .1 .0) (c .put-own .ensures .1),
+      first-ranks (b .args .every) (b .args .n) (now (b .args .s)) (c .put-own .last .1 .1 .1 .0)
+          (c .put-own .ensures .1),
       λ h. absurd (omega arith),
     )
 
@@ -74,7 +75,8 @@ returns c =
     let s = now (b .args .s) in
     let i = l .loop .inv in
     let next = d .rank-round .last .1 .1 .1 .1 .0 in
-    let g = d .rank-round .ensures .1 every s (ranks every (rulesIn n s) (l .loop .k)) (i .2) (i .3) (i .4) in
+    let old = ranks every (rulesIn n s) (l .loop .k) in
+    let g = d .rank-round .ensures .1 every s old (i .2) (i .3) (i .4) in
     let e = c .before .same-ranks .ensures .0 (c .if1 .taken) in
     record {
       test = sym (ap not (same-free every n s (l .loop .k) (l .loop .ranks) next (i .4) g e));
@@ -91,7 +93,8 @@ loop-again c =
     let s = now (b .args .s) in
     let i = l .loop .inv in
     let next = d .rank-round .last .1 .1 .1 .1 .0 in
-    let g = d .rank-round .ensures .1 every s (ranks every (rulesIn n s) (l .loop .k)) (i .2) (i .3) (i .4) in (
+    let old = ranks every (rulesIn n s) (l .loop .k) in
+    let g = d .rank-round .ensures .1 every s old (i .2) (i .3) (i .4) in (
       omega arith,
       d .rank-round .ensures .0,
       i .2,

@@ -28,7 +28,8 @@ returns c =
     let d = c .before in
     let a = d .before .args in
     rw (not-true (d .feeds .result) (c .if1 .taken))
-    at (by-tests (a .every) (a .q) (a .r) (d .feeds .result) (ownOf (a .every) (a .r)) (d .feeds .ensures) refl)
+    at (by-tests (a .every) (a .q) (a .r) (d .feeds .result) (ownOf (a .every) (a .r)) (d .feeds .ensures)
+    refl)
 
 returns-2 : tie.Need-returns-2
 returns-2 c =

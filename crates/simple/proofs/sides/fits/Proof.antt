@@ -6,12 +6,9 @@ use Rattle.simple.proofs.sides.fits.Tie as tie
 
 returns : tie.Need-returns
 unfolding fits
-returns c =
-    let f = c .before .before .before .before .before .before .before .before .before in
-    rw (f .fits-option .ensures, f .before .alike .ensures)
+returns c = rw (c .fits-option .ensures)
 
 pub fits-spec : {M : Type 1} → statement M
 fits-spec =
     tie.close
-    (tie.spec (λ c κs. search needs) (λ c κs. search needs) (λ c. search needs) (λ c. search needs)
-    (λ c. search needs) returns)
+    (tie.spec (λ c. search needs) (λ c. search needs) (λ c. search needs) (λ c κs. search needs) returns)

@@ -47,9 +47,14 @@ abbrev μ-loop : tie.MeasureT-loop
 loop-holds : tie.Need-loop-holds Inv-loop μ-loop
 loop-holds c =
     let n = c .authorization-count in
-    let a = c .before .before .args in
-    (n .ensures, (search needs, any-starts 24 authorizationOf (gives (a .p) (a .t)) (n .result)
-    (linesFrom (now (a .s)))))
+    let a = c .before .before .args in (
+      n .ensures,
+      (
+        search needs,
+        any-starts 24 authorizationOf (gives (a .p) (a .t)) (n .result)
+            (linesFrom (now (a .s))),
+      ),
+    )
 
 authorization-requires : tie.Need-authorization-requires Inv-loop μ-loop
 authorization-requires c κs =
@@ -63,7 +68,8 @@ returns c =
     let a = l .before .before .before .args in
     let i = l .loop .inv in
     any-passes 24 authorizationOf (gives (a .p) (a .t)) _ (linesFrom (now (a .s))) (l .loop .i) _ _
-    (search needs) (λ k. h .before .has-instant .ensures k && h .fits2 .ensures k) (h .before .before .before .before .authorization .ensures)
+    (search needs) (λ k. h .before .has-instant .ensures k && h .fits2 .ensures k)
+    (h .before .before .before .before .authorization .ensures)
     (c .if1 .taken) (i .1)
     ∙ given-is (now (a .s)) (a .p) (a .t) _ (i .0)
 
@@ -74,9 +80,13 @@ loop-again c =
     let a = l .before .before .before .args in
     let i = l .loop .inv in (
       i .0,
-      (search needs, any-fails 24 authorizationOf (gives (a .p) (a .t)) _ (linesFrom (now (a .s))) (l .loop .i) _ _
-          (search needs) (λ k. h .before .has-instant .ensures k && h .fits2 .ensures k) (h .before .before .before .before .authorization .ensures)
-          (c .if1 .left) (i .1)),
+      (
+        search needs,
+        any-fails 24 authorizationOf (gives (a .p) (a .t)) _ (linesFrom (now (a .s))) (l .loop .i) _ _
+            (search needs) (λ k. h .before .has-instant .ensures k && h .fits2 .ensures k)
+            (h .before .before .before .before .authorization .ensures)
+            (c .if1 .left) (i .1),
+      ),
     )
 
 returns-2 : tie.Need-returns-2 Inv-loop μ-loop
