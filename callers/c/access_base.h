@@ -1,7 +1,7 @@
 /* The access base for submeters, for C: who may read, switch or configure a meter, from which instant to which.
  *
  * Link with target/staticlib/libffi.a, which `rt staticlib ffi` writes. Every function is proved against the
- * definitions in crates/model/specs (Answers, Session, Report, Batch) and crates/records/specs (Records);
+ * definitions in crates/model/specs (Answers, Session, Report, Batch, Simple) and crates/records/specs (Records);
  * docs/LIBRARY.md has the contracts, docs/ASSURANCE.md what each rules out.
  *
  * The base is ACCESS_BASE_BYTES bytes that the caller lends; nothing else is kept between calls. Any bytes may be lent,
@@ -77,7 +77,8 @@ enum access_base_refusal {
     ACCESS_BASE_NOT_HELD = 11,     /* the privilege to withdraw is not there */
     ACCESS_BASE_NOT_STRATIFIED = 12,/* the rule would close a forbidden circle */
     ACCESS_BASE_FULL = 13,         /* a count or the labels would be passed, or the list, page or buffer is too short */
-    ACCESS_BASE_BARRED = 14        /* a line denies the requester of a grant or denial that object and mode in its span */
+    ACCESS_BASE_BARRED = 14,       /* a line denies the requester of a grant or denial that object and mode in its span */
+    ACCESS_BASE_CIRCULAR = 15      /* the simple engine only: feeding leads from some rule back to it */
 };
 
 /* The heading of a base and its five bodies, and the numbers that a record of each is. */
@@ -176,6 +177,9 @@ uint64_t access_base_request(
 uint64_t access_base_may(
     const uint8_t *base, size_t base_length, uint32_t subject, uint32_t mode, uint32_t object, uint32_t instant);
 
+uint64_t access_base_simple_may(
+    const uint8_t *base, size_t base_length, uint32_t subject, uint32_t mode, uint32_t object, uint32_t instant);
+
 uint64_t access_base_when(
     const uint8_t *base, size_t base_length, uint32_t subject, uint32_t mode, uint32_t object, uint32_t *list,
     size_t list_length);
@@ -226,6 +230,15 @@ static inline struct access_base_reply access_base_ask_may(
     const uint8_t *base, size_t base_length, uint32_t subject, uint32_t mode, uint32_t object, uint32_t instant)
 {
     return access_base_reply_of(access_base_may(base, base_length, subject, mode, object, instant));
+}
+
+/* MAY by the simple engine (crates/simple), which is there to be read and to compare with: the same reply as above, but for
+ * refusal 15 where feeding leads from some rule back to it. It goes from instant to instant and keeps nothing: its time is the
+ * product of the spans of the rules that feed one another, so it is for short intervals and few rules. */
+static inline struct access_base_reply access_base_ask_simple_may(
+    const uint8_t *base, size_t base_length, uint32_t subject, uint32_t mode, uint32_t object, uint32_t instant)
+{
+    return access_base_reply_of(access_base_simple_may(base, base_length, subject, mode, object, instant));
 }
 
 /* WHEN: the longest runs of instants where MAY says yes, rising, as pairs (first, last) at the front of the list; the

@@ -298,6 +298,49 @@ static void rounds(void)
     expect(untouched(), "and a round leaves the base");
 }
 
+/* How many of the instants below 130 the simple engine says yes at, where it agrees with MAY at all of them; else -1. */
+static int agreed(uint32_t subject)
+{
+    int yes = 0;
+    for (uint32_t t = 0; t < 130; t++) {
+        struct access_base_reply r = access_base_ask_may(base, ACCESS_BASE_BYTES, subject, 1, 7, t);
+        if (!is(access_base_ask_simple_may(base, ACCESS_BASE_BYTES, subject, 1, 7, t), r.refusal, 0, r.number))
+            return -1;
+        yes += r.number == 1;
+    }
+    return yes;
+}
+
+/* The simple engine beside MAY: without rules, with each operator, and with rules that feed one another in a circle. */
+static void simple(void)
+{
+    size_t length = ACCESS_BASE_BYTES;
+    access_base_make(base, length);
+    expect(tells(16, "1 1 NEW 7", 0, "done 0 0\n") && tells(16, "2 1 GRANT 1 7 2 10 40 n", 0, "done 1 1\n")
+               && tells(16, "2 1 GRANT 1 7 2 50 100 n", 0, "done 2 2\n"), "what the rules look at");
+    expect(agreed(2) == 82 && agreed(3) == 0, "without rules");
+    expect(tells(16, "2 1 ADDRULE 3 1 7 + WHENEVER 2 1 7 + * * 10 90", 0, "done 3 2\n") && agreed(3) == 72, "WHENEVER");
+    expect(tells(16, "2 1 ADDRULE 4 1 7 + ASLONGAS 2 1 7 + * * 10 90", 0, "done 4 2\n") && agreed(4) == 31, "ASLONGAS");
+    expect(tells(16, "2 1 ADDRULE 5 1 7 + WHENEVERNOT 4 1 7 + * * 30 60", 0, "done 5 2\n") && agreed(5) == 20, "NOT");
+    expect(tells(16, "2 1 ADDRULE 6 1 7 + UNLESS 5 1 7 + 1 n 30 60", 0, "done 6 2\n") && agreed(6) == 11, "UNLESS");
+    expect(tells(16, "2 1 ADDRULE 7 1 7 + UNLESS 4 1 7 + * * 20 60", 0, "done 7 2\n") && agreed(7) == 0, "never");
+    expect(tells(16, "2 1 DENY 1 7 3 20 29", 0, "done 8 3\n") && agreed(3) == 62, "a denial");
+    memcpy(before, base, sizeof before);
+    expect(is(access_base_ask_simple_may(base, length, 2, 9, 7, 20), ACCESS_BASE_OUT_OF_RANGE, 0, 0), "3");
+    expect(is(access_base_ask_simple_may(base, length, 2, 1, 8, 20), ACCESS_BASE_NO_SUCH_OBJECT, 0, 0), "6");
+    expect(untouched(), "and the simple engine leaves the base");
+    /* two rules that feed each other, with intervals apart */
+    expect(tells(16, "2 1 ADDRULE 8 1 7 + WHENEVER 9 1 7 + * * 10 20", 0, "done 9 3\n") && agreed(8) == 0, "one of two");
+    expect(tells(16, "2 1 ADDRULE 9 1 7 + WHENEVER 8 1 7 + * * 30 40", 0, "done 10 3\n"), "the other");
+    expect(is(access_base_ask_simple_may(base, length, 2, 1, 7, 20), ACCESS_BASE_CIRCULAR, 0, 0)
+               && is(access_base_ask_may(base, length, 2, 1, 7, 20), 0, 0, 1), "15, whatever is asked, and not from MAY");
+    expect(is(access_base_ask_simple_may(base, length, 2, 9, 7, 20), ACCESS_BASE_OUT_OF_RANGE, 0, 0)
+               && is(access_base_ask_simple_may(base, length, 2, 1, 8, 20), ACCESS_BASE_NO_SUCH_OBJECT, 0, 0), "15 is last");
+    expect(tells(16, "2 1 DROPRULE 10", 0, "done 0 3\n") && agreed(2) == 82, "the circle is gone");
+    expect(tells(16, "2 1 ADDRULE * 1 7 + ASLONGAS * 1 7 + * * 10 20", 0, "done 11 3\n")
+               && is(access_base_ask_simple_may(base, length, 2, 1, 7, 20), ACCESS_BASE_CIRCULAR, 0, 0), "a rule feeds itself");
+}
+
 /* Bytes of another length or that are no base are refused by all, and untouched. */
 static void unsound(size_t length)
 {
@@ -308,6 +351,7 @@ static void unsound(size_t length)
     expect(!access_base_is_sound(base, length), "such bytes are not sound");
     expect(is(access_base_do(base, length, &q), ACCESS_BASE_INVALID_BASE, 0, 0), "a request gets 2");
     expect(is(access_base_ask_may(base, length, 1, 1, 1, 1), ACCESS_BASE_INVALID_BASE, 0, 0), "MAY gets 2");
+    expect(is(access_base_ask_simple_may(base, length, 1, 1, 1, 1), ACCESS_BASE_INVALID_BASE, 0, 0), "so does the simple");
     expect(is(access_base_ask_when(base, length, 1, 1, 1, list, 2), ACCESS_BASE_INVALID_BASE, 0, 0), "WHEN gets 2");
     expect(is(access_base_read(base, length, 9, 9, list, 2), ACCESS_BASE_INVALID_BASE, 0, 0), "records get 2");
     page[0] = '#';
@@ -334,6 +378,7 @@ int main(void)
     texts();
     rounds(); /* over the base that the texts leave */
     sheets();
+    simple();
     unsound(ACCESS_BASE_BYTES - 1);
     unsound(ACCESS_BASE_BYTES + 1);
     unsound(0);

@@ -4,7 +4,7 @@ ghost use mathlib.Core.Bool.{true};
 ghost use Rattle.model.specs.Encoding.{decode};
 ghost use Rattle.model.specs.Soundness.{soundBytes};
 ghost use Rattle.model.specs.Step.{firstNumber};
-ghost use Rattle.model.specs.Answers.{answering, accessIn, mayReply, mayAnswer, whenAnswer};
+ghost use Rattle.model.specs.Answers.{answering, mayReply, mayAnswer, whenAnswer};
 ghost use Rattle.answers.specs.Asking.{accessRows};
 use model::Access;
 use model::Question;
@@ -12,19 +12,12 @@ use model::Reply;
 use scan::holds_at;
 use scan::list_runs;
 
-// What is asked about is in range.
-fn access_in(x: Access) -> bool
-    ensures { λ r. ⌜ r ≡ accessIn x ⌝ }
-{
-    lookup::subject_in(x.subject) & lookup::mode_in(x.mode) & lookup::object_in(x.object)
-}
-
 // The first of rows 3 and 6 that applies, or 0.
 fn refusal_of(s: &[u8], x: Access) -> u32
     requires { ⌜ soundBytes (now s) ≡ true ⌝ }
     ensures { λ r. ⌜ r ≡ firstNumber (accessRows (decode (now (s .entry))) x) ⌝ }
 {
-    if !access_in(x) {
+    if !lookup::access_in(x) {
         return 3;
     }
     if !lookup::exists(s, x.object) {

@@ -4,7 +4,7 @@
 -- (`report-parts`).
 use mathlib.Core.Path.{_≡_, refl, sym, ap, subst, _∙_}
 use mathlib.Core.Logic.{_≢_, inl, ⊎-elim}
-use mathlib.Core.Bool.{Bool, true, not, false≢true}
+use mathlib.Core.Bool.{Bool, true, false, not, false≢true}
 use mathlib.Core.List.{List, [], _∷_, _++_}
 use Prim.Native.Nat.{ℕ, suc, _*_, _/_, _%_, _≤_, _<_}
 use native.Mathlib.Omega.{arith}
@@ -21,7 +21,7 @@ use Rattle.model.specs.declared.Counted.the-variants.{Count}
 use Rattle.model.specs.declared.Reply.{Reply}
 use Rattle.model.specs.declared.Reply.the-variants.{Done, Refused, Unsupported, Yes, No, Runs}
 use Rattle.model.specs.Base.{emptyBase}
-use Rattle.model.specs.Rules.{when}
+use Rattle.model.specs.Rules.{may, when}
 use Rattle.model.specs.Means.{plainly}
 use Rattle.model.specs.Step.{Row, row, firstNumber, earliestGap}
 use Rattle.model.specs.StepFacts.{first-all, first-none, numbered, by-rows}
@@ -30,7 +30,8 @@ use Rattle.model.specs.FitsFacts.{counts-fit}
 use Rattle.model.specs.Soundness.{soundBytes}
 use Rattle.model.specs.SoundnessFacts.{sound-tests, sound-bytes}
 use Rattle.model.specs.Answers.{Answer, answering, refusing, refusalNumber, create, request}
-use Rattle.model.specs.Answers.{whenTable, mayAnswer, whenAnswer, words}
+use Rattle.model.specs.Answers.{whenTable, mayReply, mayAnswer, whenAnswer, words}
+use Rattle.model.specs.Simple.{simpleTable, simpleAnswer}
 use Rattle.model.specs.Counting.{Counting, counting, declining, countedRefusal, countedNumber}
 use Rattle.model.specs.Report.{isOn, reportOf, reportTable, reportAnswer}
 use Rattle.model.specs.ReportFacts.{report-length}
@@ -75,6 +76,17 @@ create-small s =
 
 pub may-small : (s : List ℕ) (q : Question) → Small (mayAnswer s q)
 may-small s q = short-small (mayAnswer s q) (may-short s q)
+
+pub simple-small : (s : List ℕ) (q : Question) → Small (simpleAnswer s q)
+unfolding simpleAnswer
+simple-small s q =
+    let yes? = may (decode s) (q .access) (q .instant) in
+    let rows = row 2 (not (soundBytes s)) ∷ simpleTable (decode s) q in
+    by-rows rows Refused (mayReply yes?) Small (refused-small rows refl) (λ z. said yes?)
+  where
+    said : (yes? : Bool) → Small (mayReply yes?)
+    said true = record { refusal = omega arith; label = omega arith }
+    said false = record { refusal = omega arith; label = omega arith }
 
 pub when-small : (s : List ℕ) (x : Access) (list : List ℕ) → Small (whenAnswer s x list .reply)
 unfolding whenAnswer

@@ -7,6 +7,7 @@ ghost use mathlib.Core.Path.{_≡_};
 ghost use Rattle.foundation.specs.Intervals.{interval};
 ghost use Rattle.model.specs.Soundness.{soundBytes};
 ghost use Rattle.model.specs.Answers.{create, mayAnswer, whenAnswer};
+ghost use Rattle.model.specs.Simple.{simpleAnswer};
 ghost use Rattle.model.specs.Report.{reportAnswer};
 ghost use Rattle.model.specs.Session.{textAnswer};
 ghost use Rattle.model.specs.Batch.{Batched, question, questionsIn};
@@ -106,6 +107,31 @@ pub extern "C" fn access_base_may(
         object: object,
     };
     pack(base::may(
+        base,
+        Question {
+            access: x,
+            instant: instant,
+        },
+    ))
+}
+
+// MAY by the simple engine.
+#[no_mangle]
+pub extern "C" fn access_base_simple_may(
+    base: &[u8],
+    subject: u32,
+    mode: u32,
+    object: u32,
+    instant: u32,
+) -> u64
+    ensures { λ r. ⌜ r ≡ packed (simpleAnswer (now (base .entry)) (question subject mode object instant)) ⌝ }
+{
+    let x = Access {
+        subject: subject,
+        mode: mode,
+        object: object,
+    };
+    pack(base::simple_may(
         base,
         Question {
             access: x,

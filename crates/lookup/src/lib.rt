@@ -35,6 +35,8 @@ pub use kinds::unknown_kind;
 pub use order::is_before;
 pub use order::object_rises;
 pub use order::rule_rises;
+pub use ranges::access_in;
+pub use ranges::has_instant;
 pub use ranges::instant_in;
 pub use ranges::label_in;
 pub use ranges::mode_in;

@@ -1,7 +1,11 @@
-// The ranges of the numbers that a request names.
+// The ranges of the numbers that a request or a question names.
 ghost use mathlib.Core.Path.{_≡_};
 ghost use Rattle.model.specs.Ranges.{isSubject, isObject, isMode, isLabel, isInstant};
 ghost use Rattle.model.specs.Step.{optionFits};
+ghost use Rattle.model.specs.Answers.{accessIn};
+ghost use Rattle.foundation.specs.Intervals.{inInterval};
+use foundation::Interval;
+use model::Access;
 use model::OptionTerm;
 
 // Whether a number is a subject's, 1 to 1,023.
@@ -38,6 +42,20 @@ pub fn instant_in(n: u32) -> bool
     ensures { λ r. ⌜ r ≡ isInstant n ⌝ }
 {
     n <= 4294967295
+}
+
+// What a question asks about is in range.
+pub fn access_in(x: Access) -> bool
+    ensures { λ r. ⌜ r ≡ accessIn x ⌝ }
+{
+    subject_in(x.subject) & mode_in(x.mode) & object_in(x.object)
+}
+
+// Whether an instant lies in an interval.
+pub fn has_instant(i: Interval, t: u32) -> bool
+    ensures { λ r. ⌜ r ≡ inInterval i t ⌝ }
+{
+    (i.start <= t) & (t <= i.end)
 }
 
 // A denial on the right is not marked transferable.

@@ -26,7 +26,7 @@ use Rattle.model.specs.HoldsFacts.{closed}
 use Rattle.model.specs.StratificationFacts.{feeder-not-above, feeder-below, stratum-few}
 
 -- what fits a rule's right side is derived by a rule that it looks at
-fit-precedes : (base : Base) (q r : Rule) (x : Access) → derivesFor base (rightOf r x) q ≡ true →
+pub fit-precedes : (base : Base) (q r : Rule) (x : Access) → derivesFor base (rightOf r x) q ≡ true →
     precedes q r ≡ true
 fit-precedes base q r x e = precedes-feeds q r ∙ fit-feeds base q r x e
 

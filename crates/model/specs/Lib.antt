@@ -33,6 +33,9 @@ pub mod HoldsFacts
 pub mod HoldsMarks
 pub mod MeansFacts
 pub mod StratificationFacts
+pub mod Circles
+pub mod Simple
+pub mod SimpleFacts
 pub mod SupportFacts
 pub mod FlagFacts
 pub mod FitsFacts

@@ -14,21 +14,13 @@ use Rattle.model.specs.declared.Head.{Head}
 use Rattle.model.specs.declared.Rule.{Rule}
 use Rattle.model.specs.declared.Operator.{Operator}
 use Rattle.model.specs.declared.Operator.the-variants.{Whenever, AsLongAs, WheneverNot, Unless}
-use Rattle.model.specs.declared.OptionTerm.{OptionTerm}
 use Rattle.model.specs.declared.OptionTerm.the-variants.{Either}
 use Rattle.model.specs.declared.Access.{Access}
+pub use Rattle.model.specs.declared.Pattern.{Pattern}
 use Rattle.model.specs.Ranges.{lastInstant}
 use Rattle.model.specs.Base.{Base}
 use Rattle.model.specs.Support.{live}
 use Rattle.model.specs.Stratification.{star, isStar, fitsOption, stratum}
-
--- What is looked for: an access, positive or denied, from a grantor or from any (0), with an option or with
--- either
-pub record Pattern : Type 0 where
-  pub access : Access
-  pub negative : Bool
-  pub grantor : ℕ
-  pub option : OptionTerm
 
 -- 01: "A star for granter or option fits any"
 abbrev pub fitsGrantor : ℕ → ℕ → Bool

@@ -25,7 +25,7 @@ abbrev pub FeedingWalk : List Rule → ℕ → Rule → Type 0
 FeedingWalk rules n r = Walk feeds (λ q r. count (negates r)) negates rules n r
 
 -- the paths of `precedes`, and what `weight` counts on them
-path-feeds : (rules : List Rule) (q r : Rule) → Path precedes precedes rules q r ≡ FeedingPath rules q r
+pub path-feeds : (rules : List Rule) (q r : Rule) → Path precedes precedes rules q r ≡ FeedingPath rules q r
 path-feeds rules q r t =
     let edge : Rule → Rule → Bool = λ p s. precedes-feeds p s t in
     Path edge edge rules q r

@@ -148,6 +148,15 @@ pub struct Access {
     pub object: u32,
 }
 
+// What is looked for: an access, positive or denied, from a grantor or from any (0), with an option or with
+// either.
+pub struct Pattern {
+    pub access: Access,
+    pub negative: bool,
+    pub grantor: u16,
+    pub option: OptionTerm,
+}
+
 // The question MAY: an access at an instant.
 pub struct Question {
     pub access: Access,

@@ -20,11 +20,12 @@ use Rattle.foundation.specs.Intervals.{inInterval}
 use Rattle.model.specs.declared.Head.{Head}
 use Rattle.model.specs.declared.Authorization.{Authorization}
 use Rattle.model.specs.declared.Rule.{Rule}
+use Rattle.model.specs.declared.Pattern.{Pattern}
 use Rattle.model.specs.Ranges.{isMode}
 use Rattle.model.specs.Encoding.{authorizationOf, ruleOf, asBit, bit}
 use Rattle.model.specs.Support.{live}
 use Rattle.model.specs.Stratification.{fitsOption}
-use Rattle.model.specs.Rules.{Pattern, fits, fitsGrantor}
+use Rattle.model.specs.Rules.{fits, fitsGrantor}
 use Rattle.encoding.specs.Format.{authorizationsIn, rulesIn, ruleAt}
 use Rattle.foundation.specs.Masks.{maskOf, bit-le, bit-true, half, mask-lt, mask-at}
 use Rattle.rules.specs.Strata.{Holds}

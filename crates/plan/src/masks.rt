@@ -8,7 +8,6 @@ ghost use Rattle.foundation.specs.Lists.{anyb};
 ghost use Rattle.foundation.specs.Intervals.{inInterval};
 ghost use Rattle.model.specs.Encoding.{bit};
 ghost use Rattle.model.specs.Support.{live};
-ghost use Rattle.model.specs.Stratification.{fitsOption};
 ghost use Rattle.model.specs.Rules.{fits, asked};
 ghost use Rattle.encoding.specs.Format.{authorizationsIn, rulesIn};
 ghost use Rattle.foundation.specs.Masks.{maskOf};
@@ -16,20 +15,13 @@ ghost use Rattle.questions.specs.Operators.{lasting};
 ghost use Rattle.questions.specs.Drawn.{freshAt};
 ghost use Rattle.plan.specs.Scene.{authorizationAt, fitsRight, derivesOn, livingAt, Lit};
 ghost use Rattle.plan.specs.Words.{numbersIn};
-use foundation::Interval;
+use lookup::has_instant;
 use model::Access;
 use model::Authorization;
 use model::Head;
 use model::Operator;
-use model::OptionTerm;
 use model::Rule;
-
-// Whether an instant lies in an interval.
-fn has_instant(i: Interval, t: u32) -> bool
-    ensures { λ r. ⌜ r ≡ inInterval i t ⌝ }
-{
-    (i.start <= t) & (t <= i.end)
-}
+use rules::fits_option;
 
 // Whether an operator looks back to the rule's start.
 pub fn is_lasting(o: Operator) -> bool
@@ -121,17 +113,6 @@ pub fn fresh(body: &[u8], n: usize, t: u32) -> u64
         x = 2 * x + is_fresh(encoding::rule_at(body, i * 28), t) as u64;
     }
     x
-}
-
-// Whether the option of a right side fits.
-fn fits_option(o: OptionTerm, has: bool) -> bool
-    ensures { λ r. ⌜ r ≡ fitsOption o has ⌝ }
-{
-    match o {
-        OptionTerm::With => has,
-        OptionTerm::Without => !has,
-        OptionTerm::Either => true,
-    }
 }
 
 // Whether an authorization is what a rule's right side looks for, its subject and mode aside.

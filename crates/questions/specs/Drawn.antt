@@ -12,11 +12,12 @@ use Rattle.foundation.specs.Intervals.{inInterval}
 use Rattle.model.specs.declared.Authorization.{Authorization}
 use Rattle.model.specs.declared.Rule.{Rule}
 use Rattle.model.specs.declared.Access.{Access}
+use Rattle.model.specs.declared.Pattern.{Pattern}
 use Rattle.model.specs.Ranges.{isMode}
 use Rattle.model.specs.Encoding.{bit}
 use Rattle.model.specs.Support.{live}
 use Rattle.model.specs.Stratification.{isStar, negates, stratum}
-use Rattle.model.specs.Rules.{Pattern, fits}
+use Rattle.model.specs.Rules.{fits}
 use Rattle.foundation.specs.Masks.{maskOf}
 use Rattle.rules.specs.Strata.{feedersOf}
 use Rattle.sweep.specs.Sweep.{subjects, modes, Plan}

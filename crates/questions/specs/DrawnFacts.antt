@@ -14,12 +14,13 @@ use Rattle.foundation.specs.Intervals.{inInterval}
 use Rattle.model.specs.declared.Authorization.{Authorization}
 use Rattle.model.specs.declared.Rule.{Rule}
 use Rattle.model.specs.declared.Access.{Access}
+use Rattle.model.specs.declared.Pattern.{Pattern}
 use Rattle.model.specs.Base.{Base}
 use Rattle.model.specs.Ranges.{isMode}
 use Rattle.model.specs.Encoding.{bit}
 use Rattle.model.specs.Support.{live}
 use Rattle.model.specs.Stratification.{isStar, feeds, negates, stratum}
-use Rattle.model.specs.Rules.{Pattern, fits, standsFor, rightOf}
+use Rattle.model.specs.Rules.{fits, standsFor, rightOf}
 use Rattle.model.specs.SideFacts.{stands-is, feeds-object}
 use Rattle.rules.specs.Strata.{feedersOf}
 use Rattle.sweep.specs.Sweep.{subjects, modes, Plan, looksBy, wantsBy, linkOf, aim, gives}

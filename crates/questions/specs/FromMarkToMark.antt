@@ -11,10 +11,11 @@ use Rattle.foundation.specs.Intervals.{always}
 use Rattle.foundation.specs.Marks.{next, clear, next-above, next-clear}
 use Rattle.model.specs.declared.Rule.{Rule}
 use Rattle.model.specs.declared.Access.{Access}
+use Rattle.model.specs.declared.Pattern.{Pattern}
 use Rattle.model.specs.Base.{Base}
 use Rattle.model.specs.Stratification.{stratified}
 use Rattle.model.specs.StratificationFacts.{stratum-few}
-use Rattle.model.specs.Rules.{Pattern, holds, asked, may}
+use Rattle.model.specs.Rules.{holds, asked, may}
 use Rattle.model.specs.Means.{allMarks}
 use Rattle.model.specs.SideFacts.{derives-stands}
 use Rattle.model.specs.HoldsFacts.{below-steady}

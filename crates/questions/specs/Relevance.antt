@@ -17,10 +17,11 @@ use Rattle.model.specs.declared.Rule.{Rule}
 use Rattle.model.specs.declared.Operator.{Operator}
 use Rattle.model.specs.declared.Operator.the-variants.{Whenever, AsLongAs, WheneverNot, Unless}
 use Rattle.model.specs.declared.Access.{Access}
+use Rattle.model.specs.declared.Pattern.{Pattern}
 use Rattle.model.specs.Base.{Base}
 use Rattle.model.specs.Support.{live}
 use Rattle.model.specs.Stratification.{stratum}
-use Rattle.model.specs.Rules.{Pattern, Fact, fact, fits, standsFor, derivesFor, rightOf, operate, holdsBy}
+use Rattle.model.specs.Rules.{Fact, fact, fits, standsFor, derivesFor, rightOf, operate, holdsBy}
 use Rattle.model.specs.Rules.{rightBy}
 use Rattle.model.specs.Rules.{derives, enough, derivedBelow, holds}
 use Rattle.model.specs.SideFacts.{derives-stands}

@@ -14,11 +14,12 @@ use Rattle.foundation.specs.Closure.{iter}
 use Rattle.foundation.specs.Intervals.{inInterval, inInterval-true, always}
 use Rattle.model.specs.declared.Rule.{Rule}
 use Rattle.model.specs.declared.Access.{Access}
+use Rattle.model.specs.declared.Pattern.{Pattern}
 use Rattle.model.specs.Base.{Base}
 use Rattle.model.specs.Support.{live}
 use Rattle.model.specs.Stratification.{negating, stratified, stratum}
 use Rattle.model.specs.StratificationFacts.{feeder-below}
-use Rattle.model.specs.Rules.{Pattern, Fact, fact, fits, standsFor, derivesFor, rightOf, operate, holdsBy}
+use Rattle.model.specs.Rules.{Fact, fact, fits, standsFor, derivesFor, rightOf, operate, holdsBy}
 use Rattle.model.specs.Rules.{rightBy, derives, enough, derivedBelow, holds}
 use Rattle.model.specs.SideFacts.{derives-stands}
 use Rattle.model.specs.RightFacts.{right-mono, right-cong}

@@ -11,9 +11,10 @@ use Rattle.foundation.specs.Intervals.{inInterval, inInterval-in, inInterval-tr
 use Rattle.model.specs.declared.Rule.{Rule}
 use Rattle.model.specs.declared.Operator.{Operator}
 use Rattle.model.specs.declared.Access.{Access}
+use Rattle.model.specs.declared.Pattern.{Pattern}
 use Rattle.model.specs.Base.{Base}
 use Rattle.model.specs.Stratification.{stratified, stratum}
-use Rattle.model.specs.Rules.{Pattern, Fact, fact, standsFor, rightOf, rightHolds, operate, holdsBy, holds}
+use Rattle.model.specs.Rules.{Fact, fact, standsFor, rightOf, rightHolds, operate, holdsBy, holds}
 use Rattle.model.specs.RightFacts.{right-cong}
 use Rattle.model.specs.HoldsLaws.{derived, holding, holds-law, derived-law}
 use Rattle.questions.specs.Operators.{lasting, sense, operate-first, operate-step}

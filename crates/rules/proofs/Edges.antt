@@ -1,7 +1,7 @@
 -- Rows of edges: how a row is filled (`row-start`, `row-turn`), that it stays while later rows are filled
 -- (`row-kept`), and what a round makes of it (`row-raised`).
 use mathlib.Core.Path.{_≡_, sym, ap, _∙_, subst}
-use mathlib.Core.Bool.{true}
+use mathlib.Core.Bool.{Bool, true, false}
 use mathlib.Core.List.{List}
 use Prim.Native.Nat.{ℕ, zero, suc, _+_, _*_, _-_, _/_, _%_, _≤_, _<_}
 use native.Mathlib.Nat.{le-antisymm}
@@ -15,29 +15,35 @@ use Rattle.foundation.specs.GraphFacts.{most-le, le-most}
 use Rattle.foundation.specs.Totals.{count}
 use Rattle.model.specs.declared.Rule.{Rule}
 use Rattle.model.specs.Encoding.{ruleOf}
-use Rattle.model.specs.Stratification.{precedes, negates, weight, light}
-use Rattle.rules.specs.Strata.{Holds, raised}
+use Rattle.model.specs.Stratification.{precedes, light}
+use Rattle.rules.specs.Strata.{Holds, countOf, ownOf, raised}
 use Rattle.encoding.specs.Format.{rulesIn, ruleAt}
 use Rattle.rules.specs.Edges.{stepOf, edgeAt, Row, bestOf}
 use Rattle.foundation.specs.Records.{record-mem, mem-record}
 
 -- ---- steps
 
-pub step-small : (q r : Rule) → stepOf q r ≤ 3
-step-small q r = cases (precedes q r) (λ e. rw e (omega (arith, light q r))) (λ e. rw e (omega arith))
+pub count-light : (every : Bool) (q r : Rule) → countOf every q r ≤ 2
+count-light true q r = omega arith
+count-light false q r = light q r
 
-step-is : (q r : Rule) → precedes q r ≡ true → stepOf q r ≡ suc (weight q r)
-step-is q r e = rw e
+pub step-small : (every : Bool) (q r : Rule) → stepOf every q r ≤ 3
+step-small every q r =
+    cases (precedes q r) (λ e. rw e (omega (arith, count-light every q r))) (λ e. rw e (omega arith))
 
-step-parts : (q r : Rule) (w : ℕ) → stepOf q r ≡ suc w → (precedes q r ≡ true) × (weight q r ≡ w)
-step-parts q r w e = cases (precedes q r)
-    (λ p. (p, omega (arith, sym (step-is q r p) ∙ e)))
+step-is : (every : Bool) (q r : Rule) → precedes q r ≡ true → stepOf every q r ≡ suc (countOf every q r)
+step-is every q r e = rw e
+
+step-parts : (every : Bool) (q r : Rule) (w : ℕ) → stepOf every q r ≡ suc w →
+    (precedes q r ≡ true) × (countOf every q r ≡ w)
+step-parts every q r w e = cases (precedes q r)
+    (λ p. (p, omega (arith, sym (step-is every q r p) ∙ e)))
     (λ p. let z : 0 ≡ suc w = rw p at e in absurd (omega arith))
 
 -- ---- a row is filled
 
-pub row-start : (s : List ℕ) (j : ℕ) (edges : List ℕ) → Row 0 s j edges 0
-row-start s j edges = record {
+pub row-start : (every : Bool) (s : List ℕ) (j : ℕ) (edges : List ℕ) → Row every 0 s j edges 0
+row-start every s j edges = record {
   few = omega arith;
   inside = λ e h. absurd (omega arith);
   steps = λ e h. absurd (omega arith);
@@ -62,22 +68,21 @@ put-other edges at c i t k h = cases (eqb t 0)
     (λ e. rw e)
     (λ e. rw e (getD-set-other edges (at + c) k (3 * i + (t - 1)) 0 (λ z. omega arith)))
 
-module _ (s : List ℕ) (j i : ℕ) (edges : List ℕ) (c : ℕ) (row : Row i s j edges c) (long : length edges
-    ≡ 4225)
-    (low : i < 65) (there : j < 65) where
+module _ (every : Bool) (s : List ℕ) (j i : ℕ) (edges : List ℕ) (c : ℕ) (row : Row every i s j edges c)
+    (long : length edges ≡ 4225) (low : i < 65) (there : j < 65) where
   abbrev t : ℕ
-  t = stepOf (ruleAt s i) (ruleAt s j)
+  t = stepOf every (ruleAt s i) (ruleAt s j)
 
   -- no edge comes from the rule
-  none-put : t ≡ 0 → Row (suc i) s j edges c
+  none-put : t ≡ 0 → Row every (suc i) s j edges c
   none-put z = record {
     few = omega (arith, row .few);
     inside = λ e h. omega (arith, row .inside e h);
     steps = row .steps;
     all = λ q h p. cases (eqb q i)
         (λ a. let n : t ≡ 0 = z in
-        let m : stepOf (ruleAt s q) (ruleAt s j) ≡ t =
-        ap (λ (k : ℕ). stepOf (ruleAt s k) (ruleAt s j)) (true-eq q i a) in
+        let m : stepOf every (ruleAt s q) (ruleAt s j) ≡ t =
+        ap (λ (k : ℕ). stepOf every (ruleAt s k) (ruleAt s j)) (true-eq q i a) in
         absurd (omega arith))
         (λ a. let n = false-eq q i a in row .all q (omega arith) p);
   }
@@ -94,12 +99,12 @@ module _ (s : List ℕ) (j i : ℕ) (edges : List ℕ) (c : ℕ) (row : Row i s 
     old e h = getD-set-other edges (j * 65 + c) (j * 65 + e) (3 * i + (t - 1)) 0 (λ z. omega arith)
 
     from : edgeAt more j c / 3 ≡ i
-    from = omega (arith, new, step-small (ruleAt s i) (ruleAt s j))
+    from = omega (arith, new, step-small every (ruleAt s i) (ruleAt s j))
 
     counted : suc (edgeAt more j c % 3) ≡ t
-    counted = omega (arith, new, step-small (ruleAt s i) (ruleAt s j))
+    counted = omega (arith, new, step-small every (ruleAt s i) (ruleAt s j))
 
-    one-put : Row (suc i) s j more (suc c)
+    one-put : Row every (suc i) s j more (suc c)
     one-put = record {
       few = omega (arith, row .few);
       inside = λ e h. cases (eqb e c)
@@ -109,10 +114,10 @@ module _ (s : List ℕ) (j i : ℕ) (edges : List ℕ) (c : ℕ) (row : Row i s 
           omega (arith, ap (λ (x : ℕ). x / 3) (old e l), row .inside e l));
       steps = λ e h. cases (eqb e c)
           (λ a. let z = true-eq e c a in
-          rw z (ap (λ (k : ℕ). stepOf (ruleAt s k) (ruleAt s j)) from ∙ sym counted))
+          rw z (ap (λ (k : ℕ). stepOf every (ruleAt s k) (ruleAt s j)) from ∙ sym counted))
           (λ a. let z = false-eq e c a in
           let l : e < c = omega arith in
-          ap (λ (x : ℕ). stepOf (ruleAt s (x / 3)) (ruleAt s j)) (old e l)
+          ap (λ (x : ℕ). stepOf every (ruleAt s (x / 3)) (ruleAt s j)) (old e l)
           ∙ row .steps e l ∙ ap (λ (x : ℕ). suc (x % 3)) (sym (old e l)));
       all = λ q h p. cases (eqb q i)
           (λ a. (c, omega arith, from ∙ sym (true-eq q i a)))
@@ -121,19 +126,20 @@ module _ (s : List ℕ) (j i : ℕ) (edges : List ℕ) (c : ℕ) (row : Row i s 
           (w .0, omega (arith, w .1), ap (λ (x : ℕ). x / 3) (old (w .0) (w .1)) ∙ w .2));
     }
 
-  pub row-turn : Row (suc i) s j (putEdge edges (j * 65) c i t) (putCount c t)
+  pub row-turn : Row every (suc i) s j (putEdge edges (j * 65) c i t) (putCount c t)
   row-turn = cases (eqb t 0)
       (λ e. rw e (none-put (true-eq t 0 e)))
       (λ e. rw e (one-put (false-eq t 0 e)))
 
 -- a row stays where its bytes do
-pub row-kept : (n : ℕ) (s : List ℕ) (j : ℕ) (edges more : List ℕ) (c : ℕ) → n ≤ 65 →
-    ((k : ℕ) → k < suc j * 65 → getD more k 0 ≡ getD edges k 0) → Row n s j edges c → Row n s j more c
-row-kept n s j edges more c few h row = record {
+pub row-kept : (every : Bool) (n : ℕ) (s : List ℕ) (j : ℕ) (edges more : List ℕ) (c : ℕ) → n ≤ 65 →
+    ((k : ℕ) → k < suc j * 65 → getD more k 0 ≡ getD edges k 0) →
+    Row every n s j edges c → Row every n s j more c
+row-kept every n s j edges more c few h row = record {
   few = row .few;
   inside = λ e l. omega (arith, ap (λ (x : ℕ). x / 3) (same e l), row .inside e l);
   steps = λ e l.
-      ap (λ (x : ℕ). stepOf (ruleAt s (x / 3)) (ruleAt s j)) (same e l)
+      ap (λ (x : ℕ). stepOf every (ruleAt s (x / 3)) (ruleAt s j)) (same e l)
       ∙ row .steps e l ∙ ap (λ (x : ℕ). suc (x % 3)) (sym (same e l));
   all = λ q l p.
       let w = row .all q l p in
@@ -144,17 +150,18 @@ row-kept n s j edges more c few h row = record {
     same e l = h (j * 65 + e) (omega (arith, row .few))
 
 -- one row more
-pub edges-turn : (n : ℕ) (s : List ℕ) (j : ℕ) (edges more counts : List ℕ) (c : ℕ) → n ≤ 65 →
+pub edges-turn : (every : Bool) (n : ℕ) (s : List ℕ) (j : ℕ) (edges more counts : List ℕ) (c : ℕ) → n ≤ 65 →
     j < length counts →
-    ((i : ℕ) → i < j → Row n s i edges (getD counts i 0)) → Row n s j more c →
+    ((i : ℕ) → i < j → Row every n s i edges (getD counts i 0)) → Row every n s j more c →
     ((k : ℕ) → k < j * 65 → getD more k 0 ≡ getD edges k 0) →
-    (i : ℕ) → i < j + 1 → Row n s i more (getD (set counts j c) i 0)
-edges-turn n s j edges more counts c few l rows row left i h = cases (eqb i j)
+    (i : ℕ) → i < j + 1 → Row every n s i more (getD (set counts j c) i 0)
+edges-turn every n s j edges more counts c few l rows row left i h = cases (eqb i j)
     (λ q. let z = true-eq i j q in
-    rw z (subst (λ (k : ℕ). Row n s j more k) (sym (getD-set-same counts j c 0 l)) row))
+    rw z (subst (λ (k : ℕ). Row every n s j more k) (sym (getD-set-same counts j c 0 l)) row))
     (λ q. let z = false-eq i j q in
-    subst (λ (k : ℕ). Row n s i more k) (sym (getD-set-other counts j i c 0 z))
-    (row-kept n s i edges more (getD counts i 0) few (λ k m. left k (omega arith)) (rows i (omega arith))))
+    subst (λ (k : ℕ). Row every n s i more k) (sym (getD-set-other counts j i c 0 z))
+    (row-kept every n s i edges more (getD counts i 0) few (λ k m. left k (omega arith))
+    (rows i (omega arith))))
 
 -- ---- a round
 
@@ -175,13 +182,14 @@ le-best (suc c) row l b e h = cases (eqb e c)
     (λ a. let z = true-eq e c a in rw z (omega arith))
     (λ a. let z = false-eq e c a in omega (arith, le-best c row l b e (omega arith)))
 
-pub row-raised : (n : ℕ) (s : List ℕ) (j : ℕ) (edges : List ℕ) (c : ℕ) → Row n s j edges c →
-    (f : Rule → ℕ) (old : List ℕ) → Holds n s f old → (b : ℕ) → b ≡ count (negates (ruleAt s j)) →
-    bestOf c (λ e. getD edges (j * 65 + e) 0) old b ≡ raised (rulesIn n s) f (ruleAt s j)
-row-raised n s j edges c row f old h b own = le-antisymm
-    (best-le c (edgeAt edges j) old b (raised rules f r) (omega (arith, own)) (λ e k.
+pub row-raised : (every : Bool) (n : ℕ) (s : List ℕ) (j : ℕ) (edges : List ℕ) (c : ℕ) →
+    Row every n s j edges c →
+    (f : Rule → ℕ) (old : List ℕ) → Holds n s f old → (b : ℕ) → b ≡ count (ownOf every (ruleAt s j)) →
+    bestOf c (λ e. getD edges (j * 65 + e) 0) old b ≡ raised every (rulesIn n s) f (ruleAt s j)
+row-raised every n s j edges c row f old h b own = le-antisymm
+    (best-le c (edgeAt edges j) old b (raised every rules f r) (omega (arith, own)) (λ e k.
     let q = from e in
-    let p = step-parts q r (edgeAt edges j e % 3) (row .steps e k) in
+    let p = step-parts every q r (edgeAt edges j e % 3) (row .steps e k) in
     omega (
       arith,
       p .1,
@@ -197,12 +205,12 @@ row-raised n s j edges c row f old h b own = le-antisymm
           let v = kept (λ q. precedes q r) rules q k in
           let z = mem-record 28 ruleOf n s q (v .0) in
           let i = z .0 in
-          let d : stepOf (ruleAt s i) r ≡ suc (weight q r) =
-          ap (λ (p : Rule). stepOf p r) (sym (z .2)) ∙ step-is q r (v .1) in
+          let d : stepOf every (ruleAt s i) r ≡ suc (countOf every q r) =
+          ap (λ (p : Rule). stepOf every p r) (sym (z .2)) ∙ step-is every q r (v .1) in
           let a = row .all i (z .1) (omega (arith, d)) in
           let e = a .0 in
-          let w : suc (edgeAt edges j e % 3) ≡ suc (weight q r) =
-          sym (row .steps e (a .1)) ∙ ap (λ (k : ℕ). stepOf (ruleAt s k) r) (a .2) ∙ d in
+          let w : suc (edgeAt edges j e % 3) ≡ suc (countOf every q r) =
+          sym (row .steps e (a .1)) ∙ ap (λ (k : ℕ). stepOf every (ruleAt s k) r) (a .2) ∙ d in
           let g : getD old (edgeAt edges j e / 3) 0 ≡ f q =
           ap (λ (k : ℕ). getD old k 0) (a .2) ∙ h i (z .1) ∙ ap f (sym (z .2)) in
           omega (arith, le-best c (edgeAt edges j) old b e (a .1))),
@@ -218,7 +226,7 @@ row-raised n s j edges c row f old h b own = le-antisymm
     from e = ruleAt s (edgeAt edges j e / 3)
 
     by : Rule → ℕ
-    by q = weight q r + f q
+    by q = countOf every q r + f q
 
     picked : List Rule
     picked = keepIf (λ q. precedes q r) rules

@@ -1,7 +1,7 @@
--- Tables filled place by place, and rounds of ranks: ranks that a round does not change are the strata, and
+-- Tables filled place by place, and rounds of ranks: ranks that a round does not change are settled, and
 -- ranks that change in one round more than there are rules betray a circle.
 use mathlib.Core.Path.{_≡_, sym, ap, _∙_}
-use mathlib.Core.Bool.{true, false, not}
+use mathlib.Core.Bool.{Bool, true, false}
 use mathlib.Core.List.{List}
 use Prim.Native.Nat.{ℕ, suc, _+_, _*_, _≤_, _<_}
 use native.Mathlib.Omega.{arith}
@@ -11,15 +11,16 @@ use lib.ListN.{length, getD, set, replicate, getD-replicate}
 use lib.Seq.{getD-set-same, getD-set-other}
 use Rattle.foundation.specs.Tests.{cases, true-eq, false-eq}
 use Rattle.foundation.specs.Lists.{Mem}
-use Rattle.foundation.specs.Graph.{heavy, cyclic, rankIn}
+use Rattle.foundation.specs.Graph.{heavy, cyclic, rankIn, rank}
 use Rattle.foundation.specs.Totals.{count}
 use Rattle.foundation.specs.GraphFacts.{Still, rank-rounds, rank-soon, still-sound, still-rank}
 use Rattle.model.specs.declared.Rule.{Rule}
 use Rattle.model.specs.Encoding.{ruleOf}
-use Rattle.model.specs.Stratification.{precedes, negates, weight, stratified, stratum, light}
-use Rattle.rules.specs.Strata.{Filled, Holds, raised, Same}
+use Rattle.model.specs.Stratification.{precedes}
+use Rattle.rules.specs.Strata.{Filled, Holds, countOf, ownOf, raised, Same}
 use Rattle.encoding.specs.Format.{rulesIn, ruleAt}
 use Rattle.foundation.specs.Records.{length-records, record-mem, mem-record}
+use Rattle.rules.proofs.Edges.{count-light}
 
 -- one place more
 pub fill-turn : (f : ℕ → ℕ) (l : List ℕ) (j v : ℕ) → j < length l → v ≡ f j → Filled j f l →
@@ -34,58 +35,66 @@ none-at w n h i k = getD-replicate w i 0 0 (omega arith)
 
 -- ---- ranks
 
-abbrev pub ranks : List Rule → ℕ → Rule → ℕ
-ranks rules k r = rankIn precedes weight negates k rules r
+abbrev pub ranks : Bool → List Rule → ℕ → Rule → ℕ
+ranks every rules k r = rankIn precedes (countOf every) (ownOf every) k rules r
 
-module _ (n : ℕ) (s : List ℕ) where
+module _ (every : Bool) (n : ℕ) (s : List ℕ) where
   abbrev rules : List Rule
   rules = rulesIn n s
 
+  abbrev weight : Rule → Rule → ℕ
+  weight = countOf every
+
+  abbrev own : Rule → Bool
+  own = ownOf every
+
+  light : (q r : Rule) → weight q r ≤ 2
+  light = count-light every
+
   -- the first ranks are what the rules count by themselves, and a round makes the next ranks of ranks
-  pub first-ranks : (b : List ℕ) → Holds n s (λ r. count (negates r)) b → Holds n s (ranks rules 0) b
+  pub first-ranks : (b : List ℕ) → Holds n s (λ r. count (ownOf every r)) b →
+      Holds n s (ranks every (rulesIn n s) 0) b
   unfolding rankIn
   first-ranks b g = g
 
-  pub next-ranks : (k : ℕ) (b : List ℕ) → Holds n s (raised rules (ranks rules k)) b →
-      Holds n s (ranks rules (k + 1)) b
+  pub next-ranks : (k : ℕ) (b : List ℕ) →
+      Holds n s (raised every (rulesIn n s) (ranks every (rulesIn n s) k)) b →
+      Holds n s (ranks every (rulesIn n s) (k + 1)) b
   unfolding rankIn
   next-ranks k b g i l = rw add-one (g i l)
 
-  pub ranks-small : (k : ℕ) (a : List ℕ) → Holds n s (ranks rules k) a → (i : ℕ) → i < n →
+  pub ranks-small : (k : ℕ) (a : List ℕ) → Holds n s (ranks every (rulesIn n s) k) a → (i : ℕ) → i < n →
       getD a i 0 ≤ 2 * k + 1
-  ranks-small k a h i l = omega (arith, h i l, rank-rounds precedes weight negates rules light k (ruleAt s i))
+  ranks-small k a h i l = omega (arith, h i l, rank-rounds precedes weight own rules light k (ruleAt s i))
 
   -- a round of ranks: a before it, b after it
-  module _ (k : ℕ) (a b : List ℕ) (h : Holds n s (ranks rules k) a)
-      (g : Holds n s (raised rules (ranks rules k)) b) where
-    after : (i : ℕ) → i < n → getD b i 0 ≡ ranks rules (suc k) (ruleAt s i)
+  module _ (k : ℕ) (a b : List ℕ) (h : Holds n s (ranks every (rulesIn n s) k) a)
+      (g : Holds n s (raised every (rulesIn n s) (ranks every (rulesIn n s) k)) b) where
+    after : (i : ℕ) → i < n → getD b i 0 ≡ ranks every rules (suc k) (ruleAt s i)
     after i l = rw add-one at (next-ranks k b g i l)
 
     member : (i : ℕ) → i < n → Mem (ruleAt s i) rules
     member i l = record-mem 28 ruleOf n s i l
 
-    still : Same n a b → Still precedes weight negates rules light k
+    still : Same n a b → Still precedes weight own rules light k
     still e r m =
         let z = mem-record 28 ruleOf n s r m in
         let i : ℕ = z .0 in
         rw (z .2) (sym (h i (z .1)) ∙ e i (z .1) ∙ after i (z .1))
 
-    pub same-stratified : Same n a b → stratified rules ≡ true
-    unfolding stratified
-    same-stratified e = ap not (still-sound precedes weight negates rules light k (still e))
+    pub same-free : Same n a b → cyclic precedes (heavy (countOf every)) (rulesIn n s) ≡ false
+    same-free e = still-sound precedes weight own rules light k (still e)
 
-    pub same-strata : Same n a b → Holds n s (stratum rules) a
-    unfolding stratum
-    same-strata e i l =
-        h i l ∙ sym (still-rank precedes weight negates rules light k (still e) (ruleAt s i) (member i l))
+    pub same-ranks : Same n a b → Holds n s (rank precedes (countOf every) (ownOf every) (rulesIn n s)) a
+    same-ranks e i l =
+        h i l ∙ sym (still-rank precedes weight own rules light k (still e) (ruleAt s i) (member i l))
 
-    pub circle : k ≡ n → (Same n a b → ⊥) → stratified rules ≡ false
-    unfolding stratified
-    circle e d = cases (cyclic precedes (heavy weight) rules) (λ c. ap not c) (λ c. absurd (d (same c)))
+    pub circle : k ≡ n → (Same n a b → ⊥) → cyclic precedes (heavy (countOf every)) (rulesIn n s) ≡ true
+    circle e d = cases (cyclic precedes (heavy weight) rules) (λ c. c) (λ c. absurd (d (same c)))
       where
         same : cyclic precedes (heavy weight) rules ≡ false → Same n a b
         same c i l =
             let w : length rules ≡ k = length-records 28 ruleOf n s ∙ sym e in
-            let q : Still precedes weight negates rules light k =
-            rw w at (rank-soon precedes weight negates rules light c) in
+            let q : Still precedes weight own rules light k =
+            rw w at (rank-soon precedes weight own rules light c) in
             h i l ∙ q (ruleAt s i) (member i l) ∙ sym (after i l)

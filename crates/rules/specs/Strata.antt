@@ -1,11 +1,12 @@
 -- Tables with a number for each rule of a base's bytes, at the rule's place.
 use mathlib.Core.Path.{_≡_}
 use Prim.Native.Nat.{ℕ, _+_, _<_, max}
-use mathlib.Core.Bool.{Bool, true}
+use mathlib.Core.Bool.{Bool, true, not, _||_}
 use mathlib.Core.List.{List}
 use lib.ListN.{getD}
+use Rattle.foundation.specs.Tests.{pick}
 use Rattle.foundation.specs.Lists.{keepIf}
-use Rattle.foundation.specs.Graph.{most}
+use Rattle.foundation.specs.Graph.{most, heavy, cyclic, rank}
 use Rattle.foundation.specs.Totals.{count}
 use Rattle.model.specs.declared.Rule.{Rule}
 use Rattle.encoding.specs.Format.{rulesIn, ruleAt}
@@ -24,9 +25,24 @@ Holds n s f l = Filled n (λ i. f (ruleAt s i)) l
 abbrev pub feedersOf : List Rule → Rule → ℕ
 feedersOf rules r = maskOf (λ q. feeds q r) rules
 
+-- What a step from q to r counts, and whether r counts by itself: as in a stratum, or, if `every` step is to
+-- count, one each. No step that counts is on a circle then exactly if there is none.
+abbrev pub countOf : Bool → Rule → Rule → ℕ
+countOf every q r = pick every 1 (weight q r)
+
+abbrev pub ownOf : Bool → Rule → Bool
+ownOf every r = every || negates r
+
 -- what a round makes of the numbers f of the rules: the most that a rule has by itself or by a step into it
-abbrev pub raised : List Rule → (Rule → ℕ) → Rule → ℕ
-raised rules f r = max (count (negates r)) (most (λ q. weight q r + f q) (keepIf (λ q. precedes q r) rules))
+abbrev pub raised : Bool → List Rule → (Rule → ℕ) → Rule → ℕ
+raised every rules f r =
+    max (count (ownOf every r)) (most (λ q. countOf every q r + f q) (keepIf (λ q. precedes q r) rules))
+
+-- what the rounds answer of n rules, and the table that they leave: that no step which counts is on a circle,
+-- and the most that a path counts which ends in a rule
+pub record Ranked (every : Bool) (n : ℕ) (s ranks : List ℕ) (answer : Bool) : Type 0 where
+  pub test : answer ≡ not (cyclic precedes (heavy (countOf every)) (rulesIn n s))
+  pub table : answer ≡ true → Holds n s (rank precedes (countOf every) (ownOf every) (rulesIn n s)) ranks
 
 -- what the test for circles answers of n rules, and the table that it leaves
 pub record Stratified (n : ℕ) (s strata : List ℕ) (answer : Bool) : Type 0 where

@@ -1,4 +1,4 @@
-// Which rule feeds which, and masks of rules. The test for circles and the strata of the rules: `ranks`.
+// Which rule feeds which, and masks of rules. The tests for circles and the strata of the rules: `ranks`.
 ghost use mathlib.Core.Path.{_≡_};
 ghost use mathlib.Core.Bool.{Bool·beq, false};
 ghost use Prim.Native.Nat.{ℕ, _*_, _≤_, _<_};
@@ -15,6 +15,7 @@ use model::Operator;
 use model::OptionTerm;
 use model::RULE_BYTES;
 use model::Rule;
+pub use ranks::is_circular;
 pub use ranks::is_stratified;
 pub use ranks::stratify;
 
@@ -35,18 +36,19 @@ fn meets(a: u16, b: u16) -> bool
     (a == 0) | (b == 0) | (a == b)
 }
 
-// Whether a right side's option fits what a rule gives, which is never transferable.
-fn fits_given(o: OptionTerm) -> bool
-    ensures { λ r. ⌜ r ≡ model.fitsOption o false ⌝ }
+// Whether the option of a right side fits what is, or is not, transferable.
+pub fn fits_option(o: OptionTerm, has: bool) -> bool
+    ensures { λ r. ⌜ r ≡ model.fitsOption o has ⌝ }
 {
     match o {
-        OptionTerm::With => false,
-        OptionTerm::Without => true,
+        OptionTerm::With => has,
+        OptionTerm::Without => !has,
         OptionTerm::Either => true,
     }
 }
 
-// Whether q's left side can fit r's right side. Most rules are of other objects, so that is asked first.
+// Whether q's left side, which is never transferable, can fit r's right side. Most rules are of other
+// objects, so that is asked first.
 pub fn feeds(q: Rule, r: Rule) -> bool
     ensures { λ x. ⌜ x ≡ model.feeds q r ⌝ }
 {
@@ -57,7 +59,7 @@ pub fn feeds(q: Rule, r: Rule) -> bool
     let subject = meets(q.left.subject, r.right.subject);
     let mode = meets(fields::wide(q.left.mode), fields::wide(r.right.mode));
     let o = r.option;
-    let option = fits_given(o);
+    let option = fits_option(o, false);
     sign
         & (q.left.object == r.right.object)
         & subject

@@ -1,7 +1,8 @@
-// The test for circles and the strata, of up to 65 rules: those of a full base and one more. Which rule looks
-// at which is asked once, and noted as edges with weights.
+// The tests for circles and the strata, of up to 65 rules: those of a full base and one more. Which rule
+// looks at which is asked once, and noted as edges with weights. Where `every` is true each step counts one,
+// so that every circle is found; else steps count as in a stratum.
 ghost use mathlib.Core.Path.{_≡_};
-ghost use mathlib.Core.Bool.{true};
+ghost use mathlib.Core.Bool.{Bool, true};
 ghost use mathlib.Core.List.{List};
 ghost use Prim.Native.Nat.{ℕ, suc, _+_, _*_, _-_, _/_, _≤_, _<_, max};
 ghost use lib.Dec.{eqb};
@@ -9,8 +10,9 @@ ghost use lib.ListN.{length, getD, set};
 ghost use Rattle.foundation.specs.Tests.{pick};
 ghost use Rattle.foundation.specs.Totals.{count};
 ghost use Rattle.model.specs.Stratification as model;
+ghost use Rattle.model.specs.Circles.{circular};
 ghost use Rattle.model.specs.declared.Rule.{Rule};
-ghost use Rattle.rules.specs.Strata.{Holds, raised, Stratified, Same};
+ghost use Rattle.rules.specs.Strata.{Holds, ownOf, raised, Ranked, Stratified, Same};
 ghost use Rattle.encoding.specs.Format.{rulesIn};
 ghost use Rattle.rules.specs.Edges.{stepOf, Row, Edges, Inside, bestOf};
 use crate::feeds;
@@ -19,14 +21,21 @@ use encoding::rule_at;
 use model::RULE_BYTES;
 use model::Rule;
 
-// What the step from q to r counts in a rank, and one more; 0 if r does not look at q.
-fn step(q: Rule, r: Rule) -> u8
-    ensures { λ x. ⌜ x ≡ stepOf q r ⌝ }
+// Whether a rule counts by itself.
+fn counts(r: Rule, every: bool) -> bool
+    ensures { λ x. ⌜ x ≡ ownOf every r ⌝ }
+{
+    every | negates(r)
+}
+
+// What the step from q to r counts, and one more; 0 if r does not look at q.
+fn step(q: Rule, r: Rule, every: bool) -> u8
+    ensures { λ x. ⌜ x ≡ stepOf every q r ⌝ }
 {
     if !feeds(q, r) {
         return 0;
     }
-    if negates(r) {
+    if counts(r, every) {
         return 2;
     }
     1
@@ -46,30 +55,37 @@ fn put_edge(edges: &mut [u8; 4225], at: usize, c: usize, i: usize, step: u8) -> 
 }
 
 // Puts the edges into the j-th of n rules in its row, and leaves the rows before it; how many they are.
-fn put_row(s: &[u8], n: usize, j: usize, edges: &mut [u8; 4225]) -> usize
+fn put_row(s: &[u8], n: usize, every: bool, j: usize, edges: &mut [u8; 4225]) -> usize
     requires { ⌜ (n * 28 ≤ length (now s)) × (n ≤ 65) × (j < n) × (length (now edges) ≡ 4225) ⌝ }
-    ensures { λ c. ⌜ Row n (now (s .entry)) j (now (edges .exit)) c × (length (now (edges .exit)) ≡ 4225)
+    ensures { λ c. ⌜ Row every n (now (s .entry)) j (now (edges .exit)) c
+        × (length (now (edges .exit)) ≡ 4225)
         × ((k : ℕ) → k < j * 65 → getD (now (edges .exit)) k 0 ≡ getD (now (edges .entry)) k 0) ⌝ }
 {
     let r = rule_at(s, j * RULE_BYTES);
     let mut c = 0;
     let mut i = 0;
     while i < n {
-        c = put_edge(edges, j * 65, c, i, step(rule_at(s, i * RULE_BYTES), r));
+        c = put_edge(
+            edges,
+            j * 65,
+            c,
+            i,
+            step(rule_at(s, i * RULE_BYTES), r, every),
+        );
         i += 1;
     }
     c
 }
 
 // Puts the edges into each of n rules in its row, and how many they are.
-fn put_edges(s: &[u8], n: usize, edges: &mut [u8; 4225], counts: &mut [u8; 65])
+fn put_edges(s: &[u8], n: usize, every: bool, edges: &mut [u8; 4225], counts: &mut [u8; 65])
     requires { ⌜ (n * 28 ≤ length (now s)) × (n ≤ 65) × (length (now edges) ≡ 4225)
         × (length (now counts) ≡ 65) ⌝ }
-    ensures { λ _. ⌜ Edges n (now (s .entry)) (now (edges .exit)) (now (counts .exit)) ⌝ }
+    ensures { λ _. ⌜ Edges every n (now (s .entry)) (now (edges .exit)) (now (counts .exit)) ⌝ }
 {
     let mut j = 0;
     while j < n {
-        counts[j] = put_row(s, n, j, edges) as u8;
+        counts[j] = put_row(s, n, every, j, edges) as u8;
         j += 1;
     }
 }
@@ -84,15 +100,15 @@ fn one_if(b: bool) -> u16
     0
 }
 
-// Puts what each rule counts by itself: one for WHENEVERNOT and UNLESS.
-fn put_own(s: &[u8], n: usize, own: &mut [u16; 65])
+// Puts what each rule counts by itself.
+fn put_own(s: &[u8], n: usize, every: bool, own: &mut [u16; 65])
     requires { ⌜ (n * 28 ≤ length (now s)) × (n ≤ 65) × (length (now own) ≡ 65) ⌝ }
     ensures { λ _. ⌜ (length (now (own .exit)) ≡ 65)
-        × Holds n (now (s .entry)) (λ r. count (model.negates r)) (now (own .exit)) ⌝ }
+        × Holds n (now (s .entry)) (λ r. count (ownOf every r)) (now (own .exit)) ⌝ }
 {
     let mut i = 0;
     while i < n {
-        own[i] = one_if(negates(rule_at(s, i * RULE_BYTES)));
+        own[i] = one_if(counts(rule_at(s, i * RULE_BYTES), every));
         i += 1;
     }
 }
@@ -135,9 +151,10 @@ fn rank_round(
     requires { ⌜ (n ≤ 65) × Inside n (now edges) (now counts) × ((i : ℕ) → i < n → getD (now old) i 0 < 65000)
         × (length (now out) ≡ 65) ⌝ }
     ensures { λ _. ⌜ (length (now (out .exit)) ≡ 65)
-        × ((s : List ℕ) (f : Rule → ℕ) → Edges n s (now (edges .entry)) (now (counts .entry)) →
-        Holds n s (λ r. count (model.negates r)) (now (own .entry)) → Holds n s f (now (old .entry)) →
-        Holds n s (raised (rulesIn n s) f) (now (out .exit))) ⌝ }
+        × ((every : Bool) (s : List ℕ) (f : Rule → ℕ) →
+        Edges every n s (now (edges .entry)) (now (counts .entry)) →
+        Holds n s (λ r. count (ownOf every r)) (now (own .entry)) → Holds n s f (now (old .entry)) →
+        Holds n s (raised every (rulesIn n s) f) (now (out .exit))) ⌝ }
 {
     let mut j = 0;
     while j < n {
@@ -162,30 +179,38 @@ fn same_ranks(a: &[u16], b: &[u16], n: usize) -> bool
     true
 }
 
-// The test for circles: whether no step that counts leads back to where it began. If so, `strata` gets the
-// stratum of each of the n rules. As many rounds as there are rules settle the ranks, unless there is a
-// circle.
+// Whether no step that counts leads back to where it began. If so, `ranks` gets for each of the n rules the
+// most that a path counts which ends in it. As many rounds as there are rules settle that, unless there is
+// such a circle.
+fn rank(s: &[u8], n: usize, every: bool, ranks: &mut [u16; 65]) -> bool
+    requires { ⌜ (n * 28 ≤ length (now s)) × (n ≤ 65) ⌝ }
+    ensures { λ r. ⌜ Ranked every n (now (s .entry)) (now (ranks .exit)) r ⌝ }
+{
+    let mut edges = [0u8; 4225];
+    let mut counts = [0u8; 65];
+    put_edges(s, n, every, &mut edges, &mut counts);
+    let mut own = [0u16; 65];
+    put_own(s, n, every, &mut own);
+    *ranks = own;
+    let mut k = 0;
+    while k <= n {
+        let mut next = [0u16; 65];
+        rank_round(&edges, &counts, &own, ranks, &mut next, n);
+        if same_ranks(ranks, &next, n) {
+            return true;
+        }
+        *ranks = next;
+        k += 1;
+    }
+    false
+}
+
+// The test for forbidden circles. If there is none, `strata` gets the stratum of each of the n rules.
 pub fn stratify(s: &[u8], n: usize, strata: &mut [u16; 65]) -> bool
     requires { ⌜ (n * 28 ≤ length (now s)) × (n ≤ 65) ⌝ }
     ensures { λ r. ⌜ Stratified n (now (s .entry)) (now (strata .exit)) r ⌝ }
 {
-    let mut edges = [0u8; 4225];
-    let mut counts = [0u8; 65];
-    put_edges(s, n, &mut edges, &mut counts);
-    let mut own = [0u16; 65];
-    put_own(s, n, &mut own);
-    *strata = own;
-    let mut k = 0;
-    while k <= n {
-        let mut next = [0u16; 65];
-        rank_round(&edges, &counts, &own, strata, &mut next, n);
-        if same_ranks(strata, &next, n) {
-            return true;
-        }
-        *strata = next;
-        k += 1;
-    }
-    false
+    rank(s, n, false, strata)
 }
 
 // The test alone.
@@ -195,4 +220,13 @@ pub fn is_stratified(s: &[u8], n: usize) -> bool
 {
     let mut strata = [0u16; 65];
     stratify(s, n, &mut strata)
+}
+
+// The test for circles of any sort.
+pub fn is_circular(s: &[u8], n: usize) -> bool
+    requires { ⌜ (n * 28 ≤ length (now s)) × (n ≤ 65) ⌝ }
+    ensures { λ r. ⌜ r ≡ circular (rulesIn n (now (s .entry))) ⌝ }
+{
+    let mut ranks = [0u16; 65];
+    !rank(s, n, true, &mut ranks)
 }

@@ -15,10 +15,11 @@ use Rattle.model.specs.declared.Head.{Head}
 use Rattle.model.specs.declared.Authorization.{Authorization}
 use Rattle.model.specs.declared.Rule.{Rule}
 use Rattle.model.specs.declared.Access.{Access}
+use Rattle.model.specs.declared.Pattern.{Pattern}
 use Rattle.model.specs.Ranges.{isSubject, isMode, isObject, lastInstant}
 use Rattle.model.specs.Base.{Base}
 use Rattle.model.specs.Stratification.{fitsOption}
-use Rattle.model.specs.Rules.{Pattern, fitsGrantor, fits, rightOf, holds, asked, mayWith, may, when}
+use Rattle.model.specs.Rules.{fitsGrantor, fits, rightOf, holds, asked, mayWith, may, when}
 use Rattle.model.specs.SideFacts.{fits-is}
 use Rattle.model.specs.Answers.{accessIn}
 use Rattle.encoding.specs.Format.{authorizationsIn, rulesIn, ruleAt}

@@ -19,11 +19,12 @@ use Rattle.foundation.specs.Marks.{next, next-above, next-clear}
 use Rattle.model.specs.declared.Authorization.{Authorization}
 use Rattle.model.specs.declared.Rule.{Rule}
 use Rattle.model.specs.declared.Access.{Access}
+use Rattle.model.specs.declared.Pattern.{Pattern}
 use Rattle.model.specs.Ranges.{isSubject, isMode, isObject, lastInstant}
 use Rattle.model.specs.Base.{Base}
 use Rattle.model.specs.Encoding.{authorizationOf, ruleOf}
 use Rattle.model.specs.Support.{live}
-use Rattle.model.specs.Rules.{Pattern, Fact, fits, holdsBy, round, enough, derivedBelow, holds, asked, may}
+use Rattle.model.specs.Rules.{Fact, fits, holdsBy, round, enough, derivedBelow, holds, asked, may}
 use Rattle.model.specs.Rules.{when}
 use Rattle.model.specs.Rules.{standsFor, derivesFor, mayWith}
 use Rattle.model.specs.Answers.{accessIn, words}

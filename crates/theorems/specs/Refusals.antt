@@ -28,6 +28,7 @@ use Rattle.model.specs.SoundnessFacts.{sound-bytes}
 use Rattle.model.specs.Answers.{Answer, answering, refusing, refusalNumber, create, requestTable}
 use Rattle.model.specs.Answers.{request}
 use Rattle.model.specs.Answers.{mayTable, whenTable, words, mayReply, mayAnswer, whenAnswer}
+use Rattle.model.specs.Simple.{simpleTable, simpleAnswer}
 use Rattle.model.specs.declared.Counted.the-variants.{Count}
 use Rattle.model.specs.Counting.{Counting, counting, declining, countedRefusal}
 use Rattle.model.specs.Report.{isOn, reportOf, reportTable, reportAnswer}
@@ -84,6 +85,10 @@ request-refuses s q n =
     (reply-refusal (decode s) q) refl n in
     (w .0, ap (λ (a : Answer). a .lent) (w .1))
 
+replied : (yes? : Bool) → refusalNumber (mayReply yes?) ≡ 0
+replied true = refl
+replied false = refl
+
 -- MAY gets nothing that it could alter
 pub may-refuses : (s : List ℕ) (q : Question) → refusalNumber (mayAnswer s q) ≢ 0 →
     Mem (refusalNumber (mayAnswer s q)) (2 ∷ 3 ∷ 6 ∷ [])
@@ -91,11 +96,21 @@ unfolding mayAnswer
 may-refuses s q n =
     let yes? = may (decode s) (q .access) (q .instant) in
     refused (row 2 (not (soundBytes s)) ∷ mayTable (decode s) q) Refused (mayReply yes?) refusalNumber
-    (λ k. refl) (answers yes?) n .0
-  where
-    answers : (yes? : Bool) → refusalNumber (mayReply yes?) ≡ 0
-    answers true = refl
-    answers false = refl
+    (λ k. refl) (replied yes?) n .0
+
+-- nor does the simple engine's
+pub simple-refuses : (s : List ℕ) (q : Question) → refusalNumber (simpleAnswer s q) ≢ 0 →
+    Mem (refusalNumber (simpleAnswer s q)) (2 ∷ 3 ∷ 6 ∷ 15 ∷ [])
+unfolding simpleAnswer
+simple-refuses s q n =
+    let yes? = may (decode s) (q .access) (q .instant) in
+    refused (row 2 (not (soundBytes s)) ∷ simpleTable (decode s) q) Refused (mayReply yes?) refusalNumber
+    (λ k. refl) (replied yes?) n .0
+
+-- the first row that applies is the lowest number that applies
+pub simple-rises : (s : List ℕ) (q : Question) →
+    rising? 1 (row 2 (not (soundBytes s)) ∷ simpleTable (decode s) q) ≡ true
+simple-rises s q = refl
 
 pub when-refuses : (s : List ℕ) (x : Access) (list : List ℕ) →
     refusalNumber (whenAnswer s x list .reply) ≢ 0 →

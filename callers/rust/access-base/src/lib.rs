@@ -256,6 +256,33 @@ pub fn may(base: &[u8], access: Access, instant: u32) -> Result<bool, Refusal> {
     refusal::checked(raw::may(base, access, instant)).map(|reply| reply.number == 1)
 }
 
+/// The same by the simple engine, which is there to be read and to compare with (`crates/simple`). It goes from instant to
+/// instant and keeps nothing, so it is for short intervals and few rules. It serves rules of which none feeds itself in the
+/// end, and is then proved equal to [`may`]; otherwise [`Refusal::Circular`].
+///
+/// ```
+/// use access_base::{create, may, simple_may, text, Access, Refusal, BYTES};
+///
+/// let mut base = vec![0; BYTES];
+/// create(&mut base)?;
+/// let mut tell = |line: &str| text(&mut base, line, &mut [0; 16]).map(str::len).expect("16 bytes suffice");
+/// tell("4 1 NEW 7");
+/// tell("5 1 GRANT 1 7 2 10 40 n");
+/// tell("5 1 ADDRULE 3 1 7 + ASLONGAS 2 1 7 + * * 10 90");
+/// let access = Access { subject: 3, mode: 1, object: 7 };
+/// for instant in 0..100 {
+///     assert_eq!(simple_may(&base, access, instant)?, may(&base, access, instant)?);
+/// }
+/// let mut tell = |line: &str| text(&mut base, line, &mut [0; 16]).map(str::len).expect("16 bytes suffice");
+/// tell("5 1 ADDRULE 2 1 7 + WHENEVER 3 1 7 + * * 10 90");
+/// assert_eq!(simple_may(&base, access, 20), Err(Refusal::Circular));
+/// assert!(may(&base, access, 20)?);
+/// # Ok::<(), Refusal>(())
+/// ```
+pub fn simple_may(base: &[u8], access: Access, instant: u32) -> Result<bool, Refusal> {
+    refusal::checked(raw::simple_may(base, access, instant)).map(|reply| reply.number == 1)
+}
+
 /// The longest runs of instants at which the access is allowed, rising: pairs of first and last instant, written to the
 /// front of the list. [`PAIRS`] always suffice; the rest of the list is untouched.
 pub fn when<'l>(base: &[u8], access: Access, list: &'l mut [[u32; 2]]) -> Result<&'l [[u32; 2]], Refusal> {

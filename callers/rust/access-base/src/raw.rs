@@ -77,6 +77,14 @@ mod linked {
             object: u32,
             instant: u32,
         ) -> u64;
+        pub fn access_base_simple_may(
+            base: *const u8,
+            length: usize,
+            subject: u32,
+            mode: u32,
+            object: u32,
+            instant: u32,
+        ) -> u64;
         pub fn access_base_when(
             base: *const u8,
             length: usize,
@@ -187,6 +195,11 @@ pub fn request(base: &mut [u8], q: &Numbers) -> Reply {
 /// `access_base_may`.
 pub fn may(base: &[u8], x: Access, instant: u32) -> Reply {
     unpacked(unsafe { linked::access_base_may(base.as_ptr(), base.len(), x.subject, x.mode, x.object, instant) })
+}
+
+/// `access_base_simple_may`.
+pub fn simple_may(base: &[u8], x: Access, instant: u32) -> Reply {
+    unpacked(unsafe { linked::access_base_simple_may(base.as_ptr(), base.len(), x.subject, x.mode, x.object, instant) })
 }
 
 /// `access_base_when`, with a list of any length, odd ones too.

@@ -37,6 +37,8 @@ pub enum Refusal {
     /// 14: a line denies the giver of a grant or denial that object and mode at some instant of it. Asked after 8 and
     /// before 9; owners and administrators are exempt.
     Barred,
+    /// 15, from [`simple_may`](crate::simple_may) alone: feeding leads from some rule back to it.
+    Circular,
 }
 
 impl Refusal {
@@ -56,6 +58,7 @@ impl Refusal {
             Refusal::NotStratified => 12,
             Refusal::Full => 13,
             Refusal::Barred => 14,
+            Refusal::Circular => 15,
         }
     }
 }
@@ -78,6 +81,7 @@ impl fmt::Display for Refusal {
             Refusal::NotStratified => "not stratified: a rule with WHENEVERNOT or UNLESS would feed itself",
             Refusal::Barred => "barred: leave out the instants at which the giver is denied, or have the denial withdrawn",
             Refusal::Full => "full: withdraw what has passed, or lend a list of 1,100 pairs, a page of 45,056 bytes, a byte for each question",
+            Refusal::Circular => "circular: ask `may`, which serves all rules",
         };
         write!(f, "{}, {text}", self.number())
     }
@@ -115,6 +119,7 @@ pub(crate) fn checked(reply: Reply) -> Result<Reply, Refusal> {
         12 => Refusal::NotStratified,
         13 => Refusal::Full,
         14 => Refusal::Barred,
+        15 => Refusal::Circular,
         other => unreachable!("the contracts have no refusal {other}"),
     })
 }

@@ -375,6 +375,12 @@ impl Generator<'_> {
         Step::May(access, self.instant(contents))
     }
 
+    /// The question MAY to the simple engine.
+    pub fn simple_may(&mut self, contents: &Contents) -> Step {
+        let access = self.question(contents);
+        Step::SimpleMay(access, self.instant(contents))
+    }
+
     /// A round of so many questions, with a byte list that is one byte short, as long as the questions, and longer.
     pub fn round(&mut self, contents: &Contents, count: usize) -> Vec<Step> {
         let questions: Vec<[u32; 4]> = (0..count)

@@ -7,6 +7,9 @@ use access_base::{Access, OptionTerm, Side, Term, BYTES, TEXT_LEAST};
 use oracle::session::Asked;
 use oracle::{Cells, Oracle};
 
+// So often the simple engine may look at an instant for one question.
+const LOOKS: u64 = 20_000;
+
 /// What is done to both.
 #[derive(Clone, Debug)]
 pub enum Step {
@@ -18,6 +21,8 @@ pub enum Step {
     Request(Numbers),
     /// The question MAY.
     May(Access, u32),
+    /// The question MAY to the simple engine, unless it would look at instants too often.
+    SimpleMay(Access, u32),
     /// The question WHEN.
     When {
         /// Whose access is asked about.
@@ -172,6 +177,7 @@ impl Pair {
             Step::Create => self.create(),
             Step::Request(q) => self.request(&q),
             Step::May(access, instant) => self.may(access, instant),
+            Step::SimpleMay(access, instant) => self.simple_may(access, instant),
             Step::When { access, length, pattern } => self.when(access, length, pattern),
             Step::Report { object, length, pattern } => self.report(object, length, pattern),
             Step::Text { line, length, pattern } => self.text(&line, length, pattern),
@@ -243,6 +249,23 @@ impl Pair {
         };
         self.tally.may(expected);
         same(reply, expected.map_or_else(refused, |yes| (0, 0, u32::from(yes))))?;
+        same_bytes(&self.base, &self.before)?;
+        Ok(reply.0)
+    }
+
+    // "15, circular, by the simple engine only, exactly if some feeding circle exists"; else what MAY itself replies.
+    fn simple_may(&mut self, x: Access, instant: u32) -> Result<u32, Difference> {
+        let expected = match &self.oracle {
+            None => Some(Err(2)),
+            Some(oracle) => oracle.simple_may(x.subject, x.mode, x.object, instant, LOOKS),
+        };
+        self.tally.simple_may(expected);
+        let Some(expected) = expected else { return Ok(0) };
+        let reply = parts(raw::simple_may(&self.base, x, instant));
+        same(reply, expected.map_or_else(refused, |yes| (0, 0, u32::from(yes))))?;
+        if expected != Err(15) {
+            same(reply, parts(raw::may(&self.base, x, instant)))?;
+        }
         same_bytes(&self.base, &self.before)?;
         Ok(reply.0)
     }

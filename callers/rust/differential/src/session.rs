@@ -130,18 +130,42 @@ fn told(name: &str, generator: &mut Generator) -> Result<Pair, Box<Failure>> {
 pub fn round_session(seed: u64, counts: &[usize]) -> Result<Tally, Box<Failure>> {
     let mut random = Random::new(seed);
     let world = World::random(&mut random);
-    let name = format!("round session {seed}");
-    let mut pair = Pair::new(world.boundaries());
-    let mut generator = Generator { random: &mut random, world };
+    questioned(
+        &format!("round session {seed}"),
+        Generator { random: &mut random, world },
+        |pair, generator, is_last| rounds(pair, generator, if is_last { counts } else { &[0, 1, 5] }),
+    )
+}
+
+/// A short random session, and questions to the simple engine over its last base and over damaged bases that come of it.
+pub fn simple_session(seed: u64) -> Result<Tally, Box<Failure>> {
+    let mut random = Random::new(seed);
+    let world = World::small(&mut random);
+    questioned(&format!("simple session {seed}"), Generator { random: &mut random, world }, |pair, generator, _| {
+        let contents = Contents::read(pair.base());
+        for _ in 0..40 {
+            pair.take(generator.simple_may(&contents))?;
+        }
+        Ok(())
+    })
+}
+
+// A session, and questions over its last base and over damaged bases that come of it.
+fn questioned(
+    name: &str,
+    mut generator: Generator,
+    ask: impl Fn(&mut Pair, &mut Generator, bool) -> Result<(), Difference>,
+) -> Result<Tally, Box<Failure>> {
+    let mut pair = Pair::new(generator.world.boundaries());
     let ran = begin(&mut pair, &mut generator).and_then(|length| run(&mut pair, &mut generator, length));
-    let ran = ran.and_then(|()| rounds(&mut pair, &mut generator, counts));
-    ran.map_err(|difference| Box::new(Failure::new(&name, &pair, difference)))?;
+    let ran = ran.and_then(|()| ask(&mut pair, &mut generator, true));
+    ran.map_err(|difference| Box::new(Failure::new(name, &pair, difference)))?;
     let mut tally = pair.tally.clone();
     for _ in 0..4 {
         let bytes = other_base(pair.base(), &mut generator);
         let mut other = Pair::new(pair.boundaries());
-        let asked = other.take(Step::Lend(bytes)).and_then(|_| rounds(&mut other, &mut generator, &[0, 1, 5]));
-        asked.map_err(|difference| Box::new(Failure::new(&name, &other, difference)))?;
+        let asked = other.take(Step::Lend(bytes)).and_then(|_| ask(&mut other, &mut generator, false));
+        asked.map_err(|difference| Box::new(Failure::new(name, &other, difference)))?;
         tally.add(&other.tally);
     }
     Ok(tally)

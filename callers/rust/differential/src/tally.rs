@@ -8,6 +8,9 @@ pub struct Tally {
     by_kind: [[u64; 15]; 13], // index 0 of a row is for accepted requests, others for the refusal's number
     may: [u64; 2],
     may_refused: [u64; 15],
+    simple: [u64; 2],
+    simple_refused: [u64; 16],
+    simple_long: u64,
     when: u64,
     runs: u64,
     most_runs: u64,
@@ -41,6 +44,19 @@ impl Tally {
             Ok(yes) => self.may[usize::from(yes)] += 1,
             Err(row) => self.may_refused[row as usize] += 1,
         }
+    }
+
+    pub(crate) fn simple_may(&mut self, reply: Option<Result<bool, u32>>) {
+        match reply {
+            Some(Ok(yes)) => self.simple[usize::from(yes)] += 1,
+            Some(Err(row)) => self.simple_refused[row as usize] += 1,
+            None => self.simple_long += 1,
+        }
+    }
+
+    /// How many questions the simple engine answered with no and with yes, and how many it refused with a number.
+    pub fn simply(&self, row: usize) -> ([u64; 2], u64) {
+        (self.simple, self.simple_refused[row])
     }
 
     pub(crate) fn when(&mut self, reply: Result<usize, u32>) {
@@ -137,6 +153,9 @@ impl Tally {
         }
         sum(&mut self.may, &other.may);
         sum(&mut self.may_refused, &other.may_refused);
+        sum(&mut self.simple, &other.simple);
+        sum(&mut self.simple_refused, &other.simple_refused);
+        self.simple_long += other.simple_long;
         sum(&mut self.when_refused, &other.when_refused);
         self.when += other.when;
         self.runs += other.runs;
@@ -189,6 +208,10 @@ impl fmt::Display for Tally {
         if self.rounds > 0 {
             let (answered, questions, unsound, short) = self.rounds();
             writeln!(f, "{answered} rounds with {questions} questions; {unsound} refused with 2, {short} with 13")?;
+        }
+        let ([no, yes], circular) = self.simply(15);
+        if no + yes > 0 {
+            writeln!(f, "simple engine: {yes} yes, {no} no, {circular} circular, {} not asked", self.simple_long)?;
         }
         write!(f, "{} bases lent and judged, {} of them sound", self.judged, self.sound)
     }

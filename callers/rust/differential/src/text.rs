@@ -84,6 +84,9 @@ pub fn step(step: &Step) -> String {
         Step::Create => "# an empty base is made".to_string(),
         Step::Request(q) => request(q),
         Step::May(x, t) => format!("MAY {} {} {} {}", x.subject, x.mode, x.object, instant(*t)),
+        Step::SimpleMay(x, t) => {
+            format!("MAY {} {} {} {}    # to the simple engine", x.subject, x.mode, x.object, instant(*t))
+        }
         Step::When { access: x, length, .. } => {
             format!("WHEN {} {} {}    # list of {length} numbers", x.subject, x.mode, x.object)
         }

@@ -77,6 +77,25 @@ impl World {
         }
     }
 
+    /// A random world of few instants and requests, many of them about rules.
+    pub fn small(random: &mut Random) -> World {
+        let count = random.between(8, 31);
+        let (subjects, objects, modes) =
+            (random.between(2, 5) as usize, random.between(1, 2) as usize, random.between(1, 2) as usize);
+        World {
+            subjects: pool(random, subjects, 1_023),
+            objects: pool(random, objects, 128),
+            modes: pool(random, modes, 8),
+            first: 0,
+            last: count - 1,
+            length: random.between(8, 30) as usize,
+            rise: 20,
+            short: random.percent(30),
+            weights: FLAVOURS[2],
+            boundaries: boundaries(0, count),
+        }
+    }
+
     /// The instants at which a cell of the oracle starts.
     pub fn boundaries(&self) -> &[u32] {
         &self.boundaries

@@ -8,7 +8,7 @@ fn negated(standing: &StandingRule) -> bool {
 }
 
 /// "equal or starred on either side"
-fn meet(one: Term, other: Term) -> bool {
+pub(crate) fn meet(one: Term, other: Term) -> bool {
     one == Term::Any || other == Term::Any || one == other
 }
 
@@ -31,7 +31,8 @@ pub(crate) fn cycle_through_negation(rules: &[&StandingRule]) -> bool {
     (0..rules.len()).any(|i| negated(rules[i]) && comes_back(rules, i))
 }
 
-fn comes_back(rules: &[&StandingRule], home: usize) -> bool {
+/// Whether a path of feeding leads from a rule back to it.
+pub(crate) fn comes_back(rules: &[&StandingRule], home: usize) -> bool {
     let mut seen = vec![false; rules.len()];
     let mut to_visit = vec![home];
     while let Some(i) = to_visit.pop() {
@@ -75,19 +76,19 @@ pub(crate) fn strata(rules: &[&StandingRule]) -> Vec<u32> {
 /// What may be asked to be held: the right side of a rule with its subject and mode put in for the stars,
 /// or a question.
 #[derive(Clone, Copy)]
-struct Wanted {
-    subject: u32,
-    mode: u32,
-    object: u32,
-    negative: bool,
-    grantor: Term,
-    option: OptionTerm,
+pub(crate) struct Wanted {
+    pub subject: u32,
+    pub mode: u32,
+    pub object: u32,
+    pub negative: bool,
+    pub grantor: Term,
+    pub option: OptionTerm,
 }
 
 impl Wanted {
     /// Does what a line gives fit? "A star for granter or option fits any"; otherwise the option fits
     /// exactly (A59).
-    fn fits_line(&self, entry: &Entry) -> bool {
+    pub(crate) fn fits_line(&self, entry: &Entry) -> bool {
         self.subject == entry.subject
             && self.mode == entry.mode
             && self.object == entry.object
@@ -131,7 +132,7 @@ struct Single {
 }
 
 /// The subject or mode of a side when the rule is read for a given left one.
-fn put_in(term: Term, for_star: u32) -> u32 {
+pub(crate) fn put_in(term: Term, for_star: u32) -> u32 {
     match term {
         Term::Any => for_star,
         Term::Number(number) => number,
@@ -139,7 +140,7 @@ fn put_in(term: Term, for_star: u32) -> u32 {
 }
 
 /// Can a rule's left side be about this subject and mode?
-fn left_can_be(rule: &Rule, subject: u32, mode: u32) -> bool {
+pub(crate) fn left_can_be(rule: &Rule, subject: u32, mode: u32) -> bool {
     meet(rule.left.subject, Term::Number(subject)) && meet(rule.left.mode, Term::Number(mode))
 }
 
@@ -262,7 +263,7 @@ impl Oracle {
     }
 
     /// Rows 3 and 6 for the questions.
-    fn question_refused(&self, subject: u32, mode: u32, object: u32) -> Option<u32> {
+    pub(crate) fn question_refused(&self, subject: u32, mode: u32, object: u32) -> Option<u32> {
         if !(in_range(subject, SUBJECTS) && in_range(mode, MODES) && in_range(object, OBJECTS)) {
             return Some(3);
         }

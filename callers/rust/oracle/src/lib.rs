@@ -10,6 +10,7 @@ mod requests;
 mod round;
 pub mod session;
 mod sheet;
+mod simple;
 mod support;
 
 pub use cells::Cells;

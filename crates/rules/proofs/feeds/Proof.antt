@@ -30,7 +30,7 @@ returns-2 c =
       d .before .meets2 .ensures,
       d .before .before .before .wide .ensures .0,
       d .before .before .wide2 .ensures .0,
-      d .fits-given .ensures,
+      d .fits-option .ensures,
     )
 
 pub feeds-spec : {M : Type 1} → statement M

@@ -11,12 +11,12 @@ use Rattle.rules.proofs.ranks.put_edges.Statement.{statement}
 use Rattle.rules.proofs.ranks.put_edges.Tie as tie
 
 abbrev Inv-loop : tie.InvT-loop
-Inv-loop s n edges₀ counts₀ j₀ edges counts j =
+Inv-loop s n every edges₀ counts₀ j₀ edges counts j =
     (j ≤ n) × (length edges ≡ 4225) × (length counts ≡ 65)
-    × ((i : ℕ) → i < j → Row n s i edges (getD counts i 0))
+    × ((i : ℕ) → i < j → Row every n s i edges (getD counts i 0))
 
 abbrev μ-loop : tie.MeasureT-loop
-μ-loop s n edges₀ counts₀ j₀ edges counts j = n - j
+μ-loop s n every edges₀ counts₀ j₀ edges counts j = n - j
 
 loop-holds : tie.Need-loop-holds Inv-loop μ-loop
 loop-holds c =
@@ -44,7 +44,7 @@ loop-again c =
       omega arith,
       c .put-row .ensures .1,
       length-set counts j v ∙ l .loop .inv .2,
-      edges-turn (b .args .n) (now (b .args .s)) j (l .loop .edges) _ counts v (b .pre .1)
+      edges-turn (b .args .every) (b .args .n) (now (b .args .s)) j (l .loop .edges) _ counts v (b .pre .1)
           (omega (arith, l .loop .inv .2, b .pre .1)) (l .loop .inv .3) (c .put-row .ensures .0)
           (c .put-row .ensures .2),
     )

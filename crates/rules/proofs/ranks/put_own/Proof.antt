@@ -6,18 +6,17 @@ use Prim.Native.Nat.{_-_, _≤_}
 use lib.ListN.{length, length-set}
 use denote.Ref.{now}
 use Rattle.foundation.specs.Totals.{count}
-use Rattle.model.specs.Stratification.{negates}
-use Rattle.rules.specs.Strata.{Holds}
+use Rattle.rules.specs.Strata.{Holds, ownOf}
 use Rattle.encoding.specs.Format.{ruleAt}
 use Rattle.rules.proofs.Rounds.{fill-turn}
 use Rattle.rules.proofs.ranks.put_own.Statement.{statement}
 use Rattle.rules.proofs.ranks.put_own.Tie as tie
 
 abbrev Inv-loop : tie.InvT-loop
-Inv-loop s n own₀ i₀ own i = (i ≤ n) × (length own ≡ 65) × Holds i s (λ r. count (negates r)) own
+Inv-loop s n every own₀ i₀ own i = (i ≤ n) × (length own ≡ 65) × Holds i s (λ r. count (ownOf every r)) own
 
 abbrev μ-loop : tie.MeasureT-loop
-μ-loop s n own₀ i₀ own i = n - i
+μ-loop s n every own₀ i₀ own i = n - i
 
 loop-holds : tie.Need-loop-holds Inv-loop μ-loop
 loop-holds c = (omega arith, c .before .pre .2, λ i h. absurd (omega arith))
@@ -30,10 +29,10 @@ loop-again c =
     let i = l .loop .i in (
       omega arith,
       length-set own i (c .one-if .result) ∙ l .loop .inv .1,
-      fill-turn (λ i. count (negates (ruleAt (now (b .args .s)) i))) own i (c .one-if .result)
+      fill-turn (λ i. count (ownOf (b .args .every) (ruleAt (now (b .args .s)) i))) own i (c .one-if .result)
           (omega (arith, l .loop .inv .1, b .pre .1))
-          (c .one-if .ensures ∙ ap count (c .before .negates .ensures
-          ∙ ap negates (c .before .before .rule-at .ensures))) (l .loop .inv .2),
+          (c .one-if .ensures ∙ ap count (c .before .counts .ensures
+          ∙ ap (ownOf (b .args .every)) (c .before .before .rule-at .ensures))) (l .loop .inv .2),
     )
 
 returns : tie.Need-returns Inv-loop μ-loop

@@ -16,17 +16,18 @@ use Rattle.rules.proofs.ranks.put_row.Statement.{statement}
 use Rattle.rules.proofs.ranks.put_row.Tie as tie
 
 abbrev Inv-loop : tie.InvT-loop
-Inv-loop s n j edges₀ r c₀ i₀ edges c i =
-    (i ≤ n) × (length edges ≡ 4225) × Row i s j edges c
+Inv-loop s n every j edges₀ r c₀ i₀ edges c i =
+    (i ≤ n) × (length edges ≡ 4225) × Row every i s j edges c
     × ((k : ℕ) → k < j * 65 → getD edges k 0 ≡ getD edges₀ k 0)
 
 abbrev μ-loop : tie.MeasureT-loop
-μ-loop s n j edges₀ r c₀ i₀ edges c i = n - i
+μ-loop s n every j edges₀ r c₀ i₀ edges c i = n - i
 
 loop-holds : tie.Need-loop-holds Inv-loop μ-loop
 loop-holds c =
     let b = c .before .before in
-    (omega arith, b .pre .3, row-start (now (b .args .s)) (b .args .j) (now (b .args .edges)), λ k h. refl)
+    let a = b .args in
+    (omega arith, b .pre .3, row-start (a .every) (now (a .s)) (a .j) (now (a .edges)), λ k h. refl)
 
 put-edge-requires : tie.Need-put-edge-requires Inv-loop μ-loop
 put-edge-requires c κs =
@@ -34,7 +35,11 @@ put-edge-requires c κs =
     let b = l .before .before .before in (
       omega (arith, l .loop .inv .2 .few, b .pre .1, b .pre .2),
       omega (arith, b .pre .1),
-      omega (arith, c .step .ensures, step-small (c .before .rule-at2 .result) (l .before .rule-at .result)),
+      omega (
+        arith,
+        c .step .ensures,
+        step-small (b .args .every) (c .before .rule-at2 .result) (l .before .rule-at .result),
+      ),
     )
 
 loop-again : tie.Need-loop-again Inv-loop μ-loop
@@ -45,19 +50,20 @@ loop-again c =
     let a = b .args in
     let s = now (a .s) in
     let i = l .loop .i in
-    let e : d .step .result ≡ stepOf (ruleAt s i) (ruleAt s (a .j)) =
-    d .step .ensures ∙ ap₂ stepOf (d .before .rule-at2 .ensures) (l .before .rule-at .ensures) in
+    let e : d .step .result ≡ stepOf (a .every) (ruleAt s i) (ruleAt s (a .j)) =
+    d .step .ensures ∙ ap₂ (stepOf (a .every)) (d .before .rule-at2 .ensures) (l .before .rule-at .ensures) in
     let more = c .put-edge .ensures .1
     ∙ ap (putEdge (l .loop .edges) (a .j * 65) (l .loop .c) i) e in
     let many = c .put-edge .ensures .0 ∙ ap (putCount (l .loop .c)) e in (
       omega arith,
       ap length (c .put-edge .ensures .1)
           ∙ put-length (l .loop .edges) (a .j * 65) (l .loop .c) i (d .step .result) ∙ l .loop .inv .1,
-      subst (λ (x : List ℕ). Row (i + 1) s (a .j) x (c .put-edge .result)) (sym more)
-          (subst (λ (k : ℕ). Row (i + 1) s (a .j) (putEdge (l .loop .edges) (a .j * 65) (l .loop .c) i
-          (stepOf (ruleAt s i) (ruleAt s (a .j)))) k) (sym many)
-          (rw add-one (row-turn s (a .j) i (l .loop .edges) (l .loop .c) (l .loop .inv .2) (l .loop .inv .1)
-          (omega (arith, b .pre .1)) (omega (arith, b .pre .1, b .pre .2))))),
+      subst (λ (x : List ℕ). Row (a .every) (i + 1) s (a .j) x (c .put-edge .result)) (sym more)
+          (subst (λ (k : ℕ). Row (a .every) (i + 1) s (a .j)
+          (putEdge (l .loop .edges) (a .j * 65) (l .loop .c) i
+          (stepOf (a .every) (ruleAt s i) (ruleAt s (a .j)))) k) (sym many)
+          (rw add-one (row-turn (a .every) s (a .j) i (l .loop .edges) (l .loop .c) (l .loop .inv .2)
+          (l .loop .inv .1) (omega (arith, b .pre .1)) (omega (arith, b .pre .1, b .pre .2))))),
       λ k h.
           ap (λ (x : List ℕ). getD x k 0) (c .put-edge .ensures .1)
           ∙ put-other (l .loop .edges) (a .j * 65) (l .loop .c) i (d .step .result) k h ∙ l .loop .inv .3 k h,
@@ -67,8 +73,9 @@ returns : tie.Need-returns Inv-loop μ-loop
 returns c =
     let l = c .before in
     let b = l .before .before .before in
-    let e : l .loop .i ≡ b .args .n = omega (arith, l .loop .inv .0) in (
-      subst (λ (k : ℕ). Row k (now (b .args .s)) (b .args .j) (l .loop .edges) (l .loop .c)) e
+    let a = b .args in
+    let e : l .loop .i ≡ a .n = omega (arith, l .loop .inv .0) in (
+      subst (λ (k : ℕ). Row (a .every) k (now (a .s)) (a .j) (l .loop .edges) (l .loop .c)) e
           (l .loop .inv .2),
       l .loop .inv .1,
       l .loop .inv .3,

@@ -60,9 +60,9 @@ returns c =
     let l = c .before in
     let a = l .before .args in (
       l .loop .inv .1,
-      λ s f rows own old i h.
+      λ every s f rows own old i h.
           l .loop .inv .2 i (omega arith)
-          ∙ row-raised (a .n) s i (now (a .edges)) (getD (now (a .counts)) i 0) (rows i h) f
+          ∙ row-raised every (a .n) s i (now (a .edges)) (getD (now (a .counts)) i 0) (rows i h) f
           (now (a .old)) old
           (getD (now (a .own)) i 0) (own i h),
     )

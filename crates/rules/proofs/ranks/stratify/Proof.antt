@@ -1,112 +1,12 @@
--- `stratify` meets its contract. The loop's invariant: the tables are the rules', `strata` holds the ranks
--- after `k` rounds, and if all rounds were made there is a circle.
+-- `stratify` meets its contract: the ranks in which steps count as in a stratum are the strata.
 use borrow.Author.Needs.{needs}
-use native.Mathlib.Omega.{arith}
-use mathlib.Core.Path.{_≡_, refl, sym, _∙_}
-use mathlib.Core.Bool.{false, true≢false, false≢true}
-use Prim.Native.Nat.{_+_, _-_, _≤_, _<_}
-use lib.ListN.{length}
-use denote.Ref.{now}
-use Rattle.foundation.specs.Totals.{count}
-use Rattle.model.specs.Stratification.{negates, stratified}
-use Rattle.rules.specs.Strata.{Holds}
-use Rattle.encoding.specs.Format.{rulesIn}
-use Rattle.rules.specs.Edges.{Edges}
-use Rattle.rules.proofs.Rounds.{ranks, first-ranks, next-ranks, ranks-small}
-use Rattle.rules.proofs.Rounds.{same-stratified, same-strata, circle}
+use Rattle.model.specs.Stratification.{stratified, stratum}
 use Rattle.rules.proofs.ranks.stratify.Statement.{statement}
 use Rattle.rules.proofs.ranks.stratify.Tie as tie
 
-abbrev Inv-loop : tie.InvT-loop
-Inv-loop s n strata₀ edges counts own k₀ strata k =
-    (k ≤ n + 1)
-    × (length strata ≡ 65)
-    × Edges n s edges counts
-    × Holds n s (λ r. count (negates r)) own
-    × Holds n s (ranks (rulesIn n s) k) strata
-    × (n < k → stratified (rulesIn n s) ≡ false)
-
-abbrev μ-loop : tie.MeasureT-loop
-μ-loop s n strata₀ edges counts own k₀ strata k = n + 1 - k
-
-loop-holds : tie.Need-loop-holds Inv-loop μ-loop
-loop-holds c =
-    let p = c .before .before in
-    let b = p .before .before .before .before in (
-      omega arith,
-      c .put-own .ensures .0,
-      p .put-edges .ensures,
-      c .put-own .ensures .1,
-      first-ranks (b .args .n) (now (b .args .s)) (c .put-own .last .1 .1 .0) (c .put-own .ensures .1),
-      λ h. absurd (omega arith),
-    )
-
-rank-round-requires : tie.Need-rank-round-requires Inv-loop μ-loop
-rank-round-requires c κs =
-    let l = c .before .before .before .before .before .before in
-    let b = l .before .before .before .before .before .before .before in
-    let small = ranks-small (b .args .n) (now (b .args .s)) (l .loop .k) (l .loop .strata)
-    (l .loop .inv .4) in (
-      b .pre .1,
-      λ j h. (l .loop .inv .2 j h .few, l .loop .inv .2 j h .inside),
-      λ i h. omega (arith, small i h, l .loop .inv .0, b .pre .1),
-      refl,
-    )
-
-slice-aggregate-same-ranks : tie.Need-slice-aggregate-same-ranks Inv-loop μ-loop
-slice-aggregate-same-ranks c = sym (c .before .before .before .rank-round .ensures .0)
-
-same-ranks-requires : tie.Need-same-ranks-requires Inv-loop μ-loop
-same-ranks-requires c κs =
-    let d = c .before .before .before in
-    let l = d .before .before .before .before .before .before .before in
-    let b = l .before .before .before .before .before .before .before in
-    (omega (arith, l .loop .inv .1, b .pre .1), omega (arith, d .rank-round .ensures .0, b .pre .1))
-
-returns : tie.Need-returns Inv-loop μ-loop
-returns c =
-    let d = c .before .before .before .before .before in
-    let l = d .before .before .before .before .before .before .before in
-    let b = l .before .before .before .before .before .before .before in
-    let n = b .args .n in
-    let s = now (b .args .s) in
-    let i = l .loop .inv in
-    let next = d .rank-round .last .1 .1 .1 .1 .0 in
-    let g = d .rank-round .ensures .1 s (ranks (rulesIn n s) (l .loop .k)) (i .2) (i .3) (i .4) in
-    let e = c .before .same-ranks .ensures .0 (c .if1 .taken) in
-    record {
-      test = sym (same-stratified n s (l .loop .k) (l .loop .strata) next (i .4) g e);
-      table = λ t. same-strata n s (l .loop .k) (l .loop .strata) next (i .4) g e;
-    }
-
-loop-again : tie.Need-loop-again Inv-loop μ-loop
-loop-again c =
-    let d = c .before .before .before .before .before in
-    let l = d .before .before .before .before .before .before .before in
-    let b = l .before .before .before .before .before .before .before in
-    let n = b .args .n in
-    let s = now (b .args .s) in
-    let i = l .loop .inv in
-    let next = d .rank-round .last .1 .1 .1 .1 .0 in
-    let g = d .rank-round .ensures .1 s (ranks (rulesIn n s) (l .loop .k)) (i .2) (i .3) (i .4) in (
-      omega arith,
-      d .rank-round .ensures .0,
-      i .2,
-      i .3,
-      next-ranks n s (l .loop .k) next g,
-      λ h.
-          circle n s (l .loop .k) (l .loop .strata) next (i .4) g (omega arith)
-          (λ q. true≢false (sym (c .before .same-ranks .ensures .1 q) ∙ c .if1 .left)),
-    )
-
-returns-2 : tie.Need-returns-2 Inv-loop μ-loop
-returns-2 c =
-    let l = c .before in
-    record { test = sym (l .loop .inv .5 (omega arith)); table = λ e. absurd (false≢true e) }
+returns : tie.Need-returns
+unfolding stratified stratum
+returns c = record { test = c .rank .ensures .test; table = c .rank .ensures .table }
 
 pub stratify-spec : {M : Type 1} → statement M
-stratify-spec =
-    tie.close
-    (tie.spec Inv-loop μ-loop (λ c κs. search needs) (λ c κs. search needs) loop-holds rank-round-requires
-    slice-aggregate-same-ranks same-ranks-requires returns (λ c. search needs) (λ c. search needs) loop-again
-    returns-2)
+stratify-spec = tie.close (tie.spec (λ c κs. search needs) returns)

@@ -1,8 +1,8 @@
--- `answers::asking::access_in`: the three tests.
+-- `lookup::ranges::access_in`: the three tests.
 use borrow.Author.Needs.{needs}
 use mathlib.Core.Bool.{_&&_}
-use Rattle.answers.proofs.asking.access_in.Statement.{statement}
-use Rattle.answers.proofs.asking.access_in.Tie as tie
+use Rattle.lookup.proofs.ranges.access_in.Statement.{statement}
+use Rattle.lookup.proofs.ranges.access_in.Tie as tie
 
 returns : tie.Need-returns
 returns c = λ k. c .before .before .subject-in .ensures k && c .before .mode-in .ensures k

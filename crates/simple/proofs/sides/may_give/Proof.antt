@@ -1,0 +1,15 @@
+-- `may_give` meets its contract: its tests are the definition's, one by one. No object is starred, so that
+-- the base does not matter.
+use borrow.Author.Needs.{needs}
+use Rattle.model.specs.Rules.{standsFor, derivesFor}
+use Rattle.simple.proofs.sides.may_give.Statement.{statement}
+use Rattle.simple.proofs.sides.may_give.Tie as tie
+
+returns : tie.Need-returns
+unfolding derivesFor standsFor
+returns c b = rw (c .fits-option .ensures)
+
+pub may-give-spec : {M : Type 1} → statement M
+may-give-spec =
+    tie.close
+    (tie.spec (λ c. search needs) (λ c. search needs) (λ c. search needs) (λ c κs. search needs) returns)

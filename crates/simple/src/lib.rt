@@ -1,0 +1,109 @@
+// A simple engine for the question MAY, to be read, and to compare the main one with.
+//
+// It looks at one instant at a time and keeps nothing. Whether something is held depends on the rules that
+// may give it (`held`), and whether a rule gives it depends on what is held (`gives`): the two call each
+// other. That ends where no rule feeds itself in the end, since the rules that may give a right side feed the
+// rule that looks at it: the longest feeding path left falls at each turn. Where one does, the reply is 15.
+//
+// Below, `s` is the bytes of the base, `p` what is looked for, `t` an instant. The lines `requires` and
+// `ensures` are what is proved of a function, in the words of specs/Engine.antt.
+ghost use mathlib.Core.Path.{_≡_};
+ghost use Prim.Native.Nat.{_≤_};
+ghost use Rattle.model.specs.Simple.{simpleAnswer};
+ghost use Rattle.simple.specs.Engine.{Served, Listed, heldAt, givenAt, wantedFrom};
+
+mod sides;
+mod stored;
+
+use lookup::has_instant;
+use model::Operator;
+use model::Pattern;
+use model::Question;
+use model::Reply;
+use model::Rule;
+use sides::asked;
+use sides::is_granted;
+use sides::may_give;
+use sides::right_of;
+use stored::has_circle;
+use stored::rule;
+use stored::rule_count;
+
+// MAY: yes if the access is held and no denial of it is.
+pub fn simple_may(s: &[u8], q: Question) -> Reply
+    ensures { λ r. ⌜ r ≡ simpleAnswer (now (s .entry)) q ⌝ }
+{
+    let x = q.access;
+    let t = q.instant;
+    if !soundness::is_sound(s) {
+        return Reply::Refused(2);
+    }
+    if !lookup::access_in(x) {
+        return Reply::Refused(3);
+    }
+    if !lookup::exists(s, x.object) {
+        return Reply::Refused(6);
+    }
+    if has_circle(s) {
+        return Reply::Refused(15);
+    }
+    if !held(s, asked(x, false), t) {
+        return Reply::No;
+    }
+    if held(s, asked(x, true), t) {
+        return Reply::No;
+    }
+    Reply::Yes
+}
+
+// Whether p is held at t: an authorization gives it, or one of the rules does.
+fn held(s: &[u8], p: Pattern, t: u32) -> bool
+    requires { ⌜ Served (now s) ⌝ }
+    ensures { λ x. ⌜ x ≡ heldAt (now (s .entry)) p t ⌝ }
+{
+    if is_granted(s, p, t) {
+        return true;
+    }
+    let n = rule_count(s);
+    let mut i = 0;
+    while i < n {
+        if gives(s, rule(s, i), p, t) {
+            return true;
+        }
+        i += 1;
+    }
+    false
+}
+
+// Whether a rule gives p at t: its left side is p, t is in its interval, and its right side is held, or not
+// held, as its operator says, at t or at all instants from the rule's start to t.
+fn gives(s: &[u8], r: Rule, p: Pattern, t: u32) -> bool
+    requires { ⌜ Served (now s) × Listed (now s) r ⌝ }
+    ensures { λ x. ⌜ x ≡ givenAt (now (s .entry)) r p t ⌝ }
+{
+    let i = r.interval;
+    if !may_give(r, p) | !has_instant(i, t) {
+        return false;
+    }
+    let right = right_of(r, p.access);
+    let o = r.operator;
+    match o {
+        Operator::Whenever => held(s, right, t),
+        Operator::AsLongAs => throughout(s, right, i.start, t, true),
+        Operator::WheneverNot => !held(s, right, t),
+        Operator::Unless => throughout(s, right, i.start, t, false),
+    }
+}
+
+// Whether p is held (wanted: true), or not held (wanted: false), at every single instant from one to another.
+fn throughout(s: &[u8], p: Pattern, from: u32, to: u32, wanted: bool) -> bool
+    requires { ⌜ Served (now s) × (from ≤ to) ⌝ }
+    ensures { λ x. ⌜ x ≡ wantedFrom (now (s .entry)) p from to wanted ⌝ }
+{
+    for u in from..=to {
+        if held(s, p, u) != wanted {
+            return false;
+        }
+    }
+    true
+}
