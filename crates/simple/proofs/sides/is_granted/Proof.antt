@@ -16,7 +16,7 @@ use Rattle.model.specs.Support.{live}
 use Rattle.model.specs.Rules.{fits}
 use Rattle.encoding.specs.Format.{countsOf}
 use Rattle.encoding.proofs.FormatFacts.{decoded-authorizations}
-use Rattle.support.specs.Gaps.{any-live}
+use Rattle.cover.proofs.CoverFacts.{any-live}
 use Rattle.lookup.proofs.Loops.{AnyFrom, any-starts, any-fails, any-passes, any-ends}
 use Rattle.simple.specs.Stored.{linesFrom}
 use Rattle.simple.proofs.sides.is_granted.Statement.{statement}
