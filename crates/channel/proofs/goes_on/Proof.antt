@@ -3,7 +3,7 @@ use borrow.Author.Needs.{needs}
 use native.Mathlib.Omega.{arith}
 use mathlib.Core.Path.{_≡_, sym, ap, _∙_}
 use mathlib.Core.Logic.{inl, inr}
-use mathlib.Core.Bool.{not, _&&_, _||_, true≢false}
+use mathlib.Core.Bool.{_&&_, true≢false}
 use Prim.Native.Nat.{ℕ, suc, _≤_}
 use lib.Dec.{eqb, leb}
 use mir.Syntax.{w64}
@@ -20,7 +20,7 @@ returns c =
     let failed = eqb (ofZ w64 (g .got)) most in
     let few = leb (suc (g .reads)) most in
     let bits : toZ w64 (ofZ w64 (g .got)) ≡ g .got = search needs in (
-      λ e. let p = and-true (g .ok && few) (not (none || failed)) e .0 in
+      λ e. let p = and-true (g .ok && few) _ e .0 in
           let q = and-true (g .ok) few p in
           (q .0, true-le (suc (g .reads)) most (q .1)),
       λ e ok. cases none
@@ -30,7 +30,7 @@ returns c =
           (λ q. cases few
           (λ h. absurd (true≢false (rw (ok, p, q, h) at e)))
           (λ h. let k = false-le (suc (g .reads)) most h in
-          let m : 18446744073709551615 ≤ g .reads = omega arith in inr m))),
+          let m : most ≤ g .reads = omega arith in inr m))),
     )
 
 pub goes-on-spec : {M : Type 1} → statement M
