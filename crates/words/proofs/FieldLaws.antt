@@ -5,14 +5,17 @@ use mathlib.Core.Bool.{true, false}
 use mathlib.Core.List.{List}
 use Prim.Native.Nat.{ℕ, zero, suc, _+_, _*_, _-_, _/_, _%_, _^_, _≤_, _<_}
 use native.Mathlib.Nat.{mod-eq-of-lt, div-eq-of-lt, lt-of-lt-of-le, mul-mod-left, mul-assoc, one-mul, mul-le-mul}
-use native.Mathlib.Nat.{mul-le-mul-right, div-mul-le-self}
+use native.Mathlib.Nat.{mul-le-mul-right, div-mul-le-self, div-one}
 use native.Mathlib.Omega.{arith}
-use lib.Pow.{pow-pos, pow-lt, pow-mono, pow-add, shl-lt, shl-exact, shl-shr, ones-split, ones-lt, high}
+use lib.Pow.{pow-pos, pow-lt, shr-shr, pow-mono, pow-add, shl-lt, shl-exact, shl-shr, ones-split, ones-lt, high}
 use lib.Bits.{bitOr, or-shr, or-mod, or-zero-r}
+use lib.Count.{trailingZeros, under}
 use lib.Dec.{eqb}
 use lib.ListN.{length, getD, set}
 use lib.Seq.{getD-set-same, getD-set-other}
 use Rattle.foundation.specs.Tests.{pick, cases, true-eq, false-eq, eq-true}
+use Rattle.foundation.specs.Masks.{bit}
+use Rattle.words.specs.Ones.{bit-half}
 use Rattle.words.specs.Fields.{starts, fieldOf, joined}
 
 -- the lowest w bits of a word of ones
@@ -144,3 +147,28 @@ pub back-up : (x y a : ℕ) → x < 18446744073709551616 → y ≤ x / 2 ^ a →
 back-up x y a h l =
     let m : y * 2 ^ a ≤ x / 2 ^ a * 2 ^ a = mul-le-mul-right (2 ^ a) l in
     mod-eq-of-lt (omega (arith, div-mul-le-self x (2 ^ a)))
+
+-- ---- the lowest bit
+
+-- the bit behind the zeros at the low end is set
+pub lowest-set : (k x : ℕ) → trailingZeros k x < k → bit (trailingZeros k x) x ≡ true
+unfolding trailingZeros
+lowest-set zero x h = absurd (omega arith)
+lowest-set (suc k) x h = split (λ l. lowest-set k (x / 2) l) (x % 2) refl h
+  where
+    split : (trailingZeros k (x / 2) < k → bit (trailingZeros k (x / 2)) (x / 2) ≡ true) →
+        (d : ℕ) → x % 2 ≡ d → under (x % 2) (trailingZeros k (x / 2)) < suc k →
+        bit (under (x % 2) (trailingZeros k (x / 2))) x ≡ true
+    split f zero e l =
+        let t : ℕ = trailingZeros k (x / 2) in
+        let g : suc t < suc k = rw e at l in
+        rw e (bit-half t x ∙ f (omega arith))
+    split f (suc d) e l =
+        let o : x % 2 ≡ 1 = omega arith in
+        let u : under (x % 2) (trailingZeros k (x / 2)) ≡ 0 = rw o in
+        rw u (rw (div-one x) (eq-true (x % 2) 1 o))
+
+pub next-set : (m r : ℕ) → trailingZeros 64 (m / 2 ^ r) < 64 → bit (r + trailingZeros 64 (m / 2 ^ r)) m ≡ true
+next-set m r h =
+    let t : ℕ = trailingZeros 64 (m / 2 ^ r) in
+    ap (λ (n : ℕ). eqb (n % 2) 1) (sym (shr-shr m r t)) ∙ lowest-set 64 (m / 2 ^ r) h

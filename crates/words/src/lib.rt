@@ -3,7 +3,7 @@
 ghost use mathlib.Core.Path.{_≡_};
 ghost use Prim.Native.Nat.{ℕ, _+_, _*_, _^_, _≤_, _<_, _-_};
 ghost use lib.ListN.{length};
-ghost use mathlib.Core.Bool.{_&&_};
+ghost use mathlib.Core.Bool.{true, false, _&&_};
 ghost use lib.Dec.{leb, ltb};
 ghost use Rattle.foundation.specs.Masks.{bit};
 ghost use Rattle.words.specs.Ones.{allFrom};
@@ -60,4 +60,20 @@ pub fn ones_from(x: u64, a: u32) -> u64
 {
     let y = x >> a;
     (y - (y & (y + 1))) << a
+}
+
+// The first bit of m from the r-th on that is set, or 64.
+pub fn next_bit(m: u64, r: u32) -> u32
+    requires { ⌜ r ≤ 64 ⌝ }
+    ensures { λ k. ⌜ (r ≤ k) × (k ≤ 64) × ((i : ℕ) → r ≤ i → i < k → bit i m ≡ false)
+        × (k < 64 → bit k m ≡ true) ⌝ }
+{
+    if 64 <= r {
+        return 64;
+    }
+    let k = r + u64::trailing_zeros(m >> r);
+    if k < 64 {
+        return k;
+    }
+    64
 }
