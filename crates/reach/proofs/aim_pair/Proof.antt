@@ -1,51 +1,37 @@
+-- The pair is below the bound that the caller knows.
 use borrow.Author.Needs.{needs}
+use native.Mathlib.Omega.{arith}
+use mathlib.Core.Path.{_≡_, ap₂}
+use Prim.Native.Nat.{ℕ, _+_, _*_}
+use denote.Ref.{now}
+use Rattle.reach.specs.Net.{aimPair}
 use Rattle.reach.proofs.aim_pair.Statement.{statement}
 use Rattle.reach.proofs.aim_pair.Tie as tie
-use Rattle.reach.proofs.aim_pair.Reads as reads
-use Rattle.reach.proofs.aim_pair.Lts as lts
-use Rattle.reach.proofs.turn.Reads as turn-reads
-
-mul-turn : tie.Need-mul-turn
-mul-turn c = search needs
-
-element-copy-out-turn : tie.Need-element-copy-out-turn
-element-copy-out-turn c = search needs
-
-turn-requires : tie.Need-turn-requires
-turn-requires c κs = search needs
-
-mul-turn-2 : tie.Need-mul-turn-2
-mul-turn-2 c = search needs
-
-add-turn : tie.Need-add-turn
-add-turn c = search needs
-
-element-copy-out-turn-2 : tie.Need-element-copy-out-turn-2
-element-copy-out-turn-2 c = search needs
-
-turn-requires-2 : tie.Need-turn-requires-2
-turn-requires-2 c κs = search needs
 
 mul-result : tie.Need-mul-result
-mul-result c = search needs
+unfolding aimPair
+mul-result c =
+    let a = c .before .before .before .before .before .args in
+    let e = ap₂ (λ (s o : ℕ). s * a .at .objects + o) (c .before .before .before .turn .ensures)
+    (c .before .turn2 .ensures) in
+    omega (arith, c .before .before .before .before .before .pre .1)
 
 add-result : tie.Need-add-result
-add-result c = search needs
+unfolding aimPair
+add-result c =
+    let a = c .before .before .before .before .before .args in
+    let e = ap₂ (λ (s o : ℕ). s * a .at .objects + o) (c .before .before .before .turn .ensures)
+    (c .before .turn2 .ensures) in
+    omega (arith, c .before .before .before .before .before .pre .1)
 
 returns : tie.Need-returns
-returns c = search needs
+unfolding aimPair
+returns c =
+    let a = c .before .before .before .before .before .args in
+    ap₂ (λ (s o : ℕ). s * a .at .objects + o) (c .before .before .before .turn .ensures)
+    (c .before .turn2 .ensures)
 
 pub aim-pair-spec : {M : Type 1} → statement M
 aim-pair-spec =
-    tie.close
-    (tie.spec
-    mul-turn
-    element-copy-out-turn
-    turn-requires
-    mul-turn-2
-    add-turn
-    element-copy-out-turn-2
-    turn-requires-2
-    mul-result
-    add-result
-    returns)
+    tie.close (tie.spec (λ c. search needs) (λ c. search needs) (λ c κs. search needs) (λ c. search needs)
+    (λ c. search needs) (λ c. search needs) (λ c κs. search needs) mul-result add-result returns)

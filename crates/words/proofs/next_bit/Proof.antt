@@ -16,9 +16,12 @@ add-k c = let a = c .before .args in omega (arith, trailing-le 64 (a .m / 2 ^ a 
 
 returns-2 : tie.Need-returns-2
 returns-2 c =
-    let a = c .before .before .args in
-    (omega arith, omega arith, (λ i h l. none-between 64 (a .m) (a .r) i h (omega arith)),
-    λ h. next-set (a .m) (a .r) (omega arith))
+    let a = c .before .before .args in (
+      omega arith,
+      omega arith,
+      (λ i h l. none-between 64 (a .m) (a .r) i h (omega arith)),
+      λ h. next-set (a .m) (a .r) (omega arith),
+    )
 
 returns-3 : tie.Need-returns-3
 returns-3 c =
