@@ -1,0 +1,3 @@
+pub mod Window
+pub mod Circles
+pub mod Lasting
