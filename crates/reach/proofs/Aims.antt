@@ -22,22 +22,22 @@ turned-below code own n h l = cases (eqb code 255)
     (λ e. rw e l)
     (λ e. rw e (h (λ f. true≢false (sym f ∙ e))))
 
-module _ (right : List ℕ) (objects size p : ℕ) (f : Formed right objects size) (h : p < size) where
-  pub subject-below : p / objects < f .subjects
-  subject-below = div-lt-iff-lt-mul (f .some) .1 (omega (arith, f .rows))
+module _ (right : List ℕ) (subjects size p : ℕ) (f : Formed right subjects size) (h : p < size) where
+  pub object-below : p / subjects < f .objects
+  object-below = div-lt-iff-lt-mul (f .some) .1 (omega (arith, f .rows))
 
-  pub object-below : p % objects < objects
-  object-below = mod-lt p (f .some)
+  pub subject-below : p % subjects < subjects
+  subject-below = mod-lt p (f .some)
 
-  pub led : (m r : ℕ) → m < 8 → r < 64 → Led right objects size (p / objects) (p % objects) m r
+  pub led : (m r : ℕ) → m < 8 → r < 64 → Led right subjects size (p / subjects) (p % subjects) m r
   unfolding aimPair
   led m r g l =
       let c = f .codes r l in
-      let a : ℕ = turned (getD right (4 * r) 0) (p / objects) in
-      let b : ℕ = turned (getD right (4 * r + 1) 0) (p % objects) in
-      let s : a < f .subjects = turned-below (getD right (4 * r) 0) (p / objects) (f .subjects) (c .subject) subject-below in
-      let o : b < objects = turned-below (getD right (4 * r + 1) 0) (p % objects) objects (c .object) object-below in
-      let q : suc a * objects ≤ f .subjects * objects = mul-le-mul-right objects s in
+      let a : ℕ = turned (getD right (4 * r) 0) (p / subjects) in
+      let b : ℕ = turned (getD right (4 * r + 1) 0) (p % subjects) in
+      let o : a < f .objects = turned-below (getD right (4 * r) 0) (p / subjects) (f .objects) (c .object) object-below in
+      let s : b < subjects = turned-below (getD right (4 * r + 1) 0) (p % subjects) subjects (c .subject) subject-below in
+      let q : suc a * subjects ≤ f .objects * subjects = mul-le-mul-right subjects o in
       record {
         pair = omega (arith, f .rows);
         mode = turned-below (getD right (4 * r + 2) 0) m 8 (c .mode) g;
@@ -63,7 +63,7 @@ shifted k h = rw (one-mul (2 ^ k)) (mod-eq-of-lt (pow-lt h))
 no-bits : (n x : ℕ) → x < 2 ^ n → ((i : ℕ) → i < n → bit i x ≡ false) → x ≡ 0
 no-bits zero x h z = omega arith
 no-bits (suc n) x h z =
-    let o : (x % 2 ≡ 1) → ⊥ = false-eq (x % 2) 1 (ap (λ (y : ℕ). eqb (y % 2) 1) (sym (div-one x)) ∙ z 0 (omega arith)) in
+    let s : (x % 2 ≡ 1) → ⊥ = false-eq (x % 2) 1 (ap (λ (y : ℕ). eqb (y % 2) 1) (sym (div-one x)) ∙ z 0 (omega arith)) in
     let l : x < 2 * 2 ^ n = rw (pow-succ' 2 n) at h in
     let q : x / 2 ≡ 0 = no-bits n (x / 2) (omega arith) (λ i m. sym (bit-half i x) ∙ z (suc i) (omega arith)) in
     omega arith
@@ -71,8 +71,8 @@ no-bits (suc n) x h z =
 -- the first bit of one that is not 0
 pub low-bit : (x k : ℕ) → 0 < x → x < 65536 → ((i : ℕ) → i < k → bit i x ≡ false) → (k < 64 → bit k x ≡ true) →
     (k < 16) × (bit k x ≡ true)
-low-bit x k h l z s = cases (ltb k 16)
-    (λ e. let g = true-le (suc k) 16 e in (g, s (omega arith)))
+low-bit x k h l z o = cases (ltb k 16)
+    (λ e. let g = true-le (suc k) 16 e in (g, o (omega arith)))
     (λ e. let g = false-le (suc k) 16 e in
     absurd (omega (arith, no-bits 16 x l (λ i m. z i (omega arith)))))
 

@@ -69,7 +69,7 @@ module _ (need todo : List ℕ) (p bits : ℕ) (h : p < length need) (g : p < le
       let b = and-comm old bits in
       let l = and-le-l bits old in
       let c = or-add-and was (less bits old) in
-      let s = sum-set need p (bitOr old bits) h in
+      let o = sum-set need p (bitOr old bits) h in
       let t = sum-set todo p (bitOr was (less bits old)) g in
       let f = sum-small need′ (set-small need p (bitOr old bits) h (or-lt 16 old bits (small p) word) small) in
       let n = length-set need p (bitOr old bits) in
@@ -115,32 +115,32 @@ grown-then a b = record {
 
 -- ---- what rules look at
 
-module _ (right : List ℕ) (rules objects s o m : ℕ) where
+module _ (right : List ℕ) (rules subjects o s m : ℕ) where
   -- what the first r of the rules look at is needed
   abbrev pub Done : ℕ → List ℕ → Type 0
   Done r need = (q : ℕ) → q < r → bit q rules ≡ true → (b : ℕ) → bit b (aimBits right q m) ≡ true →
-      has need (aimPair right objects q s o) b ≡ true
+      has need (aimPair right subjects q o s) b ≡ true
 
   pub done-start : (r : ℕ) (need : List ℕ) → ((i : ℕ) → i < r → bit i rules ≡ false) → Done r need
   done-start r need z q l e = absurd (false≢true (sym (z q l) ∙ e))
 
   pub done-turn : (r r′ : ℕ) {n t n′ t′ : List ℕ} → Done r n → Grown n t n′ t′ →
-      ((b : ℕ) → bit b (aimBits right r m) ≡ true → has n′ (aimPair right objects r s o) b ≡ true) →
+      ((b : ℕ) → bit b (aimBits right r m) ≡ true → has n′ (aimPair right subjects r o s) b ≡ true) →
       ((i : ℕ) → r + 1 ≤ i → i < r′ → bit i rules ≡ false) → Done r′ n′
   done-turn r r′ {n′ = n′} d g now z q l e b f = cases (leb q r)
       (λ x. let y = true-le q r x in cases (eqb q r)
       (λ u. let v : q ≡ r = true-eq q r u in
-      ap (λ (q : ℕ). has n′ (aimPair right objects q s o) b) v
+      ap (λ (q : ℕ). has n′ (aimPair right subjects q o s) b) v
       ∙ now b (ap (λ (q : ℕ). bit b (aimBits right q m)) (sym v) ∙ f))
-      (λ u. let v = false-eq q r u in g .more (aimPair right objects q s o) b (d q (omega arith) e b f)))
+      (λ u. let v = false-eq q r u in g .more (aimPair right subjects q o s) b (d q (omega arith) e b f)))
       (λ x. let y = false-le q r x in absurd (false≢true (sym (z q (omega arith) l) ∙ e)))
 
 -- ---- what is closed
 
 pub closed-grown : (net : Net) {n t n′ t′ : List ℕ} → Grown n t n′ t′ → ClosedBut net n t → ClosedBut net n′ t′
-closed-grown net {n = n} g c j k e f r l s b x =
+closed-grown net {n = n} g c j k e f r l o b x =
     ⊎-elim
-    (λ (y : has n j k ≡ true). g .more _ b (c j k y (λ z. f (g .kept j k z)) r l s b x))
+    (λ (y : has n j k ≡ true). g .more _ b (c j k y (λ z. f (g .kept j k z)) r l o b x))
     (λ y. absurd (f y))
     (g .fresh j k e)
 
@@ -165,7 +165,7 @@ closed-end net need todo z c j k e = c j k e (λ f. none-set k (ap (bit k) (sym 
 -- ---- a bit was followed
 
 module _ (net : Net) (n t n′ t′ : List ℕ) (p k y : ℕ) (g : Grown n t n′ t′) (h : p < length t′)
-    (followed : (r : ℕ) → r < 64 → bit r (standing (net .left) (p / net .objects) (p % net .objects) k) ≡ true →
+    (followed : (r : ℕ) → r < 64 → bit r (standing (net .left) (p / net .subjects) (p % net .subjects) k) ≡ true →
     Followed net p k r n′)
     (lower : y < getD t′ p 0)
     (others : (i : ℕ) → bit i (getD t′ p 0) ≡ true → (i ≡ k → ⊥) → bit i y ≡ true) where

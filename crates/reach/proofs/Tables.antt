@@ -30,8 +30,8 @@ sum-small (x ∷ l) h = let i = sum-small l (λ i. h (suc i)) in let f = h 0 in 
 
 pub set-small : (l : List ℕ) (p v : ℕ) → p < length l → v < 65536 → ((i : ℕ) → getD l i 0 < 65536) →
     (i : ℕ) → getD (set l p v) i 0 < 65536
-set-small l p v h s f i = cases (eqb i p)
-    (λ e. let q = true-eq i p e in rw (q, getD-set-same l p v 0 h) s)
+set-small l p v h o f i = cases (eqb i p)
+    (λ e. let q = true-eq i p e in rw (q, getD-set-same l p v 0 h) o)
     (λ e. rw (getD-set-other l p i v 0 (false-eq i p e)) (f i))
 
 -- behind the last there is nothing

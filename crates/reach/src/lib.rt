@@ -9,12 +9,12 @@ ghost use Rattle.reach.specs.Net.{Net, standing, turned, aimPair, aimBit
 ghost use Rattle.reach.specs.Reach.{Grown, Stepped};
 use words::next_bit;
 
-// A place: the coordinates of its subject, object and mode, and how many objects there are.
+// A place: the coordinates of its object, subject and mode, and how many subjects there are.
 pub struct Spot {
-    pub subject: usize,
     pub object: usize,
+    pub subject: usize,
     pub mode: usize,
-    pub objects: usize,
+    pub subjects: usize,
 }
 
 // A coordinate of a right side with a code: its own, or that of the left side.
@@ -29,13 +29,13 @@ fn turn(code: u8, own: usize) -> usize
 
 // The pair on the right of rule r.
 fn aim_pair(right: &[u8; 256], r: usize, at: Spot) -> usize
-    requires { ⌜ (r < 64) × (aimPair (now right) (at .objects) r (at .subject) (at .object)
+    requires { ⌜ (r < 64) × (aimPair (now right) (at .subjects) r (at .object) (at .subject)
         < 18446744073709551616) ⌝ }
-    ensures { λ p. ⌜ p ≡ aimPair (now (right .entry)) (at .objects) r (at .subject) (at .object) ⌝ }
+    ensures { λ p. ⌜ p ≡ aimPair (now (right .entry)) (at .subjects) r (at .object) (at .subject) ⌝ }
 {
-    let s = turn(right[4 * r], at.subject);
-    let o = turn(right[4 * r + 1], at.object);
-    s * at.objects + o
+    let o = turn(right[4 * r], at.object);
+    let s = turn(right[4 * r + 1], at.subject);
+    o * at.subjects + s
 }
 
 // A number below 4 as a word of 16 bits.
@@ -70,11 +70,11 @@ fn ask(need: &mut [u16], todo: &mut [u16], pair: usize, bits: u16)
 // Needs what rules look at that stand at a place.
 fn follow(right: &[u8; 256], rules: u64, at: Spot, need: &mut [u16], todo: &mut [u16])
     requires { ⌜ (length (now todo) ≡ length (now need)) × ((r : ℕ) → r < 64 →
-        Led (now right) (at .objects) (length (now need)) (at .subject) (at .object) (at .mode) r) ⌝ }
+        Led (now right) (at .subjects) (length (now need)) (at .object) (at .subject) (at .mode) r) ⌝ }
     ensures { λ _. ⌜ Grown (now (need .entry)) (now (todo .entry)) (now (need .exit)) (now (todo .exit))
         × ((r : ℕ) → r < 64 → bit r rules ≡ true → (b : ℕ) →
         bit b (aimBits (now (right .entry)) r (at .mode)) ≡ true →
-        has (now (need .exit)) (aimPair (now (right .entry)) (at .objects) r (at .subject) (at .object)) b
+        has (now (need .exit)) (aimPair (now (right .entry)) (at .subjects) r (at .object) (at .subject)) b
         ≡ true) ⌝ }
 {
     let mut r = next_bit(rules, 0);
@@ -87,12 +87,12 @@ fn follow(right: &[u8; 256], rules: u64, at: Spot, need: &mut [u16], todo: &mut 
     }
 }
 
-// The rules that stand at a subject and an object with a mode and a sign.
-fn stand(left: &[u64; 146], s: usize, o: usize, k: usize) -> u64
-    requires { ⌜ (s < 65) × (o < 65) × (k < 16) ⌝ }
-    ensures { λ r. ⌜ r ≡ standing (now (left .entry)) s o k ⌝ }
+// The rules that stand at an object and a subject with a mode and a sign.
+fn stand(left: &[u64; 146], o: usize, s: usize, k: usize) -> u64
+    requires { ⌜ (o < 65) × (s < 65) × (k < 16) ⌝ }
+    ensures { λ r. ⌜ r ≡ standing (now (left .entry)) o s k ⌝ }
 {
-    left[s] & left[65 + o] & left[130 + k]
+    left[o] & left[65 + s] & left[130 + k]
 }
 
 // The first bit of a word of 16 that is not 0.
@@ -116,27 +116,27 @@ fn without(x: u16, k: usize) -> u16
 fn step(
     left: &[u64; 146],
     right: &[u8; 256],
-    objects: usize,
+    subjects: usize,
     pair: usize,
     need: &mut [u16],
     todo: &mut [u16],
 )
-    requires { ⌜ Formed (now right) objects (length (now need)) × (length (now todo) ≡ length (now need))
+    requires { ⌜ Formed (now right) subjects (length (now need)) × (length (now todo) ≡ length (now need))
         × (pair < length (now need)) × (0 < getD (now todo) pair 0) ⌝ }
     ensures { λ _. ⌜ Stepped
-        (record { left = now (left .entry); right = now (right .entry); objects = objects })
+        (record { left = now (left .entry); right = now (right .entry); subjects = subjects })
         (now (need .entry)) (now (todo .entry)) (now (need .exit)) (now (todo .exit)) ⌝ }
 {
     let k = lowest(todo[pair]);
-    let s = pair / objects;
-    let o = pair % objects;
+    let o = pair / subjects;
+    let s = pair % subjects;
     let at = Spot {
-        subject: s,
         object: o,
+        subject: s,
         mode: k % 8,
-        objects: objects,
+        subjects: subjects,
     };
-    follow(right, stand(left, s, o, k), at, need, todo);
+    follow(right, stand(left, o, s, k), at, need, todo);
     todo[pair] = without(todo[pair], k);
 }
 
@@ -175,15 +175,15 @@ fn next_todo(todo: &[u16], from: usize) -> usize
 pub fn reach(
     left: &[u64; 146],
     right: &[u8; 256],
-    objects: usize,
+    subjects: usize,
     pair: usize,
     bits: u16,
     need: &mut [u16],
     todo: &mut [u16],
 )
-    requires { ⌜ Formed (now right) objects (length (now need)) × (length (now todo) ≡ length (now need))
+    requires { ⌜ Formed (now right) subjects (length (now need)) × (length (now todo) ≡ length (now need))
         × (pair < length (now need)) × ((i : ℕ) → getD (now need) i 0 ≡ 0) ⌝ }
-    ensures { λ _. ⌜ Closed (record { left = now (left .entry); right = now (right .entry); objects = objects })
+    ensures { λ _. ⌜ Closed (record { left = now (left .entry); right = now (right .entry); subjects = subjects })
         (now (need .exit))
         × ((b : ℕ) → bit b bits ≡ true → has (now (need .exit)) pair b ≡ true)
         × (length (now (need .exit)) ≡ length (now (need .entry))) ⌝ }
@@ -191,7 +191,7 @@ pub fn reach(
     ask(need, todo, pair, bits);
     let mut j = next_todo(todo, pair);
     while j < todo.len() {
-        step(left, right, objects, j, need, todo);
+        step(left, right, subjects, j, need, todo);
         j = next_todo(todo, j);
     }
 }

@@ -21,6 +21,6 @@ returns c =
 
 pub aim-bits-spec : {M : Type 1} → statement M
 aim-bits-spec =
-    tie.close (tie.spec (λ c. search needs) (λ c. search needs) (λ c. search needs) (λ c κs. search needs)
-    (λ c. search needs) (λ c. search needs) (λ c. search needs) (λ c κs. search needs) (λ c. search needs)
+    tie.close (tie.spec (λ c. search needs) (λ c. search needs) (λ c. search needs) (λ c κo. search needs)
+    (λ c. search needs) (λ c. search needs) (λ c. search needs) (λ c κo. search needs) (λ c. search needs)
     (λ c. search needs) (λ c. search needs) (λ c. search needs) returns)

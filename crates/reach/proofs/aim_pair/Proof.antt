@@ -12,7 +12,7 @@ mul-result : tie.Need-mul-result
 unfolding aimPair
 mul-result c =
     let a = c .before .before .before .before .before .args in
-    let e = ap₂ (λ (s o : ℕ). s * a .at .objects + o) (c .before .before .before .turn .ensures)
+    let e = ap₂ (λ (o s : ℕ). o * a .at .subjects + s) (c .before .before .before .turn .ensures)
     (c .before .turn2 .ensures) in
     omega (arith, c .before .before .before .before .before .pre .1)
 
@@ -20,7 +20,7 @@ add-result : tie.Need-add-result
 unfolding aimPair
 add-result c =
     let a = c .before .before .before .before .before .args in
-    let e = ap₂ (λ (s o : ℕ). s * a .at .objects + o) (c .before .before .before .turn .ensures)
+    let e = ap₂ (λ (o s : ℕ). o * a .at .subjects + s) (c .before .before .before .turn .ensures)
     (c .before .turn2 .ensures) in
     omega (arith, c .before .before .before .before .before .pre .1)
 
@@ -28,10 +28,10 @@ returns : tie.Need-returns
 unfolding aimPair
 returns c =
     let a = c .before .before .before .before .before .args in
-    ap₂ (λ (s o : ℕ). s * a .at .objects + o) (c .before .before .before .turn .ensures)
+    ap₂ (λ (o s : ℕ). o * a .at .subjects + s) (c .before .before .before .turn .ensures)
     (c .before .turn2 .ensures)
 
 pub aim-pair-spec : {M : Type 1} → statement M
 aim-pair-spec =
-    tie.close (tie.spec (λ c. search needs) (λ c. search needs) (λ c κs. search needs) (λ c. search needs)
-    (λ c. search needs) (λ c. search needs) (λ c κs. search needs) mul-result add-result returns)
+    tie.close (tie.spec (λ c. search needs) (λ c. search needs) (λ c κo. search needs) (λ c. search needs)
+    (λ c. search needs) (λ c. search needs) (λ c κo. search needs) mul-result add-result returns)

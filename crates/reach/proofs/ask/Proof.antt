@@ -16,9 +16,9 @@ returns : tie.Need-returns
 returns c =
     let a = c .before .before .args in
     let p = c .before .before .pre in
-    let s : (i : ℕ) → getD (now (a .need)) i 0 < 65536 = λ i. omega (arith, c .before .slice-known .given i) in (
-      ask-grown (now (a .need)) (now (a .todo)) (a .pair) (a .bits) (p .0) (p .1) s (omega arith),
-      asked (now (a .need)) (now (a .todo)) (a .pair) (a .bits) (p .0) (p .1) s (omega arith),
+    let o : (i : ℕ) → getD (now (a .need)) i 0 < 65536 = λ i. omega (arith, c .before .slice-known .given i) in (
+      ask-grown (now (a .need)) (now (a .todo)) (a .pair) (a .bits) (p .0) (p .1) o (omega arith),
+      asked (now (a .need)) (now (a .todo)) (a .pair) (a .bits) (p .0) (p .1) o (omega arith),
     )
 
 pub ask-spec : {M : Type 1} → statement M

@@ -15,7 +15,7 @@ use Rattle.reach.proofs.follow.Tie as tie
 
 abbrev Inv-loop : tie.InvT-loop
 Inv-loop right rules at need₀ todo₀ r₀ need todo r =
-    (r ≤ 64) × Grown need₀ todo₀ need todo × Done right rules (at .objects) (at .subject) (at .object) (at .mode) r need
+    (r ≤ 64) × Grown need₀ todo₀ need todo × Done right rules (at .subjects) (at .object) (at .subject) (at .mode) r need
 
 abbrev μ-loop : tie.MeasureT-loop
 μ-loop right rules at need₀ todo₀ r₀ need todo r = 64 - r
@@ -26,25 +26,25 @@ loop-holds c =
     let e = c .next-bit .ensures in (
       e .1,
       grown-none (now (a .need)) (now (a .todo)),
-      done-start (now (a .right)) (a .rules) (a .at .objects) (a .at .subject) (a .at .object) (a .at .mode)
+      done-start (now (a .right)) (a .rules) (a .at .subjects) (a .at .object) (a .at .subject) (a .at .mode)
           (c .next-bit .result) (now (a .need)) (λ i l. e .2 i (omega arith) l),
     )
 
 aim-pair-requires : tie.Need-aim-pair-requires Inv-loop μ-loop
-aim-pair-requires c κs =
+aim-pair-requires c κo =
     let l = c .before .loop in
     let h : l .r < 64 = omega arith in
     (h, omega (arith, c .before .before .before .before .before .pre .1 (l .r) h .pair))
 
 aim-bits-requires : tie.Need-aim-bits-requires Inv-loop μ-loop
-aim-bits-requires c κs =
+aim-bits-requires c κo =
     let l = c .before .before .loop in
     let h : l .r < 64 = omega arith in
     let d = c .before .before .before .before .before .before .pre .1 (l .r) h in
     (h, d .mode, d .signs)
 
 ask-requires : tie.Need-ask-requires Inv-loop μ-loop
-ask-requires c κs =
+ask-requires c κo =
     let l = c .before .before .before .before .before .loop in
     let p = c .before .before .before .before .before .before .before .before .before .pre in
     let h : l .r < 64 = omega arith in
@@ -60,7 +60,7 @@ loop-again c =
     let x = c .next-bit2 .ensures in (
       x .1,
       grown-then (l .inv .1) (e .0),
-      done-turn (now (a .right)) (a .rules) (a .at .objects) (a .at .subject) (a .at .object) (a .at .mode)
+      done-turn (now (a .right)) (a .rules) (a .at .subjects) (a .at .object) (a .at .subject) (a .at .mode)
           (l .r) (c .next-bit2 .result) (l .inv .2) (e .0)
           (λ b f. ap (λ (j : ℕ). has (c .before .before .before .before .before .ask .last .0) j b) (sym (c .before .before .before .before .before .before .before .before .before .aim-pair .ensures))
           ∙ e .1 b (ap (bit b) (c .before .before .before .before .before .before .before .before .aim-bits .ensures) ∙ f))
@@ -80,6 +80,6 @@ returns c =
 
 pub follow-spec : {M : Type 1} → statement M
 follow-spec =
-    tie.close (tie.spec Inv-loop μ-loop (λ c κs. search needs) loop-holds (λ c. search needs) aim-pair-requires
-    aim-bits-requires ask-requires (λ c. search needs) (λ c κs. search needs) (λ c. search needs) loop-again
+    tie.close (tie.spec Inv-loop μ-loop (λ c κo. search needs) loop-holds (λ c. search needs) aim-pair-requires
+    aim-bits-requires ask-requires (λ c. search needs) (λ c κo. search needs) (λ c. search needs) loop-again
     same-length same-length-2 returns)

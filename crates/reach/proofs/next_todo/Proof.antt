@@ -12,4 +12,4 @@ returns-2 c =
     let e = c .first-todo2 .ensures in (e .3, λ h i l. e .2 i (omega arith) (omega arith))
 
 pub next-todo-spec : {M : Type 1} → statement M
-next-todo-spec = tie.close (tie.spec (λ c κs. search needs) returns (λ c κs. search needs) returns-2)
+next-todo-spec = tie.close (tie.spec (λ c κo. search needs) returns (λ c κo. search needs) returns-2)
