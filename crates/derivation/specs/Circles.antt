@@ -1,6 +1,7 @@
--- The rules of one stratum at all marks of a window at once, which circles want. A bit that a rule of the stratum makes of
--- tables that say nothing wrong is right (`made-sound`), whichever of the marks' tables are finished; and once no rule of
--- the stratum makes one more at any mark, all the tables are right below the next stratum (`closed-right`).
+-- The rules of one stratum at all marks of a window at once, which circles want. A bit that a rule of the
+-- stratum makes of tables that say nothing wrong is right (`made-sound`), whichever of the marks' tables are
+-- finished; and once no rule of the stratum makes one more at any mark, all the tables are right below the
+-- next stratum (`closed-right`).
 use mathlib.Core.Path.{_≡_, refl, sym, ap, _∙_, subst}
 use Prim.Native.Nat.{ℕ, zero, suc, _*_, _-_, _≤_, _<_}
 use native.Mathlib.Omega.{arith}
@@ -14,7 +15,8 @@ use Rattle.model.specs.declared.Rule.{Rule}
 use Rattle.model.specs.declared.Access.{Access}
 use Rattle.model.specs.Stratification.{stratified, stratum}
 use Rattle.questions.specs.Operators.{lasting, sense}
-use Rattle.questions.specs.Table.{Bits, truth, rightIn, gate, snap, Node, Inward, Before, Sound, RightBelow, Right, ClosedAt}
+use Rattle.questions.specs.Table.{Bits, truth, rightIn, gate, snap, Node, Inward, Before, Sound, RightBelow}
+use Rattle.questions.specs.Table.{Right, ClosedAt}
 use Rattle.questions.specs.Stratum.{set-right, swept}
 use Rattle.questions.specs.FromMarkToMark.{before-next}
 use Rattle.derivation.specs.Window.{Window}
@@ -35,7 +37,8 @@ module _ (base : Base) (s : stratified (base .rules) ≡ true) (D : Access → B
       let g = and-mono i (o || P r x) (o || Q r x) (or-mono o (P r x) (Q r x) (p r x n)) (w .0) in
       set-right base s D inward Q t b k X c d r x n h (and-intro (gate Q t r x) v g (w .1))
 
-  module _ (few : k ≤ 2 * length (base .rules)) (count : ℕ) (ms : ℕ → ℕ) (w : Window base count ms) (X : ℕ → Bits)
+  module _ (few : k ≤ 2 * length (base .rules)) (count : ℕ) (ms : ℕ →
+      ℕ) (w : Window base count ms) (X : ℕ → Bits)
       (c : (i : ℕ) → i < count → Sound base D (ms i) (X i))
       (d : (i : ℕ) → i < count → RightBelow base D (ms i) k (X i))
       (P : Bits) (b : Before base D P (ms 0))

@@ -1,7 +1,7 @@
--- The word of a rule over a window. Bit i of x says that instant i lies in the rule's interval and that the right side is
--- then as the operator wants. Where the operator does not look back, x is the word (`made-plain`). Where it does, the
--- word is the ones of x from the first instant of the interval on (`made-lasting`), or 0 if the rule gave nothing at the
--- instant before the window (`made-broken`).
+-- The word of a rule over a window. Bit i of x says that instant i lies in the rule's interval and that the
+-- right side is then as the operator wants. Where the operator does not look back, x is the word
+-- (`made-plain`). Where it does, the word is the ones of x from the first instant of the interval on
+-- (`made-lasting`), or 0 if the rule gave nothing at the instant before the window (`made-broken`).
 use mathlib.Core.Path.{_≡_, refl, sym, ap, ap₂, _∙_}
 use Prim.Native.Nat.{ℕ, zero, suc, _+_, _-_, _/_, _%_, _^_, _≤_, _<_}
 use native.Mathlib.Omega.{arith}
@@ -35,7 +35,8 @@ all-next a i x h =
     let z : suc i - a ≡ suc (i - a) = omega arith in
     let s : a + suc (i - a) ≡ suc i = omega arith in
     ap₂ (λ (b : Bool) (n : ℕ). b && upTo n (x / 2 ^ a)) (le-true a (suc i) (omega arith)) z
-    ∙ ap (λ (b : Bool). upTo (i - a) (x / 2 ^ a) && b) (bit-moved a (suc (i - a)) x ∙ ap (λ (n : ℕ). bit n x) s)
+    ∙ ap (λ (b : Bool). upTo (i - a) (x / 2 ^ a) && b) (bit-moved a (suc (i - a)) x
+    ∙ ap (λ (n : ℕ). bit n x) s)
     ∙ sym (ap (λ (b : Bool). (b && upTo (i - a) (x / 2 ^ a)) && bit (suc i) x) (le-true a i h))
 
 module _ (r : Rule) (ms : ℕ → ℕ) (right : ℕ → Bool) (before : Bool) where

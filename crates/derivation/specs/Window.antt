@@ -1,5 +1,6 @@
--- A window: instants in rising order between which nothing changes. What a rule derives at each of them is made, one after
--- the other, of what its right side is then and of what it derived at the one before (`word-right`).
+-- A window: instants in rising order between which nothing changes. What a rule derives at each of them is
+-- made, one after the other, of what its right side is then and of what it derived at the one before
+-- (`word-right`).
 use mathlib.Core.Path.{_≡_, refl, sym, ap, _∙_}
 use Prim.Native.Nat.{ℕ, zero, suc, _-_, _<_}
 use native.Mathlib.Omega.{arith}
@@ -16,11 +17,12 @@ use Rattle.questions.specs.Operators.{lasting, sense}
 use Rattle.questions.specs.Table.{Bits, truth, rightIn, gate, Node, Before, now-law}
 use Rattle.questions.specs.FromMarkToMark.{before-next}
 
--- what a rule derives at mark i, `right` saying what its right side is at each mark and `before` what it derived before
--- the first
+-- what a rule derives at mark i, `right` saying what its right side is at each mark and `before` what it
+-- derived before the first
 abbrev pub made : Rule → (ℕ → ℕ) → (ℕ → Bool) → Bool → ℕ → Bool
 made r ms right before zero =
-    (inInterval (r .interval) (ms 0) && (not (lasting (r .operator)) || eqb (ms 0) (r .interval .start) || before))
+    (inInterval (r .interval) (ms 0) && (not (lasting (r .operator)) || eqb (ms 0) (r .interval .start) ||
+    before))
     && sense (r .operator) (right 0)
 made r ms right before (suc i) =
     let was = made r ms right before i in
@@ -35,7 +37,8 @@ module _ (base : Base) where
     pub between : (i : ℕ) → suc i < k → clear (allMarks base) (ms i) (ms (suc i) - 1) ≡ true
 
   -- made of a right side that is right, the word is right
-  pub word-right : stratified (base .rules) ≡ true → (k : ℕ) (ms : ℕ → ℕ) → Window k ms → (D : Access → Bool) →
+  pub word-right : stratified (base .rules) ≡ true → (k : ℕ) (ms : ℕ → ℕ) → Window k ms → (D : Access →
+      Bool) →
       (r : Rule) (x : Access) → Node base D r x → (right : ℕ → Bool) →
       ((i : ℕ) → i < k → right i ≡ rightIn base (truth base (ms i)) (ms i) r x) →
       (P : Bits) → Before base D P (ms 0) →

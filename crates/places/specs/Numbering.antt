@@ -1,11 +1,12 @@
--- Numbers for what is reached: the pairs at which something is needed, in the order of their codes, and the modes, in
--- theirs. Different ones have different numbers (`before-apart`, `rank-apart`), below their count (`before-below`,
--- `rank-below`).
+-- Numbers for what is reached: the pairs at which something is needed, in the order of their codes, and the
+-- modes, in theirs. Different ones have different numbers (`before-apart`, `rank-apart`), below their count
+-- (`before-below`, `rank-below`).
 use mathlib.Core.Path.{_≡_, refl, sym, ap, _∙_}
 use mathlib.Core.Bool.{Bool, true, false, not}
 use mathlib.Core.List.{List, [], _∷_}
 use Prim.Native.Nat.{ℕ, zero, suc, _+_, _*_, _-_, _/_, _%_, _^_, _≤_, _<_}
-use native.Mathlib.Nat.{mod-lt}
+use native.Mathlib.Nat.{mod-lt, mul-add-div-right, mul-add-mod-self-right, div-eq-of-lt, mod-eq-of-lt}
+use native.Mathlib.Nat.{div-add-mod', add-mul, div-lt-iff-lt-mul, zero-div, zero-mod}
 use native.Mathlib.Omega.{arith}
 use lib.Count.{ones, ones-step, ones-cat}
 use lib.Dec.{eqb, ltb}
@@ -27,7 +28,8 @@ before [] j = 0
 before (x ∷ l) zero = 0
 before (x ∷ l) (suc j) = count (used x) + before l j
 
-pub before-step : (l : List ℕ) (j : ℕ) → j < length l → before l (suc j) ≡ before l j + count (used (getD l j 0))
+pub before-step : (l : List ℕ) (j : ℕ) → j < length l →
+    before l (suc j) ≡ before l j + count (used (getD l j 0))
 unfolding before
 before-step [] j h = absurd (omega arith)
 before-step (x ∷ []) zero h = omega arith
@@ -56,7 +58,8 @@ before-more l i (suc d) h =
     omega (arith, before-more l i d (omega arith))
 
 -- a used one has a smaller number than those behind it
-pub before-apart : (l : List ℕ) (i j : ℕ) → i < j → j ≤ length l → used (getD l i 0) ≡ true → before l i < before l j
+pub before-apart : (l : List ℕ) (i j : ℕ) → i < j → j ≤ length l → used (getD l i 0) ≡ true →
+    before l i < before l j
 before-apart l i j h k e =
     let s = before-step l i (omega arith) in
     let c : count (used (getD l i 0)) ≡ 1 = rw e in
@@ -65,7 +68,8 @@ before-apart l i j h k e =
     let f : before l (suc i + (j - suc i)) ≡ before l j = ap (before l) d in
     omega arith
 
-pub before-below : (l : List ℕ) (i : ℕ) → i < length l → used (getD l i 0) ≡ true → before l i < before l (length l)
+pub before-below : (l : List ℕ) (i : ℕ) → i < length l → used (getD l i 0) ≡ true →
+    before l i < before l (length l)
 before-below l i h e = before-apart l i (length l) h (omega arith) e
 
 -- ---- modes
@@ -102,9 +106,67 @@ rank-apart modes m n h e =
     omega (arith, rank-below x m (bit-rest modes m n h ∙ e))
 
 -- modes of one rank are one mode
-pub rank-same : (modes m n : ℕ) → bit m modes ≡ true → bit n modes ≡ true → rank modes m ≡ rank modes n → m ≡ n
+pub rank-same : (modes m n : ℕ) → bit m modes ≡ true → bit n modes ≡ true → rank modes m ≡ rank modes n →
+    m ≡ n
 rank-same modes m n e f q = cases (ltb m n)
     (λ y. absurd (omega (arith, rank-apart modes m n (true-le (suc m) n y) e)))
     (λ y. cases (ltb n m)
     (λ z. absurd (omega (arith, rank-apart modes n m (true-le (suc n) m z) f)))
     (λ z. omega (arith, false-le (suc m) n y, false-le (suc n) m z)))
+
+-- ---- where a pair lies
+
+-- the object and the subject of pair j, as one number: pairs lie object by object, `subjects` each
+unfoldable pub codeOf : ℕ → ℕ → ℕ
+codeOf subjects j = 256 * (j / subjects) + j % subjects
+
+-- a number with a rest below q has one quotient and one rest
+pub parted : (a c q r t : ℕ) → r < q → t < q → a * q + r ≡ c * q + t → (a ≡ c) × (r ≡ t)
+parted a c q r t h l e =
+    let p : 0 < q = omega arith in
+    let u : (a * q + r) / q ≡ a = mul-add-div-right p a r ∙ ap (λ (n : ℕ). a + n) (div-eq-of-lt h)
+    ∙ omega arith in
+    let v : (c * q + t) / q ≡ c = mul-add-div-right p c t ∙ ap (λ (n : ℕ). c + n) (div-eq-of-lt l)
+    ∙ omega arith in
+    let x : (a * q + r) % q ≡ r = mul-add-mod-self-right a q r ∙ mod-eq-of-lt h in
+    let y : (c * q + t) % q ≡ t = mul-add-mod-self-right c q t ∙ mod-eq-of-lt l in
+    (sym u ∙ ap (λ (n : ℕ). n / q) e ∙ v, sym x ∙ ap (λ (n : ℕ). n % q) e ∙ y)
+
+module _ (n j at : ℕ) (few : n ≤ 256) (some : 0 < n) (here : at ≡ codeOf n j) where
+  pub code-low : at % 256 ≡ j % n
+  unfolding codeOf
+  code-low = let l = mod-lt j some in omega arith
+
+  -- the next subject of the same object
+  pub code-step : at % 256 + 1 < n → at + 1 ≡ codeOf n (suc j)
+  unfolding codeOf
+  code-step h =
+      let d = div-add-mod' j n in
+      let g = div-add-mod' (suc j) n in
+      let p = parted (suc j / n) (j / n) n (suc j % n) (j % n + 1) (mod-lt (suc j) some) (omega (
+        arith,
+        code-low,
+      ))
+      (omega arith) in
+      omega (arith, p .0, p .1)
+
+  -- the first subject of the next object
+  pub code-wrap : at % 256 + 1 ≡ n → at - at % 256 + 256 ≡ codeOf n (suc j)
+  unfolding codeOf
+  code-wrap h =
+      let d = div-add-mod' j n in
+      let g = div-add-mod' (suc j) n in
+      let m : (j / n + 1) * n ≡ j / n * n + n = add-mul (j / n) 1 n ∙ omega arith in
+      let p = parted (suc j / n) (j / n + 1) n (suc j % n) 0 (mod-lt (suc j) some) some
+      (omega (arith, code-low)) in
+      omega (arith, p .0, p .1, code-low)
+
+pub code-small : (n j : ℕ) → n ≤ 256 → 0 < n → j < 256 * n → codeOf n j < 65536
+unfolding codeOf
+code-small n j few some h =
+    let q : j / n < 256 = div-lt-iff-lt-mul some .1 h in
+    omega (arith, mod-lt j some)
+
+pub code-first : (n : ℕ) → codeOf n 0 ≡ 0
+unfolding codeOf
+code-first n = rw (zero-div n, zero-mod n)

@@ -1,10 +1,11 @@
--- A region names a subject, a mode and an object, or leaves them free. The places of a region are numbered: those of a
--- region that leaves subject and object free by the numbers of their pairs, others by the coordinate that is free, and
--- each of these by mode where the mode is free. Different places of a region have different numbers (`index-apart`).
+-- A region names a subject, a mode and an object, or leaves them free. The places of a region are numbered:
+-- those of a region that leaves subject and object free by the numbers of their pairs, others by the
+-- coordinate that is free, and each of these by mode where the mode is free. Different places of a region
+-- have different numbers (`index-apart`).
 use mathlib.Core.Path.{_≡_, refl, sym, ap, ap₂, _∙_}
 use mathlib.Core.Bool.{Bool, true, false, true≢false}
 use Prim.Native.Nat.{ℕ, suc, _+_, _*_, _/_, _%_, _≤_, _<_}
-use native.Mathlib.Nat.{mul-le-mul-right, mul-add-div-right, mul-add-mod-self-right, div-eq-of-lt, mod-eq-of-lt}
+use native.Mathlib.Nat.{mul-le-mul-right}
 use native.Mathlib.Omega.{arith}
 use lib.Count.{ones}
 use lib.Dec.{eqb}
@@ -13,7 +14,7 @@ use Rattle.foundation.specs.Masks.{bit}
 use Rattle.places.specs.declared.Grid.{Grid}
 use Rattle.places.specs.declared.Region.{Region}
 use Rattle.places.specs.declared.Spot.{Spot}
-use Rattle.places.specs.Numbering.{rank, rank-below, rank-same}
+use Rattle.places.specs.Numbering.{rank, rank-below, rank-same, parted}
 
 -- a code that names nothing
 abbrev pub free : ℕ → Bool
@@ -44,16 +45,6 @@ unfoldable pub indexIn : Grid → Region → ℕ → Spot → ℕ
 indexIn g b n x = outerIndex b n x * modeSize g b + modeIndex g b x
 
 -- ---- its laws
-
--- a number with a rest below q has one quotient and one rest
-parted : (a c q r t : ℕ) → r < q → t < q → a * q + r ≡ c * q + t → (a ≡ c) × (r ≡ t)
-parted a c q r t h l e =
-    let p : 0 < q = omega arith in
-    let u : (a * q + r) / q ≡ a = mul-add-div-right p a r ∙ ap (λ (n : ℕ). a + n) (div-eq-of-lt h) ∙ omega arith in
-    let v : (c * q + t) / q ≡ c = mul-add-div-right p c t ∙ ap (λ (n : ℕ). c + n) (div-eq-of-lt l) ∙ omega arith in
-    let x : (a * q + r) % q ≡ r = mul-add-mod-self-right a q r ∙ mod-eq-of-lt h in
-    let y : (c * q + t) % q ≡ t = mul-add-mod-self-right c q t ∙ mod-eq-of-lt l in
-    (sym u ∙ ap (λ (n : ℕ). n / q) e ∙ v, sym x ∙ ap (λ (n : ℕ). n % q) e ∙ y)
 
 -- a place of the grid, n being the number of its pair
 pub record Within (g : Grid) (n : ℕ) (x : Spot) : Type 0 where
@@ -107,7 +98,8 @@ module _ (g : Grid) (b : Region) where
         (x .subject ≡ y .subject) × (x .object ≡ y .object) × (x .mode ≡ y .mode)
     unfolding indexIn
     index-apart e =
-        let p = parted (outerIndex b n x) (outerIndex b k y) (modeSize g b) (modeIndex g b x) (modeIndex g b y)
+        let p = parted (outerIndex b n x) (outerIndex b k y) (modeSize g b) (modeIndex g b x) (modeIndex g
+        b y)
         (mode-below n x v) (mode-below k y w) e in
         let o = outer-apart (p .0) in
         (o .0, o .1, mode-apart (p .1))

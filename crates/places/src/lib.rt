@@ -1,11 +1,11 @@
-// Places: a place is a subject, a mode and an object, by coordinates. Pairs of a subject and an object, and modes, are
-// numbered as far as they are reached; a region of places is numbered by them.
+// Places: a place is a subject, a mode and an object, by coordinates. Pairs of a subject and an object, and
+// modes, are numbered as far as they are reached; a region of places is numbered by them.
 ghost use mathlib.Core.Path.{_≡_};
 ghost use mathlib.Core.Bool.{true, _||_};
-ghost use Prim.Native.Nat.{ℕ, _+_, _≤_, _<_};
+ghost use Prim.Native.Nat.{ℕ, suc, _+_, _*_, _≤_, _<_};
 ghost use Rattle.foundation.specs.Totals.{count};
 ghost use lib.ListN.{length, getD};
-ghost use Rattle.places.specs.Numbering.{used, before, rank};
+ghost use Rattle.places.specs.Numbering.{used, before, rank, codeOf};
 ghost use Rattle.foundation.specs.Masks.{bit};
 ghost use Rattle.foundation.specs.Tests.{pick};
 ghost use Rattle.places.specs.Regions.{free, modeSize, sizeOf, Within, indexIn};
@@ -43,6 +43,16 @@ fn counted(n: u16, x: u16) -> u16
     n + 1
 }
 
+// 1 where something is needed, else 0.
+fn step_of(x: u16) -> usize
+    ensures { λ r. ⌜ r ≡ count (used x) ⌝ }
+{
+    if x == 0 {
+        return 0;
+    }
+    1
+}
+
 // Numbers the pairs at which something is needed; how many they are.
 pub fn number_pairs(need: &[u16], number: &mut [u16]) -> usize
     requires { ⌜ (length (now need) ≤ 65535) × (length (now number) ≡ length (now need)) ⌝ }
@@ -58,6 +68,35 @@ pub fn number_pairs(need: &[u16], number: &mut [u16]) -> usize
         j += 1;
     }
     n as usize
+}
+
+// The code of the next pair.
+fn next_code(at: u32, subjects: u32) -> u32
+    requires { ⌜ (at < 65536) × (0 < subjects) × (subjects ≤ 256) ⌝ }
+    ensures { λ r. ⌜ ((j : ℕ) → at ≡ codeOf subjects j → r ≡ codeOf subjects (suc j)) ⌝ }
+{
+    if at % 256 + 1 < subjects {
+        return at + 1;
+    }
+    at - at % 256 + 256
+}
+
+// Puts the code of each pair at which something is needed to its number.
+pub fn list_pairs(need: &[u16], subjects: u32, codes: &mut [u16])
+    requires { ⌜ (0 < subjects) × (subjects ≤ 256) × (length (now need) ≤ 256 * subjects)
+        × (length (now codes) ≡ length (now need)) ⌝ }
+    ensures { λ _. ⌜ ((j : ℕ) → j < length (now (need .entry)) → used (getD (now (need .entry)) j 0) ≡ true →
+        getD (now (codes .exit)) (before (now (need .entry)) j) 0 ≡ codeOf subjects j) ⌝ }
+{
+    let mut n = 0;
+    let mut at = 0;
+    let mut j = 0;
+    while j < need.len() {
+        codes[n] = at as u16;
+        n += step_of(need[j]);
+        at = next_code(at, subjects);
+        j += 1;
+    }
 }
 
 // The low byte of a word, and its high byte.

@@ -4,7 +4,8 @@ use mathlib.Core.Logic.{_↔_}
 use mathlib.Core.Bool.{true, false, not, true≢false, false≢true}
 use mathlib.Core.List.{List}
 use Prim.Native.Nat.{ℕ, zero, suc, _+_, _*_, _/_, _%_, _^_, _≤_, _<_}
-use native.Mathlib.Nat.{mod-lt, mod-eq-of-lt, div-lt-iff-lt-mul, mul-le-mul-right, mul-le-mul, one-mul, div-one, pow-succ'}
+use native.Mathlib.Nat.{mod-lt, mod-eq-of-lt, div-lt-iff-lt-mul, mul-le-mul-right, mul-le-mul, one-mul}
+use native.Mathlib.Nat.{div-one, pow-succ'}
 use native.Mathlib.Omega.{arith}
 use lib.Pow.{pow-mono, pow-lt, pow-pos}
 use lib.Bits.{bitAnd, and-le-l}
@@ -35,8 +36,10 @@ module _ (right : List ℕ) (subjects size p : ℕ) (f : Formed right subjects s
       let c = f .codes r l in
       let a : ℕ = turned (getD right (4 * r) 0) (p / subjects) in
       let b : ℕ = turned (getD right (4 * r + 1) 0) (p % subjects) in
-      let o : a < f .objects = turned-below (getD right (4 * r) 0) (p / subjects) (f .objects) (c .object) object-below in
-      let s : b < subjects = turned-below (getD right (4 * r + 1) 0) (p % subjects) subjects (c .subject) subject-below in
+      let o : a < f .objects = turned-below (getD right (4 * r) 0) (p / subjects) (f .objects) (c .object)
+      object-below in
+      let s : b < subjects = turned-below (getD right (4 * r + 1) 0) (p % subjects) subjects (c .subject)
+      subject-below in
       let q : suc a * subjects ≤ f .objects * subjects = mul-le-mul-right subjects o in
       record {
         pair = omega (arith, f .rows);
@@ -45,7 +48,8 @@ module _ (right : List ℕ) (subjects size p : ℕ) (f : Formed right subjects s
       }
 
 -- what a rule needs fits a word of 16 bits
-pub bits-fit : (w m : ℕ) → w < 4 → m < 8 → (w % 2 + 256 * (w / 2)) * 2 ^ m % 65536 ≡ (w % 2 + 256 * (w / 2)) * 2 ^ m
+pub bits-fit : (w m : ℕ) → w < 4 → m < 8 →
+    (w % 2 + 256 * (w / 2)) * 2 ^ m % 65536 ≡ (w % 2 + 256 * (w / 2)) * 2 ^ m
 bits-fit w m h l =
     let x : ℕ = w % 2 + 256 * (w / 2) in
     let a : x ≤ 257 = omega arith in
@@ -63,13 +67,16 @@ shifted k h = rw (one-mul (2 ^ k)) (mod-eq-of-lt (pow-lt h))
 no-bits : (n x : ℕ) → x < 2 ^ n → ((i : ℕ) → i < n → bit i x ≡ false) → x ≡ 0
 no-bits zero x h z = omega arith
 no-bits (suc n) x h z =
-    let s : (x % 2 ≡ 1) → ⊥ = false-eq (x % 2) 1 (ap (λ (y : ℕ). eqb (y % 2) 1) (sym (div-one x)) ∙ z 0 (omega arith)) in
+    let s : (x % 2 ≡ 1) → ⊥ = false-eq (x % 2) 1 (ap (λ (y : ℕ). eqb (y % 2) 1) (sym (div-one x))
+    ∙ z 0 (omega arith)) in
     let l : x < 2 * 2 ^ n = rw (pow-succ' 2 n) at h in
-    let q : x / 2 ≡ 0 = no-bits n (x / 2) (omega arith) (λ i m. sym (bit-half i x) ∙ z (suc i) (omega arith)) in
+    let q : x / 2 ≡ 0 = no-bits n (x / 2) (omega arith) (λ i m. sym (bit-half i x)
+    ∙ z (suc i) (omega arith)) in
     omega arith
 
 -- the first bit of one that is not 0
-pub low-bit : (x k : ℕ) → 0 < x → x < 65536 → ((i : ℕ) → i < k → bit i x ≡ false) → (k < 64 → bit k x ≡ true) →
+pub low-bit : (x k : ℕ) → 0 < x → x < 65536 → ((i : ℕ) → i < k → bit i x ≡ false) → (k < 64 →
+    bit k x ≡ true) →
     (k < 16) × (bit k x ≡ true)
 low-bit x k h l z o = cases (ltb k 16)
     (λ e. let g = true-le (suc k) 16 e in (g, o (omega arith)))

@@ -1,5 +1,6 @@
--- What is needed grows (`ask-grown`, `grown-then`), and what is closed but for what is to do stays so (`closed-grown`).
--- A bit that was followed is no longer to do (`step-law`), and where nothing is to do all is closed (`closed-end`).
+-- What is needed grows (`ask-grown`, `grown-then`), and what is closed but for what is to do stays so
+-- (`closed-grown`). A bit that was followed is no longer to do (`step-law`), and where nothing is to do all
+-- is closed (`closed-end`).
 use mathlib.Core.Path.{_≡_, refl, sym, ap, _∙_}
 use mathlib.Core.Logic.{_⊎_, inl, inr, ⊎-elim}
 use mathlib.Core.Bool.{Bool, true, false, not, _&&_, _||_, false≢true}
@@ -71,7 +72,8 @@ module _ (need todo : List ℕ) (p bits : ℕ) (h : p < length need) (g : p < le
       let c = or-add-and was (less bits old) in
       let o = sum-set need p (bitOr old bits) h in
       let t = sum-set todo p (bitOr was (less bits old)) g in
-      let f = sum-small need′ (set-small need p (bitOr old bits) h (or-lt 16 old bits (small p) word) small) in
+      let f = sum-small need′ (set-small need p (bitOr old bits) h (or-lt 16 old bits (small p) word)
+      small) in
       let n = length-set need p (bitOr old bits) in
       omega arith
 
@@ -137,7 +139,8 @@ module _ (right : List ℕ) (rules subjects o s m : ℕ) where
 
 -- ---- what is closed
 
-pub closed-grown : (net : Net) {n t n′ t′ : List ℕ} → Grown n t n′ t′ → ClosedBut net n t → ClosedBut net n′ t′
+pub closed-grown : (net : Net) {n t n′ t′ : List ℕ} → Grown n t n′ t′ → ClosedBut net n t →
+    ClosedBut net n′ t′
 closed-grown net {n = n} g c j k e f r l o b x =
     ⊎-elim
     (λ (y : has n j k ≡ true). g .more _ b (c j k y (λ z. f (g .kept j k z)) r l o b x))
@@ -165,7 +168,8 @@ closed-end net need todo z c j k e = c j k e (λ f. none-set k (ap (bit k) (sym 
 -- ---- a bit was followed
 
 module _ (net : Net) (n t n′ t′ : List ℕ) (p k y : ℕ) (g : Grown n t n′ t′) (h : p < length t′)
-    (followed : (r : ℕ) → r < 64 → bit r (standing (net .left) (p / net .subjects) (p % net .subjects) k) ≡ true →
+    (followed : (r : ℕ) → r < 64 →
+    bit r (standing (net .left) (p / net .subjects) (p % net .subjects) k) ≡ true →
     Followed net p k r n′)
     (lower : y < getD t′ p 0)
     (others : (i : ℕ) → bit i (getD t′ p 0) ≡ true → (i ≡ k → ⊥) → bit i y ≡ true) where

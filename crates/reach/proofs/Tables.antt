@@ -12,7 +12,8 @@ use Rattle.foundation.specs.Masks.{bit}
 use Rattle.reach.specs.Net.{has}
 use Rattle.reach.specs.Reach.{sum}
 
-pub has-set : (l : List ℕ) (p v j k : ℕ) → p < length l → has (set l p v) j k ≡ pick (eqb j p) (bit k v) (has l j k)
+pub has-set : (l : List ℕ) (p v j k : ℕ) → p < length l →
+    has (set l p v) j k ≡ pick (eqb j p) (bit k v) (has l j k)
 has-set l p v j k h = cases (eqb j p)
     (λ e. rw e (ap (λ (i : ℕ). bit k (getD (set l p v) i 0)) (true-eq j p e)
     ∙ ap (bit k) (getD-set-same l p v 0 h)))

@@ -1,6 +1,7 @@
--- The net of places that a question can rest on. A place is a subject, an object and a mode, by their coordinates; a
--- pair is a subject with an object, numbered object by object. Bit m of what is needed at a pair stands for mode m, positive,
--- and bit 8 + m for mode m, denied. A rule leads from the places of its left side to that of its right side.
+-- The net of places that a question can rest on. A place is a subject, an object and a mode, by their
+-- coordinates; a pair is a subject with an object, numbered object by object. Bit m of what is needed at a
+-- pair stands for mode m, positive, and bit 8 + m for mode m, denied. A rule leads from the places of its
+-- left side to that of its right side.
 use mathlib.Core.Path.{_≡_}
 use mathlib.Core.Bool.{Bool, true, _||_}
 use mathlib.Core.List.{List}
@@ -11,9 +12,9 @@ use lib.ListN.{getD}
 use Rattle.foundation.specs.Tests.{pick}
 use Rattle.foundation.specs.Masks.{bit}
 
--- `left` has the rules that stand on an object, 65 words, on a subject, 65, and on a mode with a sign, 16; `right` four
--- numbers a rule: object, subject and mode of its right side, 255 for a star, and the signs that it looks at (1:
--- positive, 2: denied, 3: both)
+-- `left` has the rules that stand on an object, 65 words, on a subject, 65, and on a mode with a sign, 16;
+-- `right` four numbers a rule: object, subject and mode of its right side, 255 for a star, and the signs that
+-- it looks at (1: positive, 2: denied, 3: both)
 pub record Net : Type 0 where
   pub left : List ℕ
   pub right : List ℕ
@@ -29,7 +30,8 @@ turned code own = pick (eqb code 255) own code
 
 -- the pair on the right of rule r, seen from o and s
 unfoldable pub aimPair : List ℕ → ℕ → ℕ → ℕ → ℕ → ℕ
-aimPair right subjects r o s = turned (getD right (4 * r) 0) o * subjects + turned (getD right (4 * r + 1) 0) s
+aimPair right subjects r o s = turned (getD right (4 * r) 0) o * subjects + turned (getD right (4 * r + 1)
+    0) s
 
 -- what it needs there, seen from mode m
 unfoldable pub aimBits : List ℕ → ℕ → ℕ → ℕ

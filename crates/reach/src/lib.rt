@@ -1,5 +1,5 @@
-// Reach: which places a question can rest on. From the place that is asked about, each rule that stands at a needed
-// place leads to the place of its right side.
+// Reach: which places a question can rest on. From the place that is asked about, each rule that stands at a
+// needed place leads to the place of its right side.
 ghost use mathlib.Core.Path.{_≡_};
 ghost use mathlib.Core.Bool.{true};
 ghost use Prim.Native.Nat.{ℕ, _+_, _*_, _/_, _%_, _≤_, _<_};
@@ -157,7 +157,8 @@ fn first_todo(todo: &[u16], from: usize) -> usize
     i
 }
 
-// A pair with something to do, if there is one from `from` on then the first of these; else how many pairs there are.
+// A pair with something to do, if there is one from `from` on then the first of these; else how many pairs
+// there are.
 fn next_todo(todo: &[u16], from: usize) -> usize
     requires { ⌜ from ≤ length (now todo) ⌝ }
     ensures { λ r. ⌜ (r < length (now (todo .entry)) → 0 < getD (now (todo .entry)) r 0)
@@ -183,7 +184,12 @@ pub fn reach(
 )
     requires { ⌜ Formed (now right) subjects (length (now need)) × (length (now todo) ≡ length (now need))
         × (pair < length (now need)) × ((i : ℕ) → getD (now need) i 0 ≡ 0) ⌝ }
-    ensures { λ _. ⌜ Closed (record { left = now (left .entry); right = now (right .entry); subjects = subjects })
+    ensures { λ _. ⌜ Closed (record {
+      left = now (left .entry);
+      right = now (right .entry);
+      subjects =
+          subjects;
+    })
         (now (need .exit))
         × ((b : ℕ) → bit b bits ≡ true → has (now (need .exit)) pair b ≡ true)
         × (length (now (need .exit)) ≡ length (now (need .entry))) ⌝ }

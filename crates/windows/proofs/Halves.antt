@@ -24,7 +24,8 @@ module _ (n : ℕ) (ms : List ℕ) (t : ℕ) where
     above = λ j h l. absurd (omega arith);
   }
 
-  module _ (rising : Rising n ms) (low high k : ℕ) (c : Cut low high) (h : low < high) (e : k ≡ (low + high) / 2) where
+  module _ (rising : Rising n ms) (low high k : ℕ) (c : Cut low high) (h : low < high) (e : k ≡ (low +
+      high) / 2) where
     pub cut-up : getD ms k 0 < t → Cut (k + 1) high
     cut-up l = record {
       ordered = omega (arith, c .ordered);
@@ -48,4 +49,11 @@ module _ (n : ℕ) (ms : List ℕ) (t : ℕ) where
   pub cut-end : (low high : ℕ) → Cut low high → high ≤ low → (j : ℕ) → j < n → ltb (getD ms j 0) t ≡ ltb j low
   cut-end low high c h j l = cases (ltb j low)
       (λ y. le-true (suc (getD ms j 0)) t (c .below j (true-le (suc j) low y)) ∙ sym y)
-      (λ y. le-false (suc (getD ms j 0)) t (omega (arith, c .above j (omega (arith, false-le (suc j) low y)) l)) ∙ sym y)
+      (λ y. le-false (suc (getD ms j 0)) t (omega (
+        arith,
+        c .above j (omega (
+          arith,
+          false-le (suc j) low
+              y,
+        )) l,
+      )) ∙ sym y)

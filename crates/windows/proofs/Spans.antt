@@ -1,5 +1,5 @@
--- The instants of an interval lie side by side in a window: from the first that is not below its start up to the first
--- that is behind its end.
+-- The instants of an interval lie side by side in a window: from the first that is not below its start up to
+-- the first that is behind its end.
 use mathlib.Core.Path.{_≡_, refl, sym, ap, ap₂, _∙_}
 use mathlib.Core.Bool.{Bool, true, false, not, _&&_}
 use mathlib.Core.List.{List}
@@ -37,7 +37,8 @@ module _ (n : ℕ) (ms : List ℕ) (i : Interval) (a e : ℕ) (few : e ≤ n)
           let w = and-true (ltb j n) (inInterval i (getD ms j 0)) y in
           let l = true-le (suc j) n (w .0) in
           let b = inInterval-true i (getD ms j 0) (w .1) in
-          let s = false-le (suc j) a (sym (low j l) ∙ le-false (suc (getD ms j 0)) (i .start) (omega arith)) in
+          let s = false-le (suc j) a (sym (low j l)
+          ∙ le-false (suc (getD ms j 0)) (i .start) (omega arith)) in
           let f = sym (high j l) ∙ le-true (suc (getD ms j 0)) (i .end + 1) (omega arith) in
           and-intro (leb a j) (ltb j e) (le-true a j (omega arith)) f
 

@@ -4,10 +4,12 @@ use mathlib.Core.Logic.{_⊎_, ⊎-elim, inl, inr}
 use mathlib.Core.Bool.{true, false}
 use mathlib.Core.List.{List}
 use Prim.Native.Nat.{ℕ, zero, suc, _+_, _*_, _-_, _/_, _%_, _^_, _≤_, _<_}
-use native.Mathlib.Nat.{mod-eq-of-lt, div-eq-of-lt, lt-of-lt-of-le, mul-mod-left, mul-assoc, one-mul, mul-le-mul}
+use native.Mathlib.Nat.{mod-eq-of-lt, div-eq-of-lt, lt-of-lt-of-le, mul-mod-left, mul-assoc, one-mul}
+use native.Mathlib.Nat.{mul-le-mul}
 use native.Mathlib.Nat.{mul-le-mul-right, div-mul-le-self, div-one}
 use native.Mathlib.Omega.{arith}
-use lib.Pow.{pow-pos, pow-lt, shr-shr, pow-mono, pow-add, shl-lt, shl-exact, shl-shr, ones-split, ones-lt, high}
+use lib.Pow.{pow-pos, pow-lt, shr-shr, pow-mono, pow-add, shl-lt, shl-exact, shl-shr, ones-split, ones-lt}
+use lib.Pow.{high}
 use lib.Bits.{bitOr, or-shr, or-mod, or-zero-r}
 use lib.Count.{trailingZeros, under}
 use lib.Dec.{eqb}
@@ -65,7 +67,8 @@ aside v w s m h (inr l) =
     ∙ ap (λ (n : ℕ). n % 2 ^ w) (shl-shr (v * 2 ^ d * 2 ^ w) m)
     ∙ mul-mod-left (v * 2 ^ d) (2 ^ w)
 
-module _ (k i v : ℕ) (ws : List ℕ) (few : k ≤ 6) (within : starts k i < 64 * length ws) (small : v < 2 ^ (2 ^ k)) where
+module _ (k i v : ℕ) (ws : List ℕ) (few : k ≤ 6) (within : starts k i < 64 * length ws) (small : v < 2 ^ (2
+    ^ k)) where
   -- the word that has field i, and where the field starts in it
   abbrev at : ℕ
   at = starts k i / 64
@@ -84,7 +87,8 @@ module _ (k i v : ℕ) (ws : List ℕ) (few : k ≤ 6) (within : starts k i < 64
       ≡ bitOr (getD ws at 0 / 2 ^ m % 2 ^ (2 ^ k)) (v * 2 ^ place / 2 ^ m % 2 ^ (2 ^ k))
   read m =
       let w : ℕ = getD ws at 0 in
-      ap (λ (n : ℕ). n / 2 ^ m % 2 ^ (2 ^ k)) (getD-set-same ws at (bitOr w (v * 2 ^ place % 18446744073709551616)) 0 (omega arith)
+      ap (λ (n : ℕ). n / 2 ^ m % 2 ^ (2 ^ k)) (getD-set-same ws at (bitOr w (v * 2 ^ place %
+      18446744073709551616)) 0 (omega arith)
       ∙ ap (bitOr w) shift)
       ∙ ap (λ (n : ℕ). n % 2 ^ (2 ^ k)) (or-shr w (v * 2 ^ place) m)
       ∙ or-mod (w / 2 ^ m) (v * 2 ^ place / 2 ^ m) (2 ^ k)
@@ -108,7 +112,8 @@ module _ (k i v : ℕ) (ws : List ℕ) (few : k ≤ 6) (within : starts k i < 64
   far : (j : ℕ) → (starts k j / 64 ≡ at → ⊥) → fieldOf k after j ≡ fieldOf k ws j
   unfolding fieldOf
   far j n = ap (λ (w : ℕ). w / 2 ^ (starts k j % 64) % 2 ^ (2 ^ k))
-      (getD-set-other ws at (starts k j / 64) (bitOr (getD ws at 0) (v * 2 ^ place % 18446744073709551616)) 0 n)
+      (getD-set-other ws at (starts k j / 64) (bitOr (getD ws at 0) (v * 2 ^ place % 18446744073709551616))
+      0 n)
 
   other : (j : ℕ) → (i < j) ⊎ (j < i) → fieldOf k after j ≡ fieldOf k ws j
   other j d = cases (eqb (starts k j / 64) at)
@@ -143,7 +148,8 @@ pub bit-shifted : (k : ℕ) → k < 64 → 1 * 2 ^ k % 18446744073709551616 ≡ 
 bit-shifted k h = rw (one-mul (2 ^ k)) (mod-eq-of-lt (pow-lt h))
 
 -- what is left of a word that was shifted down fits where it was
-pub back-up : (x y a : ℕ) → x < 18446744073709551616 → y ≤ x / 2 ^ a → y * 2 ^ a % 18446744073709551616 ≡ y * 2 ^ a
+pub back-up : (x y a : ℕ) → x < 18446744073709551616 → y ≤ x / 2 ^ a →
+    y * 2 ^ a % 18446744073709551616 ≡ y * 2 ^ a
 back-up x y a h l =
     let m : y * 2 ^ a ≤ x / 2 ^ a * 2 ^ a = mul-le-mul-right (2 ^ a) l in
     mod-eq-of-lt (omega (arith, div-mul-le-self x (2 ^ a)))

@@ -1,5 +1,5 @@
--- Fields in words: a table of 64-bit words holds fields of 2 ^ k bits, k from 0 to 6, one behind the other from the low
--- end of each word. The bits of a field are the instants of a window.
+-- Fields in words: a table of 64-bit words holds fields of 2 ^ k bits, k from 0 to 6, one behind the other
+-- from the low end of each word. The bits of a field are the instants of a window.
 use mathlib.Core.List.{List}
 use Prim.Native.Nat.{ℕ, _*_, _/_, _%_, _^_}
 use lib.ListN.{getD}

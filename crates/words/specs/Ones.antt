@@ -1,9 +1,10 @@
--- The ones of a word: those between two places (`span-bit`), and those at the low end (`first-ones`), which the operators
--- that look back want.
+-- The ones of a word: those between two places (`span-bit`), and those at the low end (`first-ones`), which
+-- the operators that look back want.
 use mathlib.Core.Path.{_≡_, refl, sym, ap, ap₂, _∙_}
 use mathlib.Core.Bool.{Bool, true, false, not, _&&_}
 use Prim.Native.Nat.{ℕ, zero, suc, _+_, _*_, _-_, _/_, _%_, _^_, _≤_, _<_, min}
-use native.Mathlib.Nat.{pow-succ', div-one, div-div-eq-div-mul, zero-div, min-le-left, min-zero, zero-min, mul-assoc}
+use native.Mathlib.Nat.{pow-succ', div-one, div-div-eq-div-mul, zero-div, min-le-left, min-zero, zero-min}
+use native.Mathlib.Nat.{mul-assoc}
 use native.Mathlib.Omega.{arith}
 use lib.Dec.{eqb, leb, ltb}
 use lib.Bits.{bitAnd, and-step, and-self, and-le-l}
@@ -40,7 +41,8 @@ ones-even x e =
     let h : (x + 1) / 2 ≡ x / 2 = omega arith in
     let m : min (x % 2) ((x + 1) % 2) ≡ 0 = rw e (zero-min ((x + 1) % 2)) in
     let s : bitAnd x (x + 1) ≡ x / 2 * 2 = and-step x (x + 1)
-    ∙ ap₂ (λ (a b : ℕ). bitAnd (x / 2) a * 2 + b) h m ∙ ap (λ (a : ℕ). a * 2 + 0) (and-self (x / 2)) ∙ omega arith in
+    ∙ ap₂ (λ (a b : ℕ). bitAnd (x / 2) a * 2 + b) h m ∙ ap (λ (a : ℕ). a * 2 + 0) (and-self (x / 2))
+    ∙ omega arith in
     omega arith
 
 ones-odd : (x : ℕ) → x % 2 ≡ 1 → ones x ≡ 2 * ones (x / 2) + 1
@@ -58,7 +60,8 @@ pub first-ones : (i x : ℕ) → bit i (ones x) ≡ upTo i x
 first-ones zero x = lowest
   where
     lowest : bit 0 (ones x) ≡ bit 0 x
-    lowest = ap (λ (y : ℕ). eqb (y % 2) 1) (div-one (ones x)) ∙ both ∙ sym (ap (λ (y : ℕ). eqb (y % 2) 1) (div-one x))
+    lowest = ap (λ (y : ℕ). eqb (y % 2) 1) (div-one (ones x)) ∙ both
+        ∙ sym (ap (λ (y : ℕ). eqb (y % 2) 1) (div-one x))
       where
         both : eqb (ones x % 2) 1 ≡ eqb (x % 2) 1
         both = split (x % 2) refl
@@ -70,7 +73,8 @@ first-ones zero x = lowest
                 rw (ones-odd x f, g, f)
 first-ones (suc i) x = split (first-ones i (x / 2)) (x % 2) refl
   where
-    split : bit i (ones (x / 2)) ≡ upTo i (x / 2) → (d : ℕ) → x % 2 ≡ d → bit (suc i) (ones x) ≡ upTo (suc i) x
+    split : bit i (ones (x / 2)) ≡ upTo i (x / 2) → (d : ℕ) → x % 2 ≡ d →
+        bit (suc i) (ones x) ≡ upTo (suc i) x
     split ih zero e =
         rw (ones-even x e, upTo-half i x, div-one x, e, zero-div (2 ^ suc i))
     split ih (suc d) e =
@@ -121,7 +125,8 @@ ones-bit (suc n) zero =
 ones-bit (suc n) (suc i) =
     let p = pow-pos n in
     let e : (2 ^ suc n - 1) / 2 ≡ 2 ^ n - 1 = rw (pow-succ' 2 n) (omega arith) in
-    bit-half i (2 ^ suc n - 1) ∙ ap (bit i) e ∙ ones-bit n i ∙ less-moved i n (suc i) (suc n) (λ m. omega arith) (λ m. omega arith)
+    bit-half i (2 ^ suc n - 1) ∙ ap (bit i) e ∙ ones-bit n i
+    ∙ less-moved i n (suc i) (suc n) (λ m. omega arith) (λ m. omega arith)
 
 -- the ones from the a-th bit up to, and without, the e-th
 pub span-bit : (a e i : ℕ) → a ≤ e → bit i (2 ^ e - 2 ^ a) ≡ leb a i && ltb i e
@@ -142,4 +147,5 @@ abbrev pub allFrom : ℕ → ℕ → ℕ → Bool
 allFrom a i x = leb a i && upTo (i - a) (x / 2 ^ a)
 
 pub ones-from : (a i x : ℕ) → bit i (ones (x / 2 ^ a) * 2 ^ a) ≡ allFrom a i x
-ones-from a i x = bit-shl (ones (x / 2 ^ a)) a i ∙ ap (λ (b : Bool). leb a i && b) (first-ones (i - a) (x / 2 ^ a))
+ones-from a i x = bit-shl (ones (x / 2 ^ a)) a i
+    ∙ ap (λ (b : Bool). leb a i && b) (first-ones (i - a) (x / 2 ^ a))

@@ -1,5 +1,5 @@
-// Fields in words: what is known of an instant each is a bit, and what is known of the instants of a window
-// a field of 2^k bits. The width shows here and nowhere else.
+// Fields in words: what is known of an instant each is a bit, and what is known of the instants of a window a
+// field of 2^k bits. The width shows here and nowhere else.
 ghost use mathlib.Core.Path.{_≡_};
 ghost use Prim.Native.Nat.{ℕ, _+_, _*_, _^_, _≤_, _<_, _-_};
 ghost use lib.ListN.{length};

@@ -46,7 +46,13 @@ counted-requires : tie.Need-counted-requires Inv-loop μ-loop
 counted-requires c κs =
     let l = c .before .before .loop in
     let a = c .before .before .before .before .before .args in
-    omega (arith, l .inv .1, before-le (now (a .need)) (l .j), c .before .before .before .before .before .pre .0)
+    omega (
+      arith,
+      l .inv .1,
+      before-le (now (a .need)) (l .j),
+      c .before .before .before .before .before
+          .pre .0,
+    )
 
 add-j : tie.Need-add-j Inv-loop μ-loop
 add-j c = search needs
@@ -74,7 +80,13 @@ loop-again c =
 cast-result : tie.Need-cast-result Inv-loop μ-loop
 cast-result c =
     let l = c .before .loop in
-    omega (arith, l .inv .1, before-le (now (c .before .before .before .before .args .need)) (l .j), c .before .before .before .before .pre .0)
+    omega (
+      arith,
+      l .inv .1,
+      before-le (now (c .before .before .before .before .args .need)) (l .j),
+      c
+          .before .before .before .before .pre .0,
+    )
 
 same-length : tie.Need-same-length Inv-loop μ-loop
 same-length c = c .before .loop .inv .2 ∙ sym (c .before .before .before .before .pre .1)

@@ -19,7 +19,8 @@ sub-result c = omega (arith, shifted (c .args .m) (c .pre), pow-pos (c .args .m)
 returns : tie.Need-returns
 returns c =
     let a = c .args in
-    ap (λ (x : ℕ). ones (bitAnd (a .modes) (x - 1))) (shifted (a .m) (c .pre)) ∙ ap ones (and-mask (a .modes) (a .m))
+    ap (λ (x : ℕ). ones (bitAnd (a .modes) (x - 1))) (shifted (a .m) (c .pre))
+    ∙ ap ones (and-mask (a .modes) (a .m))
 
 pub rank-of-spec : {M : Type 1} → statement M
 rank-of-spec = tie.close (tie.spec (λ c. search needs) sub-result returns)

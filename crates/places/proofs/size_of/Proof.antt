@@ -12,8 +12,10 @@ mul-result : tie.Need-mul-result
 unfolding sizeOf
 mul-result c =
     let b = c .before .before .before .before .args .b in
-    let e = ap₂ (λ (a q : ℕ). a * q) (c .before .chosen3 .ensures ∙ ap₂ (λ (m f : ℕ). pick (free (b .subject)) m f)
-    (c .before .before .before .chosen .ensures) (c .before .before .chosen2 .ensures)) (c .mode-size .ensures) in
+    let e = ap₂ (λ (a q : ℕ). a * q) (c .before .chosen3 .ensures
+    ∙ ap₂ (λ (m f : ℕ). pick (free (b .subject)) m f)
+    (c .before .before .before .chosen .ensures) (c .before .before .chosen2 .ensures)) (c .mode-size
+    .ensures) in
     omega (arith, c .before .before .before .before .pre)
 
 returns : tie.Need-returns
@@ -21,9 +23,11 @@ unfolding sizeOf
 returns c =
     let b = c .before .before .before .before .args .b in
     ap₂ (λ (a q : ℕ). a * q) (c .before .chosen3 .ensures ∙ ap₂ (λ (m f : ℕ). pick (free (b .subject)) m f)
-    (c .before .before .before .chosen .ensures) (c .before .before .chosen2 .ensures)) (c .mode-size .ensures)
+    (c .before .before .before .chosen .ensures) (c .before .before .chosen2 .ensures)) (c .mode-size
+    .ensures)
 
 pub size-of-spec : {M : Type 1} → statement M
 size-of-spec =
-    tie.close (tie.spec (λ c κs. search needs) (λ c κs. search needs) (λ c κs. search needs) (λ c κs. search needs)
+    tie.close (tie.spec (λ c κs. search needs) (λ c κs. search needs) (λ c κs. search needs) (λ c κs.
+    search needs)
     mul-result returns)

@@ -16,7 +16,11 @@ returns : tie.Need-returns
 returns c =
     let a = c .before .before .args in
     let p = c .before .before .pre in
-    let o : (i : ℕ) → getD (now (a .need)) i 0 < 65536 = λ i. omega (arith, c .before .slice-known .given i) in (
+    let o : (i : ℕ) → getD (now (a .need)) i 0 < 65536 = λ i. omega (
+      arith,
+      c .before .slice-known .given
+          i,
+    ) in (
       ask-grown (now (a .need)) (now (a .todo)) (a .pair) (a .bits) (p .0) (p .1) o (omega arith),
       asked (now (a .need)) (now (a .todo)) (a .pair) (a .bits) (p .0) (p .1) o (omega arith),
     )
@@ -24,5 +28,6 @@ returns c =
 pub ask-spec : {M : Type 1} → statement M
 ask-spec =
     tie.close (tie.spec (λ c. search needs) (λ c. search needs) (λ c. search needs) (λ c. search needs)
-    (λ c. search needs) (λ c. search needs) sub-todo (λ c. search needs) (λ c. search needs) (λ c. search needs)
+    (λ c. search needs) (λ c. search needs) sub-todo (λ c. search needs) (λ c. search needs) (λ c. search
+    needs)
     (λ c. search needs) returns)

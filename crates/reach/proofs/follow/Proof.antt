@@ -15,7 +15,8 @@ use Rattle.reach.proofs.follow.Tie as tie
 
 abbrev Inv-loop : tie.InvT-loop
 Inv-loop right rules at need₀ todo₀ r₀ need todo r =
-    (r ≤ 64) × Grown need₀ todo₀ need todo × Done right rules (at .subjects) (at .object) (at .subject) (at .mode) r need
+    (r ≤ 64) × Grown need₀ todo₀ need todo
+    × Done right rules (at .subjects) (at .object) (at .subject) (at .mode) r need
 
 abbrev μ-loop : tie.MeasureT-loop
 μ-loop right rules at need₀ todo₀ r₀ need todo r = 64 - r
@@ -54,7 +55,8 @@ ask-requires c κo =
 
 loop-again : tie.Need-loop-again Inv-loop μ-loop
 loop-again c =
-    let a = c .before .before .before .before .before .before .before .before .before .before .before .before .before .before .before .args in
+    let a = c .before .before .before .before .before .before .before .before .before .before .before
+    .before .before .before .before .args in
     let l = c .before .before .before .before .before .before .before .before .before .before .before .loop in
     let e = c .before .before .before .before .before .ask .ensures in
     let x = c .next-bit2 .ensures in (
@@ -62,8 +64,10 @@ loop-again c =
       grown-then (l .inv .1) (e .0),
       done-turn (now (a .right)) (a .rules) (a .at .subjects) (a .at .object) (a .at .subject) (a .at .mode)
           (l .r) (c .next-bit2 .result) (l .inv .2) (e .0)
-          (λ b f. ap (λ (j : ℕ). has (c .before .before .before .before .before .ask .last .0) j b) (sym (c .before .before .before .before .before .before .before .before .before .aim-pair .ensures))
-          ∙ e .1 b (ap (bit b) (c .before .before .before .before .before .before .before .before .aim-bits .ensures) ∙ f))
+          (λ b f. ap (λ (j : ℕ). has (c .before .before .before .before .before .ask .last .0) j b) (sym (c
+          .before .before .before .before .before .before .before .before .before .aim-pair .ensures))
+          ∙ e .1 b (ap (bit b) (c .before .before .before .before .before .before .before .before .aim-bits
+          .ensures) ∙ f))
           (x .2),
     )
 
@@ -80,6 +84,7 @@ returns c =
 
 pub follow-spec : {M : Type 1} → statement M
 follow-spec =
-    tie.close (tie.spec Inv-loop μ-loop (λ c κo. search needs) loop-holds (λ c. search needs) aim-pair-requires
+    tie.close (tie.spec Inv-loop μ-loop (λ c κo. search needs) loop-holds (λ c. search needs)
+    aim-pair-requires
     aim-bits-requires ask-requires (λ c. search needs) (λ c κo. search needs) (λ c. search needs) loop-again
     same-length same-length-2 returns)

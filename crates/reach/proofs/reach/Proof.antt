@@ -53,11 +53,15 @@ loop-holds c =
 
 step-requires : tie.Need-step-requires Inv-loop μ-loop
 step-requires c κo =
-    let a = c .before .before .before .before .before .before .before .before .before .before .before .before .before .before .before .args in
-    let p = c .before .before .before .before .before .before .before .before .before .before .before .before .before .before .before .pre in
+    let a = c .before .before .before .before .before .before .before .before .before .before .before
+    .before .before .before .before .args in
+    let p = c .before .before .before .before .before .before .before .before .before .before .before
+    .before .before .before .before .pre in
     let l = c .before .before .before .loop in
     let i = l .inv in
-    let e : length (l .need) ≡ length (now (a .need)) = i .4 ∙ c .before .before .before .before .before .before .before .before .before .before .ask .ensures .0 .needs in
+    let e : length (l .need) ≡ length (now (a .need)) = i .4
+    ∙ c .before .before .before .before .before .before .before .before .before .before .ask .ensures
+    .0 .needs in
     let t : length (l .todo) ≡ length (l .need) = i .5 ∙ sym (i .4) in (
       subst (λ (n : ℕ). Formed (now (a .right)) (a .subjects) n) (sym e) (p .0),
       t,
@@ -73,7 +77,8 @@ loop-less c = c .before .before .before .before .before .before .step .ensures .
 
 loop-again : tie.Need-loop-again Inv-loop μ-loop
 loop-again c =
-    let a = c .before .before .before .before .before .before .before .before .before .before .before .before .before .before .before .before .before .before .before .before .before .before .args in
+    let a = c .before .before .before .before .before .before .before .before .before .before .before
+    .before .before .before .before .before .before .before .before .before .before .before .args in
     let i = c .before .before .before .before .before .before .before .before .before .before .loop .inv in
     let o = c .before .before .before .before .before .before .step .ensures in (
       o .closed (i .0),
@@ -85,17 +90,23 @@ loop-again c =
     )
 
 same-length : tie.Need-same-length Inv-loop μ-loop
-same-length c = c .before .loop .inv .4 ∙ c .before .before .before .before .before .before .before .before .ask .ensures .0 .needs
+same-length c = c .before .loop .inv .4
+    ∙ c .before .before .before .before .before .before .before .before .ask .ensures .0 .needs
 
 same-length-2 : tie.Need-same-length-2 Inv-loop μ-loop
-same-length-2 c = c .before .loop .inv .5 ∙ c .before .before .before .before .before .before .before .before .ask .ensures .0 .needs ∙ sym (c .before .before .before .before .before .before .before .before .before .before .before .before .before .pre .1)
+same-length-2 c = c .before .loop .inv .5
+    ∙ c .before .before .before .before .before .before .before .before .ask .ensures .0 .needs
+    ∙ sym (c .before .before .before .before .before .before .before .before .before .before .before
+    .before .before .pre .1)
 
 returns : tie.Need-returns Inv-loop μ-loop
 returns c =
-    let a = c .before .before .before .before .before .before .before .before .before .before .before .before .before .args in
+    let a = c .before .before .before .before .before .before .before .before .before .before .before
+    .before .before .args in
     let l = c .before .loop in
     let i = l .inv in (
-      closed-end (record { left = now (a .left); right = now (a .right); subjects = a .subjects }) (l .need) (l .todo)
+      closed-end (record { left = now (a .left); right = now (a .right); subjects = a .subjects }) (l
+          .need) (l .todo)
           (i .3 (omega arith)) (i .0),
       i .1,
       i .4 ∙ c .before .before .before .before .before .before .before .before .ask .ensures .0 .needs,

@@ -43,7 +43,8 @@ loop-again c =
     let a = c .before .before .before .before .before .args in
     let p = c .before .before .before .before .before .pre in
     let l = c .before .before .before .before .loop in
-    cut-up (a .n) (now (a .marks)) (a .t) (p .1) (l .low) (l .high) ((l .low + l .high) / 2) (l .inv) (omega arith) refl
+    cut-up (a .n) (now (a .marks)) (a .t) (p .1) (l .low) (l .high) ((l .low + l .high) / 2) (l .inv)
+    (omega arith) refl
     (omega arith)
 
 loop-less-2 : tie.Need-loop-less-2 Inv-loop μ-loop
@@ -54,7 +55,8 @@ loop-again-2 c =
     let a = c .before .before .before .before .before .args in
     let p = c .before .before .before .before .before .pre in
     let l = c .before .before .before .before .loop in
-    cut-down (a .n) (now (a .marks)) (a .t) (p .1) (l .low) (l .high) ((l .low + l .high) / 2) (l .inv) (omega arith) refl
+    cut-down (a .n) (now (a .marks)) (a .t) (p .1) (l .low) (l .high) ((l .low + l .high) / 2) (l .inv)
+    (omega arith) refl
     (omega arith)
 
 returns : tie.Need-returns Inv-loop μ-loop

@@ -16,7 +16,8 @@ shr-result c = let k = c .args .k in omega (arith, one-shifted k (c .pre), width
 returns : tie.Need-returns
 returns c =
     let k = c .args .k in
-    ap (λ (w : ℕ). 18446744073709551615 / 2 ^ (64 - w)) (one-shifted k (c .pre)) ∙ ones-top (2 ^ k) (width k (c .pre))
+    ap (λ (w : ℕ). 18446744073709551615 / 2 ^ (64 - w)) (one-shifted k (c .pre))
+    ∙ ones-top (2 ^ k) (width k (c .pre))
 
 pub low-ones-spec : {M : Type 1} → statement M
 low-ones-spec = tie.close (tie.spec (λ c. search needs) sub-result (λ c. search needs) shr-result returns)

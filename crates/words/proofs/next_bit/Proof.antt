@@ -25,8 +25,13 @@ returns-2 c =
 
 returns-3 : tie.Need-returns-3
 returns-3 c =
-    let a = c .before .before .args in
-    (omega arith, omega arith, (λ i h l. none-between 64 (a .m) (a .r) i h (omega arith)), λ h. absurd (omega arith))
+    let a = c .before .before .args in (
+      omega arith,
+      omega arith,
+      (λ i h l. none-between 64 (a .m) (a .r) i h (omega arith)),
+      λ h. absurd
+          (omega arith),
+    )
 
 pub next-bit-spec : {M : Type 1} → statement M
 next-bit-spec = tie.close (tie.spec returns (λ c. search needs) add-k returns-2 returns-3)

@@ -12,7 +12,13 @@ use Rattle.words.proofs.span_of.Tie as tie
 sub-result : tie.Need-sub-result
 sub-result c =
     let a = c .args in
-    omega (arith, bit-shifted (a .e) (c .pre .1), bit-shifted (a .a) (omega arith), pow-mono {j = a .e} (c .pre .0))
+    omega (
+      arith,
+      bit-shifted (a .e) (c .pre .1),
+      bit-shifted (a .a) (omega arith),
+      pow-mono {j = a .e} (c
+          .pre .0),
+    )
 
 returns : tie.Need-returns
 returns c = λ i.
