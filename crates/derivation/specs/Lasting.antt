@@ -50,7 +50,7 @@ module _ (r : Rule) (ms : ℕ → ℕ) (right : ℕ → Bool) (before : Bool) wh
   wanted i = sense (r .operator) (right i)
 
   -- what the rule derived at the instant before
-  abbrev prior : ℕ → Bool
+  abbrev pub prior : ℕ → Bool
   prior zero = before
   prior (suc i) = made r ms right before i
 
@@ -58,6 +58,10 @@ module _ (r : Rule) (ms : ℕ → ℕ) (right : ℕ → Bool) (before : Bool) wh
       ≡ (active i && (not (lasting (r .operator)) || first i || prior i)) && wanted i
   made-by zero = refl
   made-by (suc i) = refl
+
+  -- outside its interval the rule derives nothing
+  pub made-idle : (i : ℕ) → active i ≡ false → made r ms right before i ≡ false
+  made-idle i e = made-by i ∙ rw e
 
   pub made-plain : lasting (r .operator) ≡ false → (i : ℕ) → made r ms right before i ≡ active i && wanted i
   made-plain l i = made-by i ∙ rw l (ap (λ (b : Bool). b && wanted i) (and-one (active i)))
@@ -87,9 +91,6 @@ module _ (r : Rule) (ms : ℕ → ℕ) (right : ℕ → Bool) (before : Bool) wh
         (open-there : first a || prior a ≡ true)
         (later : (i : ℕ) → a < i → i < k → first i ≡ false)
         (word : (i : ℕ) → i < k → bit i x ≡ active i && wanted i) where
-      made-outside : (i : ℕ) → i < a → made r ms right before i ≡ false
-      made-outside i h = made-by i ∙ rw (outside i h)
-
       made-first : a < k → made r ms right before a ≡ bit a x
       made-first h = made-by a ∙ rw (l, open-there) (one (active a) (wanted a)) ∙ sym (word a h)
         where
@@ -127,4 +128,4 @@ module _ (r : Rule) (ms : ℕ → ℕ) (right : ℕ → Bool) (before : Bool) wh
           let s : a + (i - a) ≡ i = omega arith in
           ap (λ (j : ℕ). made r ms right before j) (sym s) ∙ from-first (i - a) (omega arith)
           ∙ ap (λ (j : ℕ). allFrom a j x) s)
-          (λ e. let g = false-le a i e in made-outside i g ∙ sym (all-before a i x g))
+          (λ e. let g = false-le a i e in made-idle i (outside i g) ∙ sym (all-before a i x g))

@@ -13,8 +13,7 @@ use lib.Dec.{eqb, ltb}
 use lib.ListN.{getD}
 use Rattle.foundation.specs.Tests.{pick, cases, and-true, and-intro, true-eq, false-eq, true-le, false-le}
 use Rattle.foundation.specs.Masks.{bit, mask-test}
-use Rattle.words.specs.Ones.{bit-half}
-use Rattle.words.specs.Bits.{less, bit-less, power-only}
+use Rattle.words.specs.Bits.{less, bit-less, power-only, no-bits}
 use Rattle.reach.specs.Net.{turned, aimPair, aimBits, Coded, Formed, Led}
 
 -- a code that is no star is below the count, and so is where it leads
@@ -62,17 +61,6 @@ bits-fit w m h l =
 
 pub shifted : (k : ℕ) → k < 16 → 1 * 2 ^ k % 65536 ≡ 2 ^ k
 shifted k h = rw (one-mul (2 ^ k)) (mod-eq-of-lt (pow-lt h))
-
--- with no bit a number is 0
-no-bits : (n x : ℕ) → x < 2 ^ n → ((i : ℕ) → i < n → bit i x ≡ false) → x ≡ 0
-no-bits zero x h z = omega arith
-no-bits (suc n) x h z =
-    let s : (x % 2 ≡ 1) → ⊥ = false-eq (x % 2) 1 (ap (λ (y : ℕ). eqb (y % 2) 1) (sym (div-one x))
-    ∙ z 0 (omega arith)) in
-    let l : x < 2 * 2 ^ n = rw (pow-succ' 2 n) at h in
-    let q : x / 2 ≡ 0 = no-bits n (x / 2) (omega arith) (λ i m. sym (bit-half i x)
-    ∙ z (suc i) (omega arith)) in
-    omega arith
 
 -- the first bit of one that is not 0
 pub low-bit : (x k : ℕ) → 0 < x → x < 65536 → ((i : ℕ) → i < k → bit i x ≡ false) → (k < 64 →

@@ -2,11 +2,11 @@
 use mathlib.Core.Path.{_≡_, refl, sym, ap, ap₂, _∙_}
 use mathlib.Core.Bool.{Bool, true, false, not, _&&_, _||_}
 use Prim.Native.Nat.{ℕ, zero, suc, _+_, _*_, _-_, _/_, _%_, _^_, _≤_, _<_, min, max}
-use native.Mathlib.Nat.{div-one, one-mul, max-le, min-le-left}
+use native.Mathlib.Nat.{pow-succ', div-one, one-mul, max-le, min-le-left}
 use native.Mathlib.Omega.{arith}
 use lib.Bits.{bitAnd, bitOr, and-step, or-step, and-shr, or-shr, and-le-l}
 use lib.Dec.{eqb, leb, ltb}
-use Rattle.foundation.specs.Tests.{cases, true-le, and-true}
+use Rattle.foundation.specs.Tests.{cases, true-le, and-true, false-eq}
 use Rattle.foundation.specs.Masks.{bit}
 use Rattle.words.specs.Ones.{bit-half, bit-shl, span-bit}
 
@@ -97,3 +97,16 @@ power-only k i e =
     let w = and-true (leb k i) (leb 0 (i - k) && ltb (i - k) 1) (sym (power-bit k i) ∙ e) in
     let v = and-true (leb 0 (i - k)) (ltb (i - k) 1) (w .1) in
     omega (arith, true-le k i (w .0), true-le (suc (i - k)) 1 (v .1))
+
+-- ---- a number without bits
+
+-- with no bit a number is 0
+pub no-bits : (n x : ℕ) → x < 2 ^ n → ((i : ℕ) → i < n → bit i x ≡ false) → x ≡ 0
+no-bits zero x h z = omega arith
+no-bits (suc n) x h z =
+    let s : (x % 2 ≡ 1) → ⊥ = false-eq (x % 2) 1 (ap (λ (y : ℕ). eqb (y % 2) 1) (sym (div-one x))
+    ∙ z 0 (omega arith)) in
+    let l : x < 2 * 2 ^ n = rw (pow-succ' 2 n) at h in
+    let q : x / 2 ≡ 0 = no-bits n (x / 2) (omega arith) (λ i m. sym (bit-half i x)
+    ∙ z (suc i) (omega arith)) in
+    omega arith

@@ -56,7 +56,7 @@ pub fn span_of(a: u32, e: u32) -> u64
 // The ones of x from bit a on, up to the first bit behind it that is not set.
 pub fn ones_from(x: u64, a: u32) -> u64
     requires { ⌜ (x < 9223372036854775808) × (a < 64) ⌝ }
-    ensures { λ r. ⌜ ((i : ℕ) → bit i r ≡ allFrom a i x) ⌝ }
+    ensures { λ r. ⌜ (r ≤ x) × ((i : ℕ) → bit i r ≡ allFrom a i x) ⌝ }
 {
     let y = x >> a;
     (y - (y & (y + 1))) << a
