@@ -1,0 +1,169 @@
+// Places: a place is a subject, a mode and an object, by coordinates. Pairs of a subject and an object, and
+// modes, are numbered as far as they are reached; a region of places is numbered by them.
+ghost use mathlib.Core.Path.{_≡_};
+ghost use mathlib.Core.Bool.{true, _||_};
+ghost use Prim.Native.Nat.{ℕ, suc, _+_, _*_, _≤_, _<_};
+ghost use Rattle.foundation.specs.Totals.{count};
+ghost use lib.ListN.{length, getD};
+ghost use Rattle.places.specs.Numbering.{used, before, rank, codeOf};
+ghost use Rattle.foundation.specs.Masks.{bit};
+ghost use Rattle.foundation.specs.Tests.{pick};
+ghost use Rattle.places.specs.Regions.{free, modeSize, sizeOf, Within, indexIn};
+
+// What is reached: how many subjects, objects and pairs, and as bits which modes.
+pub struct Grid {
+    pub subjects: u32,
+    pub objects: u32,
+    pub pairs: u32,
+    pub modes: u32,
+}
+
+// Places of which subject, mode and object are named, or free: 255.
+pub struct Region {
+    pub subject: u8,
+    pub mode: u8,
+    pub object: u8,
+}
+
+// A place.
+pub struct Spot {
+    pub subject: u32,
+    pub mode: u32,
+    pub object: u32,
+}
+
+// One more where something is needed.
+fn counted(n: u16, x: u16) -> u16
+    requires { ⌜ n < 65535 ⌝ }
+    ensures { λ r. ⌜ r ≡ n + count (used x) ⌝ }
+{
+    if x == 0 {
+        return n;
+    }
+    n + 1
+}
+
+// 1 where something is needed, else 0.
+fn step_of(x: u16) -> usize
+    ensures { λ r. ⌜ r ≡ count (used x) ⌝ }
+{
+    if x == 0 {
+        return 0;
+    }
+    1
+}
+
+// Numbers the pairs at which something is needed; how many they are.
+pub fn number_pairs(need: &[u16], number: &mut [u16]) -> usize
+    requires { ⌜ (length (now need) ≤ 65535) × (length (now number) ≡ length (now need)) ⌝ }
+    ensures { λ r. ⌜ (r ≡ before (now (need .entry)) (length (now (need .entry))))
+        × ((j : ℕ) → j < length (now (need .entry)) →
+        getD (now (number .exit)) j 0 ≡ before (now (need .entry)) j) ⌝ }
+{
+    let mut n = 0;
+    let mut j = 0;
+    while j < need.len() {
+        number[j] = n;
+        n = counted(n, need[j]);
+        j += 1;
+    }
+    n as usize
+}
+
+// The code of the next pair.
+fn next_code(at: u32, subjects: u32) -> u32
+    requires { ⌜ (at < 65536) × (0 < subjects) × (subjects ≤ 256) ⌝ }
+    ensures { λ r. ⌜ ((j : ℕ) → at ≡ codeOf subjects j → r ≡ codeOf subjects (suc j)) ⌝ }
+{
+    if at % 256 + 1 < subjects {
+        return at + 1;
+    }
+    at - at % 256 + 256
+}
+
+// Puts the code of each pair at which something is needed to its number.
+pub fn list_pairs(need: &[u16], subjects: u32, codes: &mut [u16])
+    requires { ⌜ (0 < subjects) × (subjects ≤ 256) × (length (now need) ≤ 256 * subjects)
+        × (length (now codes) ≡ length (now need)) ⌝ }
+    ensures { λ _. ⌜ ((j : ℕ) → j < length (now (need .entry)) → used (getD (now (need .entry)) j 0) ≡ true →
+        getD (now (codes .exit)) (before (now (need .entry)) j) 0 ≡ codeOf subjects j) ⌝ }
+{
+    let mut n = 0;
+    let mut at = 0;
+    let mut j = 0;
+    while j < need.len() {
+        codes[n] = at as u16;
+        n += step_of(need[j]);
+        at = next_code(at, subjects);
+        j += 1;
+    }
+}
+
+// The low byte of a word, and its high byte.
+fn both_signs(x: u16) -> u32
+    ensures { λ r. ⌜ ((k : ℕ) → k < 8 → bit k r ≡ bit k x || bit (8 + k) x) ⌝ }
+{
+    let y = x as u32;
+    (y % 256) | (y / 256)
+}
+
+// The modes with which something is needed, positive or denied.
+pub fn modes_of(need: &[u16]) -> u32
+    ensures { λ r. ⌜ ((j k : ℕ) → j < length (now (need .entry)) → k < 8 →
+        bit k (getD (now (need .entry)) j 0) || bit (8 + k) (getD (now (need .entry)) j 0) ≡ true →
+        bit k r ≡ true) ⌝ }
+{
+    let mut all = 0;
+    let mut j = 0;
+    while j < need.len() {
+        all = all | need[j];
+        j += 1;
+    }
+    both_signs(all)
+}
+
+// How many modes below m are reached.
+pub fn rank_of(modes: u32, m: u32) -> u32
+    requires { ⌜ m < 32 ⌝ }
+    ensures { λ r. ⌜ r ≡ rank modes m ⌝ }
+{
+    u32::count_ones(modes & ((1 << m) - 1))
+}
+
+// The first number where a code is free, else the second.
+fn chosen(code: u8, a: u32, b: u32) -> u32
+    ensures { λ r. ⌜ r ≡ pick (free code) a b ⌝ }
+{
+    if code == 255 {
+        return a;
+    }
+    b
+}
+
+// How many numbers the modes of a region take.
+fn mode_size(g: Grid, b: Region) -> u32
+    ensures { λ r. ⌜ r ≡ modeSize g b ⌝ }
+{
+    chosen(b.mode, u32::count_ones(g.modes), 1)
+}
+
+// How many numbers the places of a region take.
+pub fn size_of(g: Grid, b: Region) -> u32
+    requires { ⌜ sizeOf g b < 4294967296 ⌝ }
+    ensures { λ r. ⌜ r ≡ sizeOf g b ⌝ }
+{
+    let many = chosen(b.object, g.pairs, g.subjects);
+    let few = chosen(b.object, g.objects, 1);
+    chosen(b.subject, many, few) * mode_size(g, b)
+}
+
+// The number of a place of a region, n being that of its pair.
+pub fn index_in(g: Grid, b: Region, n: u32, x: Spot) -> u32
+    requires { ⌜ (sizeOf g b < 4294967296) × Within g n x × (x .mode < 32) ⌝ }
+    ensures { λ r. ⌜ r ≡ indexIn g b n x ⌝ }
+{
+    let many = chosen(b.object, n, x.subject);
+    let few = chosen(b.object, x.object, 0);
+    let m = chosen(b.mode, rank_of(g.modes, x.mode), 0);
+    chosen(b.subject, many, few) * mode_size(g, b) + m
+}

@@ -1,0 +1,33 @@
+-- What a step of the search does to the tables of what is needed and what is still to do.
+use mathlib.Core.Path.{_≡_}
+use mathlib.Core.Logic.{_⊎_}
+use mathlib.Core.Bool.{true}
+use mathlib.Core.List.{List, [], _∷_}
+use Prim.Native.Nat.{ℕ, _+_, _*_, _-_, _≤_, _<_}
+use lib.ListN.{length}
+use Rattle.reach.specs.Net.{Net, has, ClosedBut}
+
+abbrev pub sum : List ℕ → ℕ
+sum [] = 0
+sum (x ∷ l) = x + sum l
+
+-- what is left: bits that are not needed count twice, bits to do once
+abbrev pub weight : List ℕ → List ℕ → ℕ
+weight need todo = 2 * (65535 * length need - sum need) + sum todo
+
+-- more is needed, and what is new is to do
+pub record Grown (need todo need′ todo′ : List ℕ) : Type 0 where
+  pub more : (j k : ℕ) → has need j k ≡ true → has need′ j k ≡ true
+  pub kept : (j k : ℕ) → has todo j k ≡ true → has todo′ j k ≡ true
+  pub fresh : (j k : ℕ) → has need′ j k ≡ true → (has need j k ≡ true) ⊎ (has todo′ j k ≡ true)
+  pub less : weight need′ todo′ ≤ weight need todo
+  pub needs : length need′ ≡ length need
+  pub todos : length todo′ ≡ length todo
+
+-- one bit is no longer to do
+pub record Stepped (net : Net) (need todo need′ todo′ : List ℕ) : Type 0 where
+  pub more : (j k : ℕ) → has need j k ≡ true → has need′ j k ≡ true
+  pub closed : ClosedBut net need todo → ClosedBut net need′ todo′
+  pub less : weight need′ todo′ < weight need todo
+  pub needs : length need′ ≡ length need
+  pub todos : length todo′ ≡ length todo

@@ -1,0 +1,203 @@
+// Reach: which places a question can rest on. From the place that is asked about, each rule that stands at a
+// needed place leads to the place of its right side.
+ghost use mathlib.Core.Path.{_≡_};
+ghost use mathlib.Core.Bool.{true};
+ghost use Prim.Native.Nat.{ℕ, _+_, _*_, _/_, _%_, _≤_, _<_};
+ghost use lib.ListN.{length, getD};
+ghost use Rattle.foundation.specs.Masks.{bit};
+ghost use Rattle.reach.specs.Net.{Net, standing, turned, aimPair, aimBits, Led, Formed, has, Closed};
+ghost use Rattle.reach.specs.Reach.{Grown, Stepped};
+use words::next_bit;
+
+// A place: the coordinates of its object, subject and mode, and how many subjects there are.
+pub struct Spot {
+    pub object: usize,
+    pub subject: usize,
+    pub mode: usize,
+    pub subjects: usize,
+}
+
+// A coordinate of a right side with a code: its own, or that of the left side.
+fn turn(code: u8, own: usize) -> usize
+    ensures { λ r. ⌜ r ≡ turned code own ⌝ }
+{
+    if code == 255 {
+        return own;
+    }
+    code as usize
+}
+
+// The pair on the right of rule r.
+fn aim_pair(right: &[u8; 256], r: usize, at: Spot) -> usize
+    requires { ⌜ (r < 64) × (aimPair (now right) (at .subjects) r (at .object) (at .subject)
+        < 18446744073709551616) ⌝ }
+    ensures { λ p. ⌜ p ≡ aimPair (now (right .entry)) (at .subjects) r (at .object) (at .subject) ⌝ }
+{
+    let o = turn(right[4 * r], at.object);
+    let s = turn(right[4 * r + 1], at.subject);
+    o * at.subjects + s
+}
+
+// A number below 4 as a word of 16 bits.
+fn wide(x: u8) -> u16
+    ensures { λ r. ⌜ r ≡ x ⌝ }
+{
+    x as u16
+}
+
+// What rule r needs there, seen from a mode.
+fn aim_bits(right: &[u8; 256], r: usize, mode: usize) -> u16
+    requires { ⌜ (r < 64) × (turned (getD (now right) (4 * r + 2) 0) mode < 8)
+        × (getD (now right) (4 * r + 3) 0 < 4) ⌝ }
+    ensures { λ b. ⌜ b ≡ aimBits (now (right .entry)) r mode ⌝ }
+{
+    let signs = wide(right[4 * r + 3]);
+    let m = turn(right[4 * r + 2], mode);
+    (signs % 2 + 256 * (signs / 2)) << m
+}
+
+// Needs bits at a pair; what is new is to do.
+fn ask(need: &mut [u16], todo: &mut [u16], pair: usize, bits: u16)
+    requires { ⌜ (pair < length (now need)) × (pair < length (now todo)) ⌝ }
+    ensures { λ _. ⌜ Grown (now (need .entry)) (now (todo .entry)) (now (need .exit)) (now (todo .exit))
+        × ((b : ℕ) → bit b bits ≡ true → has (now (need .exit)) pair b ≡ true) ⌝ }
+{
+    let old = need[pair];
+    need[pair] = old | bits;
+    todo[pair] = todo[pair] | (bits - (bits & old));
+}
+
+// Needs what rules look at that stand at a place.
+fn follow(right: &[u8; 256], rules: u64, at: Spot, need: &mut [u16], todo: &mut [u16])
+    requires { ⌜ (length (now todo) ≡ length (now need)) × ((r : ℕ) → r < 64 →
+        Led (now right) (at .subjects) (length (now need)) (at .object) (at .subject) (at .mode) r) ⌝ }
+    ensures { λ _. ⌜ Grown (now (need .entry)) (now (todo .entry)) (now (need .exit)) (now (todo .exit))
+        × ((r : ℕ) → r < 64 → bit r rules ≡ true → (b : ℕ) →
+        bit b (aimBits (now (right .entry)) r (at .mode)) ≡ true →
+        has (now (need .exit)) (aimPair (now (right .entry)) (at .subjects) r (at .object) (at .subject)) b
+        ≡ true) ⌝ }
+{
+    let mut r = next_bit(rules, 0);
+    while r < 64 {
+        let q = r as usize;
+        let pair = aim_pair(right, q, at);
+        let bits = aim_bits(right, q, at.mode);
+        ask(need, todo, pair, bits);
+        r = next_bit(rules, r + 1);
+    }
+}
+
+// The rules that stand at an object and a subject with a mode and a sign.
+fn stand(left: &[u64; 146], o: usize, s: usize, k: usize) -> u64
+    requires { ⌜ (o < 65) × (s < 65) × (k < 16) ⌝ }
+    ensures { λ r. ⌜ r ≡ standing (now (left .entry)) o s k ⌝ }
+{
+    left[o] & left[65 + s] & left[130 + k]
+}
+
+// The first bit of a word of 16 that is not 0.
+fn lowest(x: u16) -> usize
+    requires { ⌜ 0 < x ⌝ }
+    ensures { λ k. ⌜ (k < 16) × (bit k x ≡ true) ⌝ }
+{
+    next_bit(x as u64, 0) as usize
+}
+
+// A word of 16 bits without bit k.
+fn without(x: u16, k: usize) -> u16
+    requires { ⌜ (k < 16) × (bit k x ≡ true) ⌝ }
+    ensures { λ r. ⌜ (r < x) × ((i : ℕ) → bit i r ≡ true → bit i x ≡ true)
+        × ((i : ℕ) → bit i x ≡ true → (i ≡ k → ⊥) → bit i r ≡ true) ⌝ }
+{
+    x - (x & (1 << k))
+}
+
+// Follows one bit of what is to do at a pair.
+fn step(
+    left: &[u64; 146],
+    right: &[u8; 256],
+    subjects: usize,
+    pair: usize,
+    need: &mut [u16],
+    todo: &mut [u16],
+)
+    requires { ⌜ Formed (now right) subjects (length (now need)) × (length (now todo) ≡ length (now need))
+        × (pair < length (now need)) × (0 < getD (now todo) pair 0) ⌝ }
+    ensures { λ _. ⌜ Stepped
+        (record { left = now (left .entry); right = now (right .entry); subjects = subjects })
+        (now (need .entry)) (now (todo .entry)) (now (need .exit)) (now (todo .exit)) ⌝ }
+{
+    let k = lowest(todo[pair]);
+    let o = pair / subjects;
+    let s = pair % subjects;
+    let at = Spot {
+        object: o,
+        subject: s,
+        mode: k % 8,
+        subjects: subjects,
+    };
+    follow(right, stand(left, o, s, k), at, need, todo);
+    todo[pair] = without(todo[pair], k);
+}
+
+// The first pair from `from` on with something to do, or how many there are.
+fn first_todo(todo: &[u16], from: usize) -> usize
+    requires { ⌜ from ≤ length (now todo) ⌝ }
+    ensures { λ r. ⌜ (from ≤ r) × (r ≤ length (now (todo .entry)))
+        × ((i : ℕ) → from ≤ i → i < r → getD (now (todo .entry)) i 0 ≡ 0)
+        × (r < length (now (todo .entry)) → 0 < getD (now (todo .entry)) r 0) ⌝ }
+{
+    let mut i = from;
+    while i < todo.len() {
+        if todo[i] != 0 {
+            return i;
+        }
+        i += 1;
+    }
+    i
+}
+
+// A pair with something to do, if there is one from `from` on then the first of these; else how many pairs
+// there are.
+fn next_todo(todo: &[u16], from: usize) -> usize
+    requires { ⌜ from ≤ length (now todo) ⌝ }
+    ensures { λ r. ⌜ (r < length (now (todo .entry)) → 0 < getD (now (todo .entry)) r 0)
+        × (length (now (todo .entry)) ≤ r → (i : ℕ) → i < length (now (todo .entry)) →
+        getD (now (todo .entry)) i 0 ≡ 0) ⌝ }
+{
+    let r = first_todo(todo, from);
+    if r < todo.len() {
+        return r;
+    }
+    first_todo(todo, 0)
+}
+
+// Puts into `need` what a question that starts with bits at a pair can rest on. `todo` is a table to work in.
+pub fn reach(
+    left: &[u64; 146],
+    right: &[u8; 256],
+    subjects: usize,
+    pair: usize,
+    bits: u16,
+    need: &mut [u16],
+    todo: &mut [u16],
+)
+    requires { ⌜ Formed (now right) subjects (length (now need)) × (length (now todo) ≡ length (now need))
+        × (pair < length (now need)) × ((i : ℕ) → getD (now need) i 0 ≡ 0) ⌝ }
+    ensures { λ _. ⌜ Closed (record {
+      left = now (left .entry);
+      right = now (right .entry);
+      subjects =
+          subjects;
+    })
+        (now (need .exit))
+        × ((b : ℕ) → bit b bits ≡ true → has (now (need .exit)) pair b ≡ true)
+        × (length (now (need .exit)) ≡ length (now (need .entry))) ⌝ }
+{
+    ask(need, todo, pair, bits);
+    let mut j = next_todo(todo, pair);
+    while j < todo.len() {
+        step(left, right, subjects, j, need, todo);
+        j = next_todo(todo, j);
+    }
+}

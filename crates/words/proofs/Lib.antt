@@ -1,0 +1,2 @@
+-- `FieldLaws` has the arithmetic of fields in words.
+pub mod FieldLaws

@@ -1,0 +1,112 @@
+-- The bits of words that are joined, cut or taken apart.
+use mathlib.Core.Path.{_≡_, refl, sym, ap, ap₂, _∙_}
+use mathlib.Core.Bool.{Bool, true, false, not, _&&_, _||_}
+use Prim.Native.Nat.{ℕ, zero, suc, _+_, _*_, _-_, _/_, _%_, _^_, _≤_, _<_, min, max}
+use native.Mathlib.Nat.{pow-succ', div-one, one-mul, max-le, min-le-left}
+use native.Mathlib.Omega.{arith}
+use lib.Bits.{bitAnd, bitOr, and-step, or-step, and-shr, or-shr, and-le-l}
+use lib.Dec.{eqb, leb, ltb}
+use Rattle.foundation.specs.Tests.{cases, true-le, and-true, false-eq}
+use Rattle.foundation.specs.Masks.{bit}
+use Rattle.words.specs.Ones.{bit-half, bit-shl, span-bit}
+
+-- ---- one digit
+
+or-digits : (p q : ℕ) → p < 2 → q < 2 → eqb (max p q) 1 ≡ eqb p 1 || eqb q 1
+or-digits zero zero h l = refl
+or-digits zero (suc zero) h l = refl
+or-digits (suc zero) zero h l = refl
+or-digits (suc zero) (suc zero) h l = refl
+or-digits zero (suc (suc q)) h l = absurd (omega arith)
+or-digits (suc zero) (suc (suc q)) h l = absurd (omega arith)
+or-digits (suc (suc p)) q h l = absurd (omega arith)
+
+and-digits : (p q : ℕ) → p < 2 → q < 2 → eqb (min p q) 1 ≡ eqb p 1 && eqb q 1
+and-digits zero zero h l = refl
+and-digits zero (suc zero) h l = refl
+and-digits (suc zero) zero h l = refl
+and-digits (suc zero) (suc zero) h l = refl
+and-digits zero (suc (suc q)) h l = absurd (omega arith)
+and-digits (suc zero) (suc (suc q)) h l = absurd (omega arith)
+and-digits (suc (suc p)) q h l = absurd (omega arith)
+
+less-digits : (p q : ℕ) → p < 2 → q < 2 → eqb (p - min p q) 1 ≡ eqb p 1 && not (eqb q 1)
+less-digits zero zero h l = refl
+less-digits zero (suc zero) h l = refl
+less-digits (suc zero) zero h l = refl
+less-digits (suc zero) (suc zero) h l = refl
+less-digits zero (suc (suc q)) h l = absurd (omega arith)
+less-digits (suc zero) (suc (suc q)) h l = absurd (omega arith)
+less-digits (suc (suc p)) q h l = absurd (omega arith)
+
+-- ---- words
+
+or-low : (a b : ℕ) → bitOr a b % 2 ≡ max (a % 2) (b % 2)
+or-low a b =
+    let s = or-step a b in
+    let l : max (a % 2) (b % 2) ≤ 1 = max-le (omega arith) (omega arith) in
+    omega arith
+
+and-low : (a b : ℕ) → bitAnd a b % 2 ≡ min (a % 2) (b % 2)
+and-low a b =
+    let s = and-step a b in
+    let l : min (a % 2) (b % 2) ≤ a % 2 = min-le-left (a % 2) (b % 2) in
+    omega arith
+
+pub bit-or : (a b i : ℕ) → bit i (bitOr a b) ≡ bit i a || bit i b
+bit-or a b i =
+    ap (λ (n : ℕ). eqb (n % 2) 1) (or-shr a b i)
+    ∙ ap (λ (n : ℕ). eqb n 1) (or-low (a / 2 ^ i) (b / 2 ^ i))
+    ∙ or-digits (a / 2 ^ i % 2) (b / 2 ^ i % 2) (omega arith) (omega arith)
+
+pub bit-and : (a b i : ℕ) → bit i (bitAnd a b) ≡ bit i a && bit i b
+bit-and a b i =
+    ap (λ (n : ℕ). eqb (n % 2) 1) (and-shr a b i)
+    ∙ ap (λ (n : ℕ). eqb n 1) (and-low (a / 2 ^ i) (b / 2 ^ i))
+    ∙ and-digits (a / 2 ^ i % 2) (b / 2 ^ i % 2) (omega arith) (omega arith)
+
+-- what of a word is not in another
+abbrev pub less : ℕ → ℕ → ℕ
+less a b = a - bitAnd a b
+
+less-half : (a b : ℕ) → (less a b / 2 ≡ less (a / 2) (b / 2)) × (less a b % 2 ≡ a % 2 - min (a % 2) (b % 2))
+less-half a b =
+    let s = and-step a b in
+    let l = and-le-l (a / 2) (b / 2) in
+    let m : min (a % 2) (b % 2) ≤ a % 2 = min-le-left (a % 2) (b % 2) in
+    (omega arith, omega arith)
+
+pub bit-less : (i a b : ℕ) → bit i (less a b) ≡ bit i a && not (bit i b)
+bit-less zero a b =
+    ap (λ (n : ℕ). eqb (n % 2) 1) (div-one (less a b))
+    ∙ ap (λ (n : ℕ). eqb n 1) (less-half a b .1)
+    ∙ less-digits (a % 2) (b % 2) (omega arith) (omega arith)
+    ∙ sym (ap₂ (λ (x y : ℕ). eqb (x % 2) 1 && not (eqb (y % 2) 1)) (div-one a) (div-one b))
+bit-less (suc i) a b =
+    bit-half i (less a b) ∙ ap (bit i) (less-half a b .0) ∙ bit-less i (a / 2) (b / 2)
+    ∙ sym (ap₂ (λ (x y : Bool). x && not y) (bit-half i a) (bit-half i b))
+
+-- ---- a power of two has one bit
+
+power-bit : (k i : ℕ) → bit i (2 ^ k) ≡ leb k i && (leb 0 (i - k) && ltb (i - k) 1)
+power-bit k i = ap (bit i) (sym (one-mul (2 ^ k))) ∙ bit-shl 1 k i
+    ∙ ap (λ (b : Bool). leb k i && b) (span-bit 0 1 (i - k) (omega arith))
+
+pub power-only : (k i : ℕ) → bit i (2 ^ k) ≡ true → i ≡ k
+power-only k i e =
+    let w = and-true (leb k i) (leb 0 (i - k) && ltb (i - k) 1) (sym (power-bit k i) ∙ e) in
+    let v = and-true (leb 0 (i - k)) (ltb (i - k) 1) (w .1) in
+    omega (arith, true-le k i (w .0), true-le (suc (i - k)) 1 (v .1))
+
+-- ---- a number without bits
+
+-- with no bit a number is 0
+pub no-bits : (n x : ℕ) → x < 2 ^ n → ((i : ℕ) → i < n → bit i x ≡ false) → x ≡ 0
+no-bits zero x h z = omega arith
+no-bits (suc n) x h z =
+    let s : (x % 2 ≡ 1) → ⊥ = false-eq (x % 2) 1 (ap (λ (y : ℕ). eqb (y % 2) 1) (sym (div-one x))
+    ∙ z 0 (omega arith)) in
+    let l : x < 2 * 2 ^ n = rw (pow-succ' 2 n) at h in
+    let q : x / 2 ≡ 0 = no-bits n (x / 2) (omega arith) (λ i m. sym (bit-half i x)
+    ∙ z (suc i) (omega arith)) in
+    omega arith
