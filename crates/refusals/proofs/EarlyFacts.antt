@@ -1,5 +1,5 @@
 -- Rows asked one after another give the first that applies (`chained`), and the parts in which the code asks
--- rows 3 to 12 give what the table does (`early-stands`, `early-last`, `refusal-early`).
+-- the rows before 13 give what the table does (`early-stands`, `early-last`, `refusal-early`).
 use mathlib.Core.Path.{_≡_, refl, sym, _∙_}
 use mathlib.Core.Logic.{_≢_, inl}
 use Prim.Native.Nat.{ℕ}

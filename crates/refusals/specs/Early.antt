@@ -1,4 +1,4 @@
--- Rows 3 to 12 of the table of refusals, with 14, and what the code answers of them. Row 13 is asked of the
+-- The rows of the table of refusals before 13, and what the code answers of them. Row 13 is asked of the
 -- effect. The code asks them in four parts: those before row 9, row 9, which gives an instant too, those
 -- behind it, and row 12.
 use mathlib.Core.Path.{_≡_}
@@ -38,7 +38,7 @@ module _ (b : Base) (q : Request) where
   abbrev pub rowsBeforeStrata : List Row
   rowsBeforeStrata = rowsBeforeCover ++ (row 9 (notSupported plainly b q) ∷ rowsBehindCover)
 
-  -- rows 3 to 12: the table without its last row
+  -- the table without its last row, 13
   abbrev pub earlyRows : List Row
   earlyRows = rowsBeforeStrata ++ (row 12 (notStratified b q) ∷ [])
 

@@ -1,4 +1,4 @@
-// The table of refusals: rows 3 to 12, asked of the bytes of a sound base and a request. Row 13 is asked of
+// The table of refusals: the rows before 13, asked of the bytes of a sound base and a request. Row 13 is asked of
 // what the request would leave.
 mod circles;
 mod grants;
@@ -19,7 +19,7 @@ pub use rows::not_permitted;
 pub use table::before_strata;
 pub use table::early_refusal;
 
-// The first of rows 3 to 12 that applies: none; its number; or row 9, with the earliest uncovered instant.
+// The first of the rows before 13 that applies: none; its number; or row 9, with the earliest uncovered instant.
 pub enum Early {
     Passed,
     Number(u32),

@@ -81,7 +81,7 @@ pub fn before_strata(s: &[u8], q: Request) -> Early
     }
 }
 
-// The first of rows 3 to 12 that applies.
+// The first of the rows before 13 that applies.
 pub fn early_refusal(s: &[u8], q: Request) -> Early
     requires { ⌜ soundBytes (now s) ≡ true ⌝ }
     ensures { λ r. ⌜ earlyIs (decode (now (s .entry))) q r ⌝ }

@@ -59,7 +59,7 @@ fn done(s: &[u8], q: Request) -> Reply
     }
 }
 
-// A request that withdraws no instants, once rows 3 to 12 let it pass.
+// A request that withdraws no instants, once the rows before 13 let it pass.
 fn add_or_drop(s: &mut [u8], q: Request) -> Reply
     requires { ⌜ Passed (now s) q × (withdraws q ≡ false) ⌝ }
     ensures { λ r. ⌜ Carried (now (s .entry)) q r (now (s .exit)) ⌝ }
@@ -71,7 +71,7 @@ fn add_or_drop(s: &mut [u8], q: Request) -> Reply
     done(s, q)
 }
 
-// A request that rows 3 to 12 let pass: row 13, then the effect.
+// A request that the rows before 13 let pass: row 13, then the effect.
 fn carry_out(s: &mut [u8], q: Request) -> Reply
     requires { ⌜ Passed (now s) q ⌝ }
     ensures { λ r. ⌜ Carried (now (s .entry)) q r (now (s .exit)) ⌝ }

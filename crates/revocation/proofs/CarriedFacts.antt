@@ -1,4 +1,4 @@
--- What a request does that rows 3 to 12 let pass is the library's answer to it (`passed-answered`), and so
+-- What a request does that the rows before 13 let pass is the library's answer to it (`passed-answered`), and so
 -- are the refusals before (`number-answered`, `uncovered-answered`, `unsound-answered`).
 use mathlib.Core.Path.{_≡_, refl, sym, ap, _∙_}
 use mathlib.Core.Logic.{_≢_}
@@ -44,7 +44,7 @@ module _ (s : List ℕ) (q : Request) (e : soundBytes s ≡ true) where
       ∙ request-refused (decode s) q (w .1) (λ y. z (sym h ∙ y))
       ∙ (λ i. answering (refusalReply plainly (decode s) q (h i)) (w .0 i)))
 
-  -- refused by one of rows 3 to 12
+  -- refused by one of the rows before 13
   early-refuses : (n : ℕ) → firstNumber (earlyRows (decode s) q) ≡ n → n ≢ 0 →
       answering (refusalReply plainly (decode s) q n) s ≡ request s q
   early-refuses n h z = refuses n
@@ -69,10 +69,10 @@ pub unsound-answered : (s : List ℕ) (q : Request) → soundBytes s ≡ false �
     answering (Refused 2) s ≡ request s q
 unsound-answered s q e = sym (request-unsound s q e)
 
--- ---- past rows 3 to 12
+-- ---- past the rows before 13
 
 module _ (s : List ℕ) (q : Request) (p : Passed s q) where
-  -- none of rows 3 to 12 applies
+  -- none of the rows before 13 applies
   pub passed-row : (r : Row) → Mem r (earlyRows (decode s) q) → r .given ≡ false
   passed-row = first-none (earlyRows (decode s) q) (early-numbered (decode s) q) (p .early)
 

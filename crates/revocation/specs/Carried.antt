@@ -1,4 +1,4 @@
--- What a request does that rows 3 to 12 let pass: row 13 is asked of its effect, and either refuses it or
+-- What a request does that the rows before 13 let pass: row 13 is asked of its effect, and either refuses it or
 -- leaves the effect's bytes (`Carried`).
 use mathlib.Core.Path.{_≡_}
 use mathlib.Core.Bool.{true}
@@ -14,7 +14,7 @@ use Rattle.model.specs.Means.{plainly}
 use Rattle.model.specs.Step.{firstNumber, full, effect, accepting}
 use Rattle.refusals.specs.Early.{earlyRows}
 
--- the bytes are sound, and none of rows 3 to 12 applies
+-- the bytes are sound, and none of the rows before 13 applies
 pub record Passed (s : List ℕ) (q : Request) : Type 0 where
   pub sound : soundBytes s ≡ true
   pub early : firstNumber (earlyRows (decode s) q) ≡ 0
