@@ -1,5 +1,5 @@
-// The table of refusals: the rows before 13, asked of the bytes of a sound base and a request. Row 13 is asked of
-// what the request would leave.
+// The table of refusals: the rows before 13, asked of the bytes of a sound base and a request. Row 13 is
+// asked of what the request would leave.
 mod circles;
 mod grants;
 mod ranges;
@@ -19,7 +19,8 @@ pub use rows::not_permitted;
 pub use table::before_strata;
 pub use table::early_refusal;
 
-// The first of the rows before 13 that applies: none; its number; or row 9, with the earliest uncovered instant.
+// The first of the rows before 13 that applies: none; its number; or row 9, with the earliest uncovered
+// instant.
 pub enum Early {
     Passed,
     Number(u32),

@@ -1,5 +1,5 @@
--- What a request does that the rows before 13 let pass is the library's answer to it (`passed-answered`), and so
--- are the refusals before (`number-answered`, `uncovered-answered`, `unsound-answered`).
+-- What a request does that the rows before 13 let pass is the library's answer to it (`passed-answered`),
+-- and so are the refusals before (`number-answered`, `uncovered-answered`, `unsound-answered`).
 use mathlib.Core.Path.{_≡_, refl, sym, ap, _∙_}
 use mathlib.Core.Logic.{_≢_}
 use mathlib.Core.Bool.{Bool, true, false}
