@@ -132,7 +132,8 @@ module _ (s : List ℕ) (q : Request) where
   uncovered-reply =
       let after = effect plainly (decode s) q in
       by-rows (requestTable s q) (refusedWith s q) (answering (accepting (decode s) q after) (encode after))
-      (λ (a : Answer). refusalNumber (a .reply) ≡ 9 → a .reply ≡ Unsupported (earliestGap plainly (decode s) q))
+      (λ (a : Answer). refusalNumber (a .reply) ≡ 9 →
+      a .reply ≡ Unsupported (earliestGap plainly (decode s) q))
       (λ e. ap (refusalReply plainly (decode s) q)
       (sym (reply-refusal (decode s) q (firstNumber (requestTable s q))) ∙ e))
       (λ z e. absurd (omega arith))
@@ -146,7 +147,8 @@ module _ (s : List ℕ) (q : Request) where
   fourteen-span : refusalNumber (request s q .reply) ≡ 14 → badInterval q ≡ false
   fourteen-span n =
       let b = decode s in
-      let front = row 2 (not (soundBytes s)) ∷ row 3 (outOfRange q) ∷ row 4 (behindClock b q) ∷ row 5 true ∷ [] in
+      let front =
+      row 2 (not (soundBytes s)) ∷ row 3 (outOfRange q) ∷ row 4 (behindClock b q) ∷ row 5 true ∷ [] in
       not-true (badInterval q) (must-hold 14 (not (badInterval q)) front
       (λ f. let g = not-false (badInterval q) f in rw g) refl refl n)
 
@@ -155,7 +157,10 @@ module _ (s : List ℕ) (q : Request) where
   fourteen-barred n = cases (soundBytes s)
       (λ e. barred-instant (decode s) q (sound-tests (decode s) (sound-bytes s e .1)) (fourteen-span n) .0
       (fourteen-applies n))
-      (λ e. absurd (omega (arith, sym n ∙ ap (λ (a : Answer). refusalNumber (a .reply)) (request-unsound s q e))))
+      (λ e. absurd (omega (
+        arith,
+        sym n ∙ ap (λ (a : Answer). refusalNumber (a .reply)) (request-unsound s q e),
+      )))
 
   -- the rows before row 14
   abbrev pub rowsBefore : List Row

@@ -1,6 +1,6 @@
 -- What rows 14 and 9 say of a grant or denial, instant by instant and field by field (`barred-instant`,
--- `unsupported-instant`). That lines already given stay when their giver is denied is what DENY does: the lines
--- before, and one more (`Effects.effect-deny`).
+-- `unsupported-instant`). That lines already given stay when their giver is denied is what DENY does: the
+-- lines before, and one more (`Effects.effect-deny`).
 use mathlib.Core.Path.{_≡_, refl, sym, ap, subst, _∙_}
 use mathlib.Core.Logic.{_⊎_, inl, inr, _↔_}
 use mathlib.Core.Bool.{Bool, true, false, not, _&&_, _||_, false≢true}
@@ -8,8 +8,8 @@ use mathlib.Core.List.{List}
 use Prim.Native.Nat.{ℕ, suc, _≤_}
 use native.Mathlib.Omega.{arith}
 use lib.Dec.{ltb, eqb}
-use Rattle.foundation.specs.Tests.{cases, must-fail, and-true, and-intro, and-three, and-four, or-cases, or-none}
-use Rattle.foundation.specs.Tests.{or-false, not-true, eq-true, true-eq, true-le, false-le}
+use Rattle.foundation.specs.Tests.{cases, must-fail, and-true, and-intro, and-three, and-four, or-cases}
+use Rattle.foundation.specs.Tests.{or-none, or-false, not-true, eq-true, true-eq, true-le, false-le}
 use Rattle.foundation.specs.Lists.{Mem, anyb, allb, any-mem, mem-any, all-mem}
 use Rattle.foundation.specs.Intervals.{inInterval, none?, overlap, overlap-instant}
 use Rattle.model.specs.declared.Privilege.{Privilege}
@@ -55,8 +55,8 @@ pub record Barred (b : Base) (q : Request) : Type 0 where
   pub within : inInterval (q .interval) instant ≡ true
   pub denied : DeniedAt b q instant
 
--- 01, row 9: "the giver of a grant or denial is neither owner nor administrator, and some instant of it is not
--- covered"; 02, CR 3: the earliest
+-- 01, row 9: "the giver of a grant or denial is neither owner nor administrator, and some instant of it is
+-- not covered"; 02, CR 3: the earliest
 pub record Uncovered (b : Base) (q : Request) : Type 0 where
   pub outside : Outside b q
   pub instant : ℕ
@@ -141,7 +141,8 @@ module _ (b : Base) (q : Request) where
       (must-fail (badInterval q) (ltb (q .interval .end) (q .interval .start)) i (λ e. rw (named, e))) in
       omega arith
 
-  line-span : Sound b → (a : Authorization) → Mem a (b .authorizations) → a .interval .start ≤ a .interval .end
+  line-span : Sound b → (a : Authorization) → Mem a (b .authorizations) →
+      a .interval .start ≤ a .interval .end
   line-span s a m =
       let w = and-true (allb (λ x. startsFirst (x .interval)) (b .authorizations))
       (allb (λ r. startsFirst (r .interval)) (b .rules)) (s .intervals) in

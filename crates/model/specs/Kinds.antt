@@ -7,8 +7,8 @@ use lib.Dec.{eqb}
 use Rattle.foundation.specs.Tests.{must-fail, true-eq, not-true, or-false}
 use Rattle.foundation.specs.Lists.{anyb, allb, any-mem, all-mem}
 use Rattle.model.specs.declared.Request.{Request}
-use Rattle.model.specs.Requests.{NEW, GRANT, DENY, REVOKE, REVOKEP, REVOKEN, ADDRULE, GRANTADM, REVOKEADM}
-use Rattle.model.specs.Requests.{GRANTREF}
+use Rattle.model.specs.Requests.{NEW, GRANT, DENY, REVOKE, REVOKEP, REVOKEN, ADDRULE, GRANTADM}
+use Rattle.model.specs.Requests.{REVOKEADM, GRANTREF}
 use Rattle.model.specs.Requests.{REVOKEREF, is}
 
 -- ---- the kinds of `grants`, `labels` and `withdraws` in Requests

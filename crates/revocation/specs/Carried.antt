@@ -1,5 +1,5 @@
--- What a request does that the rows before 13 let pass: row 13 is asked of its effect, and either refuses it or
--- leaves the effect's bytes (`Carried`).
+-- What a request does that the rows before 13 let pass: row 13 is asked of its effect, and either refuses it
+-- or leaves the effect's bytes (`Carried`).
 use mathlib.Core.Path.{_≡_}
 use mathlib.Core.Bool.{true}
 use mathlib.Core.List.{List}

@@ -141,8 +141,8 @@ pub fn holds_at(s: &[u8], x: Access, t: u32) -> bool
     )
 }
 
-// Counts the maximal intervals where MAY says yes, and puts them at the front of the list, as many as there is
-// room for. The tables are prepared.
+// Counts the maximal intervals where MAY says yes, and puts them at the front of the list, as many as there
+// is room for. The tables are prepared.
 fn scan(
     lines: &[u8],
     total: usize,
@@ -252,8 +252,8 @@ fn runs_in(lines: &[u8], total: usize, body: &[u8], n: usize, x: Access, list: &
     )
 }
 
-// Counts the maximal intervals where MAY says yes, and puts them at the front of the list, if there is room for
-// all. A list that may be too short is not lent before they are counted; the list lent first has no numbers.
+// Counts the maximal intervals where MAY says yes, and puts them at the front of the list, if there is room
+// for all. A list that may be too short is not lent before they are counted; the list lent first has no numbers.
 fn runs_if_room(
     lines: &[u8],
     total: usize,

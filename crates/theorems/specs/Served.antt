@@ -1,6 +1,6 @@
 -- DEMAND 3 ABOUT THE CODE: it cites the contract of the library's request alone, and that of create. Of the
--- bytes that a program leaves which answers one request after the other, each on the bytes that the one before
--- left, and the first on those that create left, demand 3 holds: `demand3-code`.
+-- bytes that a program leaves which answers one request after the other, each on the bytes that the one
+-- before left, and the first on those that create left, demand 3 holds: `demand3-code`.
 use mathlib.Core.Path.{_≡_, sym, ap, _∙_, subst}
 use Prim.Native.Nat.{ℕ}
 use mathlib.Core.List.{List, [], _∷_}
@@ -20,7 +20,8 @@ Served (q ∷ rest) s s″ = (r : Reply) × (s′ : List ℕ) × (answering r s�
 -- they are the model's
 pub served-bytes : (qs : List Request) (s s′ : List ℕ) → Served qs s s′ → s′ ≡ requests qs s
 served-bytes [] s s′ e = e
-served-bytes (q ∷ rest) s s″ (r, s′, a, w) = served-bytes rest s′ s″ w ∙ ap (λ (x : Answer). requests rest (x .lent)) a
+served-bytes (q ∷ rest) s s″ (r, s′, a, w) =
+    served-bytes rest s′ s″ w ∙ ap (λ (x : Answer). requests rest (x .lent)) a
 
 pub demand3-code : (qs : List Request) (lent s s′ : List ℕ) → length lent ≡ size → s ≡ create lent .lent →
     Served qs s s′ → Demand3 qs s′

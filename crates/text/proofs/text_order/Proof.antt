@@ -15,7 +15,8 @@ use Rattle.text.proofs.text_order.Tie as tie
 short : (c : tie.After-request) → Short (c .request .result)
 short c =
     let a = c .before .before .before .before .before .args in
-    subst (λ (x : Answer). Short (x .reply)) (sym (c .request .ensures)) (request-short (now (a .base)) (a .q))
+    subst (λ (x : Answer). Short (x .reply)) (sym (c .request .ensures))
+    (request-short (now (a .base)) (a .q))
 
 put-short-requires : tie.Need-put-short-requires
 put-short-requires c κs =
