@@ -124,6 +124,12 @@ static reply when(const struct library *l)
     return l->when(base, sizeof base, 2, 1, 1, list, 2 * ACCESS_BASE_PAIRS);
 }
 
+/* With a list that just fits the 1,024 runs. */
+static reply when_just(const struct library *l)
+{
+    return l->when(base, sizeof base, 2, 1, 1, list, 2 * 1024);
+}
+
 static reply may(const struct library *l)
 {
     return l->may(base, sizeof base, 2, 1, 1, 8999);
@@ -200,6 +206,7 @@ int main(void)
     row("REVOKEP of an instant at the root, 512 lines across 511", across, split);
     row("REVOKE of the first of a chain of 1,022, times falling with labels", falling, revoke_last);
     row("WHEN, 1,024 lines of one access, all apart", apart, when);
+    row("the same with a list of 1,024 pairs, which just fits", apart, when_just);
     row("WHEN, 64 starred WHENEVERNOT rules in a chain, 1,024 lines apart", starred_chain, when);
     row("MAY, 64 negating rules over 64 named subjects, all lines live", named_chain, may);
     row("WHEN, 64 negating rules over 64 named subjects, all lines live", named_chain, when);

@@ -118,7 +118,8 @@ module _ (s : List ℕ) (x : Access) (list : List ℕ) where
   module _ (e : soundBytes s ≡ true) (z : firstNumber (accessRows (decode s) x) ≡ 0) where
     when-room : whenAnswer s x list ≡ short (ltb (length list / 2) count)
     when-room =
-        when-rows e ∙ answered (accessRows (decode s) x) (refusing list) (short (ltb (length list / 2) count)) z
+        when-rows e
+        ∙ answered (accessRows (decode s) x) (refusing list) (short (ltb (length list / 2) count)) z
 
     pub when-short : length list / 2 < count → whenAnswer s x list ≡ refusing list 13
     when-short h = when-room ∙ ap short (le-true (suc (length list / 2)) count h)

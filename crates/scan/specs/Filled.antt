@@ -1,5 +1,5 @@
--- Intervals at the front of a lent list, two numbers each: as many as it has room for (`filled`), and one more
--- put behind others (`withPair`). Where there is room for all, the rest of the list is untouched (`filled-all`).
+-- Intervals at the front of a lent list, two numbers each: as many as there is room for (`filled`), and one
+-- more behind others (`withPair`). Where there is room for all, the rest of the list is untouched (`filled-all`).
 use mathlib.Core.Path.{_≡_, refl, sym, ap, _∙_}
 use Prim.Native.Nat.{ℕ, zero, suc, _+_, _*_, _≤_, _<_}
 use native.Mathlib.Omega.{arith}

@@ -1,5 +1,5 @@
--- The maximal intervals where a test holds, written down from left to right: what is counted, and in the list,
--- when an instant is reached (`Reached`), and when it has been asked there (`Asked`).
+-- The maximal intervals where a test holds, written down from left to right: what is counted, and in the
+-- list, when an instant is reached (`Reached`), and when it has been asked there (`Asked`).
 use mathlib.Core.Path.{_≡_, refl, sym, ap, _∙_, subst}
 use Prim.Native.Nat.{ℕ, suc, _+_, _-_, _≤_, _<_}
 use native.Mathlib.Omega.{arith}
@@ -17,8 +17,8 @@ use Rattle.scan.specs.Filled.{filled, withPair, filled-more}
 
 -- `lent` is the list as it was lent
 module _ (f : ℕ → Bool) (e : ℕ) (lent : List ℕ) where
-  -- `count` intervals are done, as many of them in the list as it has room for, and the others begin at `from`
-  -- on
+  -- `count` intervals are done, as many of them in the list as it has room for, and the others begin at
+  -- `from` on
   pub record Listed (count from : ℕ) (list : List ℕ) : Type 0 where
     pub done : List Interval
     pub all : maximal 0 e f ≡ done ++ maximal from e f

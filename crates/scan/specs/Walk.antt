@@ -9,8 +9,8 @@ use mathlib.Core.List.{List, [], _++_}
 use lib.Bits.{bitAnd}
 use lib.Dec.{leb, ltb, eqb}
 use lib.ListN.{length, drop, getD}
-use Rattle.foundation.specs.Tests.{pick, le-true, le-false, true-le, eq-true, ne-false, and-true, and-intro, or-true-right}
-use Rattle.foundation.specs.Tests.{or-false}
+use Rattle.foundation.specs.Tests.{pick, le-true, le-false, true-le, eq-true, ne-false, and-true, and-intro}
+use Rattle.foundation.specs.Tests.{or-true-right, or-false}
 use Rattle.foundation.specs.Lists.{anyb}
 use Rattle.foundation.specs.declared.Interval.{Interval}
 use Rattle.foundation.specs.Closure.{iter}

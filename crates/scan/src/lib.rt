@@ -6,8 +6,8 @@ mod walk;
 pub use walk::holds_at;
 pub use walk::list_runs;
 
-// What is known of the intervals while they are written down: how many are done, whether the instants are inside
-// one, and where that began.
+// What is known of the intervals while they are written down: how many are done, whether the instants are
+// inside one, and where that began.
 pub struct Track {
     pub count: usize,
     pub inside: bool,

@@ -141,8 +141,8 @@ pub fn holds_at(s: &[u8], x: Access, t: u32) -> bool
     )
 }
 
-// Puts the maximal intervals where MAY says yes at the front of the list, as many as it has room for, the tables
-// being prepared; how many there are.
+// Counts the maximal intervals where MAY says yes, and puts them at the front of the list, as many as there is
+// room for. The tables are prepared.
 fn scan(
     lines: &[u8],
     total: usize,
@@ -252,8 +252,8 @@ fn runs_in(lines: &[u8], total: usize, body: &[u8], n: usize, x: Access, list: &
     )
 }
 
-// Puts the maximal intervals where MAY says yes at the front of the list, if it has room for all of them; how many
-// there are. A list that may be too short is not lent before they are counted.
+// Counts the maximal intervals where MAY says yes, and puts them at the front of the list, if there is room for
+// all. A list that may be too short is not lent before they are counted; the list lent first has no numbers.
 fn runs_if_room(
     lines: &[u8],
     total: usize,
@@ -295,8 +295,8 @@ fn runs_narrowed(
     runs_if_room(&kept, k, body, n, x, list)
 }
 
-// Puts the maximal intervals where MAY says yes at the front of the list, if it has room for all of them, and else
-// leaves it as it is; how many there are.
+// Counts the maximal intervals where MAY says yes, and puts them at the front of the list, if there is room for
+// all; else the list is as it was.
 pub fn list_runs(s: &[u8], x: Access, list: &mut [u32]) -> usize
     requires { ⌜ (soundBytes (now s) ≡ true) × (accessIn x ≡ true) ⌝ }
     ensures { λ r. ⌜ Listing (when (decode (now (s .entry))) x) r (now (list .entry)) (now (list .exit)) ⌝ }

@@ -1,5 +1,5 @@
--- `marks::next_mark`: the marks of the rules, then those of the authorizations before them; what is promised of
--- the mark found is `next-mark`.
+-- `marks::next_mark`: the marks of the rules, then those of the authorizations before them. What is promised
+-- of the mark found is `next-mark`.
 use borrow.Author.Needs.{needs}
 use mathlib.Core.Path.{_≡_, sym, ap, _∙_, subst}
 use mathlib.Core.List.{_++_}

@@ -12,7 +12,9 @@ use Rattle.scan.proofs.walk.list_runs.Statement.{statement}
 use Rattle.scan.proofs.walk.list_runs.Tie as tie
 
 counts-of-requires : tie.Need-counts-of-requires
-counts-of-requires c κs = let d = c .before .before in omega (arith, sound-length (now (d .args .s)) (d .pre .0))
+counts-of-requires c κs =
+    let d = c .before .before in
+    omega (arith, sound-length (now (d .args .s)) (d .pre .0))
 
 sub-runs-narrowed : tie.Need-sub-runs-narrowed
 sub-runs-narrowed c =

@@ -1,5 +1,5 @@
--- The list is lent only where it has room for all intervals: by the numbers of authorizations and rules, or since
--- they were counted.
+-- The list is lent only where it has room for all intervals: by the numbers of authorizations and rules, or
+-- since they were counted.
 use borrow.Author.Needs.{needs}
 use native.Mathlib.Omega.{arith}
 use mathlib.Core.Path.{_≡_}

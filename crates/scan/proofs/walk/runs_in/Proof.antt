@@ -12,7 +12,8 @@ cast-subject c = let s = c .before .before .before .before in
 scan-requires : tie.Need-scan-requires
 scan-requires c κs =
     let p = c .before .before .before .before .before .before .before .before in
-    let s = p .before .before .before .before .before .before .before .before .before .before .before .before in
+    let s = p .before .before .before .before .before .before .before .before .before .before .before
+    .before in
     let e = p .prepare .ensures in
     (e .0, (e .1, e .2, s .pre .1))
 

@@ -1,5 +1,5 @@
--- The loop's invariant: the table before serves at t, and what is counted, and in the list, is what is known up
--- to t.
+-- The loop's invariant: the table before serves at t, and what is counted, and in the list, is what is known
+-- up to t.
 use borrow.Author.Needs.{needs}
 use native.Mathlib.Omega.{arith}
 use mathlib.Core.Path.{_≡_, refl, sym, _∙_, subst}
