@@ -233,8 +233,8 @@ static inline struct access_base_reply access_base_ask_may(
 }
 
 /* MAY by the simple engine (crates/simple), which is there to be read and to compare with: the same reply as above, but for
- * refusal 15 where feeding leads from some rule back to it. It goes from instant to instant and keeps nothing: its time is the
- * product of the spans of the rules that feed one another, so it is for short intervals and few rules. */
+ * refusal 15 where feeding leads from some rule back to it. It goes from instant to instant and keeps nothing: its time grows
+ * with the number of feeding paths, times the instants looked at along each, so it is for short intervals and few rules. */
 static inline struct access_base_reply access_base_ask_simple_may(
     const uint8_t *base, size_t base_length, uint32_t subject, uint32_t mode, uint32_t object, uint32_t instant)
 {

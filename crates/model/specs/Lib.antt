@@ -26,6 +26,7 @@ pub mod Text
 pub mod Session
 pub mod SupportMarks
 pub mod SideFacts
+pub mod FeedFacts
 pub mod RightFacts
 pub mod HoldsSteady
 pub mod HoldsKeys

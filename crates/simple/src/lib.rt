@@ -3,10 +3,12 @@
 // It looks at one instant at a time and keeps nothing. Whether something is held depends on the rules that
 // may give it (`held`), and whether a rule gives it depends on what is held (`gives`): the two call each
 // other. That ends where no rule feeds itself in the end, since the rules that may give a right side feed the
-// rule that looks at it: the longest feeding path left falls at each turn. Where one does, the reply is 15.
+// rule that looks at it: the longest feeding path left falls at each turn. Where one does, the reply is 15,
+// behind 2, 3 and 6.
 //
 // Below, `s` is the bytes of the base, `p` what is looked for, `t` an instant. The lines `requires` and
-// `ensures` are what is proved of a function, in the words of specs/Engine.antt.
+// `ensures` are what is proved of a function, in the words of specs/Engine.antt, which `ghost use` names;
+// they make no code, and a reader of the engine can pass over them.
 ghost use mathlib.Core.Path.{_≡_};
 ghost use Prim.Native.Nat.{_≤_};
 ghost use Rattle.model.specs.Simple.{simpleAnswer};

@@ -258,7 +258,7 @@ pub fn may(base: &[u8], access: Access, instant: u32) -> Result<bool, Refusal> {
 
 /// The same by the simple engine, which is there to be read and to compare with (`crates/simple`). It goes from instant to
 /// instant and keeps nothing, so it is for short intervals and few rules. It serves rules of which none feeds itself in the
-/// end, and is then proved equal to [`may`]; otherwise [`Refusal::Circular`].
+/// end, and is then proved equal to [`may`]; otherwise [`Refusal::Circular`], unless [`may`] refuses too.
 ///
 /// ```
 /// use access_base::{create, may, simple_may, text, Access, Refusal, BYTES};

@@ -187,7 +187,7 @@ module _ (t : ℕ) where
   gives-throughout-requires : gives-lts.Need-throughout-requires (gives-claims t) (gives-at t) gives.Post
   gives-throughout-requires c κs =
       let r = c .before .before in
-      (fewer r, (start r .pre .1 .0, begun r))
+      (fewer r, (start r .pre .1 .0, omega (arith, begun r)))
 
   gives-held-requires-2 : gives-lts.Need-held-requires-2 (gives-claims t) (gives-at t) gives.Post
   gives-held-requires-2 c κs =
@@ -197,7 +197,7 @@ module _ (t : ℕ) where
   gives-throughout-requires-2 : gives-lts.Need-throughout-requires-2 (gives-claims t) (gives-at t) gives.Post
   gives-throughout-requires-2 c κs =
       let r = c .before .before in
-      (fewer r, (start r .pre .1 .0, begun r))
+      (fewer r, (start r .pre .1 .0, omega (arith, begun r)))
 
   -- the right side that is asked about is the rule's
   abbrev asks : (c : Asking) → Operator → Pattern → Bool

@@ -1,0 +1,122 @@
+-- What feeding is, twice in 01's words: field by field (`feeds-fields`), and as "q's left side can fit r's
+-- right" (`feeds-can`). Circles, forbidden or not, and ranks rest on it.
+use mathlib.Core.Path.{_≡_, refl, ap, _∙_}
+use mathlib.Core.Logic.{_↔_, _⊎_, inl, inr}
+use Prim.Native.Nat.{ℕ}
+use mathlib.Core.Bool.{Bool, true, false, not, _||_}
+use lib.Dec.{eqb}
+use Rattle.foundation.specs.Tests.{pick, cases, true-eq, eq-true, not-true, or-cases, or-intro-left}
+use Rattle.foundation.specs.Tests.{or-true-right, beq-eq, beq-self}
+use Rattle.model.specs.declared.OptionTerm.{OptionTerm}
+use Rattle.model.specs.declared.OptionTerm.the-variants.{With, Without, Either}
+use Rattle.model.specs.declared.Rule.{Rule}
+use Rattle.model.specs.declared.Access.{Access}
+use Rattle.model.specs.Base.{Base}
+use Rattle.model.specs.Stratification.{isStar, meets, fitsOption, feeds}
+use Rattle.model.specs.Rules.{fitsGrantor, rightOf, derivesFor}
+use Rattle.model.specs.SideFacts.{feeds-is, stands-is, fit-feeds, feeds-fit}
+
+-- ---- field by field
+
+-- "equal or starred on either side"; 0 is the star
+abbrev pub Meets : ℕ → ℕ → Type 0
+Meets a b = (a ≡ 0) ⊎ ((b ≡ 0) ⊎ (a ≡ b))
+
+pub meets-is : (a b : ℕ) → (meets a b ≡ true) ↔ Meets a b
+meets-is a b = (to, from)
+  where
+    to : meets a b ≡ true → Meets a b
+    to e = or-cases (isStar a || isStar b) (eqb a b) e
+        (λ s. or-cases (isStar a) (isStar b) s (λ x. inl (true-eq a 0 x)) (λ y. inr (inl (true-eq b 0 y))))
+        (λ z. inr (inr (true-eq a b z)))
+
+    from : Meets a b → meets a b ≡ true
+    from (inl p) = or-intro-left (isStar a || isStar b) (eqb a b)
+        (or-intro-left (isStar a) (isStar b) (eq-true a 0 p))
+    from (inr (inl p)) = or-intro-left (isStar a || isStar b) (eqb a b)
+        (or-true-right (isStar a) (isStar b) (eq-true b 0 p))
+    from (inr (inr p)) = or-true-right (isStar a || isStar b) (eqb a b) (eq-true a b p)
+
+-- "A star for granter ... fits any"
+pub grantor-is : (wanted g : ℕ) → (fitsGrantor wanted g ≡ true) ↔ ((wanted ≡ 0) ⊎ (wanted ≡ g))
+grantor-is wanted g = (
+  (λ e. or-cases (isStar wanted) (eqb wanted g) e (λ x. inl (true-eq wanted 0 x))
+      (λ y. inr (true-eq wanted g y))),
+  from,
+)
+  where
+    from : (wanted ≡ 0) ⊎ (wanted ≡ g) → fitsGrantor wanted g ≡ true
+    from (inl p) = or-intro-left (isStar wanted) (eqb wanted g) (eq-true wanted 0 p)
+    from (inr p) = or-true-right (isStar wanted) (eqb wanted g) (eq-true wanted g p)
+
+-- "A star for ... option fits any"; `y` what is transferable, `n` what is not
+abbrev pub FitsOption : OptionTerm → Bool → Type 0
+FitsOption o has = (o ≡ Either) ⊎ (((o ≡ With) × (has ≡ true)) ⊎ ((o ≡ Without) × (has ≡ false)))
+
+pub option-is : (o : OptionTerm) (has : Bool) → (fitsOption o has ≡ true) ↔ FitsOption o has
+option-is o has = (to o has, from)
+  where
+    to : (o : OptionTerm) (has : Bool) → fitsOption o has ≡ true → FitsOption o has
+    to With has e = inr (inl (refl, e))
+    to Without has e = inr (inr (refl, not-true has e))
+    to Either has e = inl refl
+
+    from : FitsOption o has → fitsOption o has ≡ true
+    from (inl p) = ap (λ (x : OptionTerm). fitsOption x has) p
+    from (inr (inl w)) = ap (λ (x : OptionTerm). fitsOption x has) (w .0) ∙ w .1
+    from (inr (inr w)) = ap (λ (x : OptionTerm). fitsOption x has) (w .0) ∙ ap not (w .1)
+
+-- 01: "same sign and object, subject and mode equal or starred on either side, granter starred or q's author,
+-- option starred or not transferable"
+pub record Feeds (q r : Rule) : Type 0 where
+  pub sign : q .left .negative ≡ r .right .negative
+  pub object : q .left .object ≡ r .right .object
+  pub subject : Meets (q .left .subject) (r .right .subject)
+  pub mode : Meets (q .left .mode) (r .right .mode)
+  pub grantor : (r .grantor ≡ 0) ⊎ (r .grantor ≡ q .author)
+  pub option : FitsOption (r .option) false
+
+pub feeds-fields : (q r : Rule) → (feeds q r ≡ true) ↔ Feeds q r
+feeds-fields q r = (
+  (λ e. let w = feeds-is q r .0 e in
+      record {
+        sign = beq-eq (q .left .negative) (r .right .negative) (w .0);
+        object = true-eq (q .left .object) (r .right .object) (w .1);
+        subject = meets-is (q .left .subject) (r .right .subject) .0 (w .2);
+        mode = meets-is (q .left .mode) (r .right .mode) .0 (w .3);
+        grantor = grantor-is (r .grantor) (q .author) .0 (w .4);
+        option = option-is (r .option) false .0 (w .5);
+      }),
+  (λ w. feeds-is q r .1 (
+    rw (w .sign) (beq-self (r .right .negative)),
+    eq-true (q .left .object) (r .right .object) (w .object),
+    meets-is (q .left .subject) (r .right .subject) .1 (w .subject),
+    meets-is (q .left .mode) (r .right .mode) .1 (w .mode),
+    grantor-is (r .grantor) (q .author) .1 (w .grantor),
+    option-is (r .option) false .1 (w .option),
+  )),
+)
+
+-- ---- can fit
+
+-- numbers that meet fit: a right side's star stands for the left side's number
+meets-fit : (n m : ℕ) → meets n m ≡ true → isStar n || eqb n (pick (isStar m) n m) ≡ true
+meets-fit n m e = cases (isStar n)
+    (λ a. rw a)
+    (λ a. cases (isStar m) (λ b. rw (a, b) (eq-true n n refl)) (λ b. rw (a, b) (rw (a, b) at e)))
+
+-- 01: "Rule q feeds rule r if q's left side can fit r's right": for some access
+pub feeds-can : (b : Base) (q r : Rule) →
+    (feeds q r ≡ true) ↔ ((x : Access) × (derivesFor b (rightOf r x) q ≡ true))
+unfolding rightOf
+feeds-can b q r = (there, (λ c. fit-feeds b q r (c .0) (c .1)))
+  where
+    there : feeds q r ≡ true → (x : Access) × (derivesFor b (rightOf r x) q ≡ true)
+    there e =
+        let w = feeds-is q r .0 e in
+        let x : Access = record { subject = q .left .subject; mode = q .left .mode; object = q .left .object } in
+        (x, feeds-fit b q r x e (stands-is b q (rightOf r x .access) .1 (
+          meets-fit (q .left .subject) (r .right .subject) (w .2),
+          meets-fit (q .left .mode) (r .right .mode) (w .3),
+          w .1,
+        )))
