@@ -114,9 +114,11 @@ feeds-can b q r = (there, (λ c. fit-feeds b q r (c .0) (c .1)))
     there : feeds q r ≡ true → (x : Access) × (derivesFor b (rightOf r x) q ≡ true)
     there e =
         let w = feeds-is q r .0 e in
-        let x : Access = record { subject = q .left .subject; mode = q .left .mode; object = q .left .object } in
-        (x, feeds-fit b q r x e (stands-is b q (rightOf r x .access) .1 (
-          meets-fit (q .left .subject) (r .right .subject) (w .2),
-          meets-fit (q .left .mode) (r .right .mode) (w .3),
-          w .1,
-        )))
+        let x : Access = record { subject = q .left .subject; mode = q .left .mode; object = q .left .object } in (
+          x,
+          feeds-fit b q r x e (stands-is b q (rightOf r x .access) .1 (
+            meets-fit (q .left .subject) (r .right .subject) (w .2),
+            meets-fit (q .left .mode) (r .right .mode) (w .3),
+            w .1,
+          )),
+        )
