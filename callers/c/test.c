@@ -337,7 +337,7 @@ static void simple(void)
     expect(is(access_base_ask_simple_may(base, length, 2, 9, 7, 20), ACCESS_BASE_OUT_OF_RANGE, 0, 0)
                && is(access_base_ask_simple_may(base, length, 2, 1, 8, 20), ACCESS_BASE_NO_SUCH_OBJECT, 0, 0), "15 is last");
     expect(tells(16, "2 1 DROPRULE 10", 0, "done 0 3\n") && agreed(2) == 82, "the circle is gone");
-    expect(tells(16, "2 1 ADDRULE * 1 7 + ASLONGAS * 1 7 + * * 10 20", 0, "done 11 3\n")
+    expect(tells(16, "2 1 ADDRULE * 2 7 + ASLONGAS * 2 7 + * * 10 20", 0, "done 11 3\n")
                && is(access_base_ask_simple_may(base, length, 2, 1, 7, 20), ACCESS_BASE_CIRCULAR, 0, 0), "a rule feeds itself");
 }
 
