@@ -55,14 +55,27 @@ static void add_objects(struct setup *s)
         add(s, ACCESS_BASE_NEW, 1)->object = object;
 }
 
+/* Whether the subject of a grant was denied the same within its interval: it could not hand on (refusal 14). */
+static bool is_denied(const struct setup *s, const request *grant)
+{
+    for (int i = 0; i < s->count; i++) {
+        const request *q = &s->q[i];
+        if (q->kind == ACCESS_BASE_DENY && q->subject == grant->subject && q->object == grant->object &&
+            q->mode == grant->mode && q->start <= grant->end && grant->start <= q->end)
+            return true;
+    }
+    return false;
+}
+
 /* Owner to agent, agent to firm, firm to engineer, with denials between; every delegation lies within the interval of
- * the line that it hangs on. */
+ * the line that it hangs on, and comes from nobody who is denied there. */
 static void add_delegations(struct setup *s, int lines)
 {
     for (int i = 0; i < lines; i++) {
         int back = i == 0 ? 0 : 1 + (int)below((uint32_t)(i < 64 ? i : 64));
         const request *from = &s->q[s->count - back];
-        bool delegable = back > 0 && from->kind == ACCESS_BASE_GRANT && from->option && from->end - from->start > 8;
+        bool delegable = back > 0 && from->kind == ACCESS_BASE_GRANT && from->option && from->end - from->start > 8 &&
+                         !is_denied(s, from);
         if (i % 8 == 6) {
             uint32_t start = 20000 + below(5000);
             add_line(s, ACCESS_BASE_DENY, 1, 1 + below(4), 1 + below(8), 2 + below(40), start, start + below(3000),
