@@ -54,7 +54,7 @@ module _ (r : Rule) (ms : ℕ → ℕ) (right : ℕ → Bool) (before : Bool) wh
   prior zero = before
   prior (suc i) = made r ms right before i
 
-  made-by : (i : ℕ) → made r ms right before i
+  pub made-by : (i : ℕ) → made r ms right before i
       ≡ (active i && (not (lasting (r .operator)) || first i || prior i)) && wanted i
   made-by zero = refl
   made-by (suc i) = refl

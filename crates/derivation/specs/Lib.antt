@@ -2,3 +2,9 @@ pub mod Window
 pub mod Circles
 pub mod Lasting
 pub mod Words
+pub mod Derive
+pub mod Carried
+pub mod Exact
+pub mod Joined
+pub mod Turn
+pub mod Fixpoint

@@ -23,6 +23,9 @@ use Rattle.words.specs.Bits.{bit-and, bit-less, less}
 use Rattle.derivation.specs.Window.{made}
 use Rattle.derivation.specs.Lasting.{prior, made-plain, made-broken, made-lasting}
 
+pub bit-zero : (i : ℕ) → bit i 0 ≡ false
+bit-zero i = ap (λ (n : ℕ). eqb (n % 2) 1) (zero-div (2 ^ i))
+
 -- the active instants at which the right side is as the operator wants
 abbrev pub wantedWord : Operator → ℕ → ℕ → ℕ
 wantedWord o held active = pick (negating o) (less active held) (bitAnd active held)
@@ -119,6 +122,6 @@ module _ (r : Rule) (k : ℕ) (ms : ℕ → ℕ) (f : Framed r k ms) (right : �
       bit i (derivedWord (r .operator) held active broken a) ≡ made r ms right before i
   word-made a h t n i g = cases (lasting (r .operator))
       (λ l. cases broken
-      (λ b. rw (l, b) (ap (λ (n : ℕ). eqb (n % 2) 1) (zero-div (2 ^ i)) ∙ sym (when-broken l b i g)))
+      (λ b. rw (l, b) (bit-zero i ∙ sym (when-broken l b i g)))
       (λ b. rw (l, b) (sym (when-whole a h t n l (goes-on b a h t n) i g))))
       (λ l. rw l (word i g ∙ sym (made-plain r ms right before l i)))

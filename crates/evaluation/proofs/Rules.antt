@@ -1,10 +1,9 @@
 -- The word of a rule, by whether it looks back and is broken.
 use mathlib.Core.Path.{_≡_, refl, sym, ap, _∙_}
 use mathlib.Core.Bool.{Bool, true, false, _||_, true≢false, false≢true}
-use Prim.Native.Nat.{ℕ, suc, _-_, _/_, _%_, _^_, _≤_, _<_}
-use native.Mathlib.Nat.{zero-div}
+use Prim.Native.Nat.{ℕ, suc, _≤_, _<_}
 use native.Mathlib.Omega.{arith}
-use lib.Bits.{bitAnd, and-le-l}
+use lib.Bits.{and-le-l}
 use lib.Dec.{eqb, ltb}
 use Rattle.foundation.specs.Tests.{cases, true-le, false-le, false-eq}
 use Rattle.foundation.specs.Masks.{bit}
@@ -13,17 +12,13 @@ use Rattle.model.specs.Stratification.{negating}
 use Rattle.questions.specs.Operators.{lasting}
 use Rattle.words.specs.Bits.{no-bits}
 use Rattle.words.specs.Ones.{allFrom, ones-from}
-use Rattle.derivation.specs.Words.{wantedWord, derivedWord}
-use Rattle.evaluation.specs.Derive.{First, Derived}
+use Rattle.derivation.specs.Words.{bit-zero, wantedWord}
+use Rattle.derivation.specs.Derive.{First, Derived}
 
 pub wanted-le : (o : Operator) (held active : ℕ) → wantedWord o held active ≤ active
 wanted-le o held active = cases (negating o)
     (λ e. rw e (omega arith))
     (λ e. rw e (and-le-l active held))
-
--- no bit of 0 is set
-none-set : (i : ℕ) → bit i 0 ≡ true → ⊥
-none-set i e = false≢true (sym (ap (λ (n : ℕ). eqb (n % 2) 1) (zero-div (2 ^ i))) ∙ e)
 
 -- a word has one first bit
 first-one : (a b active : ℕ) → First a active → First b active → a ≡ b
@@ -43,7 +38,7 @@ module _ (o : Operator) (held active : ℕ) (broken : Bool) where
   pub idle-derived : active ≡ 0 → Derived o held active broken 0
   idle-derived z = record {
     within = omega arith;
-    word = λ a f i. absurd (none-set a (ap (bit a) (sym z) ∙ f .set));
+    word = λ a f i. absurd (false≢true (sym (bit-zero a) ∙ ap (bit a) (sym z) ∙ f .set));
   }
 
   pub lasting-derived : lasting o ≡ true → broken ≡ false → (b r : ℕ) → First b active →

@@ -4,7 +4,7 @@ ghost use Prim.Native.Nat.{_<_};
 ghost use Rattle.model.specs.Stratification.{negating};
 ghost use Rattle.questions.specs.Operators.{lasting};
 ghost use Rattle.derivation.specs.Words.{wantedWord};
-ghost use Rattle.evaluation.specs.Derive.{Derived};
+ghost use Rattle.derivation.specs.Derive.{Derived};
 use model::Operator;
 
 // Whether an operator looks back to the rule's start.

@@ -17,3 +17,7 @@ pub mod RequestFacts
 pub mod LedgerFacts
 pub mod SessionFacts
 pub mod Created
+pub mod Looking
+pub mod Matching
+pub mod Transfer
+pub mod Narrowing

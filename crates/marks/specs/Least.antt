@@ -130,8 +130,8 @@ module _ (auths : List Authorization) (rules : List Rule) where
   Ahead t m = Turns auths rules m × (t < m) × (m < 4294967296)
 
   -- 02, "Marks without a list": "the least instant above a given one at which a line or rule starts, or
-  -- directly after the end of one, and none exactly if there is none". m is the mark found above t; 2^32 stands
-  -- for none
+  -- directly after the end of one, and none exactly if there is none". m is the mark found above t; 2^32
+  -- stands for none
   pub record NextMark (t m : ℕ) : Type 0 where
     pub found : m < 4294967296 → Ahead t m
     pub least : (k : ℕ) → Ahead t k → m ≤ k

@@ -50,6 +50,13 @@ negating AsLongAs = false
 negating WheneverNot = true
 negating Unless = true
 
+-- the operators that look back to the rule's start
+abbrev pub lasting : Operator → Bool
+lasting Whenever = false
+lasting AsLongAs = true
+lasting WheneverNot = false
+lasting Unless = true
+
 -- 01: "with a WHENEVERNOT or UNLESS in it"
 abbrev pub negates : Rule → Bool
 negates r = negating (r .operator)

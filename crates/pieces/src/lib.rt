@@ -1,5 +1,5 @@
-// What a withdrawal takes out of an authorization, and the pieces that are left of it, put into the body under
-// construction.
+// What a withdrawal takes out of an authorization, and the pieces that are left of it, put into the body
+// under construction.
 ghost use mathlib.Core.List.{_∷_, []};
 ghost use Prim.Native.Nat.{_+_, _≤_, _<_};
 ghost use Rattle.encoding.specs.Format.{authorizationsIn};

@@ -10,14 +10,8 @@ use Rattle.foundation.specs.Intervals.{always, always-all, all-always}
 use Rattle.model.specs.declared.Operator.{Operator}
 use Rattle.model.specs.declared.Operator.the-variants.{Whenever, AsLongAs, WheneverNot, Unless}
 use Rattle.model.specs.Stratification.{negating}
+pub use Rattle.model.specs.Stratification.{lasting}
 use Rattle.model.specs.Rules.{operate}
-
--- the operators that look back to the rule's start
-abbrev pub lasting : Operator → Bool
-lasting Whenever = false
-lasting AsLongAs = true
-lasting WheneverNot = false
-lasting Unless = true
 
 -- what the operator wants of the right side now: that it is held, or that it is not
 abbrev pub sense : Operator → Bool → Bool

@@ -10,7 +10,7 @@ use Rattle.foundation.specs.Masks.{bit}
 use Rattle.questions.specs.Operators.{lasting}
 use Rattle.words.specs.Ones.{allFrom}
 use Rattle.derivation.specs.Words.{wantedWord}
-use Rattle.evaluation.specs.Derive.{First, Derived}
+use Rattle.derivation.specs.Derive.{First, Derived}
 use Rattle.evaluation.proofs.Rules.{wanted-le, first-of, neither, plain-derived, broken-derived}
 use Rattle.evaluation.proofs.Rules.{idle-derived, lasting-derived}
 use Rattle.evaluation.proofs.derive.Statement.{statement}

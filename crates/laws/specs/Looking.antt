@@ -1,0 +1,108 @@
+-- Which patterns a rule looks at for an access (`Looks`), and for which of them at what holds below its
+-- stratum (`LooksBelow`). Both are used through their laws: what a right side is read from is said here
+-- alone.
+use mathlib.Core.Path.{_≡_, refl, sym, ap, _∙_}
+use Prim.Native.Nat.{ℕ, _≤_}
+use native.Mathlib.Omega.{arith}
+use mathlib.Core.Bool.{Bool, true, not}
+use Rattle.foundation.specs.Tests.{agree}
+use Rattle.foundation.specs.Intervals.{always, always-all, all-always}
+use Rattle.model.specs.declared.Rule.{Rule}
+use Rattle.model.specs.declared.Operator.{Operator}
+use Rattle.model.specs.declared.Operator.the-variants.{Whenever, AsLongAs, WheneverNot, Unless}
+use Rattle.model.specs.declared.Access.{Access}
+use Rattle.model.specs.declared.Pattern.{Pattern}
+use Rattle.model.specs.Base.{Base}
+use Rattle.model.specs.Stratification.{negating, negates, lasting}
+use Rattle.model.specs.StratificationFacts.{unlabelled}
+use Rattle.model.specs.Rules.{rightOf, rightHolds, operate}
+use Rattle.model.specs.RightFacts.{right-own, right-mono}
+use Rattle.model.specs.HoldsLaws.{Fed, StrictlyFed, fit-precedes, strictly-fed}
+
+-- the same rule, under this label or another
+abbrev pub Twins : Rule → Rule → Type 0
+Twins r s = unlabelled r ≡ unlabelled s
+
+-- twins look for the same
+pub right-twin : (r s : Rule) → Twins r s → (x : Access) → rightOf r x ≡ rightOf s x
+unfolding rightOf
+right-twin r s e x = ap (λ (z : Rule). rightOf z x) e
+
+-- r, standing for x, looks at p: at its right side
+unfoldable pub Looks : Rule → Access → Pattern → Type 0
+Looks r x p = p ≡ rightOf r x
+
+-- and looks at what holds of p below its stratum: a rule with WHENEVERNOT or UNLESS does
+unfoldable pub LooksBelow : Rule → Access → Pattern → Type 0
+LooksBelow r x p = (negates r ≡ true) × Looks r x p
+
+module _ (r : Rule) (x : Access) (p : Pattern) where
+  pub looks-access : Looks r x p → p .access ≡ rightOf r x .access
+  unfolding Looks
+  looks-access e = ap (λ (q : Pattern). q .access) e
+
+  pub below-looks : LooksBelow r x p → Looks r x p
+  unfolding LooksBelow
+  below-looks w = w .1
+
+  pub negates-below : negates r ≡ true → Looks r x p → LooksBelow r x p
+  unfolding LooksBelow
+  negates-below g e = (g, e)
+
+  -- what r looks at is derived by rules that precede it,
+  pub looks-fed : (base : Base) → Looks r x p → Fed base r p
+  unfolding Looks
+  looks-fed base e q f = fit-precedes base q r x (rw (← e) f)
+
+  -- and by steps that count where it looks below its stratum
+  pub looks-strictly : (base : Base) → LooksBelow r x p → StrictlyFed base r p
+  unfolding LooksBelow
+  looks-strictly base w = strictly-fed base r (w .0) p (looks-fed base (w .1))
+
+  module _ (s : Rule) (twins : Twins r s) where
+    pub looks-twin : Looks r x p → Looks s x p
+    unfolding Looks
+    looks-twin e = e ∙ right-twin r s twins x
+
+    pub below-twin : LooksBelow r x p → LooksBelow s x p
+    unfolding LooksBelow
+    below-twin w = (ap negates (sym twins) ∙ w .0, looks-twin (w .1))
+
+-- where no less holds of what r looks at, and the same of what it looks at below its stratum, its right side
+-- counts as held no less
+pub right-carry : (r : Rule) (x : Access) (same same′ lower lower′ : Pattern → Bool) →
+    ((p : Pattern) → Looks r x p → same p ≡ true → same′ p ≡ true) →
+    ((p : Pattern) → LooksBelow r x p → lower p ≡ lower′ p) →
+    rightHolds same lower (rightOf r x) ≡ true → rightHolds same′ lower′ (rightOf r x) ≡ true
+unfolding Looks
+right-carry r x same same′ lower lower′ h k e =
+    let p = rightOf r x in
+    right-own same′ (λ q. same′ p) lower′ lower p refl
+    ∙ right-mono (λ q. same p) (λ q. same′ p) lower p (λ q. h p refl)
+    (right-own (λ q. same p) same lower lower p refl ∙ e)
+
+-- a rule with WHENEVERNOT or UNLESS looks only below its stratum: where the same holds there, its right side
+-- counts as held alike
+pub right-alike : (r : Rule) (x : Access) (lower lower′ : Pattern → Bool) → negates r ≡ true →
+    ((p : Pattern) → LooksBelow r x p → lower p ≡ lower′ p) →
+    rightHolds lower lower (rightOf r x) ≡ rightHolds lower′ lower′ (rightOf r x)
+right-alike r x lower lower′ g k =
+    agree (rightHolds lower lower (rightOf r x)) (rightHolds lower′ lower′ (rightOf r x))
+    (right-carry r x lower lower′ lower lower′ (λ p e a. sym (k p (negates-below r x p g e)) ∙ a) k)
+    (right-carry r x lower′ lower lower′ lower (λ p e a. k p (negates-below r x p g e) ∙ a)
+    (λ p e. sym (k p e)))
+
+-- what an operator allows, it allows by a right side that is held no less from h on, if it does not look back
+-- behind h
+pub operate-carry : (o : Operator) (f f′ g g′ : ℕ → Bool) (h a t : ℕ) → h ≤ t → (lasting o ≡ true → h ≤ a) →
+    ((u : ℕ) → h ≤ u → f u ≡ true → f′ u ≡ true) →
+    (negating o ≡ true → (u : ℕ) → h ≤ u → g u ≡ g′ u) →
+    operate always o f g a t ≡ true → operate always o f′ g′ a t ≡ true
+operate-carry Whenever f f′ g g′ h a t l s p q e = p t l e
+operate-carry AsLongAs f f′ g g′ h a t l s p q e =
+    let i = s refl in all-always a t f′ (λ u j k. p u (omega arith) (always-all a t f e u j k))
+operate-carry WheneverNot f f′ g g′ h a t l s p q e = sym (ap not (q refl t l)) ∙ e
+operate-carry Unless f f′ g g′ h a t l s p q e =
+    let i = s refl in
+    all-always a t (λ u. not (g′ u)) (λ u j k. sym (ap not (q refl u (omega arith)))
+    ∙ always-all a t (λ u. not (g u)) e u j k)
