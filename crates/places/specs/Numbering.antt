@@ -49,7 +49,7 @@ before-le (x ∷ l) (suc j) = cases (used x)
     (λ e. rw e (omega (arith, before-le l j)))
     (λ e. rw e (omega (arith, before-le l j)))
 
-before-more : (l : List ℕ) (i d : ℕ) → i + d ≤ length l → before l i ≤ before l (i + d)
+pub before-more : (l : List ℕ) (i d : ℕ) → i + d ≤ length l → before l i ≤ before l (i + d)
 before-more l i zero h = let e : before l (i + 0) ≡ before l i = ap (before l) (omega arith) in omega arith
 before-more l i (suc d) h =
     let s = before-step l (i + d) (omega arith) in
@@ -71,6 +71,48 @@ before-apart l i j h k e =
 pub before-below : (l : List ℕ) (i : ℕ) → i < length l → used (getD l i 0) ≡ true →
     before l i < before l (length l)
 before-below l i h e = before-apart l i (length l) h (omega arith) e
+
+-- so different ones have different numbers
+pub before-same : (l : List ℕ) (i j : ℕ) → i < length l → j < length l → used (getD l i 0) ≡ true →
+    used (getD l j 0) ≡ true → before l i ≡ before l j → i ≡ j
+before-same l i j h k e f q = cases (ltb i j)
+    (λ y. absurd (omega (arith, before-apart l i j (true-le (suc i) j y) (omega arith) e)))
+    (λ y. cases (ltb j i)
+    (λ z. absurd (omega (arith, before-apart l j i (true-le (suc j) i z) (omega arith) f)))
+    (λ z. omega (arith, false-le (suc i) j y, false-le (suc j) i z)))
+
+-- m is the number of one
+pub record NumberOf (l : List ℕ) (m : ℕ) : Type 0 where
+  pub at : ℕ
+  pub inside : at < length l
+  pub needed : used (getD l at 0) ≡ true
+  pub number : before l at ≡ m
+
+-- and every number below their count is that of one
+pub before-onto : (l : List ℕ) (m : ℕ) → m < before l (length l) → NumberOf l m
+unfolding before
+before-onto [] m h = absurd (omega arith)
+before-onto (x ∷ l) m h = cases (used x)
+    (λ e. first e m (rw e at h) (λ k q. before-onto l k q))
+    (λ e. later e (before-onto l m (omega (arith, rw e at h))))
+  where
+    later : used x ≡ false → NumberOf l m → NumberOf (x ∷ l) m
+    later e w = record {
+      at = suc (w .at);
+      inside = omega arith;
+      needed = w .needed;
+      number = rw e (omega (arith, w .number));
+    }
+
+    first : used x ≡ true → (k : ℕ) → k < 1 + before l (length l) →
+        ((i : ℕ) → i < before l (length l) → NumberOf l i) → NumberOf (x ∷ l) k
+    first e zero h rest = record { at = 0; inside = omega arith; needed = e; number = refl }
+    first e (suc k) h rest = let w = rest k (omega arith) in record {
+      at = suc (w .at);
+      inside = omega arith;
+      needed = w .needed;
+      number = rw e (omega (arith, w .number));
+    }
 
 -- ---- modes
 

@@ -15,9 +15,10 @@ use Rattle.foundation.specs.Tests.{pick, cases, true-eq, false-eq, or-cases, or
 use Rattle.foundation.specs.Tests.{and-intro, and-true, eq-true, true-le, false-le}
 use Rattle.foundation.specs.Masks.{bit}
 use Rattle.words.specs.Bits.{bit-or, bit-less, less}
+use Rattle.words.specs.Sums.{sum-set}
 use Rattle.reach.specs.Net.{Net, has, standing, aimPair, aimBits, Followed, ClosedBut, Closed}
-use Rattle.reach.specs.Reach.{sum, weight, Grown, Stepped}
-use Rattle.reach.proofs.Tables.{has-set, sum-set, sum-small, set-small, past}
+use Rattle.reach.specs.Reach.{weight, Grown, Stepped}
+use Rattle.reach.proofs.Tables.{has-set, sum-small, set-small, past}
 
 -- ---- one more is needed
 

@@ -1,4 +1,4 @@
--- A store to a table of words: which bits it has then (`has-set`), and what its words sum up to (`sum-set`).
+-- A store to a table of words: which bits it has then (`has-set`), and that words stay small (`set-small`).
 use mathlib.Core.Path.{_≡_, refl, sym, ap, _∙_}
 use mathlib.Core.Bool.{Bool, true, false}
 use mathlib.Core.List.{List, [], _∷_}
@@ -9,8 +9,8 @@ use lib.ListN.{length, getD, set, length-set}
 use lib.Seq.{getD-set-same, getD-set-other}
 use Rattle.foundation.specs.Tests.{pick, cases, true-eq, false-eq}
 use Rattle.foundation.specs.Masks.{bit}
+use Rattle.words.specs.Sums.{sum}
 use Rattle.reach.specs.Net.{has}
-use Rattle.reach.specs.Reach.{sum}
 
 pub has-set : (l : List ℕ) (p v j k : ℕ) → p < length l →
     has (set l p v) j k ≡ pick (eqb j p) (bit k v) (has l j k)
@@ -18,11 +18,6 @@ has-set l p v j k h = cases (eqb j p)
     (λ e. rw e (ap (λ (i : ℕ). bit k (getD (set l p v) i 0)) (true-eq j p e)
     ∙ ap (bit k) (getD-set-same l p v 0 h)))
     (λ e. rw e (ap (bit k) (getD-set-other l p j v 0 (false-eq j p e))))
-
-pub sum-set : (l : List ℕ) (p v : ℕ) → p < length l → sum (set l p v) + getD l p 0 ≡ sum l + v
-sum-set [] p v h = absurd (omega arith)
-sum-set (x ∷ l) zero v h = omega arith
-sum-set (x ∷ l) (suc p) v h = let i = sum-set l p v (omega arith) in omega arith
 
 -- words of 16 bits
 pub sum-small : (l : List ℕ) → ((i : ℕ) → getD l i 0 < 65536) → sum l ≤ 65535 * length l

@@ -12,9 +12,9 @@ use lib.ListN.{getD}
 use Rattle.foundation.specs.Tests.{pick}
 use Rattle.foundation.specs.Masks.{bit}
 
--- `left` has the rules that stand on an object, 65 words, on a subject, 65, and on a mode with a sign, 16;
--- `right` four numbers a rule: object, subject and mode of its right side, 255 for a star, and the signs that
--- it looks at (1: positive, 2: denied, 3: both)
+-- `left` has the rules that stand on an object, 65 words, on a subject, 65, and on a mode with a sign, 16
+-- (what is behind those is not looked at); `right` four numbers a rule: object, subject and mode of its right
+-- side, 255 for a star, and the signs that it looks at (1: positive, 2: denied, 3: both)
 pub record Net : Type 0 where
   pub left : List ℕ
   pub right : List ℕ

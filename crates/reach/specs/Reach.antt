@@ -2,14 +2,11 @@
 use mathlib.Core.Path.{_≡_}
 use mathlib.Core.Logic.{_⊎_}
 use mathlib.Core.Bool.{true}
-use mathlib.Core.List.{List, [], _∷_}
+use mathlib.Core.List.{List}
 use Prim.Native.Nat.{ℕ, _+_, _*_, _-_, _≤_, _<_}
 use lib.ListN.{length}
+use Rattle.words.specs.Sums.{sum}
 use Rattle.reach.specs.Net.{Net, has, ClosedBut}
-
-abbrev pub sum : List ℕ → ℕ
-sum [] = 0
-sum (x ∷ l) = x + sum l
 
 -- what is left: bits that are not needed count twice, bits to do once
 abbrev pub weight : List ℕ → List ℕ → ℕ

@@ -88,7 +88,7 @@ fn follow(right: &[u8; 256], rules: u64, at: Spot, need: &mut [u16], todo: &mut 
 }
 
 // The rules that stand at an object and a subject with a mode and a sign.
-fn stand(left: &[u64; 146], o: usize, s: usize, k: usize) -> u64
+fn stand(left: &[u64; 151], o: usize, s: usize, k: usize) -> u64
     requires { ⌜ (o < 65) × (s < 65) × (k < 16) ⌝ }
     ensures { λ r. ⌜ r ≡ standing (now (left .entry)) o s k ⌝ }
 {
@@ -114,7 +114,7 @@ fn without(x: u16, k: usize) -> u16
 
 // Follows one bit of what is to do at a pair.
 fn step(
-    left: &[u64; 146],
+    left: &[u64; 151],
     right: &[u8; 256],
     subjects: usize,
     pair: usize,
@@ -174,7 +174,7 @@ fn next_todo(todo: &[u16], from: usize) -> usize
 
 // Puts into `need` what a question that starts with bits at a pair can rest on. `todo` is a table to work in.
 pub fn reach(
-    left: &[u64; 146],
+    left: &[u64; 151],
     right: &[u8; 256],
     subjects: usize,
     pair: usize,

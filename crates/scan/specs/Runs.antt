@@ -7,13 +7,34 @@ use native.Mathlib.Numerals.{add-one}
 use mathlib.Core.Bool.{Bool, true, false, false≢true}
 use mathlib.Core.List.{List, [], _∷_, _++_, append-assoc, append-nil}
 use lib.Dec.{ltb}
-use lib.ListN.{length, length-append}
-use Rattle.foundation.specs.Tests.{pick, cases, true-le, false-le}
+use lib.ListN.{length, getD, length-append}
+use Rattle.foundation.specs.Tests.{pick, cases, true-le, false-le, le-true, le-false}
+use Rattle.foundation.specs.Masks.{bit}
 use Rattle.foundation.specs.declared.Interval.{Interval}
 use Rattle.foundation.specs.Intervals.{interval, maximal}
 use Rattle.foundation.specs.Runs.{maximal-past, maximal-skip, maximal-run}
+use Rattle.windows.specs.Windows.{Rising}
 use Rattle.scan.specs.declared.Track.{Track}
 use Rattle.scan.specs.Filled.{filled, withPair, filled-more}
+
+-- the i-th of the n instants of a window, or m, which comes behind the last
+abbrev pub instant : ℕ → List ℕ → ℕ → ℕ → ℕ
+instant n ms m i = pick (ltb i n) (getD ms i 0) m
+
+pub instant-there : (n : ℕ) (ms : List ℕ) (m i : ℕ) → i < n → instant n ms m i ≡ getD ms i 0
+instant-there n ms m i h = ap (λ (b : Bool). pick b (getD ms i 0) m) (le-true (suc i) n h)
+
+pub instant-behind : (n : ℕ) (ms : List ℕ) (m i : ℕ) → n ≤ i → instant n ms m i ≡ m
+instant-behind n ms m i h = ap (λ (b : Bool). pick b (getD ms i 0) m) (le-false (suc i) n (omega arith))
+
+-- the answers at the n instants of a window are the bits of `yes`, and f does not change from one of them up
+-- to the next, nor from the last up to m
+pub record Answered (f : ℕ → Bool) (e n : ℕ) (ms : List ℕ) (m yes : ℕ) : Type 0 where
+  pub answers : (i : ℕ) → i < n → bit i yes ≡ f (getD ms i 0)
+  pub steady : (i : ℕ) → i < n → (u : ℕ) → getD ms i 0 ≤ u → u < instant n ms m (suc i) →
+      f u ≡ f (getD ms i 0)
+  pub behind : getD ms (n - 1) 0 < m
+  pub within : m ≤ suc e
 
 -- `lent` is the list as it was lent
 module _ (f : ℕ → Bool) (e : ℕ) (lent : List ℕ) where
@@ -47,6 +68,18 @@ module _ (f : ℕ → Bool) (e : ℕ) (lent : List ℕ) where
     listed = record { done = []; all = refl; count-is = refl; list-is = refl };
     held = λ z. absurd (false≢true z);
   }
+
+  -- no more are done than there are
+  pub counted : (t : ℕ) (w : Track) (list : List ℕ) → Reached t w list → w .count ≤ length (maximal 0 e f)
+  counted t w list r =
+      let l = r .listed in
+      let others = maximal (pick (w .inside) (w .from) t) e f in
+      omega (
+        arith,
+        l .count-is,
+        ap (λ (x : List Interval). length x) (l .all),
+        length-append (l .done) others,
+      )
 
   -- ---- asked at t
 
@@ -155,6 +188,31 @@ module _ (f : ℕ → Bool) (e : ℕ) (lent : List ℕ) where
           (λ l. z .1 u x (true-le (suc u) t l))
           (λ l. let k = false-le (suc u) t l in
           steady u (omega arith) y ∙ sym (a .answer) ∙ o)
+
+  -- ---- a window
+
+  module _ (n : ℕ) (ms : List ℕ) (m yes : ℕ) (rising : Rising n ms) (a : Answered f e n ms m yes) where
+    -- each of its instants is before the next, and within the end
+    before-next : (i : ℕ) → i < n → getD ms i 0 < instant n ms m (suc i)
+    before-next i h = cases (ltb (suc i) n)
+        (λ l. rw l (rising i (suc i) (omega arith) (true-le (suc (suc i)) n l)))
+        (λ l. let z : i ≡ n - 1 = omega (arith, false-le (suc (suc i)) n l) in
+        rw (l, z) (a .behind))
+
+    before-last : (i : ℕ) → i < n → getD ms i 0 ≤ getD ms (n - 1) 0
+    before-last i h = cases (ltb i (n - 1))
+        (λ l. omega (arith, rising i (n - 1) (true-le (suc i) (n - 1) l) (omega arith)))
+        (λ l. let z : i ≡ n - 1 = omega (arith, false-le (suc i) (n - 1) l) in rw z (omega arith))
+
+    pub within-end : (i : ℕ) → i < n → getD ms i 0 ≤ e
+    within-end i h = omega (arith, before-last i h, a .behind, a .within)
+
+    -- asked at the i-th, the next is reached
+    pub next-reached : (i : ℕ) (w : Track) (list : List ℕ) → i < n → Asked (getD ms i 0) w list →
+        Reached (instant n ms m (i + 1)) w list
+    next-reached i w list h asked =
+        rw add-one
+        (onward (getD ms i 0) (instant n ms m (suc i)) w list (before-next i h) (a .steady i h) asked)
 
   -- ---- at the end
 

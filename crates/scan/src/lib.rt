@@ -3,6 +3,8 @@ mod relevant;
 mod runs;
 mod walk;
 
+pub use runs::finish;
+pub use runs::note_word;
 pub use walk::holds_at;
 pub use walk::list_runs;
 

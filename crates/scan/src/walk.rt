@@ -253,7 +253,8 @@ fn runs_in(lines: &[u8], total: usize, body: &[u8], n: usize, x: Access, list: &
 }
 
 // Counts the maximal intervals where MAY says yes, and puts them at the front of the list, if there is room
-// for all. A list that may be too short is not lent before they are counted; the list lent first has no numbers.
+// for all. A list that may be too short is not lent before they are counted; the list lent first has no
+// numbers.
 fn runs_if_room(
     lines: &[u8],
     total: usize,
@@ -295,8 +296,8 @@ fn runs_narrowed(
     runs_if_room(&kept, k, body, n, x, list)
 }
 
-// Counts the maximal intervals where MAY says yes, and puts them at the front of the list, if there is room for
-// all; else the list is as it was.
+// Counts the maximal intervals where MAY says yes, and puts them at the front of the list, if there is room
+// for all; else the list is as it was.
 pub fn list_runs(s: &[u8], x: Access, list: &mut [u32]) -> usize
     requires { ⌜ (soundBytes (now s) ≡ true) × (accessIn x ≡ true) ⌝ }
     ensures { λ r. ⌜ Listing (when (decode (now (s .entry))) x) r (now (list .entry)) (now (list .exit)) ⌝ }

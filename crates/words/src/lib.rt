@@ -8,6 +8,7 @@ ghost use lib.Dec.{leb, ltb};
 ghost use Rattle.foundation.specs.Masks.{bit};
 ghost use Rattle.words.specs.Ones.{allFrom};
 ghost use Rattle.words.specs.Fields.{fieldOf, joined, starts};
+ghost use Rattle.words.specs.Sums.{Grown};
 
 // The word whose lowest 2^k bits are set.
 fn low_ones(k: u32) -> u64
@@ -35,14 +36,18 @@ pub fn field_at(words: &[u64], k: u32, i: u32) -> u64
     (words[n / 64] >> (n % 64)) & low_ones(k)
 }
 
-// Joins v to field i. The other fields stay.
-pub fn join_at(words: &mut [u64], k: u32, i: u32, v: u64)
+// Joins v to field i; whether that is new. The other fields stay.
+pub fn join_at(words: &mut [u64], k: u32, i: u32, v: u64) -> bool
     requires { ⌜ (k ≤ 6) × (starts k i < 64 * length (now words)) × (v < 2 ^ (2 ^ k)) ⌝ }
-    ensures { λ _. ⌜ ((j : ℕ) → fieldOf k (now (words .exit)) j ≡ joined k (now (words .entry)) i v j) ⌝ }
-    ensures { λ _. ⌜ length (now (words .exit)) ≡ length (now (words .entry)) ⌝ }
+    ensures { λ r. ⌜ ((j : ℕ) → fieldOf k (now (words .exit)) j ≡ joined k (now (words .entry)) i v j)
+        × (length (now (words .exit)) ≡ length (now (words .entry)))
+        × Grown r (now (words .entry)) (now (words .exit)) ⌝ }
 {
     let n = start_of(k, i);
-    words[n / 64] = words[n / 64] | (v << (n % 64));
+    let old = words[n / 64];
+    let new = old | (v << (n % 64));
+    words[n / 64] = new;
+    old != new
 }
 
 // The word with ones from bit a up to, and without, bit e.

@@ -1,10 +1,13 @@
+-- The word of the field gains bits, which show in that field alone.
 use borrow.Author.Needs.{needs}
-use mathlib.Core.Path.{_≡_, ap, _∙_}
+use native.Mathlib.Omega.{arith}
+use mathlib.Core.Path.{ap, _∙_}
 use Prim.Native.Nat.{ℕ, _*_, _/_, _%_, _^_}
 use denote.Ref.{now}
 use lib.Bits.{bitOr}
 use lib.ListN.{getD, set, length-set}
 use Rattle.words.specs.Fields.{fieldOf}
+use Rattle.words.specs.Sums.{join-grown}
 use Rattle.words.proofs.FieldLaws.{join-law}
 use Rattle.words.proofs.join_at.Statement.{statement}
 use Rattle.words.proofs.join_at.Tie as tie
@@ -19,9 +22,13 @@ returns c =
           (c .before .start-of .ensures)
           ∙ join-law (a .k) (a .i) (a .v) ws (p .0) (p .1) (p .2) j,
       simp length-set,
+      let n : ℕ = c .before .start-of .result in
+          join-grown ws (n / 64) (a .v * 2 ^ (n % 64) % 18446744073709551616)
+          (omega (arith, c .before .start-of .ensures)),
     )
 
 pub join-at-spec : {M : Type 1} → statement M
 join-at-spec =
-    tie.close (tie.spec (λ c κs. search needs) (λ c. search needs) (λ c. search needs) (λ c. search needs)
+    tie.close
+    (tie.spec (λ c κs. search needs) (λ c. search needs) (λ c. search needs) (λ c. search needs)
     (λ c. search needs) (λ c. search needs) (λ c. search needs) returns)

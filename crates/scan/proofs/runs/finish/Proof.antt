@@ -6,7 +6,9 @@ use Rattle.scan.proofs.runs.finish.Statement.{statement}
 use Rattle.scan.proofs.runs.finish.Tie as tie
 
 put-run-requires : tie.Need-put-run-requires
-put-run-requires c κs = c .before .before .before .pre (c .before .if1 .taken)
+put-run-requires c κs =
+    let z = c .before .before .before .pre (c .before .if1 .taken) in
+    search needs
 
 add-result : tie.Need-add-result
 add-result c =

@@ -13,7 +13,7 @@ returns c =
     let a = c .before .before .before .args in
     let z = and-true (a .yes) (not (a .w .inside)) (c .if1 .taken) in
     let o = not-true (a .w .inside) (z .1) in
-    λ f e lent r q h. opens f e lent (a .t) (a .w) (now (a .list)) r o (sym q ∙ z .0)
+    (λ f e lent r q h. opens f e lent (a .t) (a .w) (now (a .list)) r o (sym q ∙ z .0), search needs)
 
 -- an interval ends: it is open, and the answer is no
 ends : (c : tie.Then2) →
@@ -44,9 +44,11 @@ returns-2 : tie.Need-returns-2
 returns-2 c =
     let d = c .before .before .before .before .before in
     let a = d .before .before .before .before .before .args in
-    let z = ends d in
-    λ f e lent r q h. closed f e lent (a .t) (a .w) (now (a .list)) r (z .1) h (sym q ∙ z .0) _
-    (c .before .before .before .put-run .ensures)
+    let z = ends d in (
+      λ f e lent r q h. closed f e lent (a .t) (a .w) (now (a .list)) r (z .1) h (sym q ∙ z .0) _
+          (c .before .before .before .put-run .ensures),
+      search needs,
+    )
 
 -- where neither test passes the answer is as before
 as-before : (a b : Bool) → a && not b ≡ false → not a && b ≡ false → b ≡ a
@@ -59,7 +61,7 @@ returns-3 : tie.Need-returns-3
 returns-3 c =
     let a = c .before .before .before .before .before .args in
     let o = as-before (a .yes) (a .w .inside) (c .before .before .if1 .left) (c .if2 .left) in
-    λ f e lent r q h. same f e lent (a .t) (a .w) (now (a .list)) r (o ∙ q)
+    (λ f e lent r q h. same f e lent (a .t) (a .w) (now (a .list)) r (o ∙ q), search needs)
 
 pub note-spec : {M : Type 1} → statement M
 note-spec =

@@ -117,7 +117,7 @@ loop-again c =
           .1 .0) (on .0) (omega (arith, e)) at,
       onward f lastInstant (now (a .list)) (l .t) m (noted .result) _ (on .0)
           (steady (now (a .lines)) (a .total) (now (a .body)) (a .n) (a .x) (l .t) m e)
-          (noted .ensures f lastInstant (now (a .list)) (l .inv .2) yes (omega (arith, h))),
+          (noted .ensures .0 f lastInstant (now (a .list)) (l .inv .2) yes (omega (arith, h))),
       search needs,
     )
 

@@ -1,0 +1,55 @@
+-- A question that no rule can answer: no rule stands for one that derives the access. Then the authorizations
+-- alone decide (`direct-may`).
+use mathlib.Core.Path.{_≡_, refl, ap, ap₂, _∙_}
+use mathlib.Core.Bool.{Bool, true, false, not, _&&_, _||_}
+use mathlib.Core.List.{List}
+use Prim.Native.Nat.{ℕ, suc, _*_}
+use lib.Dec.{eqb}
+use lib.ListN.{length}
+use Rattle.foundation.specs.Tests.{or-false}
+use Rattle.foundation.specs.Lists.{anyb, any-false, any-none, any-cong-mem}
+use Rattle.foundation.specs.Intervals.{inInterval, always}
+use Rattle.model.specs.declared.Rule.{Rule}
+use Rattle.model.specs.declared.Access.{Access}
+use Rattle.model.specs.declared.Authorization.{Authorization}
+use Rattle.model.specs.Base.{Base}
+use Rattle.model.specs.Support.{live}
+use Rattle.model.specs.Rules.{Fact, fact, fits, standsFor, derivesFor, derivedBelow, holds}
+use Rattle.model.specs.Rules.{asked, may, mayWith}
+
+-- MAY's answer by the authorizations alone: a positive one has t, and no denial has
+abbrev pub heldDirectly : List Authorization → Access → ℕ → Bool
+heldDirectly xs x t = anyb (fits (asked x false)) (live t xs) && not (anyb (fits (asked x true)) (live t xs))
+
+-- an authorization has t and is for the access, its sign aside
+abbrev pub liveFor : Access → ℕ → Authorization → Bool
+liveFor x t a =
+    eqb (a .head .subject) (x .subject)
+    && eqb (a .head .mode) (x .mode)
+    && eqb (a .head .object) (x .object)
+    && inInterval (a .interval) t
+
+-- ---- no rule stands for the access
+
+module _ (b : Base) (x : Access) (t : ℕ) (none : anyb (λ r. standsFor b r x) (b .rules) ≡ false) where
+  -- no rule derives it, whatever rules derive
+  underived : (negative : Bool) (S : Fact → Bool) →
+      anyb (λ r. let d = S (fact r x t) in derivesFor b (asked x negative) r && d) (b .rules) ≡ false
+  unfolding derivesFor
+  underived negative S =
+      any-cong-mem (λ r. let d = S (fact r x t) in derivesFor b (asked x negative) r && d) (λ r. false)
+      (b .rules) (λ r m. rw (any-false (λ q. standsFor b q x) (b .rules) none r m) refl)
+      ∙ any-none (λ (r : Rule). false) (b .rules) (λ r. refl)
+
+  direct-holds : (negative : Bool) →
+      holds always b t (asked x negative) ≡ anyb (fits (asked x negative)) (live t (b .authorizations))
+  unfolding holds
+  direct-holds negative =
+      let given = anyb (fits (asked x negative)) (live t (b .authorizations)) in
+      ap (λ (d : Bool). given || d)
+      (underived negative (derivedBelow always b (suc (2 * length (b .rules)))))
+      ∙ or-false given
+
+  pub direct-may : may b x t ≡ heldDirectly (b .authorizations) x t
+  unfolding may mayWith
+  direct-may = ap₂ (λ (y z : Bool). y && not z) (direct-holds false) (direct-holds true)

@@ -1,0 +1,42 @@
+-- One window evaluated: what is done, one thing after the other. What that means is no matter here.
+use mathlib.Core.Path.{_≡_}
+use mathlib.Core.Logic.{_⊎_}
+use mathlib.Core.Bool.{true}
+use mathlib.Core.List.{List}
+use Prim.Native.Nat.{ℕ, _^_, _<_}
+use lib.ListN.{length, getD}
+use Rattle.foundation.specs.Masks.{bit}
+use Rattle.model.specs.declared.Authorization.{Authorization}
+use Rattle.model.specs.Stratification.{stratum}
+use Rattle.encoding.specs.Format.{rulesIn, ruleAt}
+use Rattle.words.specs.Fields.{fieldOf}
+use Rattle.windows.specs.Windows.{inside}
+use Rattle.relevance.specs.Chosen.{selected}
+use Rattle.facts.specs.Facts.{Setting, LineSteps}
+use Rattle.grounding.specs.Turns.{Prepared, Turns, Strata}
+
+-- the instants of the rules of a mask fit into fields of 2^width bits
+abbrev pub Low : List ℕ → ℕ → ℕ → Type 0
+Low active rules width = (r : ℕ) → bit r rules ≡ true →
+    (getD active r 0 < 9223372036854775808) × (getD active r 0 < 2 ^ (2 ^ width))
+
+-- the words are cleared, the authorizations given, the rules have their turns behind those that feed them,
+-- and those that are left theirs stratum by stratum
+pub record Evaluation (e : Setting) (p : Prepared) (given-lines : List Authorization) (n needed : ℕ)
+    (active bits new : List ℕ) : Type 0 where
+  pub acts : (r j : ℕ) → bit r needed ≡ true → bit j (getD active r 0)
+      ≡ inside (e .count) (e .marks) (ruleAt (p .body) r .interval) j
+  pub low : Low active needed (p .frame .width)
+  pub cleared : List ℕ
+  pub zero : (i : ℕ) → i < p .frame .fields → fieldOf (p .frame .width) cleared i ≡ 0
+  pub given : List ℕ
+  pub lines : LineSteps e given-lines cleared given
+  pub rest : ℕ
+  pub turned : List ℕ
+  pub turns : Turns p active bits needed given rest turned
+  pub fewer : (r : ℕ) → bit r rest ≡ true → bit r needed ≡ true
+  pub strata : List ℕ
+  pub closed : (((q : ℕ) → q < 64 → bit q rest ≡ true → ⊥) × (new ≡ turned))
+      ⊎ (((r : ℕ) → bit r needed ≡ true →
+      getD strata r 0 ≡ stratum (selected needed (rulesIn n (p .body))) (ruleAt (p .body) r))
+      × Strata p active bits strata rest 0 turned new)

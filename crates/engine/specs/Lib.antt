@@ -1,0 +1,9 @@
+pub mod Drawn
+pub mod Evaluation
+pub mod Facts
+pub mod Narrowed
+pub mod Places
+pub mod Posed
+pub mod Reading
+pub mod Sides
+pub mod Standing

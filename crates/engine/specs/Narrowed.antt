@@ -1,0 +1,245 @@
+-- The base narrowed to what a question needs: the rules that matter, and the authorizations on accesses that
+-- are needed. About these accesses it says what the whole base says (`narrowed-holds`).
+use mathlib.Core.Path.{_≡_, refl, sym, ap, _∙_, subst}
+use mathlib.Core.Logic.{_↔_}
+use mathlib.Core.Bool.{Bool, true, false, not, _&&_, _||_, Bool·beq, true≢false}
+use mathlib.Core.List.{List}
+use Prim.Native.Nat.{ℕ, suc, _+_, _*_, _-_, _<_}
+use native.Mathlib.Omega.{arith}
+use lib.Dec.{eqb, leb, ltb}
+use lib.ListN.{length, getD}
+use Rattle.foundation.specs.Tests.{cases, ne-false, le-true, true-le, not-true, and-true, and-intro}
+use Rattle.foundation.specs.Tests.{and-three, or-none, beq-self}
+use Rattle.foundation.specs.Lists.{keepIf, Mem, keepIf-mem, kept}
+use Rattle.foundation.specs.Intervals.{always}
+use Rattle.foundation.specs.Masks.{asBit, bit}
+use Rattle.foundation.specs.Records.{length-records}
+use Rattle.model.specs.declared.Authorization.{Authorization}
+use Rattle.model.specs.declared.Head.{Head}
+use Rattle.model.specs.declared.Rule.{Rule}
+use Rattle.model.specs.declared.Access.{Access}
+use Rattle.model.specs.declared.Pattern.{Pattern}
+use Rattle.model.specs.Base.{Base}
+use Rattle.model.specs.Ranges.{isMode}
+use Rattle.model.specs.Encoding.{ruleOf}
+use Rattle.model.specs.Stratification.{stratified}
+use Rattle.model.specs.Rules.{standsFor, rightOf, holds, may}
+use Rattle.encoding.specs.Format.{rulesIn, ruleAt, authorizationsIn}
+use Rattle.laws.specs.Narrowing.{accessOf, narrowed, needed-only, needed-may}
+use Rattle.questions.specs.Drawn.{Numbering}
+use Rattle.relevance.specs.declared.choice.Cell.{Cell}
+use Rattle.relevance.specs.Chosen.{picked, selected, selected-numbers}
+use Rattle.relevance.specs.Needed.{cellOf, Choice}
+use Rattle.windows.specs.Windows.{inside}
+use Rattle.reach.specs.Net.{standing}
+use Rattle.places.specs.Numbering.{before}
+use Rattle.outlines.specs.Coordinates.{Numbered, Chart, coordinate, subjectOf, objectOf, modeOf, pairOf}
+use Rattle.outlines.specs.CoordinateFacts.{known-is}
+use Rattle.outlines.specs.Outline.{Stands}
+use Rattle.outlines.specs.Standing.{stands}
+use Rattle.outlines.specs.Needed.{needed, needed-known, needed-bit, needed-both}
+use Rattle.grounding.specs.Meaning.{TurnOf}
+use Rattle.grounding.specs.Turns.{Prepared, turnIn}
+use Rattle.engine.specs.Drawn.{Drawn, sceneOf}
+use Rattle.engine.specs.Places.{number-below, pair-back}
+use Rattle.engine.specs.Standing.{rule-low}
+use Rattle.engine.specs.Reading.{right-needed}
+use Rattle.engine.specs.Sides.{turn-of}
+
+-- ---- authorizations by coordinates
+
+-- both coordinates of a cell are there, and a mode is needed there with both signs
+pub record Both (stride : ℕ) (need : List ℕ) (c : Cell) (h : Head) : Type 0 where
+  pub there : not (eqb (c .subject) 255 || eqb (c .object) 255) ≡ true
+  pub held : bit (h .mode - 1) (getD need (c .object * stride + c .subject) 0) ≡ true
+  pub denied : bit (8 + (h .mode - 1)) (getD need (c .object * stride + c .subject) 0) ≡ true
+
+-- the three tests in a row
+pub both-tests : (stride : ℕ) (need : List ℕ) (c : Cell) (h : Head) →
+    (not (eqb (c .subject) 255 || eqb (c .object) 255)
+    && bit (h .mode - 1) (getD need (c .object * stride + c .subject) 0)
+    && bit (8 + (h .mode - 1)) (getD need (c .object * stride + c .subject) 0) ≡ true)
+    ↔ Both stride need c h
+both-tests stride need c h =
+    let w = and-three (not (eqb (c .subject) 255 || eqb (c .object) 255))
+    (bit (h .mode - 1) (getD need (c .object * stride + c .subject) 0))
+    (bit (8 + (h .mode - 1)) (getD need (c .object * stride + c .subject) 0)) in (
+      (λ e. let v = w .0 e in record { there = v .0; held = v .1; denied = v .2 }),
+      (λ b. w .1 (b .there, b .held, b .denied)),
+    )
+
+-- a coordinate that is there is below their count
+there-below : {field : Rule → ℕ} {n : ℕ} {body U : List ℕ} {size : ℕ} → Numbered field n body U size →
+    (own v : ℕ) → eqb (coordinate U own v) 255 ≡ false → coordinate U own v < size
+unfolding coordinate
+there-below {U = U} m own v e = cases (eqb (getD U v 0) 0)
+    (λ y. cases (eqb v own)
+    (λ q. rw (y, q) (m .some))
+    (λ q. absurd (true≢false (rw (y, q) at e))))
+    (λ y. rw y (m .below v))
+
+-- authorizations are chosen by the coordinates of their accesses
+abbrev cellAt : Chart → Access → Access → Cell
+cellAt C asked x = record { subject = subjectOf C asked x; object = objectOf C asked x }
+
+cell-is : (C : Chart) (asked : Access) (h : Head) →
+    cellOf (C .subjects) (C .objects) asked h ≡ cellAt C asked (accessOf h)
+unfolding coordinate
+cell-is C asked h = refl
+
+module _ {n : ℕ} {C : Chart} {asked : Access} {p : Prepared} {matter words bits : ℕ}
+    (d : Drawn n C asked p matter words bits) where
+  abbrev cellIn : Head → Cell
+  cellIn h = cellOf (C .subjects) (C .objects) asked h
+
+  -- an authorization is on a needed access exactly if both signs are needed at its coordinates
+  pub line-needed : (h : Head) → isMode (h .mode) ≡ true → Both (C .width) (p .need) (cellIn h) h →
+      needed C asked (p .need) (accessOf h) ≡ true
+  line-needed h m b =
+      let x = accessOf h in
+      let w : Both (C .width) (p .need) (cellAt C asked x) h = rw (cell-is C asked h) at b in
+      let v = and-true (leb 1 (h .mode)) (leb (h .mode) 8) m in
+      let t = or-none (eqb (subjectOf C asked x) 255) (eqb (objectOf C asked x) 255)
+      (not-true (eqb (subjectOf C asked x) 255 || eqb (objectOf C asked x) 255) (w .there)) in
+      needed-both C asked (p .need) x
+      (known-is C asked x .1 (
+        there-below (d .charted .objects) (asked .object) (x .object) (t .1),
+        there-below (d .charted .subjects) (asked .subject) (x .subject) (t .0),
+        true-le 1 (h .mode) (v .0),
+        true-le (h .mode) 8 (v .1),
+      )) (w .held) (w .denied)
+
+  pub needed-line : (h : Head) → needed C asked (p .need) (accessOf h) ≡ true →
+      Both (C .width) (p .need) (cellIn h) h
+  needed-line h e =
+      let x = accessOf h in
+      let k = known-is C asked x .0 (needed-known C asked (p .need) x e) in
+      let s = ne-false (subjectOf C asked x) 255 (λ z. omega (
+        arith,
+        d .charted .subjects .few,
+        d .grounds .few,
+      )) in
+      let o = ne-false (objectOf C asked x) 255 (λ z. omega (
+        arith,
+        d .charted .objects .few,
+        d .grounds .few,
+      )) in
+      let a : modeOf x + 8 * 0 ≡ modeOf x = omega arith in
+      let b : modeOf x + 8 * 1 ≡ 8 + modeOf x = omega arith in
+      let w : Both (C .width) (p .need) (cellAt C asked x) h = record {
+        there = rw (s, o);
+        held = rw a at (needed-bit C asked (p .need) x e false);
+        denied = rw b at (needed-bit C asked (p .need) x e true);
+      } in
+      rw (cell-is C asked h) w
+
+  -- ---- rules
+
+  drawn-stands : Stands n (p .body) C asked (p .left)
+  drawn-stands = stands (d .grounds) C (d .charted) (p .sides) (d .lefts) asked (d .outlined) (p .left)
+      (d .masks) (d .own)
+
+  -- a rule that stands for a needed access matters
+  pub standing-matters : (b : Base) (r : ℕ) → r < n → (x : Access) → needed C asked (p .need) x ≡ true →
+      standsFor b (ruleAt (p .body) r) x ≡ true → bit r matter ≡ true
+  standing-matters b r h x e s =
+      let k = needed-known C asked (p .need) x e in
+      let sign = ruleAt (p .body) r .left .negative in
+      let q : ℕ = modeOf x + 8 * asBit sign in
+      let i : ℕ = before (p .need) (pairOf C asked x) in
+      let back = pair-back d x e in
+      let there : bit r (standing (p .left) (objectOf C asked x) (subjectOf C asked x) q) ≡ true =
+      drawn-stands b x k r (omega (arith, d .grounds .few)) sign
+      ∙ and-intro (ltb r n) (standsFor b (ruleAt (p .body) r) x && Bool·beq sign sign) (le-true (suc r) n h)
+      (and-intro (standsFor b (ruleAt (p .body) r) x) (Bool·beq sign sign) s (beq-self sign)) in
+      d .needs .all i q r (number-below d x e)
+      (rw (back .0, back .1) (needed-bit C asked (p .need) x e sign))
+      (rw (back .0, back .1) there)
+
+  module _ (base : Base) (whole : base .rules ≡ rulesIn n (p .body)) (number : Rule → ℕ)
+      (numbering : Numbering (base .rules) number (ruleAt (p .body))) where
+    -- the rules that matter
+    abbrev pub ruleMatters : Rule → Bool
+    ruleMatters r = bit (number r) matter
+
+    -- the rules are n
+    count-is : length (base .rules) ≡ n
+    count-is = ap length whole ∙ length-records 28 ruleOf n (p .body)
+
+    -- each has its number
+    rule-number : (r : Rule) → Mem r (base .rules) → (number r < n) × (ruleAt (p .body) (number r) ≡ r)
+    rule-number r m = let w = numbering .numbered r m in (omega (arith, count-is, w .0), w .1)
+
+    -- with a needed access the rules that stand for it are kept, and what they look at is needed
+    pub rules-standing : (r : Rule) (x : Access) → Mem r (base .rules) → needed C asked (p .need) x ≡ true →
+        standsFor base r x ≡ true → ruleMatters r ≡ true
+    rules-standing r x m e s =
+        let w = rule-number r m in
+        standing-matters base (number r) (w .0) x e (rw (w .1) s)
+
+    pub rules-inward : (r : Rule) (x : Access) → Mem r (base .rules) → needed C asked (p .need) x ≡ true →
+        standsFor base r x ≡ true → needed C asked (p .need) (rightOf r x .access) ≡ true
+    rules-inward r x m e s =
+        let w = rule-number r m in
+        subst (λ (q : Rule). needed C asked (p .need) (rightOf q x .access) ≡ true) (w .1)
+        (right-needed d base (number r) (rules-standing r x m e s) x e (rw (w .1) s))
+
+    -- the rules of the narrowed base are those that matter
+    pub selected-rules : keepIf ruleMatters (base .rules) ≡ selected matter (rulesIn n (p .body))
+    selected-rules =
+        sym (selected-numbers matter (base .rules) number (ruleAt (p .body)) (λ i h. numbering .ruled i h .1)
+        (numbering .nth))
+        ∙ ap (selected matter) whole
+
+    pub rule-kept : (r : ℕ) → r < n → bit r matter ≡ true →
+        Mem (ruleAt (p .body) r) (keepIf ruleMatters (base .rules))
+    rule-kept r h e =
+        let w = numbering .ruled r (omega (arith, count-is)) in
+        keepIf-mem ruleMatters (base .rules) (ruleAt (p .body) r) (w .0)
+        (ap (λ (i : ℕ). bit i matter) (w .1) ∙ e)
+
+    pub kept-rule : (q : Rule) → Mem q (keepIf ruleMatters (base .rules)) →
+        (r : ℕ) × (r < n) × (bit r matter ≡ true) × (ruleAt (p .body) r ≡ q)
+    kept-rule q m =
+        let k = kept ruleMatters (base .rules) q m in
+        let w = rule-number q (k .0) in
+        (number q, w .0, k .1, w .1)
+
+    -- ---- the narrowed base
+
+    module _ (keepLine : Authorization → Bool)
+        (lines : (a : Authorization) →
+        (keepLine a ≡ true) ↔ Both (C .width) (p .need) (cellIn (a .head)) (a .head)) where
+      abbrev less : Base
+      less = narrowed base keepLine ruleMatters
+
+      -- its authorizations are those that were chosen, and are on needed accesses
+      pub chosen-lines : (s : List ℕ) (total : ℕ) (entry exit : List ℕ) (k : ℕ) →
+          base .authorizations ≡ authorizationsIn total s → Choice keepLine s total entry exit k →
+          narrowed base keepLine ruleMatters .authorizations ≡ picked s exit k
+      chosen-lines s total entry exit k e c = ap (keepIf keepLine) e ∙ sym (c .chosen)
+
+      pub kept-line : (a : Authorization) → isMode (a .head .mode) ≡ true →
+          Mem a (narrowed base keepLine ruleMatters .authorizations) →
+          needed C asked (p .need) (accessOf (a .head)) ≡ true
+      kept-line a m l = line-needed (a .head) m (lines a .0 (kept keepLine (base .authorizations) a l .1))
+
+      -- the turn of a rule that matters is that of a rule of it
+      pub narrowed-turn : (r : ℕ) → bit r matter ≡ true → (count : ℕ) (marks active : List ℕ) →
+          ((j : ℕ) → bit j (getD active r 0) ≡ inside count marks (ruleAt (p .body) r .interval) j) →
+          TurnOf (sceneOf (narrowed base keepLine ruleMatters) C asked p) count (λ i. getD marks i 0)
+          (ruleAt (p .body) r) (turnIn p active r)
+      narrowed-turn r e count marks active masks = turn-of d less active r e
+          (rule-kept r (rule-low d r e) e) count marks masks
+
+      -- what it says about a needed access
+      pub narrowed-holds : stratified (base .rules) ≡ true → (t : ℕ) (q : Pattern) →
+          needed C asked (p .need) (q .access) ≡ true →
+          holds always base t q ≡ holds always (narrowed base keepLine ruleMatters) t q
+      narrowed-holds strata t q e = needed-only base strata (needed C asked (p .need)) keepLine ruleMatters
+          rules-inward rules-standing (λ a m l. lines a .1 (needed-line (a .head) l)) t q e
+
+      pub narrowed-may : stratified (base .rules) ≡ true → (x : Access) → needed C asked (p .need) x ≡ true →
+          (t : ℕ) → may base x t ≡ may (narrowed base keepLine ruleMatters) x t
+      narrowed-may strata = needed-may base strata (needed C asked (p .need)) keepLine ruleMatters
+          rules-inward rules-standing (λ a m l. lines a .1 (needed-line (a .head) l))

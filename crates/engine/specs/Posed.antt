@@ -1,0 +1,68 @@
+-- A question as it is put to the tables (`Posed`), and what the walk from window to window starts with
+-- (`Walks`) and finds (`Finds`).
+use mathlib.Core.Path.{_≡_}
+use mathlib.Core.Logic.{_⊎_}
+use mathlib.Core.Bool.{Bool, true, false}
+use mathlib.Core.List.{List}
+use Prim.Native.Nat.{ℕ, suc, _*_, _≤_, _<_}
+use lib.ListN.{length, getD}
+use Rattle.foundation.specs.Lists.{Mem}
+use Rattle.foundation.specs.Intervals.{maximal}
+use Rattle.foundation.specs.Masks.{bit}
+use Rattle.model.specs.declared.Access.{Access}
+use Rattle.model.specs.declared.Authorization.{Authorization}
+use Rattle.model.specs.Base.{Base}
+use Rattle.model.specs.Stratification.{stratified}
+use Rattle.model.specs.Rules.{standsFor, may}
+use Rattle.encoding.specs.Format.{rulesIn, ruleAt}
+use Rattle.derivation.specs.Joined.{headAccess}
+use Rattle.derivation.specs.Carried.{Carried}
+use Rattle.relevance.specs.declared.Chosen.{Chosen}
+use Rattle.relevance.specs.Chosen.{picked, selected, Picks}
+use Rattle.relevance.specs.Needed.{Placed}
+use Rattle.scan.specs.declared.Track.{Track}
+use Rattle.scan.specs.Runs.{Reached}
+use Rattle.outlines.specs.Coordinates.{Chart}
+use Rattle.outlines.specs.Needed as outlines
+use Rattle.grounding.specs.Steps.{brokenIn}
+use Rattle.grounding.specs.Meaning.{placeOf}
+use Rattle.grounding.specs.Turns.{Prepared, turnIn}
+use Rattle.engine.specs.declared.Query.{Query}
+use Rattle.engine.specs.declared.Found.{Found}
+use Rattle.engine.specs.Drawn.{Drawn, sceneOf}
+
+-- the tables are drawn for the asked access x, and `base` has what matters to it: the rules of the mask, and
+-- authorizations at needed accesses
+pub record Posed (n : ℕ) (C : Chart) (own : Access) (p : Prepared) (needed words bits : ℕ) (base : Base)
+    (x : Access) : Type 0 where
+  pub drawn : Drawn n C own p needed words bits
+  pub strata : stratified (base .rules) ≡ true
+  pub rules : base .rules ≡ selected needed (rulesIn n (p .body))
+  pub matters : outlines.needed C own (p .need) x ≡ true
+  pub lines : (a : Authorization) → Mem a (base .authorizations) →
+      (outlines.needed C own (p .need) (headAccess (a .head)) ≡ true) × Placed (a .head)
+      × (a .interval .start ≤ a .interval .end)
+
+-- the walk can start
+pub record Walks (lines which : List ℕ) (c : Chosen) (lasting : ℕ) (q : Query) (C : Chart) (p : Prepared)
+    (words bits : List ℕ) (base : Base) (x : Access) : Type 0 where
+  pub posed : Posed (c .rules) C (q .own) p (c .needed) (length words) (length bits) base x
+  pub picks : Picks lines which (c .authorizations)
+  pub picked-all : picked lines which (c .authorizations) ≡ base .authorizations
+  pub place : q .place ≡ placeOf (sceneOf base C (q .own) p) x
+  pub forward : q .from ≤ q .to
+  pub lasts : (r : ℕ) → bit r lasting ≡ bit r (posed .drawn .lasts)
+  pub kept : (q .from ≡ q .to) ⊎ (((r : ℕ) → bit r lasting ≡ true → ⊥) ⊎ (0 < length bits))
+  -- what is kept of the time before
+  pub carried : (active : List ℕ) (r : ℕ) → bit r (c .needed) ≡ true → (y : Access) →
+      outlines.needed C (q .own) (p .need) y ≡ true → standsFor base (ruleAt (p .body) r) y ≡ true →
+      Carried base (q .from) (ruleAt (p .body) r) y
+      (brokenIn (turnIn p active r) (p .frame .grid) bits (placeOf (sceneOf base C (q .own) p) y))
+  pub few : length (maximal 0 (q .to) (may base x)) ≤ 1089
+
+-- what it finds
+pub record Finds (q : Query) (base : Base) (x : Access) (r : Found) (old new : List ℕ) : Type 0 where
+  pub last : r .yes ≡ may base x (q .to)
+  pub listed : q .listing ≡ true → (lent : List ℕ) (w : Track) → w .count ≡ 0 → w .inside ≡ false →
+      Reached (may base x) (q .to) lent (q .from) w old →
+      Reached (may base x) (q .to) lent (suc (q .to)) (r .track) new

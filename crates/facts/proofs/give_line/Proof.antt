@@ -1,0 +1,88 @@
+-- The authorization is given at its place, or has no instant in the window.
+use borrow.Author.Needs.{needs}
+use native.Mathlib.Omega.{arith}
+use mathlib.Core.Path.{sym, _∙_, subst}
+use mathlib.Core.Bool.{Bool}
+use Prim.Native.Nat.{ℕ}
+use denote.Ref.{now}
+use Rattle.foundation.specs.Tests.{and-true}
+use Rattle.foundation.specs.Masks.{bit, bit-le}
+use Rattle.tables.specs.declared.Place.{Place}
+use Rattle.tables.specs.Giving.{tablesOf, Given}
+use Rattle.facts.specs.Facts.{fitsRule, takenBy, placeFor}
+use Rattle.facts.proofs.Giving.{span-fits, given-zero, takes-mask}
+use Rattle.facts.proofs.give_line.Statement.{statement}
+use Rattle.facts.proofs.give_line.Tie as tie
+
+span-requires : tie.Need-span-requires
+span-requires c κs =
+    let u = c .before .before .before .before .pre .0 in
+    (u .short, u .rising)
+
+returns : tie.Need-returns
+returns c =
+    let s = c .before in
+    let a = s .before .before .before .before .before .args in
+    let h = a .a .head in
+    let p = placeFor (now (a .subjects)) (now (a .objects)) (a .x) (a .f .grid) (now (a .number)) h in
+    record {
+      value = s .span .result;
+      instants = s .span .ensures;
+      given = given-zero (tablesOf (a .f) (now (a .right)) (now (a .first))) (a .f .width)
+          (p .pair) (p .spot) (takenBy (now (a .body)) (a .f .choosy) h) (s .span .result) (now (a .words))
+          (c .if1 .taken);
+    }
+
+place-of-requires : tie.Need-place-of-requires
+place-of-requires c κs =
+    let p = c .before .before .before .before .before .before .pre in
+    (p .1 .placed, p .1 .pair, p .0 .few)
+
+takers-of-requires : tie.Need-takers-of-requires
+takers-of-requires c κs = c .before .before .before .before .before .before .before .pre .0 .rules
+
+give-requires : tie.Need-give-requires
+give-requires c κs =
+    let k = c .before .before in
+    let q = k .before in
+    let s = q .before .before in
+    let b = s .before .before .before .before .before in
+    let a = b .args in
+    let p = b .pre in (
+      p .0 .ready,
+      rw (q .place-of .ensures) (p .1 .within),
+      omega (arith, c .sign-of .ensures, bit-le (a .a .head .negative)),
+      λ d m. and-true (bit d (a .f .choosy)) (fitsRule (now (a .body)) (a .a .head) d)
+          (sym (k .takers-of .ensures d) ∙ m) .0,
+      span-fits (a .count) (a .f .width) (s .span .result) (now (a .marks)) (a .a .interval) (omega arith)
+          (p .0 .fits) (s .span .ensures),
+    )
+
+returns-2 : tie.Need-returns-2
+returns-2 c =
+    let g = c .before .before in
+    let n = g .before in
+    let k = n .before .before in
+    let q = k .before in
+    let s = q .before .before in
+    let a = s .before .before .before .before .before .args in
+    let t = tablesOf (a .f) (now (a .right)) (now (a .first)) in
+    let v = s .span .result in
+    record {
+      value = v;
+      instants = s .span .ensures;
+      given = subst (λ (z : Place). Given t (a .f .width) (z .pair) (z .spot)
+          (takenBy (now (a .body)) (a .f .choosy) (a .a .head)) v (now (a .words)) (g .give .last .0))
+          (q .place-of .ensures)
+          (subst (λ (taken : ℕ → Bool). Given t (a .f .width) (q .place-of .result .pair)
+          (q .place-of .result .spot) taken v (now (a .words)) (g .give .last .0))
+          (takes-mask (now (a .body)) (a .f .choosy) (a .a .head) (n .sign-of .result) (k .takers-of .result)
+          (n .sign-of .ensures) (k .takers-of .ensures))
+          (g .give .ensures .0));
+    }
+
+pub give-line-spec : {M : Type 1} → statement M
+give-line-spec =
+    tie.close
+    (tie.spec span-requires returns place-of-requires takers-of-requires (λ c κs. search needs) give-requires
+    (λ c. search needs) returns-2)

@@ -1,0 +1,27 @@
+-- What is derived is given; where that is nothing, nothing changes.
+use borrow.Author.Needs.{needs}
+use denote.Ref.{now}
+use Rattle.words.specs.Sums.{grown-none}
+use Rattle.tables.specs.Giving.{tablesOf, takes}
+use Rattle.grounding.proofs.Reading.{given-empty}
+use Rattle.grounding.proofs.pairs.derive_at.Statement.{statement}
+use Rattle.grounding.proofs.pairs.derive_at.Tie as tie
+
+returns : tie.Need-returns
+returns c =
+    let a = c .before .before .before .before .before .before .args in
+    let v = c .before .value-at in (
+      record {
+        value = v .result;
+        derived = v .ensures;
+        given = given-empty (tablesOf (a .f) (now (a .right)) (now (a .first))) (a .f .width) (a .p .pair)
+            (a .p .spot) (takes (a .t .sign) (a .t .takers)) (v .result) (now (a .words)) (c .if1 .taken);
+      },
+      grown-none (now (a .words)),
+    )
+
+pub derive-at-spec : {M : Type 1} → statement M
+derive-at-spec =
+    tie.close
+    (tie.spec (λ c κs. search needs) (λ c. search needs) returns (λ c κs. search needs) (λ c. search needs)
+    (λ c. search needs))

@@ -1,0 +1,127 @@
+-- The rules that are to do may go on from where the tables are. A turn adds bits, or takes a rule out.
+use native.Mathlib.Omega.{arith}
+use mathlib.Core.Path.{_≡_, refl, sym, ap, _∙_}
+use mathlib.Core.Bool.{Bool, true, true≢false}
+use mathlib.Core.List.{List}
+use Prim.Native.Nat.{ℕ, _<_}
+use denote.Ref.{now}
+use lib.Bits.{bitOr, or-lt}
+use lib.ListN.{length, getD}
+use Rattle.foundation.specs.Tests.{or-intro-left, or-true-right, or-cases}
+use Rattle.foundation.specs.Masks.{bit}
+use Rattle.words.specs.Bits.{bit-or}
+use Rattle.reach.proofs.Growth.{none-set}
+use Rattle.grounding.specs.Turns.{prepared, Rounds, none, then}
+use Rattle.grounding.proofs.Rounds.{others, among, passes, passed}
+use Rattle.grounding.proofs.Rounds.{weight, lighter, less-to-do}
+use Rattle.grounding.proofs.turns.close.Statement.{statement}
+use Rattle.grounding.proofs.turns.close.Tie as tie
+
+abbrev Inv-loop : tie.InvT-loop
+Inv-loop body rules f left feed sides right need codes number first starts active old bits _ _
+    words dirty at =
+    let p = prepared body left feed sides right need codes number first starts f in
+    ((w : List ℕ) → Rounds p active bits rules dirty words w → Rounds p active bits rules rules old w)
+    × ((q : ℕ) → bit q dirty ≡ true → bit q rules ≡ true)
+    × (length words ≡ length old)
+    × (at .rule < 64)
+
+abbrev μ-loop : tie.MeasureT-loop
+μ-loop _ _ _ _ _ _ _ _ _ _ _ _ _ _ _ _ _ words dirty _ = weight words dirty
+
+loop-holds : tie.Need-loop-holds Inv-loop μ-loop
+loop-holds c = ((λ w t. t), (λ q e. e), refl, omega arith)
+
+next-dirty-requires : tie.Need-next-dirty-requires Inv-loop μ-loop
+next-dirty-requires c κs = (omega arith, c .before .loop .inv .3)
+
+without-requires : tie.Need-without-requires Inv-loop μ-loop
+without-requires c κs = c .next-dirty .ensures
+
+derive-rule-requires : tie.Need-derive-rule-requires Inv-loop μ-loop
+derive-rule-requires c κs =
+    let n = c .before .before .next-dirty in
+    let l = c .before .before .before .before .loop in
+    let s = c .before .before .before .before .before .before .before .before .before .before .before in
+    rw (l .inv .2) (s .pre (n .result .rule) (l .inv .1 (n .result .rule) (n .ensures .1)))
+
+fed-by-requires : tie.Need-fed-by-requires Inv-loop μ-loop
+fed-by-requires c κs = c .before .before .before .before .before .before .next-dirty .ensures .0
+
+loop-less : tie.Need-loop-less Inv-loop μ-loop
+loop-less c =
+    let d = c .before .before .before .before in
+    let x = d .before .before .without in
+    let l = d .before .before .before .before .before .loop in
+    let e = d .derive-rule .ensures in
+    let m = c .fed-by .result in
+    lighter (l .words) _ (l .dirty) (bitOr (x .result) m) (e .2) (e .1 .more (c .before .if1 .taken))
+    (λ i. omega (arith, c .before .before .slice-known2 .given i))
+    (or-lt 64 (x .result) m (omega arith) (omega arith))
+
+loop-again : tie.Need-loop-again Inv-loop μ-loop
+loop-again c =
+    let d = c .before .before .before .before in
+    let x = d .before .before .without in
+    let n = d .before .before .before .next-dirty in
+    let l = d .before .before .before .before .before .loop in
+    let s = d .before .before .before .before .before .before in
+    let a = s .before .before .before .before .before .before .args in
+    let i = l .inv in
+    let e = d .derive-rule .ensures in
+    let r = n .result .rule in
+    let m = c .fed-by .result in
+    let looks : ℕ → Bool = λ q. bit r (getD (now (a .feed)) q 0) in (
+      (λ w t. i .0 w (then r (d .derive-rule .result) (n .ensures .1) (i .1 r (n .ensures .1)) (e .0) (e .1)
+          (λ q o z. bit-or (x .result) m q
+          ∙ or-intro-left (bit q (x .result)) (bit q m)
+          (others (l .dirty) (x .result) r (x .ensures .1) q o z))
+          (λ f q h o z. bit-or (x .result) m q
+          ∙ or-true-right (bit q (x .result)) (bit q m)
+          (passes looks (a .rules) m (c .fed-by .ensures) q h o z)) t)),
+      (λ q o. or-cases (bit q (x .result)) (bit q m) (sym (bit-or (x .result) m q) ∙ o)
+          (λ y. i .1 q (among (l .dirty) (x .result) r (x .ensures .1) q y))
+          (λ y. passed looks (a .rules) m (c .fed-by .ensures) q y .0)),
+      e .2 ∙ i .2,
+      n .ensures .0,
+    )
+
+loop-less-2 : tie.Need-loop-less-2 Inv-loop μ-loop
+loop-less-2 c =
+    let d = c .before .before .before in
+    let x = d .before .before .without in
+    let l = d .before .before .before .before .before .loop in
+    rw (d .derive-rule .ensures .1 .same (c .if1 .left))
+    (less-to-do (l .words) (l .dirty) (x .result) (x .ensures .0))
+
+loop-again-2 : tie.Need-loop-again-2 Inv-loop μ-loop
+loop-again-2 c =
+    let d = c .before .before .before in
+    let x = d .before .before .without in
+    let n = d .before .before .before .next-dirty in
+    let l = d .before .before .before .before .before .loop in
+    let i = l .inv in
+    let e = d .derive-rule .ensures in
+    let r = n .result .rule in (
+      (λ w t. i .0 w (then r (d .derive-rule .result) (n .ensures .1) (i .1 r (n .ensures .1)) (e .0) (e .1)
+          (others (l .dirty) (x .result) r (x .ensures .1))
+          (λ f q h o z. absurd (true≢false (sym f ∙ c .if1 .left))) t)),
+      (λ q o. i .1 q (among (l .dirty) (x .result) r (x .ensures .1) q o)),
+      e .2 ∙ i .2,
+      n .ensures .0,
+    )
+
+same-length : tie.Need-same-length Inv-loop μ-loop
+same-length c = c .before .loop .inv .2
+
+returns : tie.Need-returns Inv-loop μ-loop
+returns c =
+    let l = c .before .loop in
+    let z : l .dirty ≡ 0 = omega arith in
+    (l .inv .0 (l .words) (none (λ q h e. none-set q (ap (bit q) (sym z) ∙ e))), l .inv .2)
+
+pub close-spec : {M : Type 1} → statement M
+close-spec =
+    tie.close
+    (tie.spec Inv-loop μ-loop loop-holds next-dirty-requires without-requires derive-rule-requires
+    fed-by-requires loop-less loop-again loop-less-2 loop-again-2 same-length returns)

@@ -1,0 +1,32 @@
+// The grounding of rules: what they derive over a window, each in its turn, is given to the tables.
+mod pairs;
+mod turns;
+
+use model::Operator;
+pub use pairs::value_at;
+use places::Region;
+pub use turns::derive_rules;
+pub use turns::derive_strata;
+pub use turns::mark_broken;
+
+// The turn of a rule: its number, its operator and the instants of its interval; its right side, and where
+// the table that it looks at starts and which places that has; its left side, with its sign, and where its
+// broken bits start; and the rules whose tables it gives to.
+pub struct Turn {
+    pub rule: u32,
+    pub operator: Operator,
+    pub active: u64,
+    pub right: Region,
+    pub first: u32,
+    pub table: Region,
+    pub left: Region,
+    pub sign: u32,
+    pub bits: u32,
+    pub takers: u64,
+}
+
+// The tables of numbers from `from` up to, and without, `to`.
+pub struct Range {
+    pub from: u32,
+    pub to: u32,
+}

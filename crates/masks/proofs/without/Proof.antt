@@ -1,0 +1,26 @@
+-- The bits of a word from which a power of two is taken off.
+use borrow.Author.Needs.{needs}
+use mathlib.Core.Path.{ap, _∙_}
+use mathlib.Core.Bool.{Bool, not, _&&_}
+use Prim.Native.Nat.{_^_}
+use lib.Bits.{and-le-l}
+use Rattle.foundation.specs.Masks.{bit}
+use Rattle.words.specs.Bits.{bit-less}
+use Rattle.reach.proofs.Aims.{cut-less}
+use Rattle.masks.proofs.Bits.{shifted, one-bit}
+use Rattle.masks.proofs.without.Statement.{statement}
+use Rattle.masks.proofs.without.Tie as tie
+
+sub-result : tie.Need-sub-result
+sub-result c = and-le-l (c .args .m) _
+
+returns : tie.Need-returns
+returns c =
+    let a = c .args in
+    rw (shifted (a .r) (c .pre .0)) (
+      cut-less (a .m) (a .r) (c .pre .1),
+      λ i. bit-less i (a .m) (2 ^ a .r) ∙ ap (λ (x : Bool). bit i (a .m) && not x) (one-bit (a .r) i),
+    )
+
+pub without-spec : {M : Type 1} → statement M
+without-spec = tie.close (tie.spec (λ c. search needs) sub-result returns)

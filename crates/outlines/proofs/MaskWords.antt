@@ -1,0 +1,141 @@
+-- Bits put into words: one bit (`put-bit`), the bits of one rule more (`gather-turn`), and bits joined to a
+-- range of words (`spread-turn`).
+use mathlib.Core.Path.{_≡_, refl, sym, ap, _∙_}
+use mathlib.Core.Logic.{_⊎_, inl, inr, ⊎-elim}
+use mathlib.Core.Bool.{Bool, true, false, _&&_, _||_}
+use mathlib.Core.List.{List}
+use Prim.Native.Nat.{ℕ, zero, suc, _+_, _*_, _-_, _%_, _^_, _≤_, _<_}
+use native.Mathlib.Nat.{mod-eq-of-lt, zero-div, one-mul, pow-le-pow-right}
+use native.Mathlib.Omega.{arith}
+use lib.Bits.{bitOr}
+use lib.Dec.{eqb, leb, ltb}
+use lib.ListN.{length, getD, set}
+use lib.Seq.{getD-set-same, getD-set-other}
+use Rattle.foundation.specs.Tests.{pick, cases, agree, true-eq, false-eq, eq-true, le-true}
+use Rattle.foundation.specs.Tests.{le-false}
+use Rattle.foundation.specs.Tests.{true-le, or-false}
+use Rattle.foundation.specs.Masks.{bit}
+use Rattle.outlines.specs.Masks.{objectCode, subjectCode, modeCodeOf, signCode, subjectWord, modeWord}
+use Rattle.outlines.specs.Masks.{inWord, Placed}
+use Rattle.words.specs.Ones.{bit-shl}
+use Rattle.words.specs.Bits.{bit-or, power-only}
+
+pub set-at : (l : List ℕ) (at v w : ℕ) → at < length l → getD (set l at v) w 0 ≡ pick (eqb w at) v
+    (getD l w 0)
+set-at l at v w h = cases (eqb w at)
+    (λ q. rw (q, true-eq w at q) (getD-set-same l at v 0 h))
+    (λ q. rw q (getD-set-other l at w v 0 (false-eq w at q)))
+
+-- a word with one bit
+pub power-is : (k i : ℕ) → bit i (2 ^ k) ≡ eqb i k
+power-is k i = agree (bit i (2 ^ k)) (eqb i k)
+    (λ e. eq-true i k (power-only k i e))
+    (λ e. let z : k - k ≡ 0 = omega arith in
+    rw (true-eq i k e)
+    (ap (bit k) (sym (one-mul (2 ^ k))) ∙ bit-shl 1 k k ∙ rw (le-true k k (omega arith), z)))
+
+pub no-bit : (r : ℕ) → bit r 0 ≡ false
+no-bit r = rw (zero-div (2 ^ r))
+
+-- joining a word to another
+pub join-word : (l : List ℕ) (at v w r : ℕ) → at < length l →
+    bit r (getD (set l at (bitOr (getD l at 0) v)) w 0) ≡ bit r (getD l w 0) || (eqb w at && bit r v)
+join-word l at v w r h = ap (bit r) (set-at l at (bitOr (getD l at 0) v) w h) ∙ cases (eqb w at)
+    (λ q. rw (q, true-eq w at q) (bit-or (getD l at 0) v r))
+    (λ q. rw q (sym (or-false (bit r (getD l w 0)))))
+
+and-swap : (a b : Bool) → a && b ≡ b && a
+and-swap true true = refl
+and-swap true false = refl
+and-swap false true = refl
+and-swap false false = refl
+
+pub shift-one : (i : ℕ) → i < 64 → 1 * 2 ^ i % 18446744073709551616 ≡ 2 ^ i
+shift-one i h =
+    let l : 2 ^ i ≤ 9223372036854775808 = pow-le-pow-right {n = 2} (omega arith) {i = i} {j = 63}
+    (omega arith) in
+    ap (λ (n : ℕ). n % 18446744073709551616) (one-mul (2 ^ i)) ∙ mod-eq-of-lt (omega arith)
+
+pub put-bit : (l : List ℕ) (at i w r : ℕ) → at < length l → i < 64 →
+    bit r (getD (set l at (bitOr (getD l at 0) (1 * 2 ^ i % 18446744073709551616))) w 0)
+    ≡ bit r (getD l w 0) || (eqb r i && eqb w at)
+put-bit l at i w r h k =
+    join-word l at (1 * 2 ^ i % 18446744073709551616) w r h
+    ∙ ap (λ (b : Bool). bit r (getD l w 0) || b)
+    (ap (λ (n : ℕ). eqb w at && bit r n) (shift-one i k) ∙ ap (λ (b : Bool). eqb w at && b) (power-is i r)
+    ∙ and-swap (eqb w at) (eqb r i))
+
+-- four tests one after the other
+pub four-joined : (x t a b d e : Bool) →
+    (((x || (t && a)) || (t && b)) || (t && d)) || (t && e) ≡ x || (t && (((a || b) || d) || e))
+four-joined x false a b d e = or-false _ ∙ or-false _ ∙ or-false _
+four-joined true true a b d e = refl
+four-joined false true a b d e = refl
+
+-- the rules before the i-th, and the i-th
+pub gather-turn : (p : ℕ → Bool) (i r : ℕ) → (ltb r i && p r) || (eqb r i && p i) ≡ ltb r (i + 1) && p r
+gather-turn p i r = cases (eqb r i)
+    (λ q. let z = true-eq r i q in
+    let f : ltb i i ≡ false = le-false (suc i) i (omega arith) in
+    let t : ltb i (i + 1) ≡ true = le-true (suc i) (i + 1) (omega arith) in
+    rw (q, z, f, t))
+    (λ q. let z = false-eq r i q in
+    let f : ltb r (i + 1) ≡ ltb r i = agree (ltb r (i + 1)) (ltb r i)
+    (λ y. let l = true-le (suc r) (i + 1) y in le-true (suc r) i (omega arith))
+    (λ y. let l = true-le (suc r) i y in le-true (suc r) (i + 1) (omega arith)) in
+    rw (q, f) (or-false (ltb r i && p r)))
+
+pub gather-start : (p : Bool) (r x : ℕ) → x ≡ 0 → bit r x ≡ ltb r 0 && p
+gather-start p r x e = ap (bit r) e ∙ no-bit r ∙ sym (rw (le-false (suc r) 0 (omega arith)))
+
+-- a range of words, and the next word
+pub spread-turn : (from w j : ℕ) (x v : Bool) → from ≤ w →
+    (x || (leb from j && ltb j w && v)) || (eqb j w && v) ≡ x || (leb from j && ltb j (w + 1) && v)
+spread-turn from w j x v h = cases (eqb j w)
+    (λ q. let z = true-eq j w q in
+    let f : ltb w w ≡ false = le-false (suc w) w (omega arith) in
+    let t : ltb w (w + 1) ≡ true = le-true (suc w) (w + 1) (omega arith) in
+    let l : leb from w ≡ true = le-true from w h in
+    rw (q, z, f, t, l) (ap (λ (b : Bool). b || v) (or-false x)))
+    (λ q. let z = false-eq j w q in
+    let f : ltb j (w + 1) ≡ ltb j w = agree (ltb j (w + 1)) (ltb j w)
+    (λ y. let l = true-le (suc j) (w + 1) y in le-true (suc j) w (omega arith))
+    (λ y. let l = true-le (suc j) w y in le-true (suc j) (w + 1) (omega arith)) in
+    rw (q, f) (or-false (x || (leb from j && ltb j w && v))))
+
+pub spread-start : (from j : ℕ) (x v : Bool) → x ≡ x || (leb from j && ltb j from && v)
+spread-start from j x v = cases (leb from j)
+    (λ q. let l = true-le from j q in
+    rw (q, le-false (suc j) from (omega arith)) (sym (or-false x)))
+    (λ q. rw q (sym (or-false x)))
+
+-- ---- the words of a rule
+
+pub in-word : (sides : List ℕ) (i w o s m g : ℕ) → o ≡ objectCode sides i →
+    s ≡ subjectWord (subjectCode sides i) → m ≡ modeWord (modeCodeOf sides i) (signCode sides i) →
+    g ≡ 146 + signCode sides i → ((eqb w o || eqb w s) || eqb w m) || eqb w g ≡ inWord sides i w
+unfolding inWord
+in-word sides i w o s m g a b d e = rw (a, b, d, e)
+
+module _ (sides : List ℕ) (r : ℕ) (p : Placed sides r) where
+  -- the word of the subject, and of the mode
+  pub subject-cases : ((subjectCode sides r ≡ 255) × (subjectWord (subjectCode sides r) ≡ 148))
+      ⊎ ((subjectCode sides r < 65) × (subjectWord (subjectCode sides r) ≡ 65 + subjectCode sides r))
+  subject-cases = cases (eqb (subjectCode sides r) 255)
+      (λ e. inl (true-eq (subjectCode sides r) 255 e, rw e))
+      (λ e. inr (p .subject (false-eq (subjectCode sides r) 255 e), rw e))
+
+  pub mode-cases : ((modeCodeOf sides r ≡ 255)
+      × (modeWord (modeCodeOf sides r) (signCode sides r) ≡ 149 + signCode sides r))
+      ⊎ ((modeCodeOf sides r < 8)
+      × (modeWord (modeCodeOf sides r) (signCode sides r) ≡ 130 +
+      (modeCodeOf sides r + 8 * signCode sides r)))
+  mode-cases = cases (eqb (modeCodeOf sides r) 255)
+      (λ e. inl (true-eq (modeCodeOf sides r) 255 e, rw e))
+      (λ e. inr (p .mode (false-eq (modeCodeOf sides r) 255 e), rw e))
+
+  pub subject-below : subjectWord (subjectCode sides r) < 151
+  subject-below = ⊎-elim (λ w. omega arith) (λ w. omega arith) subject-cases
+
+  pub mode-below : modeWord (modeCodeOf sides r) (signCode sides r) < 151
+  mode-below = ⊎-elim (λ w. omega arith) (λ w. omega arith) mode-cases

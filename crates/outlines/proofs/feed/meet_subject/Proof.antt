@@ -1,0 +1,25 @@
+use borrow.Author.Needs.{needs}
+use native.Mathlib.Omega.{arith}
+use mathlib.Core.Path.{_≡_, refl}
+use Rattle.foundation.specs.Tests.{eq-true, ne-false}
+use Rattle.outlines.proofs.feed.meet_subject.Statement.{statement}
+use Rattle.outlines.proofs.feed.meet_subject.Tie as tie
+
+returns : tie.Need-returns
+returns c = rw (eq-true _ _ (c .if1 .taken))
+
+add-result : tie.Need-add-result
+add-result c = omega (arith, c .before .pre (c .if1 .left))
+
+mul-result : tie.Need-mul-result
+mul-result c = omega (arith, c .before .pre (c .if1 .left))
+
+element-copy-out-result : tie.Need-element-copy-out-result
+element-copy-out-result c = omega (arith, c .before .pre (c .if1 .left))
+
+returns-2 : tie.Need-returns-2
+returns-2 c = rw (ne-false _ _ (c .before .if1 .left))
+
+pub meet-subject-spec : {M : Type 1} → statement M
+meet-subject-spec =
+    tie.close (tie.spec returns add-result mul-result element-copy-out-result returns-2)

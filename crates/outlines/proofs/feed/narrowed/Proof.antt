@@ -1,0 +1,42 @@
+use borrow.Author.Needs.{needs}
+use native.Mathlib.Omega.{arith}
+use mathlib.Core.Path.{_≡_, refl, sym, _∙_}
+use mathlib.Core.Bool.{_&&_}
+use denote.Ref.{now}
+use Rattle.foundation.specs.Masks.{bit}
+use Rattle.foundation.specs.Tests.{and-false}
+use Rattle.model.specs.declared.OptionTerm.the-variants.{With, Without, Either}
+use Rattle.model.specs.Rules.{fitsGrantor}
+use Rattle.encoding.specs.Format.{ruleAt}
+use Rattle.outlines.proofs.MaskWords.{no-bit}
+use Rattle.outlines.proofs.BitWalk.{and-last}
+use Rattle.outlines.proofs.feed.narrowed.Statement.{statement}
+use Rattle.outlines.proofs.feed.narrowed.Tie as tie
+
+returns : tie.Need-returns
+returns c =
+    let a = c .before .before .before .args in
+    let e : a .r .option ≡ With = c .enum-told .given .1 in
+    λ q. rw e (no-bit q ∙ sym (and-false (bit q (a .f) && fitsGrantor (a .r .grantor)
+    (ruleAt (now (a .body)) q .author))))
+
+returns-2 : tie.Need-returns-2
+returns-2 c =
+    let a = c .before .before .before .before .args in
+    let e : a .r .option ≡ Without = c .before .enum-told2 .given .1 in
+    λ q. rw e (c .by-grantor .ensures q ∙ and-last (bit q (a .f) && fitsGrantor (a .r .grantor)
+    (ruleAt (now (a .body)) q .author)))
+
+returns-3 : tie.Need-returns-3
+returns-3 c =
+    let a = c .before .before .before .before .args in
+    let e : a .r .option ≡ Either = c .before .enum-told3 .given .1 in
+    λ q. rw e (c .by-grantor2 .ensures q ∙ and-last (bit q (a .f) && fitsGrantor (a .r .grantor)
+    (ruleAt (now (a .body)) q .author)))
+
+pub narrowed-spec : {M : Type 1} → statement M
+narrowed-spec =
+    tie.close
+    (tie.spec (λ c. search needs) (λ c. search needs) (λ c κs. search needs) (λ c. search needs)
+    (λ c κs. search needs) returns
+    returns-2 returns-3)

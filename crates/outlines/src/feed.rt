@@ -1,0 +1,212 @@
+// Which rule feeds which.
+ghost use mathlib.Core.Path.{_≡_};
+ghost use mathlib.Core.Bool.{true, false, _&&_, _||_};
+ghost use Prim.Native.Nat.{ℕ, _+_, _*_, _/_, _≤_, _<_};
+ghost use lib.Bits.{bitAnd};
+ghost use lib.Dec.{eqb};
+ghost use lib.ListN.{length, getD};
+ghost use Rattle.foundation.specs.Tests.{pick};
+ghost use Rattle.foundation.specs.Masks.{bit, maskOf};
+ghost use Rattle.model.specs.Rules.{fitsGrantor};
+ghost use Rattle.model.specs.Stratification.{fitsOption};
+ghost use Rattle.encoding.specs.Format.{rulesIn, ruleAt};
+ghost use Rattle.rules.specs.Strata.{feedersOf, Holds};
+ghost use Rattle.outlines.specs.Feed.{looksWord, meetingWord, isChoosy, Outlined, Fed};
+use crate::left::put_word;
+use crate::left::wide;
+use encoding::rule_at;
+use model::OptionTerm;
+use model::RULE_BYTES;
+use model::Rule;
+use words::next_bit;
+
+// Whether a rule's right side names a grantor or an option.
+fn is_choosy(r: Rule) -> bool
+    ensures { λ x. ⌜ x ≡ isChoosy r ⌝ }
+{
+    let o = r.option;
+    match o {
+        OptionTerm::With => true,
+        OptionTerm::Without => true,
+        OptionTerm::Either => r.grantor != 0,
+    }
+}
+
+// The rules whose right side names a grantor or an option, as a mask.
+pub fn choosy_of(body: &[u8], n: usize) -> u64
+    requires { ⌜ (n * 28 ≤ length (now body)) × (n ≤ 64) ⌝ }
+    ensures { λ x. ⌜ x ≡ maskOf isChoosy (rulesIn n (now (body .entry))) ⌝ }
+{
+    let mut m = 0;
+    let mut i = n;
+    while 0 < i {
+        i -= 1;
+        m = 2 * m + is_choosy(rule_at(body, i * RULE_BYTES)) as u64;
+    }
+    m
+}
+
+// Of some rules those by an author.
+fn by_author(body: &[u8], n: usize, f: u64, author: u16) -> u64
+    requires { ⌜ (n * 28 ≤ length (now body)) × ((q : ℕ) → bit q f ≡ true → q < n) ⌝ }
+    ensures { λ x. ⌜ ((q : ℕ) → bit q x ≡ bit q f && eqb author (ruleAt (now (body .entry)) q .author)) ⌝ }
+{
+    let mut m = 0;
+    let mut q = next_bit(f, 0);
+    while q < 64 {
+        let r = rule_at(body, (q as usize) * RULE_BYTES);
+        if author == r.author {
+            m = m | (1 << q);
+        }
+        q = next_bit(f, q + 1);
+    }
+    m
+}
+
+// Of some rules those whose author fits a right side's grantor.
+fn by_grantor(body: &[u8], n: usize, f: u64, grantor: u16) -> u64
+    requires { ⌜ (n * 28 ≤ length (now body)) × ((q : ℕ) → bit q f ≡ true → q < n) ⌝ }
+    ensures { λ x. ⌜ ((q : ℕ) → bit q x
+        ≡ bit q f && fitsGrantor grantor (ruleAt (now (body .entry)) q .author)) ⌝ }
+{
+    if grantor == 0 {
+        return f;
+    }
+    by_author(body, n, f, grantor)
+}
+
+// Of some rules those that fit a right side's grantor and option.
+fn narrowed(body: &[u8], n: usize, f: u64, r: Rule) -> u64
+    requires { ⌜ (n * 28 ≤ length (now body)) × ((q : ℕ) → bit q f ≡ true → q < n) ⌝ }
+    ensures { λ x. ⌜ ((q : ℕ) → bit q x ≡ bit q f
+        && fitsGrantor (r .grantor) (ruleAt (now (body .entry)) q .author)
+        && fitsOption (r .option) false) ⌝ }
+{
+    let o = r.option;
+    match o {
+        OptionTerm::With => 0,
+        OptionTerm::Without => by_grantor(body, n, f, r.grantor),
+        OptionTerm::Either => by_grantor(body, n, f, r.grantor),
+    }
+}
+
+// The word of what a right side's mode, or its star, meets with a sign.
+fn looks_word(code: usize, sign: usize) -> usize
+    requires { ⌜ (code < 256) × (sign < 128) ⌝ }
+    ensures { λ r. ⌜ r ≡ looksWord code sign ⌝ }
+{
+    if code == 255 {
+        return 146 + sign;
+    }
+    130 + (code + 8 * sign)
+}
+
+// Of some rules those that meet a right side's subject.
+fn meet_subject(left: &[u64; 151], f: u64, code: usize) -> u64
+    requires { ⌜ ((code ≡ 255 → ⊥) → code < 65) ⌝ }
+    ensures { λ x. ⌜ x ≡ pick (eqb code 255) f (bitAnd f (getD (now (left .entry)) (65 + code) 0)) ⌝ }
+{
+    if code == 255 {
+        return f;
+    }
+    f & left[65 + code]
+}
+
+// The rules whose left side meets the right side of rule i in sign, object, subject and mode.
+fn meeting(left: &[u64; 151], right: &[u8; 256], sides: &[u8; 256], i: usize) -> u64
+    requires { ⌜ (i < 64) × (getD (now right) (4 * i) 0 < 65)
+        × ((getD (now right) (4 * i + 1) 0 ≡ 255 → ⊥) → getD (now right) (4 * i + 1) 0 < 65)
+        × (looksWord (getD (now right) (4 * i + 2) 0) (getD (now sides) (4 * i + 3) 0 / 2) < 151) ⌝ }
+    ensures { λ x. ⌜ x ≡ meetingWord (now (left .entry)) (now (right .entry)) (now (sides .entry)) i ⌝ }
+{
+    let o = wide(right[4 * i]);
+    let f = meet_subject(left, left[o], wide(right[4 * i + 1]));
+    let w = looks_word(wide(right[4 * i + 2]), wide(sides[4 * i + 3]) / 2);
+    f & left[w]
+}
+
+// The rules that feed rule i.
+fn feeders(
+    body: &[u8],
+    n: usize,
+    i: usize,
+    left: &[u64; 151],
+    right: &[u8; 256],
+    sides: &[u8; 256],
+) -> u64
+    requires { ⌜ (i < n) × Outlined n (now body) (now left) (now right) (now sides) ⌝ }
+    ensures { λ x. ⌜ x ≡ feedersOf (rulesIn n (now (body .entry))) (ruleAt (now (body .entry)) i) ⌝ }
+{
+    let f = meeting(left, right, sides, i);
+    narrowed(body, n, f, rule_at(body, i * RULE_BYTES))
+}
+
+// Puts the feeders of each rule in its place.
+fn draw_feeders(
+    body: &[u8],
+    n: usize,
+    left: &[u64; 151],
+    right: &[u8; 256],
+    sides: &[u8; 256],
+    feed: &mut [u64; 128],
+)
+    requires { ⌜ Outlined n (now body) (now left) (now right) (now sides) ⌝ }
+    ensures { λ _. ⌜ Holds n (now (body .entry)) (feedersOf (rulesIn n (now (body .entry))))
+        (now (feed .exit))
+        × ((k : ℕ) → n ≤ k → getD (now (feed .exit)) k 0 ≡ getD (now (feed .entry)) k 0) ⌝ }
+{
+    let mut i = 0;
+    while i < n {
+        let f = feeders(body, n, i, left, right, sides);
+        put_word(feed, i, f);
+        i += 1;
+    }
+}
+
+// Hands rule c on to the rules of f, which feed it.
+fn hand_on(feed: &mut [u64], c: u32, f: u64)
+    requires { ⌜ (c < 64) × (length (now feed) ≡ 128) ⌝ }
+    ensures { λ _. ⌜ ((w : ℕ) → w < 64 → getD (now (feed .exit)) w 0 ≡ getD (now (feed .entry)) w 0)
+        × ((i r : ℕ) → i < 64 → bit r (getD (now (feed .exit)) (64 + i) 0)
+        ≡ bit r (getD (now (feed .entry)) (64 + i) 0) || (eqb r c && bit i f)) ⌝ }
+{
+    let mut q = next_bit(f, 0);
+    while q < 64 {
+        let at = 64 + q as usize;
+        feed[at] = feed[at] | (1 << c);
+        q = next_bit(f, q + 1);
+    }
+}
+
+// Hands the choosy rules on to those that feed them.
+fn draw_fed(choosy: u64, feed: &mut [u64; 128])
+    requires { ⌜ ((k : ℕ) → 64 ≤ k → getD (now feed) k 0 ≡ 0) ⌝ }
+    ensures { λ _. ⌜ ((w : ℕ) → w < 64 → getD (now (feed .exit)) w 0 ≡ getD (now (feed .entry)) w 0)
+        × ((i c : ℕ) → i < 64 → c < 64 → bit c (getD (now (feed .exit)) (64 + i) 0)
+        ≡ bit c choosy && bit i (getD (now (feed .entry)) c 0)) ⌝ }
+{
+    let mut c = next_bit(choosy, 0);
+    while c < 64 {
+        let f = feed[c as usize];
+        hand_on(feed, c, f);
+        c = next_bit(choosy, c + 1);
+    }
+}
+
+// The rules that feed each rule, and from 64 on the choosy rules that each feeds.
+pub fn draw_feed(
+    body: &[u8],
+    n: usize,
+    left: &[u64; 151],
+    right: &[u8; 256],
+    sides: &[u8; 256],
+    choosy: u64,
+    feed: &mut [u64; 128],
+)
+    requires { ⌜ Outlined n (now body) (now left) (now right) (now sides)
+        × ((k : ℕ) → getD (now feed) k 0 ≡ 0) ⌝ }
+    ensures { λ _. ⌜ Fed n (now (body .entry)) choosy (now (feed .exit)) ⌝ }
+{
+    draw_feeders(body, n, left, right, sides, feed);
+    draw_fed(choosy, feed);
+}

@@ -1,0 +1,12 @@
+use Rattle.relevance.proofs.choice.counted.Statement.{statement}
+use Rattle.relevance.proofs.choice.counted.Tie as tie
+use borrow.Author.Needs.{needs}
+
+returns : tie.Need-returns
+returns c = rw (c .if1 .taken)
+
+returns-2 : tie.Need-returns-2
+returns-2 c = rw (c .if1 .left)
+
+pub counted-spec : {M : Type 1} → statement M
+counted-spec = tie.close (tie.spec (λ c. search needs) returns returns-2)

@@ -1,0 +1,77 @@
+-- The loop's invariant: `best` leads to the next mark of those passed.
+use borrow.Author.Needs.{needs}
+use native.Mathlib.Omega.{arith}
+use mathlib.Core.Path.{_≡_, sym, ap, _∙_}
+use Prim.Native.Nat.{ℕ, suc, _-_, _≤_}
+use denote.Ref.{now}
+use Rattle.foundation.specs.Marks.{next}
+use Rattle.model.specs.Means.{marksOf}
+use Rattle.marks.specs.Marks.{sooner}
+use Rattle.relevance.specs.Chosen.{picked}
+use Rattle.relevance.specs.Distance.{reached}
+use Rattle.relevance.proofs.Nearness.{line-turn, line-none}
+use Rattle.relevance.proofs.distance.nearest_line.Statement.{statement}
+use Rattle.relevance.proofs.distance.nearest_line.Tie as tie
+
+abbrev Inv-loop : tie.InvT-loop
+Inv-loop lines which n t from best₀ i₀ best i =
+    (i ≤ n) × (reached t best ≡ next t (marksOf (picked lines which i)) (reached t from))
+
+abbrev μ-loop : tie.MeasureT-loop
+μ-loop lines which n t from best₀ i₀ best i = n - i
+
+loop-holds : tie.Need-loop-holds Inv-loop μ-loop
+loop-holds c =
+    let a = c .before .before .args in
+    (omega arith, sym (line-none (now (a .lines)) (now (a .which)) (a .t) (reached (a .t) (a .from))))
+
+shared-slice-read-at : tie.Need-shared-slice-read-at Inv-loop μ-loop
+shared-slice-read-at c = omega (arith, c .before .before .before .before .before .pre .room)
+
+cast-at : tie.Need-cast-at Inv-loop μ-loop
+cast-at c = omega (arith, c .shared-slice-known3 .given (c .before .before .loop .i))
+
+mul-authorization-at : tie.Need-mul-authorization-at Inv-loop μ-loop
+mul-authorization-at c =
+    omega (
+      arith,
+      c .before .before .before .before .before .pre .inside (c .before .before .loop .i)
+          (omega arith),
+    )
+
+authorization-at-requires : tie.Need-authorization-at-requires Inv-loop μ-loop
+authorization-at-requires c κs =
+    omega (
+      arith,
+      c .before .before .before .before .before .pre .inside (c .before .before .loop .i)
+          (omega arith),
+    )
+
+loop-again : tie.Need-loop-again Inv-loop μ-loop
+loop-again c =
+    let a = c .before .before .before .before .before .before .before .before .args in
+    let p = c .before .before .before .before .before .before .before .before .pre in
+    let l = c .before .before .before .before .before .loop in
+    let r = c .before .before .authorization-at in (
+      omega arith,
+      c .nearer .ensures
+          ∙ ap (λ (d : ℕ). sooner (a .t) (r .result .interval .start)
+          (sooner (a .t) (suc (r .result .interval .end)) d)) (l .inv .1)
+          ∙ sym (line-turn (now (a .lines)) (now (a .which)) (a .t) (reached (a .t) (a .from)) (l .i)
+          (r .result) (omega (arith, p .room)) (r .ensures)),
+    )
+
+returns : tie.Need-returns Inv-loop μ-loop
+returns c =
+    let a = c .before .before .before .before .args in
+    let l = c .before .loop in
+    let z : l .i ≡ a .n = omega arith in
+    l .inv .1 ∙ ap (λ (i : ℕ). next (a .t) (marksOf (picked (now (a .lines)) (now (a .which)) i))
+    (reached (a .t) (a .from))) z
+
+pub nearest-line-spec : {M : Type 1} → statement M
+nearest-line-spec =
+    tie.close
+    (tie.spec Inv-loop μ-loop loop-holds (λ c. search needs) shared-slice-read-at cast-at
+    mul-authorization-at authorization-at-requires (λ c κs. search needs) (λ c. search needs)
+    (λ c. search needs) loop-again returns)

@@ -1,0 +1,5 @@
+pub mod Chosen
+pub mod Distance
+pub mod Filling
+pub mod Needed
+pub mod Forgotten

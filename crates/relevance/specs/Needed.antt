@@ -1,0 +1,103 @@
+-- Which authorizations are needed: a table says for each place, a subject's and an object's coordinate, which
+-- modes are, with both signs.
+use mathlib.Core.Path.{_≡_, refl}
+use mathlib.Core.Logic.{inl, inr}
+use mathlib.Core.Bool.{Bool, true, false, not, _&&_, _||_}
+use mathlib.Core.List.{List, [], _∷_}
+use Prim.Native.Nat.{ℕ, _+_, _*_, _-_, _≤_, _<_}
+use lib.Dec.{eqb, leb}
+use lib.ListN.{length, getD}
+use Rattle.foundation.specs.Tests.{pick, and-true, true-le}
+use Rattle.foundation.specs.Lists.{keepIf, conjunct}
+use Rattle.foundation.specs.Masks.{bit}
+use Rattle.model.specs.declared.Access.{Access}
+use Rattle.model.specs.declared.Authorization.{Authorization}
+use Rattle.model.specs.declared.Head.{Head}
+use Rattle.model.specs.Ranges.{isSubject, isObject, isMode, isLabel, isInstant}
+use Rattle.model.specs.Soundness.{authorizationIn, intervalIn}
+use Rattle.encoding.specs.Format.{authorizationsIn}
+use Rattle.relevance.specs.declared.choice.Cell.{Cell}
+use native.Mathlib.Omega.{arith}
+use Rattle.relevance.specs.Chosen.{authorizationAt, picked, Picks, number-inside}
+
+-- the coordinate of v by a table U, 0 for the one that is asked about and 255 for one that has none
+abbrev pub coordinate : List ℕ → ℕ → ℕ → ℕ
+coordinate U own v = pick (eqb (getD U v 0) 0) (pick (eqb v own) 0 255) (getD U v 0)
+
+abbrev pub cellOf : List ℕ → List ℕ → Access → Head → Cell
+cellOf subjects objects x h = record {
+  subject = coordinate subjects (x .subject) (h .subject);
+  object = coordinate objects (x .object) (h .object);
+}
+
+-- a mode is needed with both signs
+abbrev pub bothAt : ℕ → ℕ → Bool
+bothAt w m = bit m w && bit (8 + m) w
+
+-- an authorization with these coordinates is needed: both are there, and its mode is needed there
+abbrev pub neededIn : ℕ → List ℕ → Cell → Head → Bool
+neededIn stride need c h =
+    not (eqb (c .subject) 255 || eqb (c .object) 255)
+    && bothAt (getD need (c .object * stride + c .subject) 0) (h .mode - 1)
+
+abbrev pub isNeeded : List ℕ → List ℕ → Access → ℕ → List ℕ → Authorization → Bool
+isNeeded subjects objects x stride need a =
+    neededIn stride need (cellOf subjects objects x (a .head)) (a .head)
+
+-- what a sound base says of an authorization, as far as the tables need it
+pub record Placed (h : Head) : Type 0 where
+  pub subject : h .subject < 1024
+  pub object : h .object < 130
+  pub some : 1 ≤ h .mode
+  pub mode : h .mode ≤ 8
+
+pub placed-in : (a : Authorization) → authorizationIn a ≡ true → Placed (a .head)
+placed-in a e =
+    let h = a .head in
+    let t = conjunct (isLabel (h .label) ∷ isSubject (h .grantor) ∷ isSubject (h .subject)
+    ∷ isObject (h .object)
+    ∷ isMode (h .mode) ∷ isInstant (h .granted) ∷ intervalIn (a .interval) ∷ []) e in
+    let s = and-true (leb 1 (h .subject)) (leb (h .subject) 1023) (t _ (inr (inr (inl refl)))) in
+    let o = and-true (leb 1 (h .object)) (leb (h .object) 128) (t _ (inr (inr (inr (inl refl))))) in
+    let m = and-true (leb 1 (h .mode)) (leb (h .mode) 8) (t _ (inr (inr (inr (inr (inl refl)))))) in
+    record {
+      subject = omega (arith, true-le (h .subject) 1023 (s .1));
+      object = omega (arith, true-le (h .object) 128 (o .1));
+      some = true-le 1 (h .mode) (m .0);
+      mode = true-le (h .mode) 8 (m .1);
+    }
+
+-- coordinates that are both there have their place in the table
+pub record Charted (c : Cell) (stride : ℕ) (need : List ℕ) : Type 0 where
+  pub narrow : stride ≤ 256
+  pub object : c .object ≤ 255
+  pub subject : c .subject ≤ 255
+  pub inside : eqb (c .subject) 255 || eqb (c .object) 255 ≡ false → c .object * stride + c .subject < length
+      need
+
+-- the bytes hold the authorizations, the tables have room for their places, and the list for their numbers
+pub record Ready (s : List ℕ) (total : ℕ) (subjects objects : List ℕ) (stride : ℕ) (need which : List ℕ) :
+    Type 0 where
+  pub bytes : total * 24 ≤ length s
+  pub placed : (i : ℕ) → i < total → Placed (authorizationAt s i .head)
+  pub narrow : stride ≤ 256
+  pub columns : (v : ℕ) → getD subjects v 0 < stride
+  pub rows : (v : ℕ) → (getD objects v 0 + 1) * stride ≤ length need
+  pub numbers : total ≤ 65536
+  pub room : total ≤ length which
+
+-- the first n numbers are those of the authorizations that pass the test, in order
+pub record Choice (test : Authorization → Bool) (s : List ℕ) (total : ℕ) (entry exit : List ℕ) (n : ℕ) : Type
+    0 where
+  pub chosen : picked s exit n ≡ keepIf test (authorizationsIn total s)
+  pub few : n ≤ total
+  pub below : (j : ℕ) → j < n → getD exit j 0 < total
+  pub same-length : length exit ≡ length entry
+
+-- so they lie in the bytes
+pub choice-picks : (test : Authorization → Bool) (s : List ℕ) (total : ℕ) (entry exit : List ℕ) (n : ℕ) →
+    total * 24 ≤ length s → total ≤ length entry → Choice test s total entry exit n → Picks s exit n
+choice-picks test s total entry exit n h l c = record {
+  room = omega (arith, c .few, c .same-length);
+  inside = λ j k. number-inside (getD exit j 0) total s (c .below j k) h;
+}

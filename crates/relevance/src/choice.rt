@@ -1,0 +1,142 @@
+// The authorizations that matter: those whose mode is needed at their place, with both signs, and of these,
+// as time goes on, those that have not ended.
+ghost use mathlib.Core.Path.{_≡_};
+ghost use Prim.Native.Nat.{_+_, _≤_, _<_};
+ghost use lib.Dec.{eqb};
+ghost use Rattle.foundation.specs.Tests.{pick};
+ghost use Rattle.foundation.specs.Masks.{asBit};
+ghost use Rattle.relevance.specs.Chosen.{Picks};
+ghost use Rattle.relevance.specs.Needed.{bothAt, cellOf, neededIn, isNeeded};
+ghost use Rattle.relevance.specs.Needed.{Charted, Placed, Ready, Choice};
+ghost use Rattle.relevance.specs.Forgotten.{Forgets};
+use encoding::authorization_at;
+use model::AUTHORIZATION_BYTES;
+use model::Access;
+use model::Head;
+
+// The coordinate of a subject or object from its entry in the table, `own` being the one that is asked about;
+// 255 for one that has none.
+fn coordinate_of(entry: u8, own: bool) -> u32
+    ensures { λ r. ⌜ (r ≡ pick (eqb entry 0) (pick own 0 255) entry) × (r ≤ 255) ⌝ }
+{
+    if entry != 0 {
+        return entry as u32;
+    }
+    if own {
+        return 0;
+    }
+    255
+}
+
+// The coordinates of a subject and an object.
+pub struct Cell {
+    pub subject: u32,
+    pub object: u32,
+}
+
+// The coordinates of what an authorization is about, x being asked.
+pub fn cell_of(h: Head, x: Access, subjects: &[u8; 1024], objects: &[u8; 130]) -> Cell
+    requires { ⌜ (h .subject < 1024) × (h .object < 130) ⌝ }
+    ensures { λ r. ⌜ (r ≡ cellOf (now (subjects .entry)) (now (objects .entry)) x h) × (r .subject ≤ 255)
+        × (r .object ≤ 255) ⌝ }
+{
+    let s = h.subject as usize;
+    let o = h.object as usize;
+    Cell {
+        subject: coordinate_of(subjects[s], h.subject as u32 == x.subject),
+        object: coordinate_of(objects[o], h.object as u32 == x.object),
+    }
+}
+
+// 1 for a denial, 0 for what is positive.
+pub fn sign_of(negative: bool) -> u32
+    ensures { λ r. ⌜ r ≡ asBit negative ⌝ }
+{
+    if negative {
+        return 1;
+    }
+    0
+}
+
+// Whether mode m is needed with both signs.
+fn both_at(w: u16, m: u32) -> bool
+    requires { ⌜ m < 8 ⌝ }
+    ensures { λ r. ⌜ r ≡ bothAt w m ⌝ }
+{
+    ((w & (w >> 8)) >> m) & 1 == 1
+}
+
+// Whether an authorization is needed, c being its coordinates.
+fn is_needed(h: Head, c: Cell, stride: u32, need: &[u16]) -> bool
+    requires { ⌜ Placed h × Charted c stride (now need) ⌝ }
+    ensures { λ r. ⌜ r ≡ neededIn stride (now (need .entry)) c h ⌝ }
+{
+    let s = c.subject;
+    let o = c.object;
+    if (s == 255) | (o == 255) {
+        return false;
+    }
+    let j = (o * stride + s) as usize;
+    both_at(need[j], h.mode as u32 - 1)
+}
+
+// n, or one more.
+fn counted(n: usize, more: bool) -> usize
+    requires { ⌜ n < 18446744073709551615 ⌝ }
+    ensures { λ r. ⌜ r ≡ pick more (n + 1) n ⌝ }
+{
+    if more {
+        return n + 1;
+    }
+    n
+}
+
+// Writes down the numbers of those of `total` authorizations that are needed; how many they are.
+pub fn choose(
+    lines: &[u8],
+    total: usize,
+    x: Access,
+    subjects: &[u8; 1024],
+    objects: &[u8; 130],
+    stride: u32,
+    need: &[u16],
+    which: &mut [u16],
+) -> usize
+    requires { ⌜ Ready (now lines) total (now subjects) (now objects) stride (now need) (now which) ⌝ }
+    ensures { λ r. ⌜ Choice
+        (isNeeded (now (subjects .entry)) (now (objects .entry)) x stride (now (need .entry)))
+        (now (lines .entry)) total (now (which .entry)) (now (which .exit)) r ⌝ }
+{
+    let mut n = 0;
+    let mut i = 0;
+    while i < total {
+        let a = authorization_at(lines, i * AUTHORIZATION_BYTES);
+        let h = a.head;
+        which[n] = i as u16;
+        n = counted(
+            n,
+            is_needed(h, cell_of(h, x, subjects, objects), stride, need),
+        );
+        i += 1;
+    }
+    n
+}
+
+// Forgets those of n authorizations that end before t; how many are left.
+pub fn forget(lines: &[u8], which: &mut [u16], n: usize, t: u32) -> usize
+    requires { ⌜ Picks (now lines) (now which) n ⌝ }
+    ensures { λ r. ⌜ Forgets (now (lines .entry)) n t (now (which .entry)) (now (which .exit)) r ⌝ }
+{
+    let mut kept = 0;
+    let mut i = 0;
+    while i < n {
+        let w = which[i];
+        let at = w as usize;
+        let a = authorization_at(lines, at * AUTHORIZATION_BYTES);
+        let iv = a.interval;
+        which[kept] = w;
+        kept = counted(kept, t <= iv.end);
+        i += 1;
+    }
+    kept
+}

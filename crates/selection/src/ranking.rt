@@ -1,0 +1,62 @@
+// The strata of the rules that matter, among themselves.
+ghost use mathlib.Core.Path.{_≡_};
+ghost use mathlib.Core.Bool.{true};
+ghost use Prim.Native.Nat.{ℕ, _*_, _≤_, _<_};
+ghost use lib.ListN.{length, getD};
+ghost use Rattle.foundation.specs.Masks.{bit};
+ghost use Rattle.model.specs.Stratification.{stratified, stratum};
+ghost use Rattle.encoding.specs.Format.{rulesIn, ruleAt};
+ghost use Rattle.relevance.specs.Chosen.{selected};
+ghost use Rattle.selection.specs.Selection.{position};
+use model::RULE_BYTES;
+use words::next_bit;
+
+// Copies the rules of a mask to the front; how many they are.
+fn select(body: &[u8], n: usize, needed: u64, few: &mut [u8; 1792]) -> usize
+    requires { ⌜ (n ≤ 64) × (n * 28 ≤ length (now body)) × ((r : ℕ) → bit r needed ≡ true → r < n)
+        × (length (now few) ≡ 1792) ⌝ }
+    ensures { λ k. ⌜ (k ≤ 64) × (length (now (few .exit)) ≡ 1792)
+        × (rulesIn k (now (few .exit)) ≡ selected needed (rulesIn n (now (body .entry)))) ⌝ }
+{
+    let mut k = 0;
+    let mut r = next_bit(needed, 0);
+    while r < 64 {
+        let at = (r as usize) * RULE_BYTES;
+        fields::copy(few, k * RULE_BYTES, &body[at..], RULE_BYTES);
+        k += 1;
+        r = next_bit(needed, r + 1);
+    }
+    k
+}
+
+// Puts the first ranks in the places of the rules of a mask.
+fn spread(ranks: &[u16; 65], needed: u64, strata: &mut [u16; 65])
+    requires { ⌜ length (now strata) ≡ 65 ⌝ }
+    ensures { λ _. ⌜ ((r : ℕ) → r < 64 → bit r needed ≡ true → getD (now (strata .exit)) r 0
+        ≡ getD (now (ranks .entry)) (position needed r) 0) ⌝ }
+{
+    let mut k = 0;
+    let mut r = next_bit(needed, 0);
+    while r < 64 {
+        let i = r as usize;
+        strata[i] = ranks[k];
+        k += 1;
+        r = next_bit(needed, r + 1);
+    }
+}
+
+// Puts the stratum of each rule of a mask, among these, in its place.
+pub fn strata_of(body: &[u8], n: usize, needed: u64, strata: &mut [u16; 65])
+    requires { ⌜ (n ≤ 64) × (n * 28 ≤ length (now body)) × ((r : ℕ) → bit r needed ≡ true → r < n)
+        × (stratified (selected needed (rulesIn n (now body))) ≡ true) ⌝ }
+    ensures { λ _. ⌜ ((r : ℕ) → bit r needed ≡ true → getD (now (strata .exit)) r 0
+        ≡ stratum (selected needed (rulesIn n (now (body .entry)))) (ruleAt (now (body .entry)) r)) ⌝ }
+{
+    let mut few = [0u8; 1792];
+    let mut ranks = [0u16; 65];
+    let k = select(body, n, needed, &mut few);
+    rules::stratify(&few, k, &mut ranks);
+    let mut placed = [0u16; 65];
+    spread(&ranks, needed, &mut placed);
+    *strata = placed;
+}

@@ -1,0 +1,88 @@
+-- The tables of the rules of a mask, laid out in order: each starts where those before it end.
+use mathlib.Core.Path.{_≡_, refl, sym, ap, _∙_}
+use mathlib.Core.Bool.{true, false}
+use mathlib.Core.List.{List}
+use Prim.Native.Nat.{ℕ, zero, suc, _+_, _-_, _/_, _%_, _^_, _≤_, _<_}
+use native.Mathlib.Nat.{div-eq-of-lt, lt-of-lt-of-le}
+use native.Mathlib.Omega.{arith}
+use lib.Dec.{ltb}
+use lib.ListN.{getD}
+use lib.Pow.{pow-mono}
+use Rattle.foundation.specs.Tests.{cases, true-eq, true-le, false-le}
+use Rattle.foundation.specs.Masks.{bit}
+use Rattle.places.specs.declared.Grid.{Grid}
+use Rattle.places.specs.Regions.{sizeOf}
+use Rattle.tables.specs.Layout.{Laid, regionAt, ruleTables, roomOf}
+
+-- a number below 2 ^ k has no bit from the k-th on
+pub bit-inside : (k x i : ℕ) → x < 2 ^ k → bit i x ≡ true → i < k
+bit-inside k x i h e = cases (ltb i k) (λ l. true-le (suc i) k l) (λ l.
+    let g : k ≤ i = omega (arith, false-le (suc i) k l) in
+    let z : x / 2 ^ i ≡ 0 = div-eq-of-lt (lt-of-lt-of-le h (pow-mono g)) in
+    absurd (omega (arith, true-eq (x / 2 ^ i % 2) 1 e)))
+
+module _ (g : Grid) (codes : List ℕ) (rules : ℕ) where
+  pub room-none : roomOf g codes rules 0 ≡ 0
+  unfolding roomOf
+  room-none = refl
+
+  pub room-taken : (c : ℕ) → bit c rules ≡ true →
+      roomOf g codes rules (suc c) ≡ roomOf g codes rules c + sizeOf g (regionAt codes c)
+  unfolding roomOf
+  room-taken c e = rw e
+
+  pub room-passed : (c : ℕ) → bit c rules ≡ false → roomOf g codes rules (suc c) ≡ roomOf g codes rules c
+  unfolding roomOf
+  room-passed c e = rw e (omega arith)
+
+  next : (c d : ℕ) → roomOf g codes rules (suc d + c) ≡ roomOf g codes rules (suc (d + c))
+  next c d = ap (roomOf g codes rules) (omega arith)
+
+  room-more : (c d : ℕ) → roomOf g codes rules c ≤ roomOf g codes rules (d + c)
+  room-more c zero = let e : roomOf g codes rules (0 + c) ≡ roomOf g codes rules c = ap (roomOf g codes rules)
+      (omega arith) in omega arith
+  room-more c (suc d) = let f = next c d in cases (bit (d + c) rules)
+      (λ e. omega (arith, room-taken (d + c) e, room-more c d))
+      (λ e. omega (arith, room-passed (d + c) e, room-more c d))
+
+  pub room-mono : (c d : ℕ) → c ≤ d → roomOf g codes rules c ≤ roomOf g codes rules d
+  room-mono c d h =
+      let e : (d - c) + c ≡ d = omega arith in
+      let f : roomOf g codes rules ((d - c) + c) ≡ roomOf g codes rules d = ap (roomOf g codes rules) e in
+      omega (arith, room-more c (d - c))
+
+  none-more : (c d : ℕ) → ((i : ℕ) → c ≤ i → i < d + c → bit i rules ≡ false) →
+      roomOf g codes rules (d + c) ≡ roomOf g codes rules c
+  none-more c zero z = ap (roomOf g codes rules) (omega arith)
+  none-more c (suc d) z = next c d ∙ room-passed (d + c) (z (d + c) (omega arith) (omega arith))
+      ∙ none-more c d (λ i h l. z i h (omega arith))
+
+  -- rules that have no table take no room
+  pub room-same : (c d : ℕ) → c ≤ d → ((i : ℕ) → c ≤ i → i < d → bit i rules ≡ false) →
+      roomOf g codes rules d ≡ roomOf g codes rules c
+  room-same c d h z =
+      let e : (d - c) + c ≡ d = omega arith in
+      ap (roomOf g codes rules) (sym e) ∙ none-more c (d - c) (λ i l m. z i l (omega arith))
+
+  module _ (first : List ℕ) (from : ℕ) (small : rules < 2 ^ 64)
+      (starts : (c : ℕ) → c < 64 → bit c rules ≡ true → getD first c 0 ≡ from + roomOf g codes rules c) where
+    inside : (c : ℕ) → bit c rules ≡ true → c < 64
+    inside c e = bit-inside 64 rules c small e
+
+    behind : (c d : ℕ) → bit c rules ≡ true → bit d rules ≡ true → c < d →
+        getD first c 0 + sizeOf g (regionAt codes c) ≤ getD first d 0
+    behind c d e f h = omega (
+      arith,
+      starts c (inside c e) e,
+      starts d (inside d f) f,
+      room-taken c e,
+      room-mono (suc c) d h,
+    )
+
+    pub rules-laid : Laid (ruleTables g codes rules first) from (from + roomOf g codes rules 64)
+    rules-laid = record {
+      room = omega arith;
+      low = λ c e. omega (arith, starts c (inside c e) e);
+      high = λ c e. omega (arith, starts c (inside c e) e, room-taken c e, room-mono (suc c) 64 (inside c e));
+      behind = behind;
+    }

@@ -1,0 +1,46 @@
+-- The tables of the rules lie behind the first two.
+use borrow.Author.Needs.{needs}
+use native.Mathlib.Omega.{arith}
+use mathlib.Core.Path.{_≡_, ap, _∙_}
+use Prim.Native.Nat.{ℕ, _+_, _*_}
+use denote.Ref.{now}
+use Rattle.places.specs.Regions.{sizeOf}
+use Rattle.tables.specs.Layout.{whole, roomOf, size-small, room-small, all-laid}
+use Rattle.tables.proofs.lay_all.Statement.{statement}
+use Rattle.tables.proofs.lay_all.Tie as tie
+
+size-of-requires : tie.Need-size-of-requires
+size-of-requires c κs =
+    omega (arith, size-small (c .before .args .g) (c .before .pre) (c .all-places .result))
+
+mul-lay-out : tie.Need-mul-lay-out
+mul-lay-out c =
+    let s = c .before .before in
+    omega (arith, c .size-of .ensures, size-small (s .args .g) (s .pre) (c .before .all-places .result))
+
+lay-out-requires : tie.Need-lay-out-requires
+lay-out-requires c κs =
+    let s = c .before .before .before in
+    let a = s .args in
+    omega (
+      arith,
+      c .before .size-of .ensures,
+      size-small (a .g) (s .pre) (c .before .before .all-places .result),
+      room-small (a .g) (s .pre) (now (a .right)) (a .choosy) 64,
+    )
+
+returns : tie.Need-returns
+returns c =
+    let s = c .before .before .before .before in
+    let a = s .args in
+    let z : 2 * c .before .before .size-of .result ≡ 2 * sizeOf (a .g) whole =
+    ap (λ (n : ℕ). 2 * n) (c .before .before .size-of .ensures
+    ∙ ap (sizeOf (a .g)) (c .before .before .before .all-places .ensures)) in
+    let e = c .lay-out .ensures in (
+      e .0 ∙ ap (λ (n : ℕ). n + roomOf (a .g) (now (a .right)) (a .choosy) 64) z,
+      all-laid (a .g) (now (a .right)) (a .choosy) _ (c .lay-out .result) (rw z at (e .1)),
+    )
+
+pub lay-all-spec : {M : Type 1} → statement M
+lay-all-spec =
+    tie.close (tie.spec (λ c κs. search needs) size-of-requires mul-lay-out lay-out-requires returns)

@@ -1,0 +1,184 @@
+// Tables of fields: where they lie, and what is given to them. Table 0 is that of what is held, table 1 that
+// of what is denied, each of all places; table 2 + c is that of rule c, of the places of its right side.
+ghost use mathlib.Core.Path.{_≡_};
+ghost use mathlib.Core.Bool.{true, _||_};
+ghost use mathlib.Core.Logic.{_↔_};
+ghost use Prim.Native.Nat.{ℕ, _+_, _*_, _^_, _≤_, _<_};
+ghost use lib.Dec.{eqb};
+ghost use lib.ListN.{length};
+ghost use Rattle.foundation.specs.Masks.{bit};
+ghost use Rattle.words.specs.Fields.{fieldOf, joined};
+ghost use Rattle.words.specs.Sums.{Grown};
+ghost use Rattle.places.specs.Regions.{free, sizeOf, indexIn, Within, In};
+ghost use Rattle.tables.specs.Layout.{regionAt, whole, ruleTables, allTables, roomOf, Small, Laid};
+ghost use Rattle.tables.specs.Giving.{tablesOf, Ready, Reaches, Given, rule, takes};
+use places::Grid;
+use places::Region;
+use places::Spot;
+use words::field_at;
+use words::join_at;
+use words::next_bit;
+
+// The grid, the width of fields (2^width bits), how many fields there are, and the rules that have a table.
+pub struct Frame {
+    pub grid: Grid,
+    pub width: u32,
+    pub fields: u32,
+    pub choosy: u64,
+}
+
+// A place, with the number of its pair.
+pub struct Place {
+    pub pair: u32,
+    pub spot: Spot,
+}
+
+// The region of all places.
+pub fn all_places() -> Region
+    ensures { λ r. ⌜ r ≡ whole ⌝ }
+{
+    Region {
+        subject: 255,
+        mode: 255,
+        object: 255,
+    }
+}
+
+// The region whose codes stand with rule i: object, subject, mode.
+pub fn region_at(codes: &[u8; 256], i: usize) -> Region
+    requires { ⌜ i < 64 ⌝ }
+    ensures { λ r. ⌜ r ≡ regionAt (now (codes .entry)) i ⌝ }
+{
+    Region {
+        subject: codes[4 * i + 1],
+        mode: codes[4 * i + 2],
+        object: codes[4 * i],
+    }
+}
+
+// Whether a code names v, or is free.
+fn names(code: u8, v: u32) -> bool
+    ensures { λ r. ⌜ r ≡ free code || eqb code v ⌝ }
+{
+    (code == 255) | (code as u32 == v)
+}
+
+// Whether a place lies in a region.
+pub fn is_in(b: Region, x: Spot) -> bool
+    ensures { λ r. ⌜ (r ≡ true) ↔ In b x ⌝ }
+{
+    names(b.subject, x.subject) & names(b.object, x.object) & names(b.mode, x.mode)
+}
+
+// Lays out a table for each rule of a mask, one behind the other from a field on; where they end.
+pub fn lay_out(codes: &[u8; 256], rules: u64, g: Grid, from: u32, first: &mut [u32; 64]) -> u32
+    requires { ⌜ from + roomOf g (now codes) rules 64 < 4294967296 ⌝ }
+    ensures { λ r. ⌜ (r ≡ from + roomOf g (now (codes .entry)) rules 64)
+        × Laid (ruleTables g (now (codes .entry)) rules (now (first .exit))) from r ⌝ }
+{
+    *first = [0; 64];
+    let mut n = from;
+    let mut r = next_bit(rules, 0);
+    while r < 64 {
+        let i = r as usize;
+        first[i] = n;
+        n = n + places::size_of(g, region_at(codes, i));
+        r = next_bit(rules, r + 1);
+    }
+    n
+}
+
+// Lays out all tables, those of the rules of a mask behind the first two; how many fields they have.
+pub fn lay_all(right: &[u8; 256], choosy: u64, g: Grid, first: &mut [u32; 64]) -> u32
+    requires { ⌜ Small g ⌝ }
+    ensures { λ r. ⌜ (r ≡ 2 * sizeOf g whole + roomOf g (now (right .entry)) choosy 64)
+        × Laid (allTables g (now (right .entry)) choosy (now (first .exit))) 0 r ⌝ }
+{
+    let b = all_places();
+    lay_out(right, choosy, g, 2 * places::size_of(g, b), first)
+}
+
+// The number of a place's field in the table of a region that starts at `from`.
+fn number_in(f: Frame, from: u32, b: Region, p: Place) -> u32
+    requires { ⌜ (from + sizeOf (f .grid) b ≤ f .fields) × Within (f .grid) (p .pair) (p .spot) ⌝ }
+    ensures { λ r. ⌜ (r ≡ from + indexIn (f .grid) b (p .pair) (p .spot)) × (r < f .fields) ⌝ }
+{
+    let g = f.grid;
+    let x = p.spot;
+    from + places::index_in(g, b, p.pair, x)
+}
+
+// A place's field in such a table.
+pub fn field_in(words: &[u64], f: Frame, from: u32, b: Region, p: Place) -> u64
+    requires { ⌜ Reaches f from b p (length (now words)) ⌝ }
+    ensures { λ r. ⌜ r ≡ fieldOf (f .width) (now (words .entry))
+        (from + indexIn (f .grid) b (p .pair) (p .spot)) ⌝ }
+{
+    field_at(words, f.width, number_in(f, from, b, p))
+}
+
+// Joins v to it; whether that is new.
+pub fn join_in(words: &mut [u64], f: Frame, from: u32, b: Region, p: Place, v: u64) -> bool
+    requires { ⌜ Reaches f from b p (length (now words)) × (v < 2 ^ (2 ^ f .width)) ⌝ }
+    ensures { λ r. ⌜ ((j : ℕ) → fieldOf (f .width) (now (words .exit)) j
+        ≡ joined (f .width) (now (words .entry)) (from + indexIn (f .grid) b (p .pair) (p .spot)) v j)
+        × (length (now (words .exit)) ≡ length (now (words .entry)))
+        × Grown r (now (words .entry)) (now (words .exit)) ⌝ }
+{
+    join_at(words, f.width, number_in(f, from, b, p), v)
+}
+
+// Joins v to the field of a place in the table of rule c, if it has the place; whether that is new.
+fn give_rule(
+    words: &mut [u64],
+    right: &[u8; 256],
+    first: &[u32; 64],
+    f: Frame,
+    p: Place,
+    c: u32,
+    v: u64,
+) -> bool
+    requires { ⌜ Ready f (now right) (now first) (length (now words)) × Within (f .grid) (p .pair) (p .spot)
+        × (c < 64) × (bit c (f .choosy) ≡ true) × (v < 2 ^ (2 ^ f .width)) ⌝ }
+    ensures { λ r. ⌜ Given (tablesOf f (now (right .entry)) (now (first .entry))) (f .width) (p .pair)
+        (p .spot) (rule c) v (now (words .entry)) (now (words .exit))
+        × Grown r (now (words .entry)) (now (words .exit)) ⌝ }
+{
+    let i = c as usize;
+    let b = region_at(right, i);
+    let x = p.spot;
+    if is_in(b, x) {
+        return join_in(words, f, first[i], b, p, v);
+    }
+    false
+}
+
+// Joins v to the field of a place in the table of its sign and in those of the rules that take it and have
+// the place; whether something is new.
+pub fn give(
+    words: &mut [u64],
+    right: &[u8; 256],
+    first: &[u32; 64],
+    f: Frame,
+    p: Place,
+    sign: u32,
+    takers: u64,
+    v: u64,
+) -> bool
+    requires { ⌜ Ready f (now right) (now first) (length (now words)) × Within (f .grid) (p .pair) (p .spot)
+        × (sign < 2) × ((c : ℕ) → bit c takers ≡ true → bit c (f .choosy) ≡ true)
+        × (v < 2 ^ (2 ^ f .width)) ⌝ }
+    ensures { λ r. ⌜ Given (tablesOf f (now (right .entry)) (now (first .entry))) (f .width) (p .pair)
+        (p .spot) (takes sign takers) v (now (words .entry)) (now (words .exit))
+        × Grown r (now (words .entry)) (now (words .exit)) ⌝ }
+{
+    let g = f.grid;
+    let b = all_places();
+    let mut fresh = join_in(words, f, sign * places::size_of(g, b), b, p, v);
+    let mut c = next_bit(takers, 0);
+    while c < 64 {
+        fresh = fresh | give_rule(words, right, first, f, p, c, v);
+        c = next_bit(takers, c + 1);
+    }
+    fresh
+}
