@@ -4,7 +4,7 @@ use mathlib.Core.Logic.{_⊎_}
 use mathlib.Core.Bool.{true}
 use mathlib.Core.List.{List}
 use Prim.Native.Nat.{ℕ, _^_, _<_}
-use lib.ListN.{length, getD}
+use lib.ListN.{getD}
 use Rattle.foundation.specs.Masks.{bit}
 use Rattle.model.specs.declared.Authorization.{Authorization}
 use Rattle.model.specs.Stratification.{stratum}
@@ -20,8 +20,19 @@ abbrev pub Low : List ℕ → ℕ → ℕ → Type 0
 Low active rules width = (r : ℕ) → bit r rules ≡ true →
     (getD active r 0 < 9223372036854775808) × (getD active r 0 < 2 ^ (2 ^ width))
 
--- the words are cleared, the authorizations given, the rules have their turns behind those that feed them,
--- and those that are left theirs stratum by stratum
+-- the rules have their turns behind those that feed them, and those that are left theirs stratum by stratum
+pub record RulesRan (p : Prepared) (n needed : ℕ) (active bits old new : List ℕ) : Type 0 where
+  pub rest : ℕ
+  pub turned : List ℕ
+  pub turns : Turns p active bits needed old rest turned
+  pub fewer : (r : ℕ) → bit r rest ≡ true → bit r needed ≡ true
+  pub strata : List ℕ
+  pub closed : (((q : ℕ) → q < 64 → bit q rest ≡ true → ⊥) × (new ≡ turned))
+      ⊎ (((r : ℕ) → bit r needed ≡ true →
+      getD strata r 0 ≡ stratum (selected needed (rulesIn n (p .body))) (ruleAt (p .body) r))
+      × Strata p active bits strata rest 0 turned new)
+
+-- the words are cleared, the authorizations given, and the rules have their turns
 pub record Evaluation (e : Setting) (p : Prepared) (given-lines : List Authorization) (n needed : ℕ)
     (active bits new : List ℕ) : Type 0 where
   pub acts : (r j : ℕ) → bit r needed ≡ true → bit j (getD active r 0)
@@ -31,12 +42,4 @@ pub record Evaluation (e : Setting) (p : Prepared) (given-lines : List Authoriza
   pub zero : (i : ℕ) → i < p .frame .fields → fieldOf (p .frame .width) cleared i ≡ 0
   pub given : List ℕ
   pub lines : LineSteps e given-lines cleared given
-  pub rest : ℕ
-  pub turned : List ℕ
-  pub turns : Turns p active bits needed given rest turned
-  pub fewer : (r : ℕ) → bit r rest ≡ true → bit r needed ≡ true
-  pub strata : List ℕ
-  pub closed : (((q : ℕ) → q < 64 → bit q rest ≡ true → ⊥) × (new ≡ turned))
-      ⊎ (((r : ℕ) → bit r needed ≡ true →
-      getD strata r 0 ≡ stratum (selected needed (rulesIn n (p .body))) (ruleAt (p .body) r))
-      × Strata p active bits strata rest 0 turned new)
+  pub rules : RulesRan p n needed active bits given new

@@ -1,9 +1,12 @@
 pub mod Drawn
 pub mod Evaluation
 pub mod Facts
+pub mod Going
 pub mod Narrowed
 pub mod Places
 pub mod Posed
 pub mod Reading
+pub mod Right
+pub mod Selected
 pub mod Sides
 pub mod Standing

@@ -2,10 +2,10 @@
 -- (`Walks`) and finds (`Finds`).
 use mathlib.Core.Path.{_≡_}
 use mathlib.Core.Logic.{_⊎_}
-use mathlib.Core.Bool.{Bool, true, false}
+use mathlib.Core.Bool.{true}
 use mathlib.Core.List.{List}
-use Prim.Native.Nat.{ℕ, suc, _*_, _≤_, _<_}
-use lib.ListN.{length, getD}
+use Prim.Native.Nat.{ℕ, suc, _≤_, _<_}
+use lib.ListN.{length}
 use Rattle.foundation.specs.Lists.{Mem}
 use Rattle.foundation.specs.Intervals.{maximal}
 use Rattle.foundation.specs.Masks.{bit}
@@ -20,7 +20,6 @@ use Rattle.derivation.specs.Carried.{Carried}
 use Rattle.relevance.specs.declared.Chosen.{Chosen}
 use Rattle.relevance.specs.Chosen.{picked, selected, Picks}
 use Rattle.relevance.specs.Needed.{Placed}
-use Rattle.scan.specs.declared.Track.{Track}
 use Rattle.scan.specs.Runs.{Reached}
 use Rattle.outlines.specs.Coordinates.{Chart}
 use Rattle.outlines.specs.Needed as outlines
@@ -59,10 +58,10 @@ pub record Walks (lines which : List ℕ) (c : Chosen) (lasting : ℕ) (q : Quer
       Carried base (q .from) (ruleAt (p .body) r) y
       (brokenIn (turnIn p active r) (p .frame .grid) bits (placeOf (sceneOf base C (q .own) p) y))
   pub few : length (maximal 0 (q .to) (may base x)) ≤ 1089
+  -- where intervals are written down, none begins before the first instant
+  pub fresh : q .listing ≡ true → maximal 0 (q .to) (may base x) ≡ maximal (q .from) (q .to) (may base x)
 
 -- what it finds
 pub record Finds (q : Query) (base : Base) (x : Access) (r : Found) (old new : List ℕ) : Type 0 where
   pub last : r .yes ≡ may base x (q .to)
-  pub listed : q .listing ≡ true → (lent : List ℕ) (w : Track) → w .count ≡ 0 → w .inside ≡ false →
-      Reached (may base x) (q .to) lent (q .from) w old →
-      Reached (may base x) (q .to) lent (suc (q .to)) (r .track) new
+  pub listed : q .listing ≡ true → Reached (may base x) (q .to) old (suc (q .to)) (r .track) new

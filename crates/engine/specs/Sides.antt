@@ -52,7 +52,7 @@ sign-there : (choosy : ℕ) (g : Bool) → isThere choosy (asBit g) ≡ true
 sign-there choosy true = refl
 sign-there choosy false = refl
 
-in-whole : (x : Spot) → In whole x
+pub in-whole : (x : Spot) → In whole x
 in-whole x = record {
   subject = λ e. absurd (true≢false e);
   object = λ e. absurd (true≢false e);

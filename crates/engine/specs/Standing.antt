@@ -1,5 +1,5 @@
--- Where a rule stands, by what was drawn: at places of accesses that it stands for (`stands-in`), and at all
--- of these (`stands-at`).
+-- Where a rule stands, by what was drawn: at places of accesses that it stands for (`stands-in`), and at all of
+-- these (`stands-at`).
 use mathlib.Core.Path.{_≡_, sym, ap, ap₂, _∙_}
 use mathlib.Core.Bool.{Bool, true, false, _&&_, _||_}
 use mathlib.Core.List.{List}
@@ -17,8 +17,9 @@ use Rattle.model.specs.Stratification.{isStar}
 use Rattle.model.specs.Rules.{standsFor}
 use Rattle.encoding.specs.Format.{ruleAt}
 use Rattle.places.specs.Numbering.{used, before, before-more, before-apart}
-use Rattle.places.specs.Regions.{free}
+use Rattle.places.specs.Regions.{free, In}
 use Rattle.tables.specs.declared.Place.{Place}
+use Rattle.tables.specs.Layout.{regionAt}
 use Rattle.outlines.specs.Coordinates.{Chart, subjectOf, objectOf, modeOf, known, pairOf}
 use Rattle.outlines.specs.CoordinateFacts.{known-is}
 use Rattle.outlines.specs.Masks.{onObject, onSubject}
@@ -217,6 +218,20 @@ module _ {n : ℕ} {C : Chart} {asked : Access} {p : Prepared} {rules words bits
             absurd (false-eq (getD (p .sides) (4 * r + 1) 0) 255 named q))
             (λ y. d .lefts r h .subject ∙ rw y
             (ap (λ (k : ℕ). getD (C .subjects) k 0) (true-eq v (x .subject) (rw y at (side .0))) ∙ sym c))
+
+        -- the place lies in the region of its left side
+        pub left-in : In (regionAt (p .sides) r) (sceneOf base C asked p .spot x)
+        left-in =
+            let m : ℕ = modeOf x in
+            let code : ℕ = getD (p .sides) (4 * r + 2) 0 in
+            let v = and-three (bit r (getD (p .left) (65 + subjectOf C asked x) 0)) (free code || eqb code m)
+            (bit r (getD (p .left) (objectOf C asked x) 0)) .0
+            (sym (stands-is base x (needed-known C asked (p .need) x e)) ∙ s) in
+            record {
+              subject = λ f. sym (subject-code f);
+              object = λ f. sym object-code;
+              mode = λ f. sym (true-eq code m (ap (λ (b : Bool). b || eqb code m) (sym f) ∙ v .1));
+            }
 
         in-range : (rangeFor p active r .from ≤ before (p .need) (pairOf C asked x))
             × (before (p .need) (pairOf C asked x) < rangeFor p active r .to)

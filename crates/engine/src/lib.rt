@@ -1,12 +1,14 @@
-// The question engine: what MAY and WHEN find out over the bytes of a sound base. What its tables mean, and
-// why one window that is evaluated with them gives the right answers, is in specs/; the functions that walk
-// from window to window are to come (docs/ENGINE.md).
+// The question engine: what MAY and WHEN find out over the bytes of a sound base, before it becomes a reply.
+mod walking;
+mod window;
+
 use model::Access;
 use scan::Track;
 use tables::Place;
+pub use walking::walk;
 
-// What is asked: the access that coordinate 0 stands for, the place of the asked access, from which instant
-// to which, and whether the intervals are written down.
+// What is asked: the access that coordinate 0 stands for, the place of the asked access, from which instant to
+// which, and whether the intervals are written down.
 pub struct Query {
     pub own: Access,
     pub place: Place,

@@ -1,0 +1,69 @@
+-- How far the walk from window to window is (`Going`), and a window further (`Passed`).
+use mathlib.Core.Path.{_≡_}
+use mathlib.Core.Bool.{true}
+use mathlib.Core.List.{List}
+use Prim.Native.Nat.{ℕ, suc, _≤_, _<_}
+use lib.Dec.{leb}
+use lib.ListN.{length}
+use Rattle.foundation.specs.Tests.{pick}
+use Rattle.foundation.specs.Lists.{keepIf}
+use Rattle.model.specs.declared.Access.{Access}
+use Rattle.model.specs.Base.{Base}
+use Rattle.model.specs.Rules.{may}
+use Rattle.relevance.specs.declared.Chosen.{Chosen}
+use Rattle.relevance.specs.Chosen.{picked, Picks}
+use Rattle.relevance.specs.Forgotten.{endsFrom}
+use Rattle.scan.specs.Runs.{Reached}
+use Rattle.tables.specs.declared.Frame.{Frame}
+use Rattle.outlines.specs.Coordinates.{Chart}
+use Rattle.grounding.specs.Turns.{Prepared}
+use Rattle.engine.specs.declared.Query.{Query}
+use Rattle.engine.specs.declared.walking.Progress.{Progress}
+use Rattle.engine.specs.Posed.{Walks}
+use Rattle.engine.specs.Right.{CarriedAt}
+
+abbrev pub chartOf : List ℕ → List ℕ → Frame → Chart
+chartOf subjects objects f = record {
+  subjects = subjects;
+  objects = objects;
+  width = f .grid .subjects;
+  height = f .grid .objects;
+}
+
+-- t, but no instant behind the one that follows `to`
+abbrev pub upTo : ℕ → ℕ → ℕ
+upTo to t = pick (leb t to) t (suc to)
+
+-- what is asked, and what the walk started with
+pub record Start : Type 0 where
+  pub base : Base
+  pub access : Access
+  pub which : List ℕ
+  pub words : List ℕ
+  pub bits : List ℕ
+  pub list : List ℕ
+
+-- all instants before the next are done
+pub record Going (lines : List ℕ) (c : Chosen) (lasting : ℕ) (q : Query) (C : Chart) (p : Prepared)
+    (o : Start) (which words bits list : List ℕ) (s : Progress) : Type 0 where
+  pub walks : Walks lines (o .which) c lasting q C p (o .words) (o .bits) (o .base) (o .access)
+  pub low : q .from ≤ s .next
+  pub high : s .next ≤ 4294967296
+  pub picks : Picks lines which (s .left)
+  -- what is left of the authorizations
+  pub since : ℕ
+  pub past : since ≤ s .next
+  pub left : picked lines which (s .left) ≡ keepIf (endsFrom since) (o .base .authorizations)
+  pub carried : s .next ≤ q .to → CarriedAt (walks .posed) (s .next) bits
+  pub listed : q .listing ≡ true →
+      Reached (may (o .base) (o .access)) (q .to) (o .list) (upTo (q .to) (s .next)) (s .track) list
+  pub last : q .to < s .next → s .yes ≡ may (o .base) (o .access) (q .to)
+  pub words-size : length words ≡ length (o .words)
+  pub bits-size : length bits ≡ length (o .bits)
+
+-- a window further, whatever the walk started with
+abbrev pub Passed : List ℕ → Chosen → ℕ → Query → Chart → Prepared → (which words bits list : List ℕ) →
+    Progress → (which′ words′ bits′ list′ : List ℕ) → Progress → Type 0
+Passed lines c lasting q C p which words bits list s which′ words′ bits′ list′ r =
+    (o : Start) → Going lines c lasting q C p o which words bits list s →
+    (s .next < r .next) × Going lines c lasting q C p o which′ words′ bits′ list′ r
