@@ -1,10 +1,12 @@
-/* The benchmark: the same generated sessions through the proved library, through a plain C implementation of the same
- * functions (plain.c), and as text through the program `session`. Prints a table in Markdown: microseconds a call, the
- * ratio to plain C, and the growth from the row with a quarter of the lines. Before anything is timed, both must answer
- * alike and leave the same bytes. */
+/* The benchmark: the same generated sessions through the proved library, through a plain C implementation
+ * of the same functions (plain.c), and as text through the program `session`. Prints a table in Markdown:
+ * microseconds a call, the ratio to plain C, the growth from the row with a quarter of the lines, and what
+ * a question takes beyond the soundness check of the same base, timed in turns with it. Before anything is
+ * timed, both must answer alike and leave the same bytes. With a word as argument, only the rows of that
+ * call. */
 #include "harness.h"
 
-enum { MAX_REQUESTS = 2048, ROUNDS = 15 };
+enum { MAX_REQUESTS = 2048 };
 
 /* ---- generated sessions */
 
@@ -148,12 +150,8 @@ static void build(const struct library *l, const struct setup *s, uint8_t *base)
 
 /* ---- the calls that are timed */
 
-enum call { SOUND, MAY, WHEN, GRANT, CASCADE, CALLS };
-
-static const char *const call_names[] = {"soundness check", "MAY", "WHEN", "GRANT", "cascade"};
-
-static uint8_t kept[ACCESS_BASE_BYTES], lent[ACCESS_BASE_BYTES];
-static uint32_t list[2 * ACCESS_BASE_PAIRS];
+static uint8_t kept[ACCESS_BASE_BYTES];
+static request asked;
 
 static request one_more(const struct setup *s)
 {
@@ -169,105 +167,73 @@ static request revoke_first(const struct setup *s)
     return (request){.kind = ACCESS_BASE_REVOKE, .now = s->now, .requester = 1, .label = 1};
 }
 
-/* The i-th call of its kind; for a request, on a fresh copy of the base. */
-static reply run(const struct library *l, enum call call, const request *q, uint32_t i)
+/* The questions, made beforehand, since a MAY may take no longer than making one. */
+enum { QUESTIONS = 512 };
+static question questions[QUESTIONS];
+
+static void make_questions(void)
 {
-    uint32_t subject = 2 + i % 40, mode = 1 + i % 4, object = 1 + i % 8;
-    switch (call) {
-    case SOUND:
-        return (reply){l->is_sound(kept, ACCESS_BASE_BYTES) ? 0 : ACCESS_BASE_INVALID_BASE, 0, 0};
-    case MAY:
-        return l->may(kept, ACCESS_BASE_BYTES, subject, mode, object, 20000 + i * 37 % 9000);
-    case WHEN:
-        return l->when(kept, ACCESS_BASE_BYTES, subject, mode, object, list, 2 * ACCESS_BASE_PAIRS);
-    default:
-        memcpy(lent, kept, ACCESS_BASE_BYTES);
-        return l->request(lent, ACCESS_BASE_BYTES, q);
-    }
+    for (uint32_t i = 0; i < QUESTIONS; i++)
+        questions[i] = (question){2 + i % 40, 1 + i % 4, 1 + i % 8, 20000 + i * 37 % 9000};
 }
 
-/* A call that was to be timed is refused: its time would be that of something else. */
-static void refused(const char *name, const char *what, uint32_t refusal)
+static reply is_sound(const struct library *l, uint32_t i)
 {
-    fprintf(stderr, "%s refuses a timed call, %s, with %" PRIu32 "\n", name, what, refusal);
-    exit(1);
+    (void)i;
+    return (reply){l->is_sound(kept, sizeof kept) ? 0 : ACCESS_BASE_INVALID_BASE, 0, 0};
 }
 
-/* Seconds that so many calls take, none of them refused. */
-static double seconds_for(const struct library *l, enum call call, const request *q, uint32_t count)
+static reply may(const struct library *l, uint32_t i)
 {
-    uint32_t refusal = 0;
-    double from = seconds();
-    for (uint32_t i = 0; i < count; i++) {
-        reply r = run(l, call, q, i);
-        refusal = refusal != 0 ? refusal : r.refusal;
-    }
-    double took = seconds() - from;
-    if (refusal != 0)
-        refused(l->name, call_names[call], refusal);
-    return took;
+    const question *q = &questions[i % QUESTIONS];
+    return l->may(kept, sizeof kept, q->subject, q->mode, q->object, q->instant);
 }
 
-/* Seconds that copying the base so often takes. */
-static double seconds_to_copy(uint32_t count)
+static reply when(const struct library *l, uint32_t i)
 {
-    double from = seconds();
-    for (uint32_t i = 0; i < count; i++) {
-        memcpy(lent, kept, ACCESS_BASE_BYTES);
-        __asm__ volatile("" : : "r"(lent) : "memory");
-    }
-    return seconds() - from;
+    const question *q = &questions[i % QUESTIONS];
+    return l->when(kept, sizeof kept, q->subject, q->mode, q->object, lent.list, 2 * ACCESS_BASE_PAIRS);
 }
 
-/* How many calls make a round: some milliseconds of them, and every question at least once. */
-static uint32_t round_of(const struct library *l, enum call call, const request *q)
+/* What comes before each request. */
+static reply copy(const struct library *l, uint32_t i)
 {
-    uint32_t count = 40;
-    while (count < 1u << 20 && seconds_for(l, call, q, count) < 0.005)
-        count *= 2;
-    return count;
+    (void)l;
+    (void)i;
+    memcpy(lent.base, kept, sizeof kept);
+    __asm__ volatile("" : : "r"(lent.base) : "memory");
+    return (reply){0, 0, 0};
 }
 
-static double lesser(double a, double b)
+/* The request, on a fresh copy of the base. */
+static reply order(const struct library *l, uint32_t i)
 {
-    return a < b ? a : b;
+    copy(l, i);
+    return l->request(lent.base, sizeof kept, &asked);
 }
 
-/* Microseconds a call in both libraries: the best of rounds that take turns, so that what disturbs the machine for a
- * while disturbs both. What copying the base takes is left out. */
-static void timed(enum call call, const request *q, double *m, double *p)
-{
-    uint32_t nm = round_of(&proved, call, q), np = round_of(&plain, call, q);
-    double copying = 1e9;
-    *m = *p = 1e9;
-    for (int round = 0; round < ROUNDS; round++) {
-        *p = lesser(*p, seconds_for(&plain, call, q, np) / np);
-        *m = lesser(*m, seconds_for(&proved, call, q, nm) / nm);
-        copying = lesser(copying, seconds_to_copy(np) / np);
-    }
-    if (call < GRANT)
-        copying = 0;
-    *m = 1e6 * (*m - copying);
-    *p = 1e6 * (*p - copying);
-}
+enum call { SOUND, MAY, WHEN, GRANT, CASCADE, CALLS };
 
-/* Both answer alike, on 80 calls, and leave the same bytes. */
-static void compare(enum call call, const request *q)
+/* The calls that are timed, and beside each what is taken off. */
+static const struct {
+    const char *name;
+    call_of *call, *less;
+} calls[] = {{"soundness check", is_sound, NULL},
+             {"MAY", may, is_sound},
+             {"WHEN", when, is_sound},
+             {"GRANT", order, copy},
+             {"cascade", order, copy}};
+
+/* How many calls see every question. */
+enum { EVERY = 40 };
+
+/* Both answer so many calls alike, refuse none, and leave the same bytes. */
+static void must_agree(const char *name, call_of *call, uint32_t count)
 {
-    static uint8_t after[ACCESS_BASE_BYTES];
-    static uint32_t runs[2 * ACCESS_BASE_PAIRS];
-    for (uint32_t i = 0; i < 80; i++) {
-        reply a = run(&proved, call, q, i);
-        memcpy(after, lent, sizeof after);
-        memcpy(runs, list, sizeof runs);
-        reply b = run(&plain, call, q, i);
-        bool same = a.refusal == b.refusal && a.label == b.label && a.number == b.number &&
-                    (call < GRANT || memcmp(after, lent, sizeof after) == 0) &&
-                    (call != WHEN || memcmp(runs, list, 8 * a.number) == 0);
-        if (!same || a.refusal != 0) {
-            fprintf(stderr, "%s, call %u: the two differ, or refuse\n", call_names[call], i);
-            exit(1);
-        }
+    uint32_t refusal = compare(name, call, count).refusal;
+    if (refusal != 0) {
+        fprintf(stderr, "%s is refused with %" PRIu32 "\n", name, refusal);
+        exit(1);
     }
 }
 
@@ -312,8 +278,10 @@ static void print_request(FILE *f, const request *q)
     }
 }
 
+static const char *const program = "target/bin/session";
+
 /* The best time of a session, in which no line is refused. */
-static double session_seconds(const char *program, const char *file)
+static double session_seconds(const char *file)
 {
     char command[512];
     double best = 1e9;
@@ -350,11 +318,11 @@ static void write_session(const char *file, const struct setup *s, enum call cal
         print_request(f, &s->q[i]);
     uint32_t label = (uint32_t)s->count - 8;
     for (uint32_t i = 0; i < count; i++) {
-        uint32_t subject = 2 + i % 40, mode = 1 + i % 4, object = 1 + i % 8;
+        const question *a = &questions[i % QUESTIONS];
         if (call == MAY)
-            fprintf(f, "MAY %u %u %u %u\n", subject, mode, object, 20000 + i * 37 % 9000);
+            fprintf(f, "MAY %u %u %u %u\n", a->subject, a->mode, a->object, a->instant);
         else if (call == WHEN)
-            fprintf(f, "WHEN %u %u %u\n", subject, mode, object);
+            fprintf(f, "WHEN %u %u %u\n", a->subject, a->mode, a->object);
         else
             print_request(f, q);
         if (call == GRANT)
@@ -389,115 +357,146 @@ static const char *const session_file = "target/bench/session.txt";
 
 /* Microseconds a line: of the calls alone, the setup's own time left out; for the cascade of the whole session, its
  * grants and withdrawals, since one withdrawal is too short to be timed from outside. */
-static double text(
-    const char *program, const struct setup *s, enum call call, int lines, const request *q, double guess)
+static double text(const struct setup *s, enum call call, int lines, const request *q, double guess)
 {
     uint32_t count = (uint32_t)(200000 / (guess + 1)) + 40;
     if (call == CASCADE) {
         uint32_t rounds = 19000 / (uint32_t)lines;
         count = write_cascades(session_file, s, lines, rounds);
-        double took = session_seconds(program, session_file);
+        double took = session_seconds(session_file);
         fclose(opened(session_file));
-        return 1e6 * (took - session_seconds(program, session_file)) / count;
+        return 1e6 * (took - session_seconds(session_file)) / count;
     }
     if (call == GRANT && count > 30000)
         count = 30000; /* labels end at 65,535 */
     write_session(session_file, s, call, q, 0);
-    double before = session_seconds(program, session_file);
+    double before = session_seconds(session_file);
     write_session(session_file, s, call, q, count);
-    double after = session_seconds(program, session_file);
+    double after = session_seconds(session_file);
     return 1e6 * (after - before) / (call == GRANT ? 2 * count : count);
 }
 
 /* ---- the table */
 
-static void row(const char *program, enum call call, int lines, int rules, double *last)
+static void must_build(int lines, int rules, bool chain, struct setup *s)
 {
-    static struct setup s;
     static uint8_t other[ACCESS_BASE_BYTES];
-    int built = call == GRANT ? lines - 1 : call == CASCADE && lines > 1000 ? 1000 : lines;
-    generate(&s, call == CASCADE, built, rules);
-    build(&proved, &s, kept);
-    build(&plain, &s, other);
+    generate(s, chain, lines, rules);
+    build(&proved, s, kept);
+    build(&plain, s, other);
     if (memcmp(kept, other, sizeof other) != 0) {
         fprintf(stderr, "the two build different bases\n");
         exit(1);
     }
-    request q = call == CASCADE ? revoke_first(&s) : one_more(&s);
-    compare(call, &q);
-    double m, p;
-    timed(call, &q, &m, &p);
-    printf("| %s | %d | %d | %.2f | %.2f | %.2f |", call_names[call], built, rules, m, p, m / p);
+}
+
+static void row(enum call call, int lines, int rules, double *last)
+{
+    static struct setup s;
+    int built = call == GRANT ? lines - 1 : call == CASCADE && lines > 1000 ? 1000 : lines;
+    must_build(built, rules, call == CASCADE, &s);
+    asked = call == CASCADE ? revoke_first(&s) : one_more(&s);
+    must_agree(calls[call].name, calls[call].call, 2 * EVERY);
+    struct timed t[] = {{.call = calls[call].call}, {.call = calls[call].less}};
+    time_in_turns(t, call == SOUND ? 1 : 2, EVERY);
+    struct both b = call >= GRANT ? beyond(&t[0], &t[1]) : whole(&t[0]);
+    printf("| %s | %d | %d |", calls[call].name, built, rules);
+    print_both(b, 1e-6, 2);
     if (*last > 0)
-        printf(" %.1f |", m / *last);
+        printf(" %.1f |", b.proved / *last);
     else
         printf(" |");
-    *last = m;
+    *last = b.proved;
     if (call == SOUND)
-        printf(" |\n");
+        printf(" |");
     else
-        printf(" %.2f |\n", text(program, &s, call, built, &q, m));
+        printf(" %.2f |", text(&s, call, built, &asked, 1e6 * b.proved));
+    if (call == MAY || call == WHEN)
+        print_both(beyond(&t[0], &t[1]), 1e-6, 3);
+    else
+        printf(" | | |");
+    printf("\n");
     fflush(stdout);
+}
+
+static void table(const char *word)
+{
+    static const int rules[] = {0, 8, 64}, lines[] = {16, 64, 256, 1024};
+    printf("| call | lines | rules | proved, µs | plain C, µs | ratio | growth | text, µs a line "
+           "| beyond the check: proved, µs | plain C, µs | ratio |\n"
+           "|---|---|---|---|---|---|---|---|---|---|---|\n");
+    for (int call = 0; call < CALLS; call++)
+        for (int r = 0; r < 3 && strstr(calls[call].name, word) != NULL; r++) {
+            double last = 0;
+            for (int n = 0; n < 4; n++)
+                row((enum call)call, lines[n], rules[r], &last);
+        }
 }
 
 /* ---- a round's questions: in one call, and one call a question; the bytes must be the same */
 
-enum { ROUND = 500 };
-
-static void round_row(int lines, int rules)
+static reply batch(const struct library *l, uint32_t i)
 {
-    static struct setup s;
-    static struct access_base_question q[ROUND];
-    static uint8_t one_call[ROUND], alone[ROUND];
-    double round = 1e9, calls = 1e9;
-    generate(&s, false, lines, rules);
-    build(&proved, &s, kept);
-    for (uint32_t i = 0; i < ROUND; i++)
-        q[i] = (struct access_base_question){2 + i % 40, 1 + i % 4, 1 + i % 8, 20000 + i * 37 % 9000};
-    for (int n = 0; n < ROUNDS; n++) {
-        double from = seconds();
-        reply all = access_base_ask_round(kept, sizeof kept, q, ROUND, one_call, ROUND);
-        round = lesser(round, seconds() - from);
-        if (all.refusal != 0)
-            refused(proved.name, "a round", all.refusal);
-        from = seconds();
-        for (uint32_t i = 0; i < ROUND; i++) {
-            reply r = proved.may(kept, sizeof kept, q[i].subject, q[i].mode, q[i].object, q[i].instant);
-            if (r.refusal != 0)
-                refused(proved.name, "a question of a round", r.refusal);
-            alone[i] = (uint8_t)r.number;
-        }
-        calls = lesser(calls, seconds() - from);
+    (void)i;
+    return l->batch(kept, sizeof kept, questions, BATCH, lent.replies, BATCH);
+}
+
+static reply one_by_one(const struct library *l, uint32_t i)
+{
+    uint32_t refusal = 0;
+    (void)i;
+    for (uint32_t k = 0; k < BATCH; k++) {
+        reply r = may(l, k);
+        refusal = refusal != 0 ? refusal : r.refusal;
+        lent.replies[k] = (uint8_t)r.number;
     }
-    if (memcmp(one_call, alone, ROUND) != 0) {
-        fprintf(stderr, "a round answers otherwise than its questions alone\n");
+    return (reply){refusal, 0, 0};
+}
+
+static void must_answer_alike(void)
+{
+    uint8_t alone[BATCH];
+    one_by_one(&proved, 0);
+    memcpy(alone, lent.replies, sizeof alone);
+    must_agree("batch", batch, 1);
+    if (memcmp(lent.replies, alone, BATCH) != 0) {
+        fprintf(stderr, "a batch answers otherwise than its questions alone\n");
         exit(1);
     }
-    printf("| %d | %d | %.2f | %.2f | %.2f |\n", lines, rules, 1e3 * round, 1e3 * calls, calls / round);
+}
+
+static void batch_row(int lines, int rules)
+{
+    static struct setup s;
+    must_build(lines, rules, false, &s);
+    must_answer_alike();
+    struct timed t[] = {{.call = batch}, {.call = is_sound}, {.call = one_by_one}};
+    time_in_turns(t, 3, 1);
+    struct both one = whole(&t[0]), many = whole(&t[2]);
+    printf("| %d | %d | %.2f | %.2f | %.2f |", lines, rules, 1e3 * one.proved, 1e3 * many.proved,
+           many.proved / one.proved);
+    print_both(beyond(&t[0], &t[1]), 1e-3, 3);
+    printf("\n");
     fflush(stdout);
 }
 
-static void rounds(void)
+static void batches(void)
 {
     static const int rules[] = {0, 64}, lines[] = {16, 256, 1024};
-    printf("\n| lines | rules | 500 questions in one call, ms | 500 calls, ms | ratio |\n|---|---|---|---|---|\n");
+    printf("\n| lines | rules | 500 questions in one call, ms | 500 calls, ms | ratio "
+           "| one call beyond the check: proved, ms | plain C, ms | ratio |\n"
+           "|---|---|---|---|---|---|---|---|\n");
     for (int r = 0; r < 2; r++)
         for (int n = 0; n < 3; n++)
-            round_row(lines[n], rules[r]);
+            batch_row(lines[n], rules[r]);
 }
 
 int main(int argc, char **argv)
 {
-    static const int rules[] = {0, 8, 64}, lines[] = {16, 64, 256, 1024};
-    const char *program = argc > 1 ? argv[1] : "target/bin/session";
-    printf("| call | lines | rules | proved, µs | plain C, µs | ratio | growth | text, µs a line |\n");
-    printf("|---|---|---|---|---|---|---|---|\n");
-    for (int call = 0; call < CALLS; call++)
-        for (int r = 0; r < 3; r++) {
-            double last = 0;
-            for (int n = 0; n < 4; n++)
-                row(program, (enum call)call, lines[n], rules[r], &last);
-        }
-    rounds();
+    const char *word = argc > 1 ? argv[1] : "";
+    make_questions();
+    table(word);
+    if (strstr("batch", word) != NULL)
+        batches();
     return 0;
 }

@@ -14,6 +14,9 @@ struct access_base_reply plain_may(
 struct access_base_reply plain_when(
     const uint8_t *base, size_t base_length, uint32_t subject, uint32_t mode, uint32_t object, uint32_t *list,
     size_t list_length);
+struct access_base_reply plain_batch(
+    const uint8_t *base, size_t base_length, const struct access_base_question *questions, size_t count,
+    uint8_t *replies, size_t replies_length);
 struct access_base_reply plain_report(
     const uint8_t *base, size_t base_length, uint32_t object, char *page, size_t page_length);
 

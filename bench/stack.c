@@ -1,6 +1,8 @@
-/* How much of the stack each function of the library takes at most: each call is made in a thread whose stack was
- * painted, and the bytes below the call that are no longer painted are counted. The base has 1,000 lines and 40 rules.
- * Prints the table of docs/LIBRARY.md in Markdown. */
+/* How much of the stack each function of the library takes at most: each call is made in a thread whose
+ * stack was painted, and the bytes below the call that are no longer painted are counted. The bases have
+ * 1,000 lines; an ordinary one has 40 rules, the others 64, by which a question reaches as far as we could
+ * make it. Prints the table of docs/LIBRARY.md in Markdown, and a column for each of the others. With a
+ * word as argument, only the functions whose name has it. */
 #define _POSIX_C_SOURCE 200809L
 #include <inttypes.h>
 #include <pthread.h>
@@ -8,63 +10,33 @@
 #include <stdlib.h>
 #include <string.h>
 
-#include "../callers/c/access_base.h"
+#include "bases.h"
 
 typedef struct access_base_request request;
 typedef struct access_base_side side;
 
-enum { STACK = 1 << 20, PAINT = 0xA5, LINES = 1000, RULES = 40 };
+enum { STACK = 1 << 20, PAINT = 0xA5, BATCH = 2 };
 
 static uint8_t stack[STACK] __attribute__((aligned(4096)));
-static uint8_t kept[ACCESS_BASE_BYTES], base[ACCESS_BASE_BYTES], replies[1];
+static uint8_t lent[ACCESS_BASE_BYTES], replies[BATCH];
 static uint32_t list[ACCESS_BASE_BODY_NUMBERS];
 static char page[ACCESS_BASE_SHEET_BYTES], out[ACCESS_BASE_TEXT_BYTES];
-
-/* ---- a base */
-
-static void must(const request *q)
-{
-    uint32_t refusal = access_base_do(kept, sizeof kept, q).refusal;
-    if (refusal != ACCESS_BASE_DONE) {
-        fprintf(stderr, "a request of kind %" PRIu32 " is refused with %" PRIu32 "\n", q->kind, refusal);
-        exit(1);
-    }
-}
-
-/* Meters of owner 1, with administrator 2 on the first; there lines of one access, all apart, every second one given by
- * the administrator; and rules that each look at the next subject and the next meter. */
-static void build(void)
-{
-    access_base_make(kept, sizeof kept);
-    for (uint32_t object = 1; object <= RULES + 1; object++)
-        must(&(request){.kind = ACCESS_BASE_NEW, .requester = 1, .object = object});
-    must(&(request){.kind = ACCESS_BASE_GRANTADM, .requester = 1, .object = 1, .subject = 2});
-    for (uint32_t i = 0; i < LINES; i++)
-        must(&(request){.kind = ACCESS_BASE_GRANT, .requester = 1 + i % 2, .mode = 1, .object = 1, .subject = 3,
-                        .start = 10 + 2 * i, .end = 10 + 2 * i, .option = true});
-    for (uint32_t j = 0; j < RULES; j++) {
-        side left = {false, 3 + j, false, 1, 1 + j, false}, right = {false, 4 + j, false, 1, 2 + j, false};
-        must(&(request){.kind = ACCESS_BASE_ADDRULE, .requester = 1, .start = 5, .end = ACCESS_BASE_LAST,
-                        .rule = {.left = left, .operation = 1 + j % 4, .right = right, .any_grantor = true,
-                                 .any_option = true}});
-    }
-}
 
 /* ---- calls: the i-th of a function, and whether there is another */
 
 static bool create(int i)
 {
-    access_base_make(base, sizeof base);
+    access_base_make(lent, sizeof lent);
     return i < 0;
 }
 
 static bool is_sound(int i)
 {
-    access_base_is_sound(base, sizeof base);
+    access_base_is_sound(lent, sizeof lent);
     return i < 0;
 }
 
-/* A request of each kind. The first rule's label is LINES + 1. */
+/* A request of each kind. The first rule's label is ROOMY_LINES + 1. */
 static bool request_of(int i)
 {
     side any = {true, 0, true, 0, 1, false};
@@ -74,40 +46,41 @@ static bool request_of(int i)
     if (q.kind == ACCESS_BASE_REVOKEADM)
         q.subject = 2;
     if (q.kind == ACCESS_BASE_DROPRULE)
-        q.label = LINES + 1;
-    access_base_do(base, sizeof base, &q);
+        q.label = ROOMY_LINES + 1;
+    access_base_do(lent, sizeof lent, &q);
     return i < 11;
 }
 
+/* Where many lines are live, and behind all of them. */
 static bool may(int i)
 {
-    access_base_ask_may(base, sizeof base, 3, 1, 1, 5000);
-    return i < 0;
+    access_base_ask_may(lent, sizeof lent, 3, 1, 1, i == 0 ? 1500 : 5000);
+    return i < 1;
 }
 
 /* With a list that is long enough, and with one that is too short. */
 static bool when(int i)
 {
-    access_base_ask_when(base, sizeof base, 3, 1, 1, list, i == 0 ? 2 * ACCESS_BASE_PAIRS : 2);
+    access_base_ask_when(lent, sizeof lent, 3, 1, 1, list, i == 0 ? 2 * ACCESS_BASE_PAIRS : 2);
     return i < 1;
 }
 
 static bool batch(int i)
 {
-    struct access_base_question q = {3, 1, 1, 5000};
-    access_base_ask_round(base, sizeof base, &q, 1, replies, sizeof replies);
+    static const struct access_base_question q[BATCH] = {{3, 1, 1, 1500}, {3, 1, 1, 5000}};
+    access_base_ask_round(lent, sizeof lent, q, BATCH, replies, sizeof replies);
     return i < 0;
 }
 
 static bool records(int i)
 {
-    access_base_read(base, sizeof base, (uint32_t)i, 0, list, ACCESS_BASE_BODY_NUMBERS);
+    access_base_read(lent, sizeof lent, (uint32_t)i, 0, list, ACCESS_BASE_BODY_NUMBERS);
     return i < 5;
 }
 
 static bool report(int i)
 {
-    access_base_write_report(base, sizeof base, 1, page, sizeof page);
+    access_base_write_report(lent, sizeof lent, 1, page, sizeof page);
     return i < 0;
 }
 
@@ -118,7 +91,7 @@ static bool text(int i)
         "4 1 REVOKEN 1 1 3 4 5000", "4 1 DROPRULE 1001", "4 1 GRANTADM 1 4", "4 1 REVOKEADM 1 2", "4 1 GRANTREF 1 4",
         "MAY 3 1 1 5000", "WHEN 3 1 1"};
     int count = sizeof lines / sizeof *lines;
-    access_base_tell(base, sizeof base, lines[i], strlen(lines[i]), out, sizeof out);
+    access_base_tell(lent, sizeof lent, lines[i], strlen(lines[i]), out, sizeof out);
     return i < count - 1;
 }
 
@@ -144,7 +117,7 @@ static size_t depth(struct call *c)
 {
     pthread_t thread;
     pthread_attr_t attributes;
-    memcpy(base, kept, sizeof base);
+    memcpy(lent, base, sizeof lent);
     memset(stack, PAINT, sizeof stack);
     if (pthread_attr_init(&attributes) != 0 || pthread_attr_setstack(&attributes, stack, sizeof stack) != 0 ||
         pthread_create(&thread, &attributes, made, c) != 0 || pthread_join(thread, NULL) != 0)
@@ -155,29 +128,55 @@ static size_t depth(struct call *c)
     return (size_t)(c->from - stack) - painted;
 }
 
-static void row(const char *name, bool (*make)(int))
+/* The most that a call of a function takes, on the base that a function makes. */
+static size_t deepest(bool (*make)(int), void (*build)(void))
 {
     size_t most = 0;
     struct call c = {make, 0, true, NULL};
+    build();
     for (; c.more; c.i++) {
         size_t d = depth(&c);
         most = d > most ? d : most;
     }
-    printf("| `%s` | %zu |\n", name, most);
+    return most;
 }
 
-int main(void)
+static const struct {
+    const char *name;
+    void (*build)(void);
+} bases[] = {{"bytes of stack", ordinary},
+             {"far-reaching rules", widest},
+             {"the same, each naming its grantor", widest_choosy},
+             {"the same with UNLESS", widest_unless},
+             {"with ASLONGAS and a circle, each naming its grantor", widest_circle}};
+
+static const struct {
+    const char *name;
+    bool (*make)(int);
+} functions[] = {{"create", create}, {"is_sound", is_sound}, {"request", request_of},
+                 {"may", may},       {"when", when},         {"batch_words", batch},
+                 {"records", records}, {"report", report},   {"text", text}};
+
+enum { BASES = sizeof bases / sizeof *bases, FUNCTIONS = sizeof functions / sizeof *functions };
+
+static void row(int f)
 {
-    build();
-    printf("| function | bytes of stack |\n|---|---|\n");
-    row("create", create);
-    row("is_sound", is_sound);
-    row("request", request_of);
-    row("may", may);
-    row("when", when);
-    row("batch_words", batch);
-    row("records", records);
-    row("report", report);
-    row("text", text);
+    printf("| `%s` |", functions[f].name);
+    for (int b = 0; b < BASES; b++)
+        printf(" %zu |", deepest(functions[f].make, bases[b].build));
+    printf("\n");
+    fflush(stdout);
+}
+
+int main(int argc, char **argv)
+{
+    const char *word = argc > 1 ? argv[1] : "";
+    printf("| function |");
+    for (int b = 0; b < BASES; b++)
+        printf(" %s |", bases[b].name);
+    printf("\n|---|---|---|---|---|---|\n");
+    for (int f = 0; f < FUNCTIONS; f++)
+        if (strstr(functions[f].name, word) != NULL)
+            row(f);
     return 0;
 }

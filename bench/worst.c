@@ -1,201 +1,123 @@
-/* Full bases that were built to be slow, and the call that suffers: how long it takes, through the proved library and
- * through plain C. Both must answer alike. Prints a table in Markdown, in milliseconds, the best of 15 calls. */
+/* Full bases that were built to be slow, and the calls that suffer: how long they take, through the proved
+ * library and through plain C. Both must find the base sound and answer alike. Prints tables in Markdown,
+ * in milliseconds; of a question also what it takes beyond the soundness check of its base, timed in turns
+ * with it. With a word as argument, only the bases whose names have it. */
 #include "harness.h"
 
-enum { ROUNDS = 15, WIDTH = 24 };
+#include "bases.h"
 
-static uint8_t base[ACCESS_BASE_BYTES];
+static const char *word = "";
 
-static void must(const request *q)
+/* ---- calls; none depends on how many went before */
+
+static uint32_t subject, instant;
+
+static reply is_sound(const struct library *l, uint32_t i)
 {
-    reply r = proved.request(base, sizeof base, q);
-    if (r.refusal != 0) {
-        fprintf(stderr, "a request of kind %" PRIu32 " of a setup is refused with %" PRIu32 "\n", q->kind, r.refusal);
-        exit(1);
-    }
-}
-
-static void make(uint32_t objects)
-{
-    proved.create(base, sizeof base);
-    for (uint32_t object = 1; object <= objects; object++)
-        must(&(request){.kind = ACCESS_BASE_NEW, .requester = 1, .object = object});
-}
-
-static void grant(
-    uint32_t now, uint32_t grantor, uint32_t mode, uint32_t object, uint32_t subject, uint32_t start, uint32_t end)
-{
-    must(&(request){.kind = ACCESS_BASE_GRANT, .now = now, .requester = grantor, .mode = mode, .object = object,
-                    .subject = subject, .start = start, .end = end, .option = true});
-}
-
-/* ---- bases */
-
-/* 1,024 lines of one access, all apart. */
-static void apart(void)
-{
-    make(1);
-    for (uint32_t i = 0; i < 1024; i++)
-        grant(1, 1, 1, 1, 2, 10 + 2 * i, 10 + 2 * i);
-}
-
-/* 511 neighbouring lines to one subject, and 512 that it gave across all of them. */
-static void across(void)
-{
-    make(1);
-    grant(1, 1, 1, 1, 2, 10, 10 + 511 * 4);
-    for (uint32_t i = 0; i < 511; i++)
-        grant(2, 2, 1, 1, 3, 10 + 4 * i, 13 + 4 * i);
-    for (uint32_t i = 0; i < 512; i++)
-        grant(3, 3, 1, 1, 4 + i, 10, 9 + 511 * 4);
-}
-
-static void put(uint8_t *at, uint32_t n, int bytes)
-{
-    for (int i = 0; i < bytes; i++)
-        at[i] = (uint8_t)(n >> 8 * i);
-}
-
-/* A chain of 1,022 in which a higher label was granted earlier: no request builds it, but it is sound. */
-static void falling(void)
-{
-    make(1);
-    uint8_t *line = base + 36;
-    for (uint32_t label = 1; label <= 1022; label++, line += WIDTH) {
-        uint32_t place = 1022 - label; /* in the chain, the owner's first */
-        put(line, label, 2);
-        put(line + 2, 1 + place, 2);
-        put(line + 4, 2 + place, 2);
-        put(line + 6, 1, 2);
-        put(line + 8, 1, 1);
-        put(line + 9, 2, 1);
-        put(line + 12, 1 + place, 4);
-        put(line + 16, 5000, 4);
-        put(line + 20, 9000, 4);
-    }
-    put(base + 4, 2000, 4);
-    put(base + 8, 1022, 2);
-    put(base + 26, 1022, 2);
-    put(base + 28, 36 + 1022 * WIDTH, 2);
-}
-
-static void rule(uint32_t subject, uint32_t object, uint32_t operation, uint32_t right_subject, uint32_t right_object)
-{
-    struct access_base_side left = {subject == 0, subject, subject == 0, subject != 0, object, false};
-    struct access_base_side right = {subject == 0, right_subject, subject == 0, subject != 0, right_object, false};
-    must(&(request){.kind = ACCESS_BASE_ADDRULE, .now = 1, .requester = 1, .start = 1, .end = ACCESS_BASE_LAST,
-                    .rule = {.left = left, .operation = operation, .right = right, .any_grantor = true,
-                             .any_option = true}});
-}
-
-/* 64 starred rules, each looking at the next one's meter, and 1,024 lines apart on the last. */
-static void starred_chain(void)
-{
-    make(65);
-    for (uint32_t j = 1; j <= 64; j++)
-        rule(0, j, ACCESS_BASE_WHENEVERNOT, 0, j + 1);
-    for (uint32_t i = 0; i < 1024; i++)
-        grant(1, 1, 1, 65, 2, 10 + 2 * i, 10 + 2 * i);
-}
-
-/* 64 negating rules over 64 named subjects in 64 strata, and 1,024 lines that they all look at, all live at once. */
-static void named_chain(void)
-{
-    make(65);
-    for (uint32_t j = 1; j <= 64; j++)
-        rule(1 + j, j, ACCESS_BASE_UNLESS + j % 2 - 1, 2 + j, j + 1);
-    for (uint32_t i = 0; i < 1024; i++)
-        grant(1, 1, 1, 2 + i % 64, 3 + i % 64, 100 + i, 9000 - i);
-}
-
-/* ---- calls */
-
-static uint8_t lent[ACCESS_BASE_BYTES];
-static uint32_t list[2 * ACCESS_BASE_PAIRS];
-static char page[ACCESS_BASE_SHEET_BYTES], page_before[ACCESS_BASE_SHEET_BYTES];
-
-static reply is_sound(const struct library *l)
-{
+    (void)i;
     return (reply){0, 0, l->is_sound(base, sizeof base)};
 }
 
-static reply when(const struct library *l)
+static reply when(const struct library *l, uint32_t i)
 {
-    return l->when(base, sizeof base, 2, 1, 1, list, 2 * ACCESS_BASE_PAIRS);
+    (void)i;
+    return l->when(base, sizeof base, subject, 1, 1, lent.list, 2 * ACCESS_BASE_PAIRS);
 }
 
 /* With a list that just fits the 1,024 runs. */
-static reply when_just(const struct library *l)
+static reply when_just(const struct library *l, uint32_t i)
 {
-    return l->when(base, sizeof base, 2, 1, 1, list, 2 * 1024);
+    (void)i;
+    return l->when(base, sizeof base, subject, 1, 1, lent.list, 2 * 1024);
 }
 
-static reply may(const struct library *l)
+static reply may(const struct library *l, uint32_t i)
 {
-    return l->may(base, sizeof base, 2, 1, 1, 8999);
+    (void)i;
+    return l->may(base, sizeof base, subject, 1, 1, instant);
 }
 
-/* Both must leave the same page. */
-static reply report(const struct library *l)
+static reply report(const struct library *l, uint32_t i)
 {
-    reply r = l->report(base, sizeof base, 1, page, sizeof page);
-    if (l == &plain)
-        memcpy(page_before, page, sizeof page);
-    else if (memcmp(page_before, page, sizeof page) != 0)
-        r.refusal = ACCESS_BASE_INVALID_BASE;
-    return r;
+    (void)i;
+    return l->report(base, sizeof base, 1, lent.page, sizeof lent.page);
 }
 
 static reply order(const struct library *l, request q)
 {
-    memcpy(lent, base, sizeof lent);
+    memcpy(lent.base, base, sizeof base);
     q.now = 5000;
     q.requester = 1;
-    return l->request(lent, sizeof lent, &q);
+    return l->request(lent.base, sizeof base, &q);
 }
 
-static reply revoke_first(const struct library *l)
+static reply revoke_first(const struct library *l, uint32_t i)
 {
+    (void)i;
     return order(l, (request){.kind = ACCESS_BASE_REVOKE, .label = 1});
 }
 
-static reply revoke_last(const struct library *l)
+static reply revoke_last(const struct library *l, uint32_t i)
 {
+    (void)i;
     return order(l, (request){.kind = ACCESS_BASE_REVOKE, .label = 1022});
 }
 
-static reply split(const struct library *l)
+static reply split(const struct library *l, uint32_t i)
 {
-    return order(l, (request){.kind = ACCESS_BASE_REVOKEP, .mode = 1, .object = 1, .subject = 2, .start = 1000, .end = 1000});
+    (void)i;
+    return order(l, (request){.kind = ACCESS_BASE_REVOKEP, .mode = 1, .object = 1, .subject = 2,
+                              .start = 1000, .end = 1000});
 }
 
-/* Milliseconds of one call, if it is quicker than the best so far. */
-static double quicker(double best, const struct library *l, reply (*call)(const struct library *), reply *r)
-{
-    double from = seconds();
-    *r = call(l);
-    double took = 1e3 * (seconds() - from);
-    return took < best ? took : best;
-}
+/* ---- rows */
 
-static void row(const char *name, void (*build)(void), reply (*call)(const struct library *))
+static void built(const char *name, void (*build)(void))
 {
-    reply a, b;
     build();
-    double m = 1e9, p = 1e9;
-    for (int round = 0; round < ROUNDS; round++) {
-        p = quicker(p, &plain, call, &b);
-        m = quicker(m, &proved, call, &a);
-    }
-    if (a.refusal != b.refusal || a.label != b.label || a.number != b.number) {
-        fprintf(stderr, "%s: the two differ\n", name);
+    if (compare(name, is_sound, 1).number != 1) {
+        fprintf(stderr, "%s: the base is not sound\n", name);
         exit(1);
     }
-    printf("| %s | %" PRIu32 ", %" PRIu32 " | %.3f | %.3f | %.1f |\n", name, a.refusal, a.number, m, p, m / p);
+}
+
+/* One row, of a call to the base that is there; of a question, also what it takes beyond the check. */
+static void print_row(const char *call_name, const char *name, call_of *call, bool question)
+{
+    reply r = compare(name, call, 1);
+    struct timed t[] = {{.call = call, .refusal = r.refusal}, {.call = is_sound}};
+    time_in_turns(t, question ? 2 : 1, 1);
+    printf("| %s%s | %" PRIu32 ", %" PRIu32 " |", call_name, name, r.refusal, r.number);
+    print_both(whole(&t[0]), 1e-3, 3);
+    if (question)
+        print_both(beyond(&t[0], &t[1]), 1e-3, 4);
+    printf("\n");
     fflush(stdout);
 }
 
-int main(void)
+static void row(const char *name, void (*build)(void), call_of *call)
+{
+    if (strstr(name, word) == NULL)
+        return;
+    built(name, build);
+    print_row("", name, call, false);
+}
+
+/* MAY and WHEN of mode 1 on meter 1. */
+static void questions(const char *name, void (*build)(void), uint32_t of_subject, uint32_t at)
+{
+    if (strstr(name, word) == NULL)
+        return;
+    built(name, build);
+    subject = of_subject;
+    instant = at;
+    print_row("MAY, ", name, may, true);
+    print_row("WHEN, ", name, when, true);
+    if (build == apart)
+        print_row("WHEN with a list that just fits, ", name, when_just, true);
+}
+
+static void checks_and_requests(void)
 {
     printf("| call and base | reply | proved, ms | plain C, ms | ratio |\n|---|---|---|---|---|\n");
     row("soundness check, 512 lines across 511", across, is_sound);
@@ -205,10 +127,36 @@ int main(void)
     row("REVOKE of the root, 512 lines across 511", across, revoke_first);
     row("REVOKEP of an instant at the root, 512 lines across 511", across, split);
     row("REVOKE of the first of a chain of 1,022, times falling with labels", falling, revoke_last);
-    row("WHEN, 1,024 lines of one access, all apart", apart, when);
-    row("the same with a list of 1,024 pairs, which just fits", apart, when_just);
-    row("WHEN, 64 starred WHENEVERNOT rules in a chain, 1,024 lines apart", starred_chain, when);
-    row("MAY, 64 negating rules over 64 named subjects, all lines live", named_chain, may);
-    row("WHEN, 64 negating rules over 64 named subjects, all lines live", named_chain, when);
+}
+
+static void all_questions(void)
+{
+    printf("\n| question and base | reply | proved, ms | plain C, ms | ratio "
+           "| beyond the check: proved, ms | plain C, ms | ratio |\n|---|---|---|---|---|---|---|---|\n");
+    questions("1,024 lines of one access, all apart", apart, 2, 2056);
+    questions("1,024 lines of one access, all apart, scattered", apart_scattered, 2, 2056);
+    questions("one line cut up by 1,023 denials, scattered", cut_up, 2, 8999);
+    questions("128 administrators of one meter", administrators, 2, 12);
+    questions("512 lines apart and 512 within them, scattered", scattered, 3, 5122);
+    questions("one line cut up by 1,023 denials, and a rule for the access", cut_up_with_rule, 2, 8999);
+    questions("one rule that 1,024 lines apart feed, scattered", one_rule, 2, 4102);
+    questions("64 starred WHENEVERNOT rules in a chain, 1,024 lines apart", starred_chain, 2, 2056);
+    questions("64 negating rules over 64 named subjects, all lines live", named_chain, 2, 8999);
+    questions("64 negating rules with named subjects on one meter", one_meter, 2, 7999);
+    questions("a circle through which ASLONGAS goes on from line to line", zigzag, 2, 10249);
+    questions("a circle of 64 starred WHENEVER rules, 1,024 lines apart", circle, 2, 2056);
+    questions("a circle of 64 WHENEVER rules that end one by one, 20 lines", circle_few, 2, 130);
+    questions("rules that lead to 33 subjects with 8 modes", many_places, 2, 1500);
+    questions("64 rules that lead to 29 subjects, 8 modes and 30 meters", widest, 3, 1500);
+    questions("64 such rules, each naming its grantor", widest_choosy, 3, 1500);
+    questions("64 such rules with UNLESS", widest_unless, 3, 1500);
+    questions("64 such rules with ASLONGAS and a circle, each naming its grantor", widest_circle, 3, 1500);
+}
+
+int main(int argc, char **argv)
+{
+    word = argc > 1 ? argv[1] : "";
+    checks_and_requests();
+    all_questions();
     return 0;
 }

@@ -9,8 +9,8 @@ ghost use Rattle.answers.specs.Asking.{accessRows};
 use model::Access;
 use model::Question;
 use model::Reply;
-use scan::holds_at;
-use scan::list_runs;
+use queries::holds_at;
+use queries::list_runs;
 
 // The first of rows 3 and 6 that applies, or 0.
 fn refusal_of(s: &[u8], x: Access) -> u32

@@ -1,5 +1,4 @@
 pub mod Window
-pub mod Circles
 pub mod Lasting
 pub mod Words
 pub mod Derive

@@ -1,2 +1,3 @@
--- `Turns` has the turns of the loop over the authorizations.
+-- `Turns` has the turns of the loop over the authorizations; `Choosing` what those for the access say.
 pub mod Turns
+pub mod Choosing

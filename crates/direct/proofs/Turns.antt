@@ -35,7 +35,7 @@ regroup true true true false true = refl
 regroup true true true true false = refl
 regroup true true true true true = refl
 
-by-sign : (x : Access) (t : ℕ) (negative : Bool) (a : Authorization) →
+pub by-sign : (x : Access) (t : ℕ) (negative : Bool) (a : Authorization) →
     inInterval (a .interval) t && fits (asked x negative) (a .head)
     ≡ liveFor x t a && Bool·beq (a .head .negative) negative
 unfolding fits
@@ -43,16 +43,16 @@ by-sign x t negative a =
     regroup (eqb (a .head .subject) (x .subject)) (eqb (a .head .mode) (x .mode))
     (eqb (a .head .object) (x .object)) (Bool·beq (a .head .negative) negative) (inInterval (a .interval) t)
 
-live-step : (p : Pattern) (t : ℕ) (a : Authorization) (xs : List Authorization) →
+pub live-step : (p : Pattern) (t : ℕ) (a : Authorization) (xs : List Authorization) →
     anyb (fits p) (live t (a ∷ xs))
     ≡ (inInterval (a .interval) t && fits p (a .head)) || anyb (fits p) (live t xs)
 live-step p t a xs = cases (inInterval (a .interval) t) (λ e. rw e) (λ e. rw e)
 
-is-positive : (n : Bool) → not n ≡ Bool·beq n false
+pub is-positive : (n : Bool) → not n ≡ Bool·beq n false
 is-positive true = refl
 is-positive false = refl
 
-is-negative : (n : Bool) → n ≡ Bool·beq n true
+pub is-negative : (n : Bool) → n ≡ Bool·beq n true
 is-negative true = refl
 is-negative false = refl
 

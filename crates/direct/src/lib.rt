@@ -1,4 +1,6 @@
 // Questions that no rule can answer: only authorizations count then.
+mod intervals;
+
 ghost use mathlib.Core.Path.{_≡_};
 ghost use Prim.Native.Nat.{_*_, _≤_, _<_};
 ghost use lib.ListN.{length};
@@ -7,6 +9,7 @@ ghost use Rattle.model.specs.Base.{Base};
 ghost use Rattle.model.specs.Rules.{standsFor};
 ghost use Rattle.encoding.specs.Format.{authorizationsIn, rulesIn};
 ghost use Rattle.direct.specs.Direct.{heldDirectly, liveFor};
+pub use intervals::walk_directly;
 use lookup::has_instant;
 use model::AUTHORIZATION_BYTES;
 use model::Access;

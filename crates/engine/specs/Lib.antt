@@ -1,6 +1,3 @@
-pub mod Asking
-pub mod Bounds
-pub mod Drawing
 pub mod Drawn
 pub mod Evaluation
 pub mod Facts
@@ -12,6 +9,4 @@ pub mod Reading
 pub mod Right
 pub mod Selected
 pub mod Sides
-pub mod SoundBodies
 pub mod Standing
-pub mod Starting

@@ -26,7 +26,7 @@ use Rattle.model.specs.Stratification.{stratified}
 use Rattle.model.specs.Rules.{standsFor, rightOf, holds, may}
 use Rattle.encoding.specs.Format.{rulesIn, ruleAt, authorizationsIn}
 use Rattle.laws.specs.Narrowing.{accessOf, narrowed, needed-only, needed-may}
-use Rattle.questions.specs.Drawn.{Numbering}
+use Rattle.questions.specs.Numbering.{Numbering}
 use Rattle.relevance.specs.declared.choice.Cell.{Cell}
 use Rattle.relevance.specs.Chosen.{picked, selected, selected-numbers}
 use Rattle.relevance.specs.Needed.{cellOf, Choice}

@@ -1,4 +1,5 @@
--- Where a rule stands, by what was drawn: at places of accesses that it stands for (`stands-in`), and at all of
+-- Where a rule stands, by what was drawn: at places of accesses that it stands for (`stands-in`), and at all
+-- of
 -- these (`stands-at`).
 use mathlib.Core.Path.{_≡_, sym, ap, ap₂, _∙_}
 use mathlib.Core.Bool.{Bool, true, false, _&&_, _||_}

@@ -1,17 +1,14 @@
-// The question engine: what MAY and WHEN find out over the bytes of a sound base, before it becomes a reply.
-mod ask;
-mod outlining;
-mod sizes;
+// The question engine: walks over the instants of a question, a window at a time, by the tables drawn for it.
 mod walking;
 mod window;
 
-pub use ask::holds_at;
-pub use ask::list_runs;
 use model::Access;
 use scan::Track;
 use tables::Place;
+pub use walking::walk;
 
-// What is asked: the access that coordinate 0 stands for, the place of the asked access, from which instant to
+// What is asked: the access that coordinate 0 stands for, the place of the asked access, from which instant
+// to
 // which, and whether the intervals are written down.
 pub struct Query {
     pub own: Access,
@@ -25,11 +22,4 @@ pub struct Query {
 pub struct Found {
     pub track: Track,
     pub yes: bool,
-}
-
-// What is drawn of the rules besides tables: how many coordinates there are, and which rules are choosy.
-pub struct Extent {
-    pub subjects: u32,
-    pub objects: u32,
-    pub choosy: u64,
 }

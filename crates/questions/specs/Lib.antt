@@ -1,10 +1,4 @@
+pub mod Numbering
 pub mod Operators
 pub mod Table
-pub mod Stratum
 pub mod FromMarkToMark
-pub mod Planned
-pub mod Drawn
-pub mod Places
-pub mod Feeding
-pub mod DrawnFacts
-pub mod Relevance

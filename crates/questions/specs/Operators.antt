@@ -3,7 +3,7 @@
 use mathlib.Core.Path.{_≡_, refl}
 use Prim.Native.Nat.{ℕ, suc, _≤_}
 use native.Mathlib.Omega.{arith}
-use mathlib.Core.Bool.{Bool, true, false, not, _&&_, _||_, Bool·beq, false≢true}
+use mathlib.Core.Bool.{Bool, true, not, _&&_, _||_, false≢true}
 use lib.Dec.{leb}
 use Rattle.foundation.specs.Tests.{cases, agree, true-le, false-le, and-true, and-intro}
 use Rattle.foundation.specs.Intervals.{always, always-all, all-always}
@@ -19,17 +19,6 @@ sense Whenever b = b
 sense AsLongAs b = b
 sense WheneverNot b = not b
 sense Unless b = not b
-
--- what an operator wants of a right side, by whether it negates
-pub sense-differs : (o : Operator) (h : Bool) → not (Bool·beq h (negating o)) ≡ sense o h
-sense-differs Whenever true = refl
-sense-differs Whenever false = refl
-sense-differs AsLongAs true = refl
-sense-differs AsLongAs false = refl
-sense-differs WheneverNot true = refl
-sense-differs WheneverNot false = refl
-sense-differs Unless true = refl
-sense-differs Unless false = refl
 
 -- ---- one instant more
 

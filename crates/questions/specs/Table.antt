@@ -1,7 +1,7 @@
 -- A table says, for one instant, which rule derives its left side for which access. What the rules derive at
 -- an instant is what they make of it and of what they derived at the instant before (`now-law`).
 use mathlib.Core.Path.{_≡_, sym, ap, _∙_, subst}
-use Prim.Native.Nat.{ℕ, suc, _-_, _≤_, _<_}
+use Prim.Native.Nat.{ℕ, suc, _-_, _≤_}
 use native.Mathlib.Omega.{arith}
 use mathlib.Core.Bool.{Bool, true, false, not, _&&_, _||_}
 use lib.Dec.{eqb}
@@ -13,7 +13,7 @@ use Rattle.model.specs.declared.Operator.{Operator}
 use Rattle.model.specs.declared.Access.{Access}
 use Rattle.model.specs.declared.Pattern.{Pattern}
 use Rattle.model.specs.Base.{Base}
-use Rattle.model.specs.Stratification.{stratified, stratum}
+use Rattle.model.specs.Stratification.{stratified}
 use Rattle.model.specs.Rules.{Fact, fact, standsFor, rightOf, rightHolds, operate, holdsBy, holds}
 use Rattle.model.specs.RightFacts.{right-cong}
 use Rattle.model.specs.HoldsLaws.{derived, holding, holds-law, derived-law}
@@ -57,32 +57,15 @@ module _ (base : Base) where
 abbrev pub Node : Base → (Access → Bool) → Rule → Access → Type 0
 Node base D r x = Mem r (base .rules) × (D x ≡ true) × (standsFor base r x ≡ true)
 
--- the right side of a rule leads from accesses that count to such
-abbrev pub Inward : Base → (Access → Bool) → Type 0
-Inward base D = (r : Rule) (x : Access) → Node base D r x → D (rightOf r x .access) ≡ true
-
 module _ (base : Base) (D : Access → Bool) where
   -- P is right about the instant before t, as far as operators look back to it
   abbrev pub Before : Bits → ℕ → Type 0
   Before P t = (r : Rule) (x : Access) → Node base D r x → lasting (r .operator) ≡ true →
       (u : ℕ) → suc u ≡ t → r .interval .start ≤ u → P r x ≡ truth base u r x
 
-  -- what X says is derived at t
-  abbrev pub Sound : ℕ → Bits → Type 0
-  Sound t X = (r : Rule) (x : Access) → Node base D r x → X r x ≡ true → truth base t r x ≡ true
-
-  -- X is right about t: for the rules of the strata below k, for all rules
-  abbrev pub RightBelow : ℕ → ℕ → Bits → Type 0
-  RightBelow t k X = (r : Rule) (x : Access) → Node base D r x → stratum (base .rules) r < k →
-      X r x ≡ truth base t r x
-
+  -- X is right about t
   abbrev pub Right : ℕ → Bits → Type 0
   Right t X = (r : Rule) (x : Access) → Node base D r x → X r x ≡ truth base t r x
-
-  -- a rule of stratum k that derives now, X and P being the tables, is in X
-  abbrev pub ClosedAt : Bits → ℕ → ℕ → Bits → Type 0
-  ClosedAt P t k X = (r : Rule) (x : Access) → Node base D r x → stratum (base .rules) r ≡ k →
-      snap base P t X r x ≡ true → X r x ≡ true
 
 -- ---- now
 

@@ -12,8 +12,7 @@ use Rattle.foundation.specs.Tests.{pick, cases, le-true, le-false, true-le, fal
 use Rattle.foundation.specs.Tests.{and-false, ltb-trans}
 use Rattle.foundation.specs.Marks.{next}
 use Rattle.foundation.specs.Masks.{bit}
-use Rattle.marks.specs.Marks.{sooner}
-use Rattle.marks.proofs.NextMarks.{next-append, next-nil}
+use Rattle.marks.specs.Marks.{sooner, next-append, next-nil}
 use Rattle.model.specs.declared.Authorization.{Authorization}
 use Rattle.model.specs.declared.Rule.{Rule}
 use Rattle.model.specs.Encoding.{ruleOf}

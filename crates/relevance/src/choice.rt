@@ -81,7 +81,7 @@ fn is_needed(h: Head, c: Cell, stride: u32, need: &[u16]) -> bool
 }
 
 // n, or one more.
-fn counted(n: usize, more: bool) -> usize
+pub fn counted(n: usize, more: bool) -> usize
     requires { ⌜ n < 18446744073709551615 ⌝ }
     ensures { λ r. ⌜ r ≡ pick more (n + 1) n ⌝ }
 {

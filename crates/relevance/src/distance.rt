@@ -9,6 +9,7 @@ ghost use Rattle.foundation.specs.Tests.{pick};
 ghost use Rattle.foundation.specs.Marks.{next};
 ghost use Rattle.model.specs.Means.{marksOf, ruleMarks};
 ghost use Rattle.encoding.specs.Format.{rulesIn};
+ghost use Rattle.marks.specs.Least.{NextMark};
 ghost use Rattle.marks.specs.Marks.{sooner};
 ghost use Rattle.relevance.specs.Chosen.{Picks, picked, selected, Matters, marksFor};
 ghost use Rattle.relevance.specs.Distance.{reached};
@@ -77,8 +78,10 @@ fn nearest_rule(body: &[u8], k: usize, needed: u64, t: u32, from: u32) -> u32
 // The least mark above t of what matters, or 2^32 where there is none.
 pub fn next_of(lines: &[u8], which: &[u16], body: &[u8], c: Chosen, t: u32) -> u64
     requires { ⌜ Matters (now lines) (now which) (now body) c ⌝ }
-    ensures { λ r. ⌜ r
-        ≡ next t (marksFor (now (lines .entry)) (now (which .entry)) (now (body .entry)) c) 4294967296 ⌝ }
+    ensures { λ r. ⌜ (r
+        ≡ next t (marksFor (now (lines .entry)) (now (which .entry)) (now (body .entry)) c) 4294967296)
+        × NextMark (picked (now (lines .entry)) (now (which .entry)) (c .authorizations))
+        (selected (c .needed) (rulesIn (c .rules) (now (body .entry)))) t r ⌝ }
 {
     let d = nearest_rule(body, c.rules, c.needed, t, 4294967295);
     let d = nearest_line(lines, which, c.authorizations, t, d);

@@ -6,8 +6,10 @@ mod filling;
 pub use choice::Cell;
 pub use choice::cell_of;
 pub use choice::choose;
+pub use choice::counted;
 pub use choice::forget;
 pub use choice::sign_of;
+pub use distance::next_of;
 pub use filling::Filled;
 pub use filling::fill;
 

@@ -1,4 +1,3 @@
 pub mod Filled
-pub mod Relevant
+pub mod Listing
 pub mod Runs
-pub mod Walk

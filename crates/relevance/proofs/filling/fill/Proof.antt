@@ -47,7 +47,7 @@ loop-again c =
     let w = tested (c .before) in
     grown-turn (marksFor (now (a .lines)) (now (a .which)) (now (a .body)) (a .c)) (a .from) (a .to)
     (a .width) (b .pre .3) (l .marks) (l .count) (l .t) (l .inv) (w .0) (w .1)
-    (c .next-of .result) (c .next-of .ensures)
+    (c .next-of .result) (c .next-of .ensures .0)
 
 returns : tie.Need-returns Inv-loop μ-loop
 returns c =

@@ -1,2 +1,0 @@
--- `NextMarks` has the next mark, record by record.
-pub mod NextMarks

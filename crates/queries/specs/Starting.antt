@@ -1,0 +1,441 @@
+-- A question is put to the tables once they are drawn (`posed`), and the walk over them can start (`walks`).
+-- What it finds in the narrowed base is true of the whole one (`found-last`, `found-listed`).
+use mathlib.Core.Path.{_≡_, refl, sym, ap, ap₂, _∙_, subst}
+use mathlib.Core.Logic.{_⊎_, ⊎-elim, _↔_, inl, inr}
+use mathlib.Core.Bool.{Bool, true, false, not, _&&_, _||_, true≢false}
+use mathlib.Core.List.{List, []}
+use Prim.Native.Nat.{ℕ, suc, _+_, _*_, _-_, _/_, _%_, _^_, _≤_, _<_}
+use native.Mathlib.Nat.{zero-div, mul-le-mul-right}
+use native.Mathlib.Omega.{arith}
+use lib.Dec.{eqb, leb, ltb}
+use lib.ListN.{length, getD, replicate, length-replicate}
+use Rattle.foundation.specs.Tests.{cases, true-eq, le-true, and-true, and-intro}
+use Rattle.foundation.specs.Lists.{keepIf, Mem, kept}
+use Rattle.foundation.specs.Intervals.{inInterval, maximal}
+use Rattle.foundation.specs.Masks.{bit}
+use Rattle.foundation.specs.Records.{length-records, record-mem}
+use Rattle.foundation.specs.Counting.{maximal-count}
+use Rattle.model.specs.declared.Access.{Access}
+use Rattle.model.specs.declared.Authorization.{Authorization}
+use Rattle.model.specs.declared.Rule.{Rule}
+use Rattle.model.specs.declared.Head.{Head}
+use Rattle.model.specs.Base.{Base}
+use Rattle.model.specs.Encoding.{authorizationOf, ruleOf}
+use Rattle.model.specs.Ranges.{isMode}
+use Rattle.model.specs.Stratification.{stratified}
+use Rattle.model.specs.Rules.{standsFor, may}
+use Rattle.model.specs.Means.{allMarks}
+use Rattle.model.specs.HoldsMarks.{may-steady, all-marks-length}
+use Rattle.encoding.specs.Format.{rulesIn, ruleAt, authorizationsIn}
+use Rattle.laws.specs.Narrowing.{narrowed, narrowed-stratified}
+use Rattle.questions.specs.Numbering.{Numbering}
+use Rattle.questions.specs.Operators.{lasting}
+use Rattle.derivation.specs.Carried.{Carried}
+use Rattle.words.specs.Fields.{fieldOf}
+use Rattle.masks.specs.Masks.{Needed, clear-fields}
+use Rattle.relevance.specs.declared.Chosen.{Chosen}
+use Rattle.relevance.specs.Chosen.{authorizationAt, picked, Picks}
+use Rattle.relevance.specs.Needed as choice
+use Rattle.relevance.specs.Needed.{Placed, Choice, choice-picks, cellOf, isNeeded}
+use Rattle.places.specs.declared.Spot.{Spot}
+use Rattle.tables.specs.declared.Frame.{Frame}
+use Rattle.tables.specs.declared.Place.{Place}
+use Rattle.scan.specs.declared.Track.{Track}
+use Rattle.scan.specs.Runs.{Reached}
+use Rattle.outlines.specs.Coordinates.{Grounds, Chart, modeOf, pairOf}
+use Rattle.outlines.specs.Needed.{needed}
+use Rattle.grounding.specs.Steps.{brokenIn, brokenAt}
+use Rattle.grounding.specs.Meaning.{placeOf}
+use Rattle.grounding.specs.Turns.{Prepared, prepared, turnIn}
+use Rattle.engine.specs.declared.Query.{Query}
+use Rattle.engine.specs.declared.Found.{Found}
+use Rattle.engine.specs.Drawn.{Drawn, sceneOf}
+use Rattle.queries.specs.Drawing.{ownOf, own-coordinate, Outline, chart-small, Mapped, Arranged, sized}
+use Rattle.queries.specs.Drawing.{fields-small, total-small, drawn}
+use Rattle.engine.specs.Narrowed.{
+  Both,
+  both-tests,
+  ruleMatters,
+  selected-rules,
+  chosen-lines,
+  kept-line,
+}
+use Rattle.engine.specs.Narrowed.{narrowed-may}
+use Rattle.engine.specs.Going.{chartOf}
+use Rattle.engine.specs.Posed.{Posed, Walks, Finds}
+
+-- ---- the bodies of a base
+
+-- the bytes hold the authorizations and the rules of a base, and what soundness says of these
+pub record Bodies (lines : List ℕ) (total : ℕ) (body : List ℕ) (n : ℕ) (base : Base) : Type 0 where
+  pub lines-are : base .authorizations ≡ authorizationsIn total lines
+  pub rules-are : base .rules ≡ rulesIn n body
+  pub few : total ≤ 1024
+  pub there : total * 24 ≤ length lines
+  pub grounds : Grounds n body
+  pub strata : stratified (base .rules) ≡ true
+  pub number : Rule → ℕ
+  pub numbering : Numbering (base .rules) number (ruleAt body)
+  pub lines-in : (a : Authorization) → Mem a (base .authorizations) →
+      Placed (a .head) × (a .interval .start ≤ a .interval .end)
+
+-- MAY says yes in few intervals, up to whichever instant
+few-intervals : {lines : List ℕ} {total : ℕ} {body : List ℕ} {n : ℕ} {base : Base} →
+    Bodies lines total body n base → (x : Access) (to : ℕ) → length (maximal 0 to (λ t. may base x t)) ≤ 1089
+few-intervals {lines} {total} {body} {n} {base} b x to = omega (
+  arith,
+  maximal-count (λ t. may base x t) (allMarks base) (may-steady base x) to,
+  all-marks-length base,
+  ap length (b .lines-are),
+  ap length (b .rules-are),
+  length-records 24 authorizationOf total lines,
+  length-records 28 ruleOf n body,
+  b .few,
+  b .grounds .few,
+)
+
+-- ---- the authorizations that are chosen
+
+-- the tables are ready to choose by
+module _ {n : ℕ} {C : Chart} {x : Access} {body left feed sides right : List ℕ} {choosy : ℕ}
+    (o : Outline n C x body left feed sides right choosy) where
+  pub choice-ready : {lines : List ℕ} {total : ℕ} {base : Base} → Bodies lines total body n base →
+      (need which : List ℕ) → length need ≡ C .height * C .width → total ≤ length which →
+      choice.Ready lines total (C .subjects) (C .objects) (C .width) need which
+  choice-ready {lines} {total} {base} b need which size room =
+      let s = chart-small C (o .rules .grounds .few) (o .rules .charted) in
+      record {
+        bytes = b .there;
+        placed = λ i h. b .lines-in (authorizationAt lines i)
+            (rw (b .lines-are) (record-mem 24 authorizationOf total lines i h)) .0;
+        narrow = omega (arith, s .0);
+        columns = o .rules .charted .subjects .below;
+        rows = λ v.
+            let q : (getD (C .objects) v 0 + 1) * C .width ≤ C .height * C .width =
+            mul-le-mul-right (C .width) (omega (arith, o .rules .charted .objects .below v)) in
+            omega (arith, size);
+        numbers = omega (arith, b .few);
+        room = room;
+      }
+
+-- an authorization is chosen exactly if both signs are needed at its coordinates
+chosen-both : (C : Chart) (own : Access) (need : List ℕ) (a : Authorization) →
+    (isNeeded (C .subjects) (C .objects) own (C .width) need a ≡ true)
+    ↔ Both (C .width) need (cellOf (C .subjects) (C .objects) own (a .head)) (a .head)
+chosen-both C own need a =
+    let c = cellOf (C .subjects) (C .objects) own (a .head) in
+    let h = a .head in
+    let p : Bool = not (eqb (c .subject) 255 || eqb (c .object) 255) in
+    let q : Bool = bit (h .mode - 1) (getD need (c .object * C .width + c .subject) 0) in
+    let r : Bool = bit (8 + (h .mode - 1)) (getD need (c .object * C .width + c .subject) 0) in (
+      (λ e. let w = and-true p (q && r) e in
+          let v = and-true q r (w .1) in
+          record { there = w .0; held = v .0; denied = v .1 }),
+      (λ b. and-intro p (q && r) (b .there) (and-intro q r (b .held) (b .denied))),
+    )
+
+-- ---- the question
+
+module _ {n : ℕ} {C : Chart} {own : Access} {p : Prepared} {rules words bits : ℕ}
+    (d : Drawn n C own p rules words bits) {lines : List ℕ} {total : ℕ} {base : Base}
+    (b : Bodies lines total (p .body) n base) where
+  abbrev pub chosenLine : Authorization → Bool
+  chosenLine = isNeeded (C .subjects) (C .objects) own (C .width) (p .need)
+
+  -- the base with what matters alone
+  abbrev pub less : Base
+  less = narrowed base chosenLine (ruleMatters d base (b .rules-are) (b .number) (b .numbering))
+
+  pub posed : (x : Access) → needed C own (p .need) x ≡ true → Posed n C own p rules words bits less x
+  posed x m = record {
+    drawn = d;
+    strata = narrowed-stratified base (b .strata) chosenLine
+        (ruleMatters d base (b .rules-are) (b .number) (b .numbering));
+    rules = selected-rules d base (b .rules-are) (b .number) (b .numbering);
+    matters = m;
+    lines = λ a e.
+        let w = b .lines-in a (kept chosenLine (base .authorizations) a e .0) in (
+          kept-line d base (b .rules-are) (b .number) (b .numbering) chosenLine (chosen-both C own (p
+              .need)) a
+              (and-intro (leb 1 (a .head .mode)) (leb (a .head .mode) 8) (le-true 1 (a .head .mode) (w .0
+              .some))
+              (le-true (a .head .mode) 8 (w .0 .mode))) e,
+          w .0,
+          w .1,
+        );
+  }
+
+  -- it says of the asked access what the whole base says
+  pub less-may : (x : Access) → needed C own (p .need) x ≡ true → (t : ℕ) → may base x t ≡ may less x t
+  less-may = narrowed-may d base (b .rules-are) (b .number) (b .numbering) chosenLine
+      (chosen-both C own (p .need)) (b .strata)
+
+-- ---- the tables, and what is asked of them
+
+-- the place of the asked access
+abbrev pub placeIn : Chart → Access → List ℕ → Place
+placeIn C x number =
+    let s : ℕ = getD (C .subjects) (x .subject) 0 in
+    let o : ℕ = getD (C .objects) (x .object) 0 in
+    record {
+      pair = getD number (o * C .width + s) 0;
+      spot = record { subject = s; mode = x .mode - 1; object = o };
+    }
+
+-- what is asked: no rule that looks back has to look behind the first instant
+pub record Asked (C : Chart) (x : Access) (body number : List ℕ) (lasts : ℕ) (q : Query) : Type 0 where
+  pub own : q .own ≡ ownOf C x
+  pub place : q .place ≡ placeIn C x number
+  pub forward : q .from ≤ q .to
+  pub first : (r : ℕ) → bit r lasts ≡ true →
+      (q .from ≤ ruleAt body r .interval .start) ⊎ (inInterval (ruleAt body r .interval) (q .from) ≡ false)
+  -- intervals are written down from the first instant of all on
+  pub whole : q .listing ≡ true → q .from ≡ 0
+
+-- all tables, for fields of whichever width
+pub record Tabled (n : ℕ) (C : Chart) (p : Prepared) (rules lasts total : ℕ) (q : Query) (x : Access) : Type 0
+  where
+    pub choosy : ℕ
+    pub outline : Outline n C x (p .body) (p .left) (p .feed) (p .sides) (p .right) choosy
+    pub mapped : Mapped C (p .left) (p .right) (p .need) (p .number) (p .codes) (p .frame .grid)
+    pub needs : Needed (p .left) (p .need) (p .codes) (C .width) (p .frame .grid .pairs) rules
+    pub arranged : Arranged n (p .body) (p .sides) (p .right) (p .first) (p .starts) choosy rules lasts total
+        (p .frame)
+    pub matters : needed C (ownOf C x) (p .need) x ≡ true
+    pub asked : Asked C x (p .body) (p .number) lasts q
+
+abbrev pub withWidth : Prepared → ℕ → Prepared
+withWidth p k = prepared (p .body) (p .left) (p .feed) (p .sides) (p .right) (p .need) (p .codes) (p .number)
+    (p .first) (p .starts) (sized (p .frame) k)
+
+-- bits that are 0 say that nothing is broken
+unbroken : (bits : List ℕ) → ((j : ℕ) → getD bits j 0 ≡ 0) → (i : ℕ) → eqb (fieldOf 0 bits i) 1 ≡ false
+unbroken bits zero i = ap (λ (v : ℕ). eqb v 1) (clear-fields 0 (suc i) bits (λ j h. zero j) i (omega arith))
+
+-- words of bits are kept for rules that look back, or need not be
+abbrev pub Keeps : Query → ℕ → ℕ → Type 0
+Keeps q lasts bits = (q .from ≡ q .to) ⊎ (((r : ℕ) → bit r lasts ≡ true → ⊥) ⊎ (0 < bits))
+
+module _ {C : Chart} {p : Prepared} {lasts total : ℕ} {q : Query} {x : Access} (c : Chosen)
+    (t : Tabled (c .rules) C p (c .needed) lasts total q x) (k : ℕ) (words bits : List ℕ) (narrow : k ≤ 6)
+    (fits : p .frame .fields * 2 ^ k ≤ 64 * length words)
+    (room : 0 < length bits → total ≤ 64 * length bits) where
+  pub tables-drawn : Drawn (c .rules) C (ownOf C x) (withWidth p k) (c .needed) (length words) (length bits)
+  tables-drawn = drawn (t .outline) (t .mapped) (t .needs) (t .arranged) k (length words) (length bits)
+      narrow fits
+      room
+
+  module _ {lines : List ℕ} {count : ℕ} {base : Base} (b : Bodies lines count (p .body) (c .rules) base)
+      (entry which : List ℕ) (chosen : Choice (isNeeded (C .subjects) (C .objects) (ownOf C x) (C .width)
+      (p .need)) lines count entry which (c .authorizations)) (long : count ≤ length entry)
+      (zero : (j : ℕ) → getD bits j 0 ≡ 0) (keeps : Keeps q lasts (length bits)) where
+    abbrev few : Base
+    few = less tables-drawn b
+
+    place-is : placeIn C x (p .number) ≡ placeOf (sceneOf few C (ownOf C x) (withWidth p k)) x
+    place-is = rw (
+      own-coordinate (C .subjects) (x .subject),
+      own-coordinate (C .objects) (x .object),
+      t .mapped .grid .0,
+    )
+
+    abbrev asking : Query
+    asking = record {
+      own = ownOf C x;
+      place = placeOf (sceneOf few C (ownOf C x) (withWidth p k)) x;
+      from = q .from;
+      to = q .to;
+      listing = q .listing;
+    }
+
+    carried-none : (active : List ℕ) (r : ℕ) → bit r (c .needed) ≡ true → (y : Access) →
+        Carried few (q .from) (ruleAt (p .body) r) y (brokenIn (turnIn (withWidth p k) active r)
+        (p .frame .grid) bits (placeOf (sceneOf few C (ownOf C x) (withWidth p k)) y))
+    carried-none active r e y =
+        let rule = ruleAt (p .body) r in
+        let turn = turnIn (withWidth p k) active r in
+        let at = placeOf (sceneOf few C (ownOf C x) (withWidth p k)) y in
+        let none : brokenIn turn (p .frame .grid) bits at ≡ false =
+        ap (λ (v : Bool). lasting (rule .operator) && not (eqb (length bits) 0) && v)
+        (unbroken bits zero (brokenAt turn (p .frame .grid) at))
+        ∙ last-false (lasting (rule .operator) && not (eqb (length bits) 0)) in
+        subst (λ (v : Bool). Carried few (q .from) rule y v) (sym none) (record {
+          fresh = λ h. refl;
+          past = λ l h i. absurd (⊎-elim
+              (λ w. omega arith)
+              (λ w. true≢false (sym i ∙ w))
+              (t .asked .first r (t .arranged .lasts-is r
+              ∙ and-intro (bit r (c .needed)) (lasting (rule .operator)) e l)));
+        })
+      where
+        last-false : (v : Bool) → v && false ≡ false
+        last-false true = refl
+        last-false false = refl
+
+    asking-walks : Walks lines which c lasts asking C (withWidth p k) words bits few x
+    asking-walks = record {
+      posed = posed tables-drawn b x (t .matters);
+      picks = choice-picks (chosenLine tables-drawn b) lines count entry which (c .authorizations) (b
+          .there) long
+          chosen;
+      picked-all = sym (chosen-lines tables-drawn base (b .rules-are) (b .number) (b .numbering)
+          (chosenLine tables-drawn b) (chosen-both C (ownOf C x) (p .need)) lines count entry which
+          (c .authorizations) (b .lines-are) chosen);
+      place = refl;
+      forward = t .asked .forward;
+      lasts = λ r. t .arranged .lasts-is r
+          ∙ sym (posed tables-drawn b x (t .matters) .drawn .lasts-is r);
+      kept = keeps;
+      carried = λ active r e y m s. carried-none active r e y;
+      few = subst (λ (f : ℕ → Bool). length (maximal 0 (q .to) f) ≤ 1089)
+          (λ i u. less-may tables-drawn b x (t .matters) u i) (few-intervals b x (q .to));
+      fresh = λ l. ap (λ (a : ℕ). maximal a (q .to) (may few x)) (sym (t .asked .whole l));
+    }
+
+    -- the walk can start
+    pub walks : Walks lines which c lasts q C (withWidth p k) words bits (less tables-drawn b) x
+    walks =
+        let e = t .asked .own in
+        let l = t .asked .place ∙ place-is in
+        let same : asking ≡ q = λ i. record {
+          own = sym e i;
+          place = sym l i;
+          from = q .from;
+          to = q .to;
+          listing = q .listing;
+        } in
+        subst (λ (w : Query). Walks lines which c lasts w C (withWidth p k) words bits few x) same
+        asking-walks
+
+    -- and what it finds is true of the whole base
+    pub whole-found : (r : Found) (old new : List ℕ) → Finds q (less tables-drawn b) x r old new →
+        Finds q base x r old new
+    whole-found r old new w =
+        let same : _≡_ {A = ℕ → Bool} (may few x) (may base x) =
+        λ i u. sym (less-may tables-drawn b x (t .matters) u) i in
+        record {
+          last = w .last ∙ sym (less-may tables-drawn b x (t .matters) (q .to));
+          listed = λ l. subst (λ (f : ℕ → Bool). Reached f (q .to) old (suc (q .to)) (r .track) new) same
+              (w .listed l);
+        }
+
+-- ---- as the code has it
+
+-- the tables are made, and the authorizations that matter are chosen
+pub record Begun (lines which : List ℕ) (c : Chosen) (lasts total : ℕ) (q : Query) (C : Chart) (p : Prepared)
+    (base : Base) (x : Access) : Type 0 where
+  pub tabled : Tabled (c .rules) C p (c .needed) lasts total q x
+  pub count : ℕ
+  pub bodies : Bodies lines count (p .body) (c .rules) base
+  pub entry : List ℕ
+  pub chosen : Choice (isNeeded (C .subjects) (C .objects) (ownOf C x) (C .width) (p .need)) lines count entry
+      which (c .authorizations)
+  pub long : count ≤ length entry
+
+-- bits, as they are at the start
+pub record Fresh (q : Query) (lasts total : ℕ) (bits : List ℕ) : Type 0 where
+  pub room : 0 < length bits → total ≤ 64 * length bits
+  pub zero : (j : ℕ) → getD bits j 0 ≡ 0
+  pub keeps : Keeps q lasts (length bits)
+
+-- none are needed where one instant is asked or no rule looks back
+pub fresh-none : (q : Query) (lasts total : ℕ) → eqb (q .from) (q .to) || eqb lasts 0 ≡ true →
+    Fresh q lasts total []
+fresh-none q lasts total e = record {
+  room = λ h. absurd (omega arith);
+  zero = λ j. refl;
+  keeps = cases (eqb (q .from) (q .to))
+      (λ y. inl (true-eq (q .from) (q .to) y))
+      (λ y. let z : eqb lasts 0 ≡ true = rw y at e in
+      inr (inl (λ r w. true≢false (sym w ∙ ap (bit r) (true-eq lasts 0 z) ∙ no-bit r))));
+}
+  where
+    no-bit : (r : ℕ) → bit r 0 ≡ false
+    no-bit r = ap (λ (i : ℕ). eqb (i % 2) 1) (zero-div (2 ^ r))
+
+-- a table of zeros
+pub zeros-at : (n i : ℕ) → _≡_ {A = ℕ} (getD (replicate n 0) i 0) 0
+zeros-at ℕ.zero i = refl
+zeros-at (suc n) ℕ.zero = refl
+zeros-at (suc n) (suc i) = zeros-at n i
+
+pub fresh-zeros : (q : Query) (lasts total size : ℕ) → 0 < size → total ≤ 64 * size →
+    Fresh q lasts total (replicate size 0)
+fresh-zeros q lasts total size some room = record {
+  room = λ h. rw (length-replicate {A = ℕ} size 0) room;
+  zero = λ j. zeros-at size j;
+  keeps = inr (inr (rw (length-replicate {A = ℕ} size 0) some));
+}
+
+-- a frame with fields of a width for which words of a length have room
+pub record Sized (f : Frame) (words : ℕ) (g : Frame) : Type 0 where
+  pub width : ℕ
+  pub narrow : width ≤ 6
+  pub fits : f .fields * 2 ^ width ≤ 64 * words
+  pub same : g ≡ sized f width
+
+-- a walk can start, and what it finds is true of the base
+pub record Starts (lines which : List ℕ) (c : Chosen) (lasts : ℕ) (q : Query) (C : Chart) (p : Prepared)
+    (words bits : List ℕ) (base : Base) (x : Access) : Type 0 where
+  pub small : Base
+  pub walks : Walks lines which c lasts q C p words bits small x
+  pub found : (r : Found) (old new : List ℕ) → Finds q small x r old new → Finds q base x r old new
+
+module _ {lines which : List ℕ} {c : Chosen} {lasts total : ℕ} {q : Query} {subjects objects body left feed
+    sides
+    right need codes number first starts : List ℕ} {f : Frame} {base : Base} {x : Access}
+    (b : Begun lines which c lasts total q (chartOf subjects objects f)
+    (prepared body left feed sides right need codes number first starts f) base x) where
+  pub begun-starts : (g : Frame) (words bits : List ℕ) → Sized f (length words) g → Fresh q lasts total bits →
+      Starts lines which c lasts q (chartOf subjects objects g)
+      (prepared body left feed sides right need codes number first starts g) words bits base x
+  begun-starts g words bits s h =
+      let k = s .width in
+      subst (λ (w : Frame). Starts lines which c lasts q (chartOf subjects objects w)
+      (prepared body left feed sides right need codes number first starts w) words bits base x)
+      (sym (s .same))
+      (record {
+        small = less (tables-drawn c (b .tabled) k words bits (s .narrow) (s .fits) (h .room)) (b .bodies);
+        walks = walks c (b .tabled) k words bits (s .narrow) (s .fits) (h .room) (b .bodies) (b .entry) which
+            (b .chosen) (b .long) (h .zero) (h .keeps);
+        found = whole-found c (b .tabled) k words bits (s .narrow) (s .fits) (h .room) (b .bodies) (b .entry)
+            which (b .chosen) (b .long) (h .zero) (h .keeps);
+      })
+
+  -- the tables are small
+  pub begun-fields : f .fields ≤ 100880
+  begun-fields = fields-small (b .tabled .outline) (b .tabled .mapped) (b .tabled .needs) (b .tabled
+      .arranged)
+
+  pub begun-bits : total ≤ 33280
+  begun-bits = total-small (b .tabled .outline) (b .tabled .mapped) (b .tabled .needs) (b .tabled .arranged)
+
+-- the tables and the bodies are there, before authorizations are chosen
+pub record Ground (lines : List ℕ) (total n rules lasts bits : ℕ) (q : Query) (C : Chart) (p : Prepared)
+    (base : Base) (x : Access) : Type 0 where
+  pub tabled : Tabled n C p rules lasts bits q x
+  pub bodies : Bodies lines total (p .body) n base
+
+-- they are chosen
+pub ground-begun : {lines : List ℕ} {total n rules lasts bits : ℕ} {q : Query} {C : Chart} {p : Prepared}
+    {base : Base} {x : Access} → Ground lines total n rules lasts bits q C p base x → (entry which : List ℕ)
+    (k : ℕ) →
+    total ≤ length entry →
+    Choice (isNeeded (C .subjects) (C .objects) (q .own) (C .width) (p .need)) lines total entry which k →
+    Begun lines which (record { authorizations = k; rules = n; needed = rules }) lasts bits q C p base x
+ground-begun {lines} {total} {n} {rules} {lasts} {bits} {q} {C} {p} g entry which k room chosen = record {
+  tabled = g .tabled;
+  count = total;
+  bodies = g .bodies;
+  entry = entry;
+  chosen = subst (λ (own : Access). Choice (isNeeded (C .subjects) (C .objects) own (C .width) (p .need))
+      lines
+      total entry which k) (g .tabled .asked .own) chosen;
+  long = room;
+}
+
+pub ground-ready : {lines : List ℕ} {total n rules lasts bits : ℕ} {q : Query} {C : Chart} {p : Prepared}
+    {base : Base} {x : Access} → Ground lines total n rules lasts bits q C p base x → (which : List ℕ) →
+    total ≤ length which → choice.Ready lines total (C .subjects) (C .objects) (C .width) (p .need) which
+ground-ready {p = p} g which room =
+    choice-ready (g .tabled .outline) (g .bodies) (p .need) which (g .tabled .mapped .size) room

@@ -1,2 +1,0 @@
--- `LentBodies` has what a question needs of the bodies of a base.
-pub mod LentBodies

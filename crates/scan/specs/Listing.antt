@@ -1,0 +1,39 @@
+-- WHEN's intervals in a lent list: as many as there is room for (`Filling`), or all or none (`Listing`).
+use mathlib.Core.Path.{_≡_, ap}
+use Prim.Native.Nat.{ℕ, suc, _*_, _/_, _≤_, _<_}
+use native.Mathlib.Omega.{arith}
+use mathlib.Core.Bool.{Bool}
+use mathlib.Core.List.{List, _++_}
+use lib.Dec.{ltb}
+use lib.ListN.{length, drop}
+use Rattle.foundation.specs.Tests.{pick, le-true, le-false}
+use Rattle.foundation.specs.declared.Interval.{Interval}
+use Rattle.model.specs.Answers.{words}
+use Rattle.scan.specs.Filled.{filled}
+
+-- the intervals are counted, and as many of them as the list has room for stand at its front
+pub record Filling (intervals : List Interval) (n : ℕ) (list list′ : List ℕ) : Type 0 where
+  pub count : n ≡ length intervals
+  pub lent : list′ ≡ filled intervals list
+
+-- the intervals at the front of the list, if it has room for all of them; else the list as it was
+abbrev pub listed : List Interval → List ℕ → List ℕ
+listed xs list = pick (ltb (length list / 2) (length xs)) list (words xs ++ drop (2 * length xs) list)
+
+-- the intervals are counted, and listed; there are no more than can be
+pub record Listing (intervals : List Interval) (n : ℕ) (list list′ : List ℕ) : Type 0 where
+  pub count : n ≡ length intervals
+  pub few : n ≤ 1089
+  pub lent : list′ ≡ listed intervals list
+
+-- the list is too short, or not
+pub listed-short : (xs : List Interval) (list : List ℕ) → length list / 2 < length xs → listed xs list ≡ list
+listed-short xs list h =
+    ap (λ (g : Bool). pick g list (words xs ++ drop (2 * length xs) list))
+    (le-true (suc (length list / 2)) (length xs) h)
+
+pub listed-all : (xs : List Interval) (list : List ℕ) → length xs ≤ length list / 2 →
+    listed xs list ≡ words xs ++ drop (2 * length xs) list
+listed-all xs list h =
+    ap (λ (g : Bool). pick g list (words xs ++ drop (2 * length xs) list))
+    (le-false (suc (length list / 2)) (length xs) (omega arith))
