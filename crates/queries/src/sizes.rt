@@ -116,8 +116,8 @@ fn with_words(
             list,
         );
     }
-    if has_room(f.fields, one, 512) {
-        let mut words = [0u64; 512];
+    if has_room(f.fields, one, 320) {
+        let mut words = [0u64; 320];
         return walk(
             lines,
             which,
@@ -125,7 +125,7 @@ fn with_words(
             chosen,
             lasting,
             q,
-            sized(f, one, 512),
+            sized(f, one, 320),
             subjects,
             objects,
             left,
