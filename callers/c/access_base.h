@@ -110,7 +110,9 @@ struct access_base_side {
     bool negative; /* a denial */
 };
 
-/* A rule: the left side is given where the operator says so of the right. Its interval is the request's. */
+/* A rule: the left side is given where the operator says so of the right. A right there counts where it is held
+ * and no denial of that subject, object and mode is, whoever gave it; a denial where it is held. Its interval is the
+ * request's. */
 struct access_base_rule {
     struct access_base_side left;
     uint32_t operation; /* enum access_base_operator */

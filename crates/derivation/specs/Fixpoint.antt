@@ -19,20 +19,23 @@ use Rattle.model.specs.declared.Rule.{Rule}
 use Rattle.model.specs.declared.Access.{Access}
 use Rattle.model.specs.declared.Pattern.{Pattern}
 use Rattle.model.specs.Base.{Base}
-use Rattle.model.specs.Stratification.{negating, stratified, stratum, heavy-negates}
+use Rattle.model.specs.Stratification.{negating, stratified, stratum, links, links-precedes, links-heavy}
+use Rattle.model.specs.Stratification.{negates-heavy}
 use Rattle.model.specs.StratificationFacts.{feeder-below, stratum-few}
 use Rattle.model.specs.Rules.{Fact, fact, fits, standsFor, derivesFor, rightOf, operate, holdsBy, rightBy}
-use Rattle.model.specs.Rules.{derives, enough, derivedBelow, holds}
+use Rattle.model.specs.Rules.{asked, derives, enough, derivedBelow, holds}
+use Rattle.model.specs.RightFacts.{right-is}
 use Rattle.model.specs.HoldsFacts.{below-steady, below-stratum, rounds, rounds-below}
 use Rattle.model.specs.HoldsLaws.{holding, fit-precedes, StrictlyFed, strictly-fed, right-settled}
-use Rattle.model.specs.HoldsLaws.{strictly-settled, settled-at}
+use Rattle.model.specs.HoldsLaws.{strictly-linked, strictly-settled, settled-at}
+use Rattle.laws.specs.Looking.{Looks}
 use Rattle.questions.specs.Operators.{lasting, sense, operate-back, operate-now, sense-more}
 use Rattle.questions.specs.Table.{truth, instant-before}
 use Rattle.derivation.specs.Window.{Window, made}
 use Rattle.derivation.specs.Lasting.{prior, made-by}
 use Rattle.derivation.specs.Exact.{Tables, Valued, Done, held-cases}
-use Rattle.derivation.specs.Turn.{Evaluated, evaluated-stays, right-sound, right-exact}
-use Rattle.derivation.specs.Turn.{evaluated-made, right-made}
+use Rattle.derivation.specs.Turn.{Evaluated, evaluated-stays, right-seen, right-sound}
+use Rattle.derivation.specs.Turn.{right-exact, evaluated-made, right-made}
 
 -- of a right side that is as the operator wants no less often no less is made
 made-more : (r : Rule) (ms : ℕ → ℕ) (right more : ℕ → Bool) (before : Bool) (k : ℕ) →
@@ -64,9 +67,9 @@ module _ (base : Base) (count : ℕ) (ms : ℕ → ℕ) (pat : ℕ → Access �
   abbrev pub Shut : Tables → Rule → Type 0
   Shut W r = (T : ℕ) (x : Access) → Kept T x → derivesFor base (pat T x) r ≡ true → ShutAt W r T x
 
-  -- that stays so while the words of the right side do not change, and no bit is lost
+  -- that stays so while the words that the rule looks at do not change, and no bit is lost
   pub shut-stays : (W W′ : Tables) (r : Rule) (T : ℕ) (x : Access) →
-      ((R : ℕ) → pat R (rightOf r x .access) ≡ rightOf r x → Kept R (rightOf r x .access) →
+      ((R : ℕ) → Looks r x (pat R (rightOf r x .access)) → Kept R (rightOf r x .access) →
       W′ R (rightOf r x .access) ≡ W R (rightOf r x .access)) →
       ((i : ℕ) → bit i (W T x) ≡ true → bit i (W′ T x) ≡ true) →
       ShutAt W r T x → ShutAt W′ r T x
@@ -84,20 +87,27 @@ module _ (base : Base) (s : stratified (base .rules) ≡ true) (count : ℕ) (ms
     Done base count ms pat Kept W q) where
   module _ (r : Rule) (m : Mem r (base .rules)) (h : stratum (base .rules) r ≡ k) (x : Access) (v : ℕ)
       (e : Evaluated base count ms pat Kept W r x v) where
-    -- what the word of the right side says, and what it is to say
+    -- what is seen of the right side, and what is to be seen
     abbrev read : ℕ → Bool
-    read i = bit i (W (e .table) (rightOf r x .access))
+    read i = bit i (e .seen)
 
     abbrev right : ℕ → Bool
     right i = holding base (ms i) (rightOf r x)
 
-    -- a negating operator looks at the strata below alone
+    -- denials of the right side's access are derived in the strata below alone
+    linked-done : (q : Rule) → Mem q (base .rules) → links q r ≡ true → Done base count ms pat Kept W q
+    linked-done q n l = below q n (omega (
+      arith,
+      feeder-below (base .rules) s q r n m (links-precedes q r l) (links-heavy q r l),
+    ))
+
+    -- and what a negating operator looks at
     negating-exact : negating (r .operator) ≡ true → (i : ℕ) → i < count → read i ≡ right i
-    negating-exact g = right-exact base s count ms w pat on Kept W a r m x v e
+    negating-exact g = right-exact base s count ms w pat on Kept W a r m x v e linked-done
         (λ q n d. below q n (omega (
           arith,
           feeder-below (base .rules) s q r n m (fit-precedes base q r x d)
-              (heavy-negates q r ∙ g),
+              (negates-heavy q r g),
         )))
 
     pub sound-stratum : standsFor base r x ≡ true → (i : ℕ) → i < count → bit i v ≡ true →
@@ -106,7 +116,8 @@ module _ (base : Base) (s : stratified (base .rules) ≡ true) (count : ℕ) (ms
         sym (right-made base s count ms w r m x n right (λ j g. refl) i l)
         ∙ made-more r ms read right (truth base (ms 0 - 1) r x) count
         (λ j g. sense-more (r .operator) (read j) (right j)
-        (right-sound base s count ms w pat on Kept W a r m x v e j g) (λ z. negating-exact z j g)) i l
+        (right-sound base s count ms w pat on Kept W a r m x v e linked-done j g)
+        (λ z. negating-exact z j g)) i l
         (sym (evaluated-made base s count ms w pat on Kept W a r m x v e i l) ∙ b)
 
   -- ---- the rounds of the stratum
@@ -169,25 +180,34 @@ module _ (base : Base) (s : stratified (base .rules) ≡ true) (count : ℕ) (ms
         abbrev allowed : ℕ → Bool
         allowed u = operate always (r .operator) same under (r .interval .start) u
 
-        same-in : same (ms i) ≡ true → bit i (W (e .table) y) ≡ true
-        same-in b = held-cases base (stage n) (ms i) (rightOf r x) b
+        -- what those derive whose step counts is settled below the stratum
+        settled : (p : Pattern) → StrictlyFed base r p →
+            holdsBy always base lower (ms i) p ≡ holds always base (ms i) p
+        settled p f = subst (λ (j : ℕ).
+            holdsBy always base (derivedBelow always base j) (ms i) p ≡ holds always base (ms i) p)
+            h (strictly-settled base s r m (ms i) p f)
+
+        same-in : same (ms i) ≡ true → bit i (e .seen) ≡ true
+        unfolding rightOf
+        same-in b =
+            let c = right-is (holdsBy always base (stage n) (ms i)) (holdsBy always base lower (ms i))
+            (rightOf r x) .0 b in
+            let held : bit i (W (e .table) y) ≡ true = held-cases base (stage n) (ms i) (rightOf r x) (c .0)
             (λ c p f t. a .lines c p (e .table) y (e .kept)
             (subst (λ (z : Pattern). fits z (c .head) ≡ true) (sym (e .looks)) f) i inside t)
             (λ q p d t. given q p
-            (subst (λ (z : Pattern). derivesFor base z q ≡ true) (sym (e .looks)) d) t)
+            (subst (λ (z : Pattern). derivesFor base z q ≡ true) (sym (e .looks)) d) t) in
+            right-seen base s count ms w pat on Kept W a r m x v e (linked-done r m h x v e) i inside held
+            (λ d. sym (settled (asked y true) (strictly-linked base r x d)) ∙ c .1 d)
 
-        under-is : negating (r .operator) ≡ true → under (ms i) ≡ bit i (W (e .table) y)
+        under-is : negating (r .operator) ≡ true → under (ms i) ≡ bit i (e .seen)
         under-is g =
             let L = holdsBy always base lower (ms i) in
-            let settled : (p : Pattern) → StrictlyFed base r p → L p ≡ holds always base (ms i) p =
-            λ p f. subst (λ (j : ℕ).
-            holdsBy always base (derivedBelow always base j) (ms i) p ≡ holds always base (ms i) p)
-            h (strictly-settled base s r m (ms i) p f) in
             right-settled base r x L L (holds always base (ms i))
             (λ p f. settled p (strictly-fed base r g p f)) settled
             ∙ sym (negating-exact r m h x v e g i inside)
 
-        -- the right side as the tables have it, and what the rule made of it at the instant before
+        -- what is seen of the right side, and what the rule made of it at the instant before
         abbrev seen : ℕ → Bool
         seen = read r m h x v e
 

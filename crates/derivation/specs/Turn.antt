@@ -1,9 +1,11 @@
--- The turn of a rule at an access: the word that is derived of the word of its right side (`Evaluated`).
--- Where the rules that feed it have given what they derive, both are right (`turn-right`).
+-- The turn of a rule at an access: the word that is derived of the words that it looks at (`Evaluated`).
+-- Where the rules that precede it have given what they derive, both are right (`turn-right`).
 use mathlib.Core.Path.{_≡_, refl, sym, ap, _∙_, subst}
 use Prim.Native.Nat.{ℕ, _-_, _<_}
 use native.Mathlib.Omega.{arith}
-use mathlib.Core.Bool.{Bool, true}
+use mathlib.Core.Logic.{inl, inr}
+use mathlib.Core.Bool.{Bool, true, false, not, _&&_, _||_}
+use Rattle.foundation.specs.Tests.{cases, not-true, and-true}
 use Rattle.foundation.specs.Lists.{Mem}
 use Rattle.foundation.specs.Intervals.{inInterval, always}
 use Rattle.foundation.specs.Masks.{bit}
@@ -11,10 +13,12 @@ use Rattle.model.specs.declared.Rule.{Rule}
 use Rattle.model.specs.declared.Access.{Access}
 use Rattle.model.specs.declared.Pattern.{Pattern}
 use Rattle.model.specs.Base.{Base}
-use Rattle.model.specs.Stratification.{stratified, feeds}
-use Rattle.model.specs.Rules.{standsFor, derivesFor, rightOf, holds}
-use Rattle.model.specs.SideFacts.{fit-feeds}
-use Rattle.model.specs.HoldsLaws.{holding}
+use Rattle.model.specs.Stratification.{stratified, links, precedes, links-precedes}
+use Rattle.model.specs.Rules.{asked, standsFor, derivesFor, rightOf, holds}
+use Rattle.model.specs.SideFacts.{fit-links}
+use Rattle.model.specs.RightFacts.{right-own, right-is}
+use Rattle.model.specs.HoldsLaws.{holding, fit-precedes}
+use Rattle.laws.specs.Looking.{Looks}
 use Rattle.questions.specs.Table.{truth, Before, right-truth}
 use Rattle.derivation.specs.Window.{Window, made, word-right}
 use Rattle.derivation.specs.Derive.{Derived, derived-made}
@@ -37,7 +41,7 @@ right-made base s count ms w r m x n right e =
     (λ i h. e i h ∙ sym (right-truth base (ms i) r x))
     (λ q z. truth base (ms 0 - 1) q z) (before-right base (λ y. true) (ms 0))
 
--- v is what r derives for x over the window, of the word of its right side
+-- v is what r derives for x over the window, of the words that it looks at
 module _ (base : Base) (count : ℕ) (ms : ℕ → ℕ) (pat : ℕ → Access → Pattern)
     (Kept : ℕ → Access → Type 0) where
   pub record Evaluated (W : Tables) (r : Rule) (x : Access) (v : ℕ) : Type 0 where
@@ -45,30 +49,46 @@ module _ (base : Base) (count : ℕ) (ms : ℕ → ℕ) (pat : ℕ → Access �
     pub table : ℕ
     pub looks : pat table (rightOf r x .access) ≡ rightOf r x
     pub kept : Kept table (rightOf r x .access)
+    -- where the right side is positive, a table that has the denials of its access
+    pub denials : ℕ
+    pub denies : r .right .negative ≡ false →
+        (pat denials (rightOf r x .access) ≡ asked (rightOf r x .access) true)
+        × Kept denials (rightOf r x .access)
+    -- the instants at which the right side counts as held
+    pub seen : ℕ
+    pub seen-is : (i : ℕ) → bit i seen ≡ bit i (W table (rightOf r x .access))
+        && (r .right .negative || not (bit i (W denials (rightOf r x .access))))
     -- the instants of the rule's interval
     pub active : ℕ
     pub acts : (i : ℕ) → i < count → bit i active ≡ inInterval (r .interval) (ms i)
     pub inside : (i : ℕ) → bit i active ≡ true → i < count
     pub broken : Bool
     pub carried : Carried base (ms 0) r x broken
-    pub derived : Derived (r .operator) (W table (rightOf r x .access)) active broken v
+    pub derived : Derived (r .operator) seen active broken v
 
-  -- it is so of all tables with the same words of the right side
+  -- it is so of all tables with the same words of what the rule looks at
   pub evaluated-stays : (W W′ : Tables) (r : Rule) (x : Access) (v : ℕ) →
-      ((R : ℕ) → pat R (rightOf r x .access) ≡ rightOf r x → Kept R (rightOf r x .access) →
+      ((R : ℕ) → Looks r x (pat R (rightOf r x .access)) → Kept R (rightOf r x .access) →
       W′ R (rightOf r x .access) ≡ W R (rightOf r x .access)) →
       Evaluated W r x v → Evaluated W′ r x v
+  unfolding Looks rightOf
   evaluated-stays W W′ r x v same e = record {
     table = e .table;
     looks = e .looks;
     kept = e .kept;
+    denials = e .denials;
+    denies = e .denies;
+    seen = e .seen;
+    seen-is = λ i. e .seen-is i ∙ cases (r .right .negative)
+        (λ n. rw (n, same (e .table) (inl (e .looks)) (e .kept)))
+        (λ n. let d = e .denies n in
+        rw (n, same (e .table) (inl (e .looks)) (e .kept), same (e .denials) (inr (n, d .0)) (d .1)));
     active = e .active;
     acts = e .acts;
     inside = e .inside;
     broken = e .broken;
     carried = e .carried;
-    derived = subst (λ (n : ℕ). Derived (r .operator) n (e .active) (e .broken) v)
-        (sym (same (e .table) (e .looks) (e .kept))) (e .derived);
+    derived = e .derived;
   }
 
 module _ (base : Base) (s : stratified (base .rules) ≡ true) (count : ℕ) (ms : ℕ → ℕ)
@@ -76,37 +96,73 @@ module _ (base : Base) (s : stratified (base .rules) ≡ true) (count : ℕ) (ms
     (on : (T : ℕ) (x : Access) → pat T x .access ≡ x) (Kept : ℕ → Access → Type 0)
     (W : Tables) (a : Valued base count ms pat Kept W) (r : Rule) (m : Mem r (base .rules)) (x : Access)
     (v : ℕ) (e : Evaluated base count ms pat Kept W r x v) where
-  -- what the word of the right side says
+  -- what is seen of the right side
   abbrev pub rightBit : ℕ → Bool
-  rightBit i = bit i (W (e .table) (rightOf r x .access))
+  rightBit i = bit i (e .seen)
 
   -- ---- when a right side counts as held: nothing else here looks into that
 
-  pub right-sound : (i : ℕ) → i < count → rightBit i ≡ true → holding base (ms i) (rightOf r x) ≡ true
-  right-sound i h b = subst (λ (p : Pattern). holds always base (ms i) p ≡ true) (e .looks)
-      (a .sound (e .table) (rightOf r x .access) (e .kept) i h b)
+  -- the rules by which denials of the right side's access are derived have given what they derive
+  module _ (linked : (q : Rule) → Mem q (base .rules) → links q r ≡ true →
+      Done base count ms pat Kept W q) where
+    denials-exact : r .right .negative ≡ false → (i : ℕ) → i < count →
+        bit i (W (e .denials) (rightOf r x .access))
+        ≡ holds always base (ms i) (asked (rightOf r x .access) true)
+    denials-exact n i h =
+        let d = e .denies n in
+        exact base count ms pat on Kept W a (e .denials) (rightOf r x .access) (d .1)
+        (λ q k f. linked q k (fit-links base q r x n
+        (subst (λ (p : Pattern). derivesFor base p q ≡ true) (d .0) f)) (rightOf r x .access)) i h
+        ∙ ap (holds always base (ms i)) (d .0)
 
-  -- the word of the right side is right, if the rules that derive for it have given what they derive
-  pub right-exact : ((q : Rule) → Mem q (base .rules) → derivesFor base (rightOf r x) q ≡ true →
-      Done base count ms pat Kept W q) →
-      (i : ℕ) → i < count → rightBit i ≡ holding base (ms i) (rightOf r x)
-  right-exact fed i h =
-      exact base count ms pat on Kept W a (e .table) (rightOf r x .access) (e .kept)
-      (λ q n d. fed q n (subst (λ (p : Pattern). derivesFor base p q ≡ true) (e .looks) d)
-      (rightOf r x .access)) i h
-      ∙ ap (holds always base (ms i)) (e .looks)
+    -- it is seen where the table has it and no denial holds
+    pub right-seen : (i : ℕ) → i < count → bit i (W (e .table) (rightOf r x .access)) ≡ true →
+        (r .right .negative ≡ false →
+        holds always base (ms i) (asked (rightOf r x .access) true) ≡ false) → rightBit i ≡ true
+    unfolding rightOf
+    right-seen i h b d = e .seen-is i ∙ rw b (cases (r .right .negative)
+        (λ n. rw n) (λ n. rw (n, denials-exact n i h, d n)))
+
+    pub right-sound : (i : ℕ) → i < count → rightBit i ≡ true → holding base (ms i) (rightOf r x) ≡ true
+    unfolding rightOf
+    right-sound i h b =
+        let y = rightOf r x .access in
+        let all : Pattern → Bool = holds always base (ms i) in
+        let c = and-true (bit i (W (e .table) y)) (r .right .negative || not (bit i (W (e .denials) y)))
+        (sym (e .seen-is i) ∙ b) in
+        right-is all all (rightOf r x) .1 (
+          subst (λ (p : Pattern). all p ≡ true) (e .looks) (a .sound (e .table) y (e .kept) i h (c .0)),
+          λ n. sym (denials-exact n i h) ∙ not-true (bit i (W (e .denials) y)) (rw n at (c .1)),
+        )
+
+    -- what is seen is right, if the rules that derive for the right side have given what they derive, too
+    pub right-exact : ((q : Rule) → Mem q (base .rules) → derivesFor base (rightOf r x) q ≡ true →
+        Done base count ms pat Kept W q) →
+        (i : ℕ) → i < count → rightBit i ≡ holding base (ms i) (rightOf r x)
+    unfolding rightOf
+    right-exact fed i h =
+        let y = rightOf r x .access in
+        let all : Pattern → Bool = holds always base (ms i) in
+        let held : bit i (W (e .table) y) ≡ all (rightOf r x) =
+        exact base count ms pat on Kept W a (e .table) y (e .kept)
+        (λ q n d. fed q n (subst (λ (p : Pattern). derivesFor base p q ≡ true) (e .looks) d) y) i h
+        ∙ ap all (e .looks) in
+        e .seen-is i
+        ∙ right-own (λ p. bit i (W (e .table) y)) all (λ p. bit i (W (e .denials) y)) all (rightOf r x)
+        held (λ n. denials-exact n i h)
 
   -- ---- the word that is derived
 
   pub evaluated-made : (i : ℕ) → i < count → bit i v ≡ made r ms rightBit (truth base (ms 0 - 1) r x) i
   evaluated-made = derived-made r count ms (window-framed base count ms w r m) rightBit
       (truth base (ms 0 - 1) r x) (e .broken)
-      (W (e .table) (rightOf r x .access)) (e .active) v (e .acts) (e .inside) (λ i h. refl)
+      (e .seen) (e .active) v (e .acts) (e .inside) (λ i h. refl)
       (e .carried .fresh) (e .carried .past) (e .derived)
 
   pub turn-right : standsFor base r x ≡ true →
-      ((q : Rule) → Mem q (base .rules) → feeds q r ≡ true → Done base count ms pat Kept W q) →
+      ((q : Rule) → Mem q (base .rules) → precedes q r ≡ true → Done base count ms pat Kept W q) →
       (i : ℕ) → i < count → bit i v ≡ truth base (ms i) r x
   turn-right n fed i h =
-      let right = right-exact (λ q k d. fed q k (fit-feeds base q r x d)) in
+      let right = right-exact (λ q k l. fed q k (links-precedes q r l))
+      (λ q k d. fed q k (fit-precedes base q r x d)) in
       evaluated-made i h ∙ right-made base s count ms w r m x n rightBit right i h

@@ -20,7 +20,7 @@ abbrev pub Low : List ℕ → ℕ → ℕ → Type 0
 Low active rules width = (r : ℕ) → bit r rules ≡ true →
     (getD active r 0 < 9223372036854775808) × (getD active r 0 < 2 ^ (2 ^ width))
 
--- the rules have their turns behind those that feed them, and those that are left theirs stratum by stratum
+-- the rules have their turns behind those that precede them, those that are left theirs stratum by stratum
 pub record RulesRan (p : Prepared) (n needed : ℕ) (active bits old new : List ℕ) : Type 0 where
   pub rest : ℕ
   pub turned : List ℕ

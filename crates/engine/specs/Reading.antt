@@ -20,12 +20,13 @@ use Rattle.places.specs.Numbering.{before-le}
 use Rattle.places.specs.Regions.{sizeOf, Within}
 use Rattle.tables.specs.declared.Place.{Place}
 use Rattle.tables.specs.Layout.{regionAt, whole, size-small}
+use Rattle.tables.specs.Giving.{reaches}
 use Rattle.outlines.specs.Coordinates.{Chart}
 use Rattle.outlines.specs.CoordinateFacts.{known-is}
 use Rattle.outlines.specs.Aims.{aim-object, aim-subject, aim-mode}
 use Rattle.outlines.specs.Standing.{stands}
 use Rattle.outlines.specs.Needed.{needed, needed-known, needed-right}
-use Rattle.grounding.specs.Steps.{turnedSpot, pairIn, Ordinary, Reads}
+use Rattle.grounding.specs.Steps.{turnedSpot, pairIn, rightPlace, Ordinary, Reads}
 use Rattle.grounding.specs.Turns.{Prepared, turnIn, Able}
 use Rattle.grounding.specs.Meaning.{placeOf}
 use Rattle.engine.specs.Drawn.{Drawn, sceneOf}
@@ -96,10 +97,12 @@ module _ {n : ℕ} {C : Chart} {asked : Access} {p : Prepared} {rules words bits
       reads-at x m s =
           let y = rightOf (ruleAt (p .body) r) x .access in
           let k = right-needed x m s in
-          let known-y = needed-known C asked (p .need) y k in
-          let w = known-is C asked y .0 known-y in
           let q = spot-right x in
           let g = p .frame .grid in
+          let place = rightPlace (turnIn p active r) g (p .number) (sceneOf base C asked p .spot x) in
+          let within : Within g (place .pair) (place .spot) =
+          subst (λ (z : Spot). Within g (getD (p .number) (pairIn g z) 0) z) (sym q)
+          (place-within d base y k) in
           record {
             here = here x m;
             sign = mod-lt (getD (p .sides) (4 * r + 3) 0) (omega arith);
@@ -107,16 +110,17 @@ module _ {n : ℕ} {C : Chart} {asked : Access} {p : Prepared} {rules words bits
             fits = fits;
             takers = λ c b. and-true (bit c (getD (p .feed) (64 + r) 0)) (bit c (p .frame .choosy))
                 (sym (bit-and (getD (p .feed) (64 + r) 0) (p .frame .choosy) c) ∙ b) .1;
-            narrow = d .laid .narrow;
             pair = subst (λ (z : Spot). pairIn g z < length (p .number)) (sym q)
-                (rw (d .grid .0) (omega (arith, pair-below d y known-y, d .numbers .0)));
+                (rw (d .grid .0)
+                (omega (arith, pair-below d y (needed-known C asked (p .need) y k), d .numbers .0)));
             few = omega (arith, d .numbers .0, d .size, size-few d);
-            right = subst (λ (z : Spot). Within g (getD (p .number) (pairIn g z) 0) z) (sym q)
-                (place-within d base y k);
-            mode = subst (λ (z : Spot). z .mode < 32) (sym q) (omega (arith, w .3));
-            table = table-room;
-            room = d .laid .fits;
-            size = d .fields;
+            looked = record {
+              narrow = d .laid .narrow;
+              fits = d .laid .fits;
+              high = table-room;
+              within = within;
+            };
+            denials = reaches (p .frame) (p .right) (p .first) words place (d .laid) within 1 refl;
           }
 
       pub rule-able : Able p active words bits r

@@ -26,7 +26,7 @@ use Rattle.model.specs.declared.Rule.{Rule}
 use Rattle.model.specs.declared.Access.{Access}
 use Rattle.model.specs.declared.Pattern.{Pattern}
 use Rattle.model.specs.Base.{Base}
-use Rattle.model.specs.Stratification.{isStar, feeds}
+use Rattle.model.specs.Stratification.{isStar, feeds, precedes}
 use Rattle.model.specs.Rules.{standsFor, derivesFor, rightOf}
 use Rattle.model.specs.Rules as rules
 use Rattle.model.specs.SideFacts.{derives-is, fit-feeds, feeds-fit}
@@ -141,7 +141,7 @@ module _ {n : ℕ} {C : Chart} {asked : Access} {p : Prepared} {matter words bit
       (aim-known (d .grounds) C (d .charted) (p .right) (d .rights) asked r h x k) k
       (ap (λ (s : Spot). s .object) e) (ap (λ (s : Spot). s .subject) e) (ap (λ (s : Spot). s .mode) e)
 
-  -- ---- signs and feeding
+  -- ---- signs, and which rule precedes which
 
   left-sign : (r : ℕ) → r < n → getD (p .sides) (4 * r + 3) 0 % 2 ≡ asBit (ruleAt (p .body) r .left .negative)
   left-sign r h = omega (arith, d .lefts r h .signs, bit-le (ruleAt (p .body) r .left .negative))
@@ -150,18 +150,14 @@ module _ {n : ℕ} {C : Chart} {asked : Access} {p : Prepared} {matter words bit
       getD (p .sides) (4 * r + 3) 0 / 2 ≡ asBit (ruleAt (p .body) r .right .negative)
   right-sign r h = omega (arith, d .lefts r h .signs, bit-le (ruleAt (p .body) r .left .negative))
 
-  -- the table of feeding says which rule feeds which
-  pub feed-is : (q r : ℕ) → q < n → r < n →
-      bit q (getD (p .feed) r 0) ≡ feeds (ruleAt (p .body) q) (ruleAt (p .body) r)
-  feed-is q r h k =
-      ap (bit q) (d .feed .1 .feeders r k)
-      ∙ rule-bit n (p .body) (λ a. feeds a (ruleAt (p .body) r)) q
-      ∙ ap (λ (t : Bool). t && feeds (ruleAt (p .body) q) (ruleAt (p .body) r)) (le-true (suc q) n h)
-
-  -- so a rule that feeds one that matters is in its word
+  -- a rule that precedes one that matters is in its word
   pub feed-has : (q r : ℕ) → bit q matter ≡ true → bit r matter ≡ true →
-      feeds (ruleAt (p .body) q) (ruleAt (p .body) r) ≡ true → bit q (getD (p .feed) r 0) ≡ true
-  feed-has q r a b e = feed-is q r (rule-low d q a) (rule-low d r b) ∙ e
+      precedes (ruleAt (p .body) q) (ruleAt (p .body) r) ≡ true → bit q (getD (p .feed) r 0) ≡ true
+  feed-has q r a b e =
+      ap (bit q) (d .feed .1 .preceders r (rule-low d r b))
+      ∙ rule-bit n (p .body) (λ a. precedes a (ruleAt (p .body) r)) q
+      ∙ and-intro (ltb q n) (precedes (ruleAt (p .body) q) (ruleAt (p .body) r))
+      (le-true (suc q) n (rule-low d q a)) e
 
   -- ---- the turn
 
@@ -200,6 +196,13 @@ module _ {n : ℕ} {C : Chart} {asked : Access} {p : Prepared} {matter words bit
             ≡ offsetOf (p .frame .grid) (p .first) (asBit g)
         start true = refl
         start false = refl
+
+    right-denied : turnIn p active r .denied ≡ one .right .negative
+    right-denied = ap (λ (m : ℕ). eqb m 1) (right-sign r (rule-low d r e)) ∙ sign (one .right .negative)
+      where
+        sign : (g : Bool) → eqb (asBit g) 1 ≡ g
+        sign true = refl
+        sign false = refl
 
     -- it has the rule's right side
     right-in : (x : Access) → In (regionOf (p .right) table) (spotOf (rightOf one x .access))
@@ -259,8 +262,7 @@ module _ {n : ℕ} {C : Chart} {asked : Access} {p : Prepared} {matter words bit
         let f : bit c (bitAnd (getD (p .feed) (64 + r) 0) (p .frame .choosy)) ≡ feeds one q =
         bit-and (getD (p .feed) (64 + r) 0) (p .frame .choosy) c
         ∙ ap₂ (λ (a b : Bool). a && b)
-        (d .feed .1 .onward r c k h
-        ∙ ap₂ (λ (a b : Bool). a && b) (d .feed .2 c h ∙ w .1) (feed-is r c k h)) t
+        (d .feed .1 .onward r c k h ∙ ap (λ (a : Bool). a && feeds one q) (d .feed .2 c h ∙ w .1)) t
         ∙ and-last (feeds one q) in
         let o : rightOf q x .access ≡ x = aim-same base c (w .0) x (needed-known C asked (p .need) x m) i in
         let g : pat (ruleAt (p .body)) (suc (suc c)) x ≡ rightOf q x =
@@ -294,6 +296,7 @@ module _ {n : ℕ} {C : Chart} {asked : Access} {p : Prepared} {matter words bit
           ∙ ap (λ (b : Bool). b && inInterval (one .interval) (getD marks i 0)) (le-true (suc i) count h);
       inside = λ i b. true-le (suc i) count
           (and-true (ltb i count) (inInterval (one .interval) (getD marks i 0)) (sym (masks i) ∙ b) .0);
+      denied = right-denied;
       looked = table;
       offset = table-offset;
       region = table-region;

@@ -29,8 +29,8 @@ use tables::Place;
 use tables::all_places;
 use tables::field_in;
 
-// Lets each rule that is needed have its turn behind those that feed it, and those that are left, as they are
-// on circles or behind them, theirs stratum by stratum.
+// Lets each rule that is needed have its turn behind those that precede it, and those that are left, as they
+// are on circles or behind them, theirs stratum by stratum.
 fn derive_all(
     body: &[u8],
     c: Chosen,

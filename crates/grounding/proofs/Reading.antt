@@ -1,14 +1,12 @@
--- What a step reads: the field that the rule looks at, and the bit that says whether the rule is broken. What
--- it gives where it derives nothing, and what it marks.
+-- What a step reads: the bit that says whether the rule is broken. What it gives where it derives nothing,
+-- and what it marks.
 use mathlib.Core.Path.{_≡_, refl, sym, ap, _∙_}
 use mathlib.Core.Bool.{Bool, true, false, not, _&&_, _||_, true≢false, false≢true}
 use mathlib.Core.List.{List}
 use Prim.Native.Nat.{ℕ, _*_, _/_, _%_, _^_, _<_}
-use native.Mathlib.Nat.{mul-lt-mul-of-pos-right}
 use native.Mathlib.Omega.{arith}
 use lib.Bits.{or-zero-r}
 use lib.Dec.{eqb}
-use lib.Pow.{pow-pos}
 use Rattle.foundation.specs.Tests.{cases, eq-true, true-eq, ne-false}
 use Rattle.foundation.specs.Masks.{bit}
 use Rattle.foundation.specs.Totals.{count}
@@ -16,29 +14,12 @@ use Rattle.places.specs.declared.Grid.{Grid}
 use Rattle.places.specs.declared.Spot.{Spot}
 use Rattle.places.specs.Regions.{index-below}
 use Rattle.words.specs.Fields.{starts, fieldOf, joined}
-use Rattle.tables.specs.declared.Frame.{Frame}
 use Rattle.tables.specs.declared.Place.{Place}
 use Rattle.tables.specs.Layout.{Tables, fieldIn}
 use Rattle.tables.specs.Giving.{same, Given}
 use Rattle.questions.specs.Operators.{lasting}
 use Rattle.grounding.specs.declared.Turn.{Turn}
-use Rattle.grounding.specs.Steps.{turnedSpot, rightPlace, lookedAt, brokenAt, Ordinary, Reads}
-
--- ---- the field
-
-module _ (t : Turn) (f : Frame) (number : List ℕ) (words bits : ℕ) (p : Place)
-    (r : Reads t f number words bits p) where
-  pub looked-below : lookedAt t f number (p .spot) < f .fields
-  looked-below = omega (
-    arith,
-    r .table,
-    index-below (f .grid) (t .table) (rightPlace t (f .grid) number (p .spot) .pair)
-        (turnedSpot (t .right) (p .spot)) (r .right),
-  )
-
-  -- it lies in the words
-  pub looked-room : starts (f .width) (lookedAt t f number (p .spot)) < 64 * words
-  looked-room = omega (arith, mul-lt-mul-of-pos-right looked-below (pow-pos (f .width)), r .room)
+use Rattle.grounding.specs.Steps.{brokenAt, Ordinary}
 
 -- ---- the bit
 

@@ -27,7 +27,7 @@ use Rattle.questions.specs.Table.{truth}
 use Rattle.derivation.specs.Derive.{Derived}
 use Rattle.derivation.specs.Carried.{Carried, carried-on, carried-first, window-framed}
 use Rattle.derivation.specs.Turn.{turn-right}
-use Rattle.grounding.specs.Steps.{heldIn, brokenAt, brokenIn, Mark, Steps, Visited}
+use Rattle.grounding.specs.Steps.{forceIn, brokenAt, brokenIn, Mark, Steps, Visited}
 use Rattle.grounding.specs.Meaning.{StandsIn, Kept, placeOf, pat-on, evaluated-at}
 use Rattle.grounding.specs.Turns as turns
 use Rattle.grounding.specs.Turns.{turnIn, RuleMarked, Marked}
@@ -139,7 +139,7 @@ module _ (o : Stage) where
       value-right e =
           let n = within q (j .rule) .0 in
           let t = staged .turn q n in
-          let held : ℕ = heldIn (turnOf o q) (o .prepared .frame) (o .prepared .number) words (o .spot y) in
+          let held : ℕ = forceIn (turnOf o q) (o .prepared .frame) (o .prepared .number) words (o .spot y) in
           let f : Derived (turnOf o q .operator) held (turnOf o q .active) (was q y) (d .value) =
           subst (λ (b : Bool). Derived (turnOf o q .operator) held (turnOf o q .active) b (d .value)) e
           (d .derived) in

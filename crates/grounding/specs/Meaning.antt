@@ -2,7 +2,7 @@
 -- of it (`pat`); the words of a scene are the fields of the tables (`wordsIn`). A step gives what the rule
 -- derives (`turn-valued`), and once all steps are done that is in the tables (`turn-given`).
 use mathlib.Core.Path.{_≡_, refl, sym, ap, ap₂, _∙_, subst}
-use mathlib.Core.Bool.{Bool, true, false, _&&_, _||_, true≢false, false≢true}
+use mathlib.Core.Bool.{Bool, true, false, not, _&&_, _||_, true≢false}
 use mathlib.Core.List.{List}
 use Prim.Native.Nat.{ℕ, zero, suc, _+_, _≤_, _<_}
 use native.Mathlib.Omega.{arith}
@@ -13,31 +13,32 @@ use Rattle.foundation.specs.Tests.{pick, cases, and-true, and-three, true-eq, e
 use Rattle.foundation.specs.Lists.{Mem}
 use Rattle.foundation.specs.Intervals.{inInterval}
 use Rattle.foundation.specs.Masks.{bit}
-use Rattle.words.specs.Bits.{bit-or}
+use Rattle.words.specs.Bits.{less, bit-or, bit-less}
 use Rattle.words.specs.Fields.{fieldOf}
 use Rattle.places.specs.declared.Region.{Region}
 use Rattle.places.specs.declared.Spot.{Spot}
-use Rattle.places.specs.Regions.{indexIn}
+use Rattle.places.specs.Regions.{sizeOf, indexIn}
 use Rattle.tables.specs.declared.Frame.{Frame}
 use Rattle.tables.specs.declared.Place.{Place}
-use Rattle.tables.specs.Layout.{fieldIn, Paired, Has}
+use Rattle.tables.specs.Layout.{fieldIn, Paired, Has, whole}
 use Rattle.tables.specs.Giving.{tablesOf, takes, same, Given}
 use Rattle.model.specs.declared.Operator.{Operator}
 use Rattle.model.specs.declared.Rule.{Rule}
 use Rattle.model.specs.declared.Access.{Access}
 use Rattle.model.specs.declared.Pattern.{Pattern}
 use Rattle.model.specs.Base.{Base}
-use Rattle.model.specs.Stratification.{stratified, feeds}
+use Rattle.model.specs.Stratification.{stratified, precedes}
 use Rattle.model.specs.Rules.{standsFor, derivesFor, rightOf, asked}
 use Rattle.questions.specs.Table.{truth}
 use Rattle.derivation.specs.Window.{Window}
 use Rattle.derivation.specs.Derive.{Derived}
 use Rattle.derivation.specs.Carried.{Carried}
 use Rattle.derivation.specs.Exact.{Tables, Valued, GivenAt, Done}
-use Rattle.derivation.specs.Joined.{Joined, joined-more, given-stays, rule-valued, rule-given}
+use Rattle.derivation.specs.Joined.{Joined, given-stays, rule-valued, rule-given}
 use Rattle.derivation.specs.Turn.{Evaluated, turn-right}
 use Rattle.grounding.specs.declared.Turn.{Turn}
-use Rattle.grounding.specs.Steps.{turnedSpot, pairIn, heldIn, brokenIn, Step, Steps, none, then, Visited}
+use Rattle.grounding.specs.Steps.{turnedSpot, pairIn, forceAt, forceIn, brokenIn, Step, Steps}
+use Rattle.grounding.specs.Steps.{none, then, Visited}
 
 -- ---- patterns
 
@@ -82,6 +83,21 @@ module _ (z : Scene) where
   abbrev pub wordsIn : List ℕ → Tables
   wordsIn words T x = fieldOf (z .frame .width) words
       (fieldIn (tablesOf (z .frame) (z .right) (z .first)) T (placeOf x .pair) (z .spot x))
+
+  -- the table of denials keeps what any table keeps
+  kept-denials : (T : ℕ) (x : Access) → Kept T x → Kept 1 x
+  kept-denials T x k = (
+    k .0,
+    record {
+      table = refl;
+      within = k .1 .within;
+      inside = record {
+        subject = λ e. absurd (true≢false e);
+        object = λ e. absurd (true≢false e);
+        mode = λ e. absurd (true≢false e);
+      };
+    },
+  )
 
   -- different accesses have different places, and pairs of one number are one pair
   pub record Placed : Type 0 where
@@ -153,6 +169,7 @@ module _ (z : Scene) where
     pub operator : t .operator ≡ r .operator
     pub acts : (i : ℕ) → i < count → bit i (t .active) ≡ inInterval (r .interval) (ms i)
     pub inside : (i : ℕ) → bit i (t .active) ≡ true → i < count
+    pub denied : t .denied ≡ r .right .negative
     -- the table that it looks at
     pub looked : ℕ
     pub offset : t .first ≡ tablesOf (z .frame) (z .right) (z .first) .offset looked
@@ -186,42 +203,56 @@ module _ (z : Scene) where
     abbrev RightWords : List ℕ → Type 0
     RightWords u = Valued (z .base) count ms patterns Kept (wordsIn u)
 
-    -- the rules that feed it have given what they derive
-    abbrev FeedersDone : List ℕ → Type 0
-    FeedersDone u = (q : Rule) → Mem q (z .base .rules) → feeds q r ≡ true →
+    -- the rules that precede it have given what they derive
+    abbrev PrecedersDone : List ℕ → Type 0
+    PrecedersDone u = (q : Rule) → Mem q (z .base .rules) → precedes q r ≡ true →
         Done (z .base) count ms patterns Kept (wordsIn u) q
 
-    -- what it looks at, from x, is the word of the right side
-    looked-at : (u : List ℕ) (x : Access) → z .matters x ≡ true → standsFor (z .base) r x ≡ true →
-        heldIn t (z .frame) (z .number) u (z .spot x) ≡ wordsIn u (turn .looked) (rightOf r x .access)
-    looked-at u x m s =
-        let t′ = tablesOf (z .frame) (z .right) (z .first) in
+    -- what is in force, from x, by the words of the right side's access
+    force-words : (u : List ℕ) (x : Access) → z .matters x ≡ true → standsFor (z .base) r x ≡ true →
+        forceIn t (z .frame) (z .number) u (z .spot x)
+        ≡ pick (r .right .negative) (wordsIn u (turn .looked) (rightOf r x .access))
+        (less (wordsIn u (turn .looked) (rightOf r x .access)) (wordsIn u 1 (rightOf r x .access)))
+    force-words u x m s =
         let y = rightOf r x .access in
-        ap (λ (q : Spot). fieldOf (z .frame .width) u
-        (t .first + indexIn (z .frame .grid) (t .table) (getD (z .number) (pairIn (z .frame .grid) q) 0) q))
-        (sym (turn .spot x m s))
-        ∙ ap₂ (λ (o : ℕ) (b : Region). fieldOf (z .frame .width) u
-        (o + indexIn (z .frame .grid) b (placeOf y .pair) (z .spot y))) (turn .offset) (turn .region)
+        let field : ℕ → Region → ℕ = λ from b. fieldOf (z .frame .width) u
+        (from + indexIn (z .frame .grid) b (placeOf y .pair) (z .spot y)) in
+        let denials = field (sizeOf (z .frame .grid) whole) whole in
+        ap (λ (q : Spot). forceAt t (z .frame) u
+        (record { pair = getD (z .number) (pairIn (z .frame .grid) q) 0; spot = q })) (sym (turn .spot x m s))
+        ∙ ap₂ (λ (o : ℕ) (b : Region). pick (t .denied) (field o b) (less (field o b) denials))
+        (turn .offset) (turn .region)
+        ∙ ap (λ (n : Bool). pick n (wordsIn u (turn .looked) y) (less (wordsIn u (turn .looked) y) denials))
+        (turn .denied)
 
-    -- what it derives of the field that it looks at
+    force-bit : (n : Bool) (a d i : ℕ) → bit i (pick n a (less a d)) ≡ bit i a && (n || not (bit i d))
+    force-bit true a d i = cases (bit i a) (λ e. rw e) (λ e. rw e)
+    force-bit false a d i = bit-less i a d
+
+    -- what it derives of what is in force
     pub evaluated-at : (u : List ℕ) (x : Access) → z .matters x ≡ true → standsFor (z .base) r x ≡ true →
-        (v : ℕ) → Derived (t .operator) (heldIn t (z .frame) (z .number) u (z .spot x)) (t .active)
+        (v : ℕ) → Derived (t .operator) (forceIn t (z .frame) (z .number) u (z .spot x)) (t .active)
         (brokenIn t (z .frame .grid) bits (placeOf x)) v →
         Evaluated (z .base) count ms patterns Kept (wordsIn u) r x v
     evaluated-at u x m s v d =
         let b = brokenIn t (z .frame .grid) bits (placeOf x) in
+        let y = rightOf r x .access in
+        let seen = forceIn t (z .frame) (z .number) u (z .spot x) in
         record {
           table = turn .looked;
           looks = turn .pattern x;
           kept = turn .side x m s;
+          denials = 1;
+          denies = λ n. (refl, kept-denials (turn .looked) y (turn .side x m s));
+          seen = seen;
+          seen-is = λ i. ap (bit i) (force-words u x m s)
+              ∙ force-bit (r .right .negative) (wordsIn u (turn .looked) y) (wordsIn u 1 y) i;
           active = t .active;
           acts = turn .acts;
           inside = turn .inside;
           broken = b;
           carried = carried x m s;
-          derived = subst (λ (o : Operator).
-              Derived o (wordsIn u (turn .looked) (rightOf r x .access)) (t .active) b v) (turn .operator)
-              (subst (λ (h : ℕ). Derived (t .operator) h (t .active) b v) (looked-at u x m s) d);
+          derived = subst (λ (o : Operator). Derived o seen (t .active) b v) (turn .operator) d;
         }
 
     module _ (x : Access) (m : z .matters x ≡ true) (s : standsFor (z .base) r x ≡ true) (old new : List ℕ)
@@ -234,17 +265,17 @@ module _ (z : Scene) where
       pub step-evaluated : Evaluated (z .base) count ms patterns Kept (wordsIn old) r x (step .value)
       step-evaluated = evaluated-at old x m s (step .value) (step .derived)
 
-      step-right : RightWords old → FeedersDone old → (i : ℕ) → i < count →
+      step-right : RightWords old → PrecedersDone old → (i : ℕ) → i < count →
           bit i (step .value) ≡ truth (z .base) (ms i) r x
       step-right a fed = turn-right (z .base) strata count ms w patterns (pat-on (z .rule)) Kept (wordsIn old) a
           r (turn .mem) x (step .value) step-evaluated s fed
 
-      pub step-valued : RightWords old → FeedersDone old → RightWords new
+      pub step-valued : RightWords old → PrecedersDone old → RightWords new
       step-valued a fed = rule-valued (z .base) count ms patterns (pat-on (z .rule)) Kept (wordsIn old)
           (wordsIn new) r x (step .value) step-joined (turn .mem)
           (λ i h e. sym (step-right a fed i h) ∙ e) a
 
-      pub step-given : RightWords old → FeedersDone old →
+      pub step-given : RightWords old → PrecedersDone old →
           GivenAt (z .base) count ms patterns Kept (wordsIn new) r x
       step-given a fed = rule-given (z .base) count ms patterns (pat-on (z .rule)) Kept (wordsIn old)
           (wordsIn new) r x (step .value) step-joined (step-right a fed)
@@ -262,11 +293,11 @@ module _ (z : Scene) where
       pub stays : (q : Rule) (y : Access) → GivenAt (z .base) count ms patterns Kept (wordsIn old) q y →
           GivenAt (z .base) count ms patterns Kept (wordsIn new) q y
 
-    done-stays : (u v : List ℕ) → Kept-on u v → FeedersDone u → FeedersDone v
+    done-stays : (u v : List ℕ) → Kept-on u v → PrecedersDone u → PrecedersDone v
     done-stays u v k fed q m f y = k .stays q y (fed q m f y)
 
     one-step : {u v : List ℕ} (p : Place) → StandsIn r p →
-        Does bits p u v → RightWords u → FeedersDone u → Kept-on u v
+        Does bits p u v → RightWords u → PrecedersDone u → Kept-on u v
     one-step {u} {v} p s step a fed =
         let x = s .access in
         let step′ = subst (λ (q : Place). Does bits q u v) (s .place)
@@ -277,7 +308,7 @@ module _ (z : Scene) where
         }
 
     pub steps-keep : {u v : List ℕ} → Steps (Does bits) (StandsIn r) u v →
-        RightWords u → FeedersDone u → Kept-on u v
+        RightWords u → PrecedersDone u → Kept-on u v
     steps-keep none a fed = record { valued = a; stays = λ q y g. g }
     steps-keep {u} {v} (then {v = b} p s step rest) a fed =
         let k = one-step p s step a fed in
@@ -287,7 +318,7 @@ module _ (z : Scene) where
     -- what the rule derives where it was visited is in the tables
     pub turn-given : {u v : List ℕ} (x : Access) → z .matters x ≡ true → standsFor (z .base) r x ≡ true →
         Visited (Does bits) (StandsIn r) (placeOf x) u v →
-        RightWords u → FeedersDone u → GivenAt (z .base) count ms patterns Kept (wordsIn v) r x
+        RightWords u → PrecedersDone u → GivenAt (z .base) count ms patterns Kept (wordsIn v) r x
     turn-given {u} {v} x m s seen a fed =
         let k = steps-keep (seen .to) a fed in
         let there = step-given x m s (seen .before) (seen .after) (seen .step) (k .valued)

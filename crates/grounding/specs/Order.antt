@@ -1,4 +1,4 @@
--- What the turns of the rules mean. Where each rule has its turn behind those that feed it, all have given
+-- What the turns of the rules mean. Where each rule has its turn behind those that precede it, all have given
 -- what they derive over the window (`turns-done`).
 use mathlib.Core.Path.{_≡_, refl, sym, ap, _∙_, subst}
 use mathlib.Core.Logic.{inl, inr}
@@ -19,7 +19,7 @@ use Rattle.model.specs.declared.Rule.{Rule}
 use Rattle.model.specs.declared.Access.{Access}
 use Rattle.model.specs.declared.Pattern.{Pattern}
 use Rattle.model.specs.Base.{Base}
-use Rattle.model.specs.Stratification.{stratified, feeds}
+use Rattle.model.specs.Stratification.{stratified, precedes}
 use Rattle.model.specs.Rules.{standsFor, derivesFor, rightOf, operate}
 use Rattle.model.specs.SideFacts.{derives-stands}
 use Rattle.model.specs.HoldsLaws.{holding, derived-law}
@@ -159,7 +159,8 @@ module _ (o : Stage) where
     pub carried : (r : ℕ) → bit r needed ≡ true → (x : Access) → matters x ≡ true →
         standsFor base (ruleOf r) x ≡ true →
         Carried base (ms 0) (ruleOf r) x (brokenIn (turnOf r) (p .frame .grid) bits (placeOf sceneOf x))
-    pub feed : (q r : ℕ) → bit q needed ≡ true → bit r needed ≡ true → feeds (ruleOf q) (ruleOf r) ≡ true →
+    pub feed : (q r : ℕ) → bit q needed ≡ true → bit r needed ≡ true →
+        precedes (ruleOf q) (ruleOf r) ≡ true →
         bit q (getD (p .feed) r 0) ≡ true
     pub all : (q : Rule) → Mem q (base .rules) → (r : ℕ) × (bit r needed ≡ true) × (q ≡ ruleOf r)
 
@@ -254,9 +255,9 @@ module _ (o : Stage) where
           (sym (derived-law base (staged .strata) (ruleOf r) (t′ .mem) x (ms i)) ∙ t) in
           absurd (false≢true (sym (ap (bit i) e ∙ bit-zero i) ∙ t′ .acts i h ∙ now .0))
 
-      -- the rules that feed it have given what they derive
+      -- the rules that precede it have given what they derive
       abbrev pub Fed : List ℕ → Type 0
-      Fed u = (q : Rule) → Mem q (base .rules) → feeds q (ruleOf r) ≡ true → DoneIn u q
+      Fed u = (q : Rule) → Mem q (base .rules) → precedes q (ruleOf r) ≡ true → DoneIn u q
 
       -- then the rule gives what it derives
       pub turn-done : {u v : List ℕ} → RuleRan p active bits r u v → RightIn u → Fed u →
@@ -303,7 +304,7 @@ module _ (o : Stage) where
         subst (DoneIn u) (sym (c .2)) (done (c .0) (c .1) (cases (bit (c .0) rest)
         (λ e. absurd (free (c .0) (staged .low (c .0) (c .1))
         (staged .feed (c .0) r (c .1) n
-        (subst (λ (q : Rule). feeds q (ruleOf r) ≡ true) (c .2) f)) e))
+        (subst (λ (q : Rule). precedes q (ruleOf r) ≡ true) (c .2) f)) e))
         (λ e. e))) in
         let gain = turn-gained r n ran in
         let now = turn-done r n ran a fed in

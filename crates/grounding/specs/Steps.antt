@@ -10,14 +10,16 @@ use lib.ListN.{length, getD}
 use Rattle.foundation.specs.Tests.{pick}
 use Rattle.foundation.specs.Masks.{bit}
 use Rattle.foundation.specs.Totals.{count}
-use Rattle.words.specs.Fields.{starts, fieldOf, joined}
+use Rattle.words.specs.Bits.{less}
+use Rattle.words.specs.Fields.{fieldOf, joined}
 use Rattle.places.specs.declared.Grid.{Grid}
 use Rattle.places.specs.declared.Region.{Region}
 use Rattle.places.specs.declared.Spot.{Spot}
 use Rattle.places.specs.Regions.{free, sizeOf, indexIn, Within}
 use Rattle.tables.specs.declared.Frame.{Frame}
 use Rattle.tables.specs.declared.Place.{Place}
-use Rattle.tables.specs.Giving.{tablesOf, takes, Given}
+use Rattle.tables.specs.Layout.{whole}
+use Rattle.tables.specs.Giving.{tablesOf, Reaches, takes, Given}
 use Rattle.questions.specs.Operators.{lasting}
 use Rattle.derivation.specs.Derive.{Derived}
 use Rattle.grounding.specs.declared.Turn.{Turn}
@@ -46,15 +48,18 @@ rightPlace t g number x =
 
 -- ---- what is read
 
--- the field that the rule looks at
-abbrev pub lookedAt : Turn → Frame → List ℕ → Spot → ℕ
-lookedAt t f number x =
-    let y = rightPlace t (f .grid) number x in
-    t .first + indexIn (f .grid) (t .table) (y .pair) (y .spot)
+-- when the right side counts as held, y being its place: a positive one is looked up in two tables, its own
+-- and that of all denials
+abbrev pub forceAt : Turn → Frame → List ℕ → Place → ℕ
+forceAt t f words y =
+    let field : ℕ → Region → ℕ = λ from b.
+    fieldOf (f .width) words (from + indexIn (f .grid) b (y .pair) (y .spot)) in
+    let held = field (t .first) (t .table) in
+    pick (t .denied) held (less held (field (sizeOf (f .grid) whole) whole))
 
--- when its right side is held
-abbrev pub heldIn : Turn → Frame → List ℕ → List ℕ → Spot → ℕ
-heldIn t f number words x = fieldOf (f .width) words (lookedAt t f number x)
+-- the same, seen from the place on the left
+abbrev pub forceIn : Turn → Frame → List ℕ → List ℕ → Spot → ℕ
+forceIn t f number words x = forceAt t f words (rightPlace t (f .grid) number x)
 
 -- where its broken bit is
 abbrev pub brokenAt : Turn → Grid → Place → ℕ
@@ -81,14 +86,10 @@ pub record Reads (t : Turn) (f : Frame) (number : List ℕ) (words bits : ℕ) (
   pub active : t .active < 9223372036854775808
   pub fits : t .active < 2 ^ (2 ^ f .width)
   pub takers : (c : ℕ) → bit c (t .takers) ≡ true → bit c (f .choosy) ≡ true
-  pub narrow : f .width ≤ 6
   pub pair : pairIn (f .grid) (turnedSpot (t .right) (p .spot)) < length number
   pub few : length number ≤ 4225
-  pub right : Within (f .grid) (rightPlace t (f .grid) number (p .spot) .pair) (turnedSpot (t .right) (p .spot))
-  pub mode : turnedSpot (t .right) (p .spot) .mode < 32
-  pub table : t .first + sizeOf (f .grid) (t .table) ≤ f .fields
-  pub room : starts (f .width) (f .fields) ≤ 64 * words
-  pub size : f .fields < 4294967296
+  pub looked : Reaches f (t .first) (t .table) (rightPlace t (f .grid) number (p .spot)) words
+  pub denials : Reaches f (sizeOf (f .grid) whole) whole (rightPlace t (f .grid) number (p .spot)) words
 
 -- ---- steps
 
@@ -96,7 +97,7 @@ module _ (t : Turn) (f : Frame) (number : List ℕ) where
   -- what the rule derives at a place is given to the tables
   pub record Step (bits right first : List ℕ) (p : Place) (old new : List ℕ) : Type 0 where
     pub value : ℕ
-    pub derived : Derived (t .operator) (heldIn t f number old (p .spot)) (t .active)
+    pub derived : Derived (t .operator) (forceIn t f number old (p .spot)) (t .active)
         (brokenIn t (f .grid) bits p) value
     pub given : Given (tablesOf f right first) (f .width) (p .pair) (p .spot) (takes (t .sign) (t .takers)) value
         old new
@@ -104,7 +105,7 @@ module _ (t : Turn) (f : Frame) (number : List ℕ) where
   -- the rule is marked as broken at a place, if it derives nothing there at the last instant
   pub record Mark (words : List ℕ) (last : ℕ) (p : Place) (old new : List ℕ) : Type 0 where
     pub value : ℕ
-    pub derived : Derived (t .operator) (heldIn t f number words (p .spot)) (t .active)
+    pub derived : Derived (t .operator) (forceIn t f number words (p .spot)) (t .active)
         (brokenIn t (f .grid) old p) value
     pub marked : (j : ℕ) → fieldOf 0 new j
         ≡ joined 0 old (brokenAt t (f .grid) p) (count (not (bit last value))) j

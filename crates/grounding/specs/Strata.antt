@@ -16,11 +16,10 @@ use Rattle.words.specs.Sums.{Grown}
 use Rattle.tables.specs.declared.Place.{Place}
 use Rattle.model.specs.declared.Rule.{Rule}
 use Rattle.model.specs.declared.Access.{Access}
-use Rattle.model.specs.declared.Pattern.{Pattern}
-use Rattle.model.specs.Stratification.{feeds, stratum}
+use Rattle.model.specs.Stratification.{precedes, stratum}
 use Rattle.model.specs.StratificationFacts.{stratum-few}
-use Rattle.model.specs.Rules.{standsFor, derivesFor, rightOf}
-use Rattle.model.specs.SideFacts.{fit-feeds}
+use Rattle.model.specs.Rules.{standsFor, rightOf}
+use Rattle.laws.specs.Looking.{Looks, looks-fed}
 use Rattle.derivation.specs.Joined.{rule-valued}
 use Rattle.derivation.specs.Turn.{Evaluated, evaluated-stays}
 use Rattle.derivation.specs.Fixpoint.{Shut, shut-stays, sound-stratum, shut-done}
@@ -81,18 +80,18 @@ module _ (o : Stage) (staged : Staged o) where
       turn-sound (inr ran) a b =
           steps-along (λ v. RightIn o v × Below k v) row-sound (row-of o staged r n ran) (a, b) .0
 
-    -- ---- a rule is shut behind its turn, if it does not feed itself or nothing was new
+    -- ---- a rule is shut behind its turn, if it does not precede itself or nothing was new
 
-    module _ (u v : List ℕ) (still : (feeds (ruleOf o r) (ruleOf o r) ≡ false) ⊎ (v ≡ u)) where
+    module _ (u v : List ℕ) (still : (precedes (ruleOf o r) (ruleOf o r) ≡ false) ⊎ (v ≡ u)) where
       -- what it looked at did not change behind it
       same-behind : (b : List ℕ) → Row o staged r n u b → Row o staged r n b v → (x : Access) (R : ℕ) →
-          patternOf o R (rightOf (ruleOf o r) x .access) ≡ rightOf (ruleOf o r) x →
+          Looks (ruleOf o r) x (patternOf o R (rightOf (ruleOf o r) x .access)) →
           Kept (sceneOf o) R (rightOf (ruleOf o r) x .access) →
           W o v R (rightOf (ruleOf o r) x .access) ≡ W o b R (rightOf (ruleOf o r) x .access)
       same-behind b to from x R e k = ⊎-elim
           (λ f. steps-untouched o staged r n from R (rightOf (ruleOf o r) x .access) k
-          (λ d. false≢true (sym f ∙ fit-feeds (o .base) (ruleOf o r) (ruleOf o r) x
-          (subst (λ (p : Pattern). derivesFor (o .base) p (ruleOf o r) ≡ true) e d))))
+          (λ d. false≢true (sym f ∙ looks-fed (ruleOf o r) x (patternOf o R (rightOf (ruleOf o r) x .access))
+          (o .base) e (ruleOf o r) d)))
           (λ e.
           let y = rightOf (ruleOf o r) x .access in
           let q : W o v R y ≡ W o u R y = ap (λ (w : List ℕ). W o w R y) e in
@@ -123,14 +122,14 @@ module _ (o : Stage) (staged : Staged o) where
       turn-shut (inl e) = inl (idle-done o staged r n (e .0) v)
       turn-shut (inr ran) = inr (ran-shut ran)
 
-    -- another rule stays shut that it does not feed
+    -- another rule stays shut that it does not precede
     shut-kept : {u v : List ℕ} → RuleRan (o .prepared) (o .active) (o .bits) r u v → (q : Rule) →
-        feeds (ruleOf o r) q ≡ false → ShutIn u q → ShutIn v q
+        precedes (ruleOf o r) q ≡ false → ShutIn u q → ShutIn v q
     shut-kept {u} {v} ran q f shut T x k d =
         shut-stays (o .base) (o .count) (o .ms) (patternOf o) (Kept (sceneOf o)) (W o u) (W o v) q T x
         (λ R e c. turn-untouched o staged r n ran R (rightOf q x .access) c
-        (λ d. false≢true (sym f ∙ fit-feeds (o .base) (ruleOf o r) q x
-        (subst (λ (p : Pattern). derivesFor (o .base) p (ruleOf o r) ≡ true) e d))))
+        (λ d. false≢true (sym f ∙ looks-fed q x (patternOf o R (rightOf q x .access)) (o .base) e
+        (ruleOf o r) d)))
         (turn-gained o staged r n ran T x k) (shut T x k d)
 
   -- ---- the rounds of stratum k
@@ -153,10 +152,10 @@ module _ (o : Stage) (staged : Staged o) where
       abbrev n : bit r (o .needed) ≡ true
       n = within r in-set .0
 
-      -- a rule is still to come, or it was not fed or nothing was new
-      fed-or-not : {X : Type 0} (q : ℕ) → bit q rules ≡ true → (bit q dirty′ ≡ true → X) →
-          ((feeds (ruleOf o r) (ruleOf o q) ≡ false) ⊎ (v ≡ u) → X) → X
-      fed-or-not q e f g = cases (feeds (ruleOf o r) (ruleOf o q))
+      -- a rule is still to come, or the rule does not precede it or nothing was new
+      preceded-or-not : {X : Type 0} (q : ℕ) → bit q rules ≡ true → (bit q dirty′ ≡ true → X) →
+          ((precedes (ruleOf o r) (ruleOf o q) ≡ false) ⊎ (v ≡ u) → X) → X
+      preceded-or-not q e f g = cases (precedes (ruleOf o r) (ruleOf o q))
           (λ c. cases fresh
           (λ t. f (again t q (staged .low q (within q e .0)) e (staged .feed r q n (within q e .0) c)))
           (λ t. g (inr (grown .same t))))
@@ -164,7 +163,7 @@ module _ (o : Stage) (staged : Staged o) where
 
       turn-settles : (q : ℕ) → Settling dirty u q → Settling dirty′ v q
       turn-settles q (inl d) = inl (done-gained o u v (turn-gained o staged r n ran) (ruleOf o q) d)
-      turn-settles q (inr (e, inr shut)) = fed-or-not q e
+      turn-settles q (inr (e, inr shut)) = preceded-or-not q e
           (λ d. inr (e, inl d))
           (λ s. inr (
             e,
@@ -174,10 +173,10 @@ module _ (o : Stage) (staged : Staged o) where
           ))
       turn-settles q (inr (e, inl d)) = cases (eqb q r)
           (λ s. let t = true-eq q r s in
-          fed-or-not q e
+          preceded-or-not q e
           (λ d. inr (e, inl d))
           (λ still. let c = turn-shut r n u v
-          (subst (λ (j : ℕ). (feeds (ruleOf o r) (ruleOf o j) ≡ false) ⊎ (v ≡ u)) t still) ran in
+          (subst (λ (j : ℕ). (precedes (ruleOf o r) (ruleOf o j) ≡ false) ⊎ (v ≡ u)) t still) ran in
           subst (Settling dirty′ v) (sym t) (⊎-elim (λ d. inl d) (λ f. inr (in-set, inr f)) c)))
           (λ s. inr (e, inl (kept q d (false-eq q r s))))
 

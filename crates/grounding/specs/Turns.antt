@@ -54,6 +54,7 @@ turnFrom f body feed sides right first starts active r =
       operator = ruleAt body r .operator;
       active = getD active r 0;
       right = regionAt right r;
+      denied = denied;
       first = pick own (getD first r 0) (pick denied (sizeOf (f .grid) whole) 0);
       table = pick own (regionAt right r) whole;
       left = regionAt sides r;
@@ -118,7 +119,7 @@ module _ (p : Prepared) where
           (Step (turnIn r) (p .frame) (p .number) bits (p .right) (p .first))
           (rangeFor r .from) (rangeFor r .to) old new
 
-      -- each rule of `rest` in its turn, behind those of `rest` that feed it
+      -- each rule of `rest` in its turn, behind those of `rest` that precede it
       pub data Turns : ℕ → List ℕ → ℕ → List ℕ → Type 0 where
         none : {rest : ℕ} {w : List ℕ} → Turns rest w rest w
         then : {rest rest′ left : ℕ} {u v w : List ℕ} (r : ℕ) → bit r rest ≡ true →

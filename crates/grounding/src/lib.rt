@@ -9,14 +9,15 @@ pub use turns::derive_rules;
 pub use turns::derive_strata;
 pub use turns::mark_broken;
 
-// The turn of a rule: its number, its operator and the instants of its interval; its right side, and where
-// the table that it looks at starts and which places that has; its left side, with its sign, and where its
-// broken bits start; and the rules whose tables it gives to.
+// The turn of a rule: its number, its operator and the instants of its interval; its right side, whether that
+// is a denial, and where the table that it looks at starts and which places that has; its left side, with its
+// sign, and where its broken bits start; and the rules whose tables it gives to.
 pub struct Turn {
     pub rule: u32,
     pub operator: Operator,
     pub active: u64,
     pub right: Region,
+    pub denied: bool,
     pub first: u32,
     pub table: Region,
     pub left: Region,

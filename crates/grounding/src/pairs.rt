@@ -5,12 +5,14 @@ ghost use Prim.Native.Nat.{ℕ, _+_, _*_, _^_, _≤_, _<_};
 ghost use lib.ListN.{length, getD};
 ghost use Rattle.foundation.specs.Masks.{bit};
 ghost use Rattle.words.specs.Sums.{Grown};
-ghost use Rattle.tables.specs.Giving.{Ready};
+ghost use Rattle.places.specs.Regions.{sizeOf};
+ghost use Rattle.tables.specs.Layout.{whole};
+ghost use Rattle.tables.specs.Giving.{Ready, Reaches};
 ghost use Rattle.questions.specs.Operators.{lasting};
 ghost use Rattle.derivation.specs.Derive.{Derived};
-ghost use Rattle.grounding.specs.Steps.{turned, turnedSpot, pairIn, rightPlace, heldIn, brokenIn};
-ghost use Rattle.grounding.specs.Steps.{modesAt, Step, Mark, ModesReady, ModesRan, PairsReady};
-ghost use Rattle.grounding.specs.Steps.{PairsRan, Ordinary, Reads};
+ghost use Rattle.grounding.specs.Steps.{turned, turnedSpot, pairIn, rightPlace, forceAt, forceIn};
+ghost use Rattle.grounding.specs.Steps.{brokenIn, modesAt, Step, Mark, ModesReady, ModesRan};
+ghost use Rattle.grounding.specs.Steps.{PairsReady, PairsRan, Ordinary, Reads};
 use crate::Turn;
 use model::Operator;
 use places::Grid;
@@ -18,6 +20,8 @@ use places::Region;
 use places::Spot;
 use tables::Frame;
 use tables::Place;
+use tables::all_places;
+use tables::field_in;
 use tables::give;
 use words::field_at;
 use words::join_at;
@@ -85,20 +89,39 @@ fn is_broken(t: Turn, g: Grid, bits: &[u64], p: Place) -> bool
     field_at(bits, 0, t.bits + places::index_in(g, b, p.pair, x)) == 1
 }
 
+// The instants at which the right side counts as held: a positive one where no denial of its place is.
+fn in_force(t: Turn, f: Frame, words: &[u64], y: Place) -> u64
+    requires { ⌜ Reaches f (t .first) (t .table) y (length (now words))
+        × Reaches f (sizeOf (f .grid) whole) whole y (length (now words)) ⌝ }
+    ensures { λ r. ⌜ r ≡ forceAt t f (now (words .entry)) y ⌝ }
+{
+    let b = t.table;
+    let held = field_in(words, f, t.first, b, y);
+    if t.denied {
+        return held;
+    }
+    let g = f.grid;
+    let every = all_places();
+    let from = places::size_of(g, every);
+    held - (held & field_in(words, f, from, every, y))
+}
+
 // What the rule derives over the window at a place of its left side.
 pub fn value_at(t: Turn, f: Frame, number: &[u16], words: &[u64], bits: &[u64], p: Place) -> u64
     requires { ⌜ Reads t f (now number) (length (now words)) (length (now bits)) p ⌝ }
-    ensures { λ r. ⌜ Derived (t .operator) (heldIn t f (now (number .entry)) (now (words .entry)) (p .spot))
+    ensures { λ r. ⌜ Derived (t .operator) (forceIn t f (now (number .entry)) (now (words .entry)) (p .spot))
         (t .active) (brokenIn t (f .grid) (now (bits .entry)) p) r ⌝ }
 {
     let g = f.grid;
-    let b = t.table;
     let x = p.spot;
     let y = right_place(t, g, number, x);
-    let z = y.spot;
-    let held = field_at(words, f.width, t.first + places::index_in(g, b, y.pair, z));
     let o = t.operator;
-    evaluation::derive(o, held, t.active, is_broken(t, g, bits, p))
+    evaluation::derive(
+        o,
+        in_force(t, f, words, y),
+        t.active,
+        is_broken(t, g, bits, p),
+    )
 }
 
 // Gives what the rule derives at a place; whether something is new.

@@ -1,4 +1,4 @@
-// The turns of the rules: each once behind those that feed it, and those on circles, stratum by stratum,
+// The turns of the rules: each once behind those that precede it, and those on circles, stratum by stratum,
 // until nothing is new.
 ghost use mathlib.Core.Path.{_≡_};
 ghost use mathlib.Core.Bool.{true};
@@ -116,13 +116,15 @@ fn turn_of(
     let q = rule_at(body, i * RULE_BYTES);
     let operator = q.operator;
     let signs = sides[4 * i + 3];
+    let denied = signs / 2 == 1;
     let own = has_bit(f.choosy, r);
     Turn {
         rule: r,
         operator: operator,
         active: active[i],
         right: region_at(right, i),
-        first: table_start(f, first, i, own, signs / 2 == 1),
+        denied: denied,
+        first: table_start(f, first, i, own, denied),
         table: table_region(right, i, own),
         left: region_at(sides, i),
         sign: (signs % 2) as u32,
@@ -184,7 +186,8 @@ fn derive_rule(
     )
 }
 
-// Gives each needed rule its turn, behind those that feed it; those that are left, on circles or behind them.
+// Gives each needed rule its turn, behind those that precede it; those that are left, on circles or behind
+// them.
 pub fn derive_rules(
     body: &[u8],
     needed: u64,

@@ -2,9 +2,10 @@
 -- stratum (`LooksBelow`). Both are used through their laws: what a right side is read from is said here
 -- alone.
 use mathlib.Core.Path.{_≡_, refl, sym, ap, _∙_}
+use mathlib.Core.Logic.{_⊎_, inl, inr, ⊎-elim}
 use Prim.Native.Nat.{ℕ, _≤_}
 use native.Mathlib.Omega.{arith}
-use mathlib.Core.Bool.{Bool, true, not}
+use mathlib.Core.Bool.{Bool, true, false, not}
 use Rattle.foundation.specs.Tests.{agree}
 use Rattle.foundation.specs.Intervals.{always, always-all, all-always}
 use Rattle.model.specs.declared.Rule.{Rule}
@@ -15,9 +16,9 @@ use Rattle.model.specs.declared.Pattern.{Pattern}
 use Rattle.model.specs.Base.{Base}
 use Rattle.model.specs.Stratification.{negating, negates, lasting}
 use Rattle.model.specs.StratificationFacts.{unlabelled}
-use Rattle.model.specs.Rules.{rightOf, rightHolds, operate}
-use Rattle.model.specs.RightFacts.{right-own, right-mono}
-use Rattle.model.specs.HoldsLaws.{Fed, StrictlyFed, fit-precedes, strictly-fed}
+use Rattle.model.specs.Rules.{rightOf, asked, rightHolds, operate}
+use Rattle.model.specs.RightFacts.{right-is}
+use Rattle.model.specs.HoldsLaws.{Fed, StrictlyFed, fit-precedes, strictly-fed, strictly-linked}
 
 -- the same rule, under this label or another
 abbrev pub Twins : Rule → Rule → Type 0
@@ -28,45 +29,63 @@ pub right-twin : (r s : Rule) → Twins r s → (x : Access) → rightOf r x ≡
 unfolding rightOf
 right-twin r s e x = ap (λ (z : Rule). rightOf z x) e
 
--- r, standing for x, looks at p: at its right side
-unfoldable pub Looks : Rule → Access → Pattern → Type 0
-Looks r x p = p ≡ rightOf r x
+-- p asks for denials of the access that r, standing for x, looks for with a positive right side
+abbrev Denials : Rule → Access → Pattern → Type 0
+Denials r x p = (r .right .negative ≡ false) × (p ≡ asked (rightOf r x .access) true)
 
--- and looks at what holds of p below its stratum: a rule with WHENEVERNOT or UNLESS does
+-- r, standing for x, looks at p: at its right side, and at denials of it if that is positive
+unfoldable pub Looks : Rule → Access → Pattern → Type 0
+Looks r x p = (p ≡ rightOf r x) ⊎ Denials r x p
+
+-- and looks at what holds of p below its stratum: a rule with WHENEVERNOT or UNLESS does, and every rule at
+-- denials
 unfoldable pub LooksBelow : Rule → Access → Pattern → Type 0
-LooksBelow r x p = (negates r ≡ true) × Looks r x p
+LooksBelow r x p = ((negates r ≡ true) × Looks r x p) ⊎ Denials r x p
 
 module _ (r : Rule) (x : Access) (p : Pattern) where
   pub looks-access : Looks r x p → p .access ≡ rightOf r x .access
   unfolding Looks
-  looks-access e = ap (λ (q : Pattern). q .access) e
+  looks-access e = ⊎-elim (λ a. ap (λ (q : Pattern). q .access) a)
+      (λ d. ap (λ (q : Pattern). q .access) (d .1)) e
 
   pub below-looks : LooksBelow r x p → Looks r x p
-  unfolding LooksBelow
-  below-looks w = w .1
+  unfolding Looks LooksBelow
+  below-looks w = ⊎-elim (λ n. n .1) (λ d. inr d) w
 
   pub negates-below : negates r ≡ true → Looks r x p → LooksBelow r x p
   unfolding LooksBelow
-  negates-below g e = (g, e)
+  negates-below g e = inl (g, e)
+
+  denials-strictly : (base : Base) → Denials r x p → StrictlyFed base r p
+  denials-strictly base d q f = strictly-linked base r x (d .0) q (rw (← d .1) f)
 
   -- what r looks at is derived by rules that precede it,
   pub looks-fed : (base : Base) → Looks r x p → Fed base r p
   unfolding Looks
-  looks-fed base e q f = fit-precedes base q r x (rw (← e) f)
+  looks-fed base e q f = ⊎-elim (λ a. fit-precedes base q r x (rw (← a) f))
+      (λ d. denials-strictly base d q f .0) e
 
   -- and by steps that count where it looks below its stratum
   pub looks-strictly : (base : Base) → LooksBelow r x p → StrictlyFed base r p
   unfolding LooksBelow
-  looks-strictly base w = strictly-fed base r (w .0) p (looks-fed base (w .1))
+  looks-strictly base w = ⊎-elim (λ n. strictly-fed base r (n .0) p (looks-fed base (n .1)))
+      (λ d. denials-strictly base d) w
 
   module _ (s : Rule) (twins : Twins r s) where
+    denials-twin : Denials r x p → Denials s x p
+    denials-twin d = (
+      ap (λ (z : Rule). z .right .negative) (sym twins) ∙ d .0,
+      d .1 ∙ ap (λ (q : Pattern). asked (q .access) true) (right-twin r s twins x),
+    )
+
     pub looks-twin : Looks r x p → Looks s x p
     unfolding Looks
-    looks-twin e = e ∙ right-twin r s twins x
+    looks-twin e = ⊎-elim (λ a. inl (a ∙ right-twin r s twins x)) (λ d. inr (denials-twin d)) e
 
     pub below-twin : LooksBelow r x p → LooksBelow s x p
     unfolding LooksBelow
-    below-twin w = (ap negates (sym twins) ∙ w .0, looks-twin (w .1))
+    below-twin w = ⊎-elim (λ n. inl (ap negates (sym twins) ∙ n .0, looks-twin (n .1)))
+        (λ d. inr (denials-twin d)) w
 
 -- where no less holds of what r looks at, and the same of what it looks at below its stratum, its right side
 -- counts as held no less
@@ -74,12 +93,12 @@ pub right-carry : (r : Rule) (x : Access) (same same′ lower lower′ : Pattern
     ((p : Pattern) → Looks r x p → same p ≡ true → same′ p ≡ true) →
     ((p : Pattern) → LooksBelow r x p → lower p ≡ lower′ p) →
     rightHolds same lower (rightOf r x) ≡ true → rightHolds same′ lower′ (rightOf r x) ≡ true
-unfolding Looks
+unfolding Looks LooksBelow rightOf
 right-carry r x same same′ lower lower′ h k e =
     let p = rightOf r x in
-    right-own same′ (λ q. same′ p) lower′ lower p refl
-    ∙ right-mono (λ q. same p) (λ q. same′ p) lower p (λ q. h p refl)
-    (right-own (λ q. same p) same lower lower p refl ∙ e)
+    let w = right-is same lower p .0 e in
+    right-is same′ lower′ p .1
+    (h p (inl refl) (w .0), λ n. sym (k (asked (p .access) true) (inr (n, refl))) ∙ w .1 n)
 
 -- a rule with WHENEVERNOT or UNLESS looks only below its stratum: where the same holds there, its right side
 -- counts as held alike

@@ -1,5 +1,6 @@
 -- What feeding is, twice in 01's words: field by field (`feeds-fields`), and as "q's left side can fit r's
--- right" (`feeds-can`). Circles, forbidden or not, and ranks rest on it.
+-- right" (`feeds-can`). What a link is, likewise: `links-fields` in 02's words, and `links-can`. Circles,
+-- forbidden or not, and ranks rest on both.
 use mathlib.Core.Path.{_≡_, refl, ap, _∙_}
 use mathlib.Core.Logic.{_↔_, _⊎_, inl, inr}
 use Prim.Native.Nat.{ℕ}
@@ -12,9 +13,10 @@ use Rattle.model.specs.declared.OptionTerm.the-variants.{With, Without, 
 use Rattle.model.specs.declared.Rule.{Rule}
 use Rattle.model.specs.declared.Access.{Access}
 use Rattle.model.specs.Base.{Base}
-use Rattle.model.specs.Stratification.{isStar, meets, fitsOption, feeds}
-use Rattle.model.specs.Rules.{fitsGrantor, rightOf, derivesFor}
-use Rattle.model.specs.SideFacts.{feeds-is, stands-is, fit-feeds, feeds-fit}
+use Rattle.model.specs.Stratification.{isStar, meets, fitsOption, feeds, links}
+use Rattle.model.specs.Rules.{fitsGrantor, rightOf, derivesFor, asked}
+use Rattle.model.specs.SideFacts.{feeds-is, stands-is, fit-feeds, feeds-fit, links-is, fit-links}
+use Rattle.model.specs.SideFacts.{links-fit}
 
 -- ---- field by field
 
@@ -97,6 +99,34 @@ feeds-fields q r = (
   )),
 )
 
+-- 02: "a rule with a denial on its left also links to every rule whose positive right side has the same
+-- object, with subject and mode equal or starred on either side"
+pub record Links (q r : Rule) : Type 0 where
+  pub denial : q .left .negative ≡ true
+  pub positive : r .right .negative ≡ false
+  pub object : q .left .object ≡ r .right .object
+  pub subject : Meets (q .left .subject) (r .right .subject)
+  pub mode : Meets (q .left .mode) (r .right .mode)
+
+pub links-fields : (q r : Rule) → (links q r ≡ true) ↔ Links q r
+links-fields q r = (
+  (λ e. let w = links-is q r .0 e in
+      record {
+        denial = w .0;
+        positive = not-true (r .right .negative) (w .1);
+        object = true-eq (q .left .object) (r .right .object) (w .2);
+        subject = meets-is (q .left .subject) (r .right .subject) .0 (w .3);
+        mode = meets-is (q .left .mode) (r .right .mode) .0 (w .4);
+      }),
+  (λ w. links-is q r .1 (
+    w .denial,
+    ap not (w .positive),
+    eq-true (q .left .object) (r .right .object) (w .object),
+    meets-is (q .left .subject) (r .right .subject) .1 (w .subject),
+    meets-is (q .left .mode) (r .right .mode) .1 (w .mode),
+  )),
+)
+
 -- ---- can fit
 
 -- numbers that meet fit: a right side's star stands for the left side's number
@@ -105,20 +135,48 @@ meets-fit n m e = cases (isStar n)
     (λ a. rw a)
     (λ a. cases (isStar m) (λ b. rw (a, b) (eq-true n n refl)) (λ b. rw (a, b) (rw (a, b) at e)))
 
+-- the access of q's left side, stars and all
+leftmost : Rule → Access
+leftmost q = record { subject = q .left .subject; mode = q .left .mode; object = q .left .object }
+
 -- 01: "Rule q feeds rule r if q's left side can fit r's right": for some access
 pub feeds-can : (b : Base) (q r : Rule) →
     (feeds q r ≡ true) ↔ ((x : Access) × (derivesFor b (rightOf r x) q ≡ true))
-unfolding rightOf
+unfolding rightOf leftmost
 feeds-can b q r = (there, (λ c. fit-feeds b q r (c .0) (c .1)))
   where
     there : feeds q r ≡ true → (x : Access) × (derivesFor b (rightOf r x) q ≡ true)
     there e =
         let w = feeds-is q r .0 e in
-        let x : Access = record { subject = q .left .subject; mode = q .left .mode; object = q .left .object } in (
+        let x = leftmost q in (
           x,
           feeds-fit b q r x e (stands-is b q (rightOf r x .access) .1 (
             meets-fit (q .left .subject) (r .right .subject) (w .2),
             meets-fit (q .left .mode) (r .right .mode) (w .3),
             w .1,
           )),
+        )
+
+-- a link: for some access q's left side is a denial of r's right, which is positive
+pub links-can : (b : Base) (q r : Rule) → (links q r ≡ true)
+    ↔ ((r .right .negative ≡ false)
+    × ((x : Access) × (derivesFor b (asked (rightOf r x .access) true) q ≡ true)))
+unfolding rightOf leftmost
+links-can b q r = (there, (λ c. fit-links b q r (c .1 .0) (c .0) (c .1 .1)))
+  where
+    there : links q r ≡ true →
+        (r .right .negative ≡ false)
+        × ((x : Access) × (derivesFor b (asked (rightOf r x .access) true) q ≡ true))
+    there e =
+        let w = links-is q r .0 e in
+        let x = leftmost q in (
+          not-true (r .right .negative) (w .1),
+          (
+            x,
+            links-fit b q r x e (stands-is b q (rightOf r x .access) .1 (
+              meets-fit (q .left .subject) (r .right .subject) (w .3),
+              meets-fit (q .left .mode) (r .right .mode) (w .4),
+              w .2,
+            )),
+          ),
         )

@@ -1,7 +1,7 @@
--- What holds is what is held in 01's words: `held`, and `may-held` for the question MAY. Rank by rank:
--- `held-below`.
+-- What holds is what is held in the papers' words: `held`, `right-held` for what counts as held on a right
+-- side, and `may-held` for the question MAY. Rank by rank: `held-below`.
 use mathlib.Core.Path.{_≡_, refl, sym, ap, _∙_}
-use mathlib.Core.Logic.{_↔_}
+use mathlib.Core.Logic.{_↔_, _⊎_, inl, inr, ⊎-elim}
 use Prim.Native.Nat.{ℕ, zero, suc, _*_, _≤_}
 use native.Mathlib.Omega.{arith}
 use mathlib.Core.Bool.{Bool, true, false, not, _&&_, true≢false, false≢true}
@@ -21,11 +21,12 @@ use Rattle.model.specs.Support.{live}
 use Rattle.model.specs.SupportFacts.{mem-live, live-mem}
 use Rattle.model.specs.Stratification.{stratified, stratum}
 use Rattle.model.specs.StratificationFacts.{stratum-few}
-use Rattle.model.specs.Rules.{Pattern, Fact, fact, fits, derivesFor, rightOf, operate, holdsBy}
-use Rattle.model.specs.Rules.{derives, enough, derivedBelow, holds, asked, mayWith, may}
+use Rattle.model.specs.Rules.{Pattern, Fact, fact, fits, derivesFor, rightOf, rightHolds, operate}
+use Rattle.model.specs.Rules.{holdsBy, derives, enough, derivedBelow, holds, asked, mayWith, may}
+use Rattle.model.specs.RightFacts.{right-is}
 use Rattle.model.specs.HoldsFacts.{rounds, rounds-below, below-stratum, closed}
 use Rattle.model.specs.HoldsLaws.{settled-at, at-stratum}
-use Rattle.model.specs.Held.{ByAuthorization, Applies, HeldUpTo, HeldBelow, Held}
+use Rattle.model.specs.Held.{ByAuthorization, Undenied, Applies, HeldUpTo, HeldBelow, Held}
 use Rattle.model.specs.Held.{lower, whenever, asLongAs, wheneverNot, unless}
 
 module _ (base : Base) where
@@ -85,23 +86,49 @@ module _ (base : Base) where
   -- ---- one rank, the ranks below it being settled
 
   module _ (k : ℕ) (settled : (t : ℕ) (p : Pattern) → (holding (below k) t p ≡ true) ↔ Below k t p) where
+    -- what counts as held on a right side, S being what rules up to the rank derive
+    abbrev forced : (Fact → Bool) → Pattern → ℕ → Bool
+    forced S q u = rightHolds (holding S u) (holding (below k) u) q
+
+    in-force : (S : Fact → Bool) (Here : ℕ → Pattern → Type 0) →
+        ((u : ℕ) (q : Pattern) → holding S u q ≡ true → Here u q) → (u : ℕ) (q : Pattern) →
+        forced S q u ≡ true → Here u q × Undenied (Below k) u q
+    in-force S Here h u q e =
+        let w = right-is (holding S u) (holding (below k) u) q .0 e in
+        (h u q (w .0), λ n d. true≢false (sym (settled u (asked (q .access) true) .1 d) ∙ w .1 n))
+
+    forced-by : (S : Fact → Bool) (u : ℕ) (q : Pattern) → holding S u q ≡ true →
+        Undenied (Below k) u q → forced S q u ≡ true
+    forced-by S u q e h = right-is (holding S u) (holding (below k) u) q .1 (
+      e,
+      λ n.
+          cases (holding (below k) u (asked (q .access) true))
+          (λ d. absurd (h n (settled u (asked (q .access) true) .0 d)))
+          (λ d. d),
+    )
+
     -- what the operator of a rule allows, from what rounds have found
     allowed : (S : Fact → Bool) → ((u : ℕ) (q : Pattern) → holding S u q ≡ true → UpTo k u q) →
         (o : Operator) (r : Rule) (t : ℕ) (p : Pattern) → Applies base k o r t p →
-        operate always o (λ u. holding S u (rightOf r (p .access)))
-        (λ u. holding (below k) u (rightOf r (p .access)))
+        operate always o (forced S (rightOf r (p .access))) (forced (below k) (rightOf r (p .access)))
         (r .interval .start) t ≡ true → UpTo k t p
-    allowed S h Whenever r t p a e = whenever r a (h t (rightOf r (p .access)) e)
+    allowed S h Whenever r t p a e =
+        let w = in-force S (UpTo k) h t (rightOf r (p .access)) e in
+        whenever r a (w .0) (w .1)
     allowed S h AsLongAs r t p a e =
         let q = rightOf r (p .access) in
-        asLongAs r a (λ u i j. h u q (always-all (r .interval .start) t (λ u. holding S u q) e u i j))
+        let w : (u : ℕ) → r .interval .start ≤ u → u ≤ t → UpTo k u q × Undenied (Below k) u q =
+        λ u i j. in-force S (UpTo k) h u q (always-all (r .interval .start) t (forced S q) e u i j) in
+        asLongAs r a (λ u i j. w u i j .0) (λ u i j. w u i j .1)
     allowed S h WheneverNot r t p a e =
         let q = rightOf r (p .access) in
-        wheneverNot r a (λ b. true≢false (sym (settled t q .1 b) ∙ not-true (holding (below k) t q) e))
+        wheneverNot r a (λ b d. true≢false (sym (forced-by (below k) t q (settled t q .1 b) d)
+        ∙ not-true (forced (below k) q t) e))
     allowed S h Unless r t p a e =
         let q = rightOf r (p .access) in
-        unless r a (λ u i j b. true≢false (sym (settled u q .1 b) ∙ not-true (holding (below k) u q)
-        (always-all (r .interval .start) t (λ u. not (holding (below k) u q)) e u i j)))
+        unless r a (λ u i j b d. true≢false (sym (forced-by (below k) u q (settled u q .1 b) d)
+        ∙ not-true (forced (below k) q u)
+        (always-all (r .interval .start) t (λ u. not (forced (below k) q u)) e u i j)))
 
     -- what rounds find is held
     rounds-held : (n t : ℕ) (p : Pattern) → holding (rounds base k n) t p ≡ true → UpTo k t p
@@ -116,26 +143,29 @@ module _ (base : Base) where
         (λ l. lower (settled t p .0 (by-rule (below k) t p r m d (rw l at s))))
         (λ l. let w = and-true (eqb i k) (derives always base (below k) S x) (rw l at s) in
         let q = rightOf r (p .access) in
-        let v = and-true (inInterval (r .interval) t) (operate always (r .operator) (λ u. holding S u q)
-        (λ u. holding (below k) u q) (r .interval .start) t) (w .1) in
+        let v = and-true (inInterval (r .interval) t) (operate always (r .operator) (forced S q)
+        (forced (below k) q) (r .interval .start) t) (w .1) in
         allowed S (rounds-held n) (r .operator) r t p
         (record { listed = m; rank = true-eq i k (w .0); operator = refl; left = d; inside = v .0 }) (v .1)))
 
     -- what a rule of the rank gives holds
     gives : {t : ℕ} {p : Pattern} (o : Operator) (r : Rule) → Applies base k o r t p →
-        operate always o (λ u. holding (below (suc k)) u (rightOf r (p .access)))
-        (λ u. holding (below k) u (rightOf r (p .access))) (r .interval .start) t ≡ true →
+        operate always o (forced (below (suc k)) (rightOf r (p .access)))
+        (forced (below k) (rightOf r (p .access))) (r .interval .start) t ≡ true →
         holding (below (suc k)) t p ≡ true
     gives {t} {p} o r a e =
-        let right : (Fact → Bool) → ℕ → Bool = λ S u. holding S u (rightOf r (p .access)) in
+        let right : (Fact → Bool) → ℕ → Bool = λ S. forced S (rightOf r (p .access)) in
         let from : Operator → Bool =
         λ o. operate always o (right (below (suc k))) (right (below k)) (r .interval .start) t in
         by-rule (below (suc k)) t p r (a .listed) (a .left)
         (at-stratum base k (fact r (p .access) t) (a .listed) (a .rank)
         ∙ and-intro (inInterval (r .interval) t) (from (r .operator)) (a .inside) (ap from (a .operator) ∙ e))
 
-    not-below : (u : ℕ) (q : Pattern) → (Below k u q → ⊥) → not (holding (below k) u q) ≡ true
-    not-below u q h = cases (holding (below k) u q) (λ e. absurd (h (settled u q .0 e))) (λ e. rw e)
+    not-below : (u : ℕ) (q : Pattern) → (Below k u q → Undenied (Below k) u q → ⊥) →
+        not (forced (below k) q u) ≡ true
+    not-below u q h = cases (forced (below k) q u)
+        (λ e. let w = in-force (below k) (Below k) (λ u q. settled u q .0) u q e in absurd (h (w .0) (w .1)))
+        (λ e. ap not e)
 
     -- what is held is found by enough rounds
     held-found : {t : ℕ} {p : Pattern} → UpTo k t p → holding (below (suc k)) t p ≡ true
@@ -143,13 +173,14 @@ module _ (base : Base) where
     held-found {t} {p} (lower h) = either (below k) t p (settled t p .1 h) (by-given (below (suc k)) t p)
         (λ r m d e. by-rule (below (suc k)) t p r m d
         (rounds-below base k 0 (omega arith) (fact r (p .access) t) e))
-    held-found (whenever r a h) = gives Whenever r a (held-found h)
-    held-found {t} {p} (asLongAs r a h) = gives AsLongAs r a
-        (all-always (r .interval .start) t (λ u. holding (below (suc k)) u (rightOf r (p .access)))
-        (λ u i j. held-found (h u i j)))
+    held-found {t} {p} (whenever r a h d) = gives Whenever r a
+        (forced-by (below (suc k)) t (rightOf r (p .access)) (held-found h) d)
+    held-found {t} {p} (asLongAs r a h d) = gives AsLongAs r a
+        (all-always (r .interval .start) t (forced (below (suc k)) (rightOf r (p .access)))
+        (λ u i j. forced-by (below (suc k)) u (rightOf r (p .access)) (held-found (h u i j)) (d u i j)))
     held-found {t} {p} (wheneverNot r a h) = gives WheneverNot r a (not-below t (rightOf r (p .access)) h)
     held-found {t} {p} (unless r a h) = gives Unless r a
-        (all-always (r .interval .start) t (λ u. not (holding (below k) u (rightOf r (p .access))))
+        (all-always (r .interval .start) t (λ u. not (forced (below k) (rightOf r (p .access)) u))
         (λ u i j. not-below u (rightOf r (p .access)) (h u i j)))
 
   -- ---- rank by rank
@@ -187,6 +218,27 @@ module _ (base : Base) where
           either (below (h .0)) t p (held-below (h .0) t p .1 (h .1)) (by-given S t p)
           (λ r m d e. by-rule S t p r m d (ranks-end (h .0) (fact r (p .access) t) m e))),
     )
+
+    -- THEOREM. 02: "a positive right side counts as held at t ... exactly if it is held and no denial for
+    -- that subject, object and mode is held at t, whoever gave it. A denial on the right counts as before"
+    pub right-held : (t : ℕ) (p : Pattern) →
+        (rightHolds (holds always base t) (holds always base t) p ≡ true)
+        ↔ (Held base t p × ((p .negative ≡ true) ⊎ (Held base t (asked (p .access) true) → ⊥)))
+    right-held t p =
+        let all = holds always base t in
+        let denial = asked (p .access) true in
+        let w = right-is all all p in (
+          (λ e. (
+            held t p .0 (w .0 e .0),
+            cases (p .negative) (λ n. inl n)
+                (λ n. inr (λ d. true≢false (sym (held t denial .1 d) ∙ w .0 e .1 n))),
+          )),
+          (λ h. w .1 (
+            held t p .1 (h .0),
+            λ n. ⊎-elim (λ m. absurd (true≢false (sym m ∙ n)))
+                (λ d. cases (all denial) (λ e. absurd (d (held t denial .0 e))) (λ e. e)) (h .1),
+          )),
+        )
 
 -- THEOREM. 01: "MAY is yes exactly if a positive authorization is held and no denial is"
 pub may-held : (b : Base) → stratified (b .rules) ≡ true → (x : Access) (t : ℕ) → (may b x t ≡ true)

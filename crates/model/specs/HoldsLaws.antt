@@ -16,11 +16,11 @@ use Rattle.model.specs.declared.Operator.the-variants.{Whenever, AsLongA
 use Rattle.model.specs.declared.Access.{Access}
 use Rattle.model.specs.Base.{Base}
 use Rattle.model.specs.Support.{live}
-use Rattle.model.specs.Stratification.{precedes, negating, weight, stratified, stratum, precedes-feeds}
-use Rattle.model.specs.Stratification.{heavy-negates}
+use Rattle.model.specs.Stratification.{precedes, negating, weight, stratified, stratum, feeds-precedes}
+use Rattle.model.specs.Stratification.{links-precedes, negates-heavy, links-heavy}
 use Rattle.model.specs.Rules.{Pattern, Fact, fact, fits, derivesFor, rightOf, rightHolds, operate}
-use Rattle.model.specs.Rules.{holdsBy, derives, derivedBelow, holds}
-use Rattle.model.specs.SideFacts.{fit-feeds}
+use Rattle.model.specs.Rules.{asked, holdsBy, derives, derivedBelow, holds}
+use Rattle.model.specs.SideFacts.{fit-feeds, fit-links}
 use Rattle.model.specs.RightFacts.{right-own}
 use Rattle.model.specs.HoldsFacts.{closed}
 use Rattle.model.specs.StratificationFacts.{feeder-not-above, feeder-below, stratum-few}
@@ -28,7 +28,7 @@ use Rattle.model.specs.StratificationFacts.{feeder-not-above, feeder-bel
 -- what fits a rule's right side is derived by a rule that it looks at
 pub fit-precedes : (base : Base) (q r : Rule) (x : Access) → derivesFor base (rightOf r x) q ≡ true →
     precedes q r ≡ true
-fit-precedes base q r x e = precedes-feeds q r ∙ fit-feeds base q r x e
+fit-precedes base q r x e = feeds-precedes q r (fit-feeds base q r x e)
 
 -- what holds of p is derived only by rules that r looks at
 abbrev pub Fed : Base → Rule → Pattern → Type 0
@@ -42,7 +42,14 @@ StrictlyFed base r p =
 -- each step to a rule with WHENEVERNOT or UNLESS counts
 pub strictly-fed : (base : Base) (r : Rule) → negating (r .operator) ≡ true → (p : Pattern) → Fed base r p →
     StrictlyFed base r p
-strictly-fed base r g p h q e = (h q e, heavy-negates q r ∙ g)
+strictly-fed base r g p h q e = (h q e, negates-heavy q r g)
+
+-- and each link, by which denials of a positive right side's access are derived
+pub strictly-linked : (base : Base) (r : Rule) (x : Access) → r .right .negative ≡ false →
+    StrictlyFed base r (asked (rightOf r x .access) true)
+strictly-linked base r x n q e =
+    let l = fit-links base q r x n e in
+    (links-precedes q r l, links-heavy q r l)
 
 -- A rule's right side looks up to the rule's stratum only at what those derive that the rule looks at, and
 -- below it only at what those of them derive whose step counts: where that is settled, `all` being what holds
@@ -51,8 +58,10 @@ pub right-settled : (base : Base) (r : Rule) (x : Access) (same lower all : Patt
     ((p : Pattern) → Fed base r p → same p ≡ all p) →
     ((p : Pattern) → StrictlyFed base r p → lower p ≡ all p) →
     rightHolds same lower (rightOf r x) ≡ rightHolds all all (rightOf r x)
+unfolding rightOf
 right-settled base r x same lower all h k =
     right-own same all lower all (rightOf r x) (h (rightOf r x) (λ q e. fit-precedes base q r x e))
+    (λ n. k (asked (rightOf r x .access) true) (strictly-linked base r x n))
 
 -- a negating operator looks at its second test, the others at their first
 operate-settled : (o : Operator) (f g h : ℕ → Bool) → ((u : ℕ) → f u ≡ h u) →

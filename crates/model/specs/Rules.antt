@@ -75,10 +75,18 @@ pub record Fact : Type 0 where
 abbrev pub fact : Rule → Access → ℕ → Fact
 fact r x t = record { rule = r; access = x; at = t }
 
+-- any grantor, any option
+abbrev pub asked : Access → Bool → Pattern
+asked x negative = record { access = x; negative = negative; grantor = star; option = Either }
+
 -- What counts as held on a rule's right side, `same` being what holds up to the rule's stratum and `lower`
--- what holds below it: that it holds. (01: "denied or not")
+-- what holds below it, where the denials are. 02: "a positive right side counts as held at t ... exactly if
+-- it is held and no denial for that subject, object and mode is held at t, whoever gave it. A denial on the
+-- right counts as before"
 abbrev pub rightHolds : (Pattern → Bool) → (Pattern → Bool) → Pattern → Bool
-rightHolds same lower p = same p
+rightHolds same lower p =
+    let d = lower (asked (p .access) true) in
+    same p && (p .negative || not d)
 
 -- 01: "WHENEVER gives the left side at t if the right is held at t; ASLONGAS if held at all instants from the
 -- rule's start to t; WHENEVERNOT and UNLESS likewise with 'not held'". The negating ones look at the strata
@@ -135,10 +143,6 @@ module _ (every : ℕ → ℕ → (ℕ → Bool) → Bool) (b : Base) where
   unfoldable pub holds : ℕ → Pattern → Bool
   unfolding derivedBelow
   holds t p = holdsBy (derivedBelow (suc (2 * length (b .rules)))) t p
-
--- any grantor, any option
-abbrev pub asked : Access → Bool → Pattern
-asked x negative = record { access = x; negative = negative; grantor = star; option = Either }
 
 -- 01: "MAY is yes exactly if a positive authorization is held and no denial is"
 unfoldable pub mayWith : (ℕ → ℕ → (ℕ → Bool) → Bool) → Base → Access → ℕ → Bool

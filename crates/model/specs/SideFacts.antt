@@ -1,17 +1,17 @@
--- What is looked for and what is given: the laws of `fits`, `standsFor`, `derivesFor`, `rightOf` and `feeds`.
--- Who looks into these otherwise says so on an `unfolding` line.
-use mathlib.Core.Path.{_≡_}
+-- What is looked for and what is given: the laws of `fits`, `standsFor`, `derivesFor`, `rightOf`, `feeds` and
+-- `links`. Who looks into these otherwise says so on an `unfolding` line.
+use mathlib.Core.Path.{_≡_, refl, sym, ap, _∙_}
 use mathlib.Core.Logic.{_↔_}
 use Prim.Native.Nat.{ℕ}
-use mathlib.Core.Bool.{true, false, _||_, Bool·beq}
+use mathlib.Core.Bool.{Bool, true, false, not, _&&_, _||_, Bool·beq, true≢false}
 use lib.Dec.{eqb}
-use Rattle.foundation.specs.Tests.{pick, cases, true-eq, and-three, and-four, and-six}
+use Rattle.foundation.specs.Tests.{pick, cases, true-eq, not-true, beq-eq, and-three, and-four, and-six}
 use Rattle.model.specs.declared.Head.{Head}
 use Rattle.model.specs.declared.Rule.{Rule}
 use Rattle.model.specs.declared.Access.{Access}
 use Rattle.model.specs.Base.{Base}
-use Rattle.model.specs.Stratification.{isStar, meets, fitsOption, feeds}
-use Rattle.model.specs.Rules.{Pattern, fits, fitsGrantor, standsFor, derivesFor, rightOf}
+use Rattle.model.specs.Stratification.{isStar, meets, fitsOption, feeds, links}
+use Rattle.model.specs.Rules.{Pattern, fits, fitsGrantor, standsFor, derivesFor, rightOf, asked}
 
 -- an authorization with the head h is what is looked for
 pub fits-is : (p : Pattern) (h : Head) → (fits p h ≡ true)
@@ -97,3 +97,62 @@ pub feeds-fit : (b : Base) (q r : Rule) (x : Access) → feeds q r ≡ true →
     standsFor b q (rightOf r x .access) ≡ true → derivesFor b (rightOf r x) q ≡ true
 unfolding rightOf
 feeds-fit b q r x e s = let w = feeds-is q r .0 e in derives-is b (rightOf r x) q .1 (s, w .0, w .4, w .5)
+
+-- ---- links
+
+pub links-is : (q r : Rule) → (links q r ≡ true)
+    ↔ ((q .left .negative ≡ true)
+    × (not (r .right .negative) ≡ true)
+    × (eqb (q .left .object) (r .right .object) ≡ true)
+    × (meets (q .left .subject) (r .right .subject) ≡ true)
+    × (meets (q .left .mode) (r .right .mode) ≡ true))
+unfolding links
+links-is q r = (
+  (λ e. let w = and-three (n && m && o) u v .0 e in
+      let d = and-three n m o .0 (w .0) in
+      (d .0, d .1, d .2, w .1, w .2)),
+  (λ w. and-three (n && m && o) u v .1 (and-three n m o .1 (w .0, w .1, w .2), w .3, w .4)),
+)
+  where
+    n : Bool
+    n = q .left .negative
+
+    m : Bool
+    m = not (r .right .negative)
+
+    o : Bool
+    o = eqb (q .left .object) (r .right .object)
+
+    u : Bool
+    u = meets (q .left .subject) (r .right .subject)
+
+    v : Bool
+    v = meets (q .left .mode) (r .right .mode)
+
+-- no rule both feeds another and links to it: their signs differ
+pub feeds-or-links : (q r : Rule) → feeds q r ≡ true → links q r ≡ true → ⊥
+feeds-or-links q r e l =
+    let w = links-is q r .0 l in
+    true≢false (sym (w .0) ∙ beq-eq (q .left .negative) (r .right .negative) (feeds-is q r .0 e .0)
+    ∙ not-true (r .right .negative) (w .1))
+
+-- a denial of a positive right side's access is derived by a rule that links to it
+pub fit-links : (b : Base) (q r : Rule) (x : Access) → r .right .negative ≡ false →
+    derivesFor b (asked (rightOf r x .access) true) q ≡ true → links q r ≡ true
+unfolding rightOf
+fit-links b q r x n e =
+    let d = derives-is b (asked (rightOf r x .access) true) q .0 e in
+    let s = stands-is b q (rightOf r x .access) .0 (d .0) in
+    links-is q r .1 (
+      beq-eq (q .left .negative) true (d .1),
+      ap not n,
+      s .2,
+      fit-meets (q .left .subject) (r .right .subject) (x .subject) (s .0),
+      fit-meets (q .left .mode) (r .right .mode) (x .mode) (s .1),
+    )
+
+-- and a rule that links to it derives that where it stands for the access that r looks for
+pub links-fit : (b : Base) (q r : Rule) (x : Access) → links q r ≡ true →
+    standsFor b q (rightOf r x .access) ≡ true → derivesFor b (asked (rightOf r x .access) true) q ≡ true
+links-fit b q r x e s = derives-is b (asked (rightOf r x .access) true) q .1
+    (s, ap (λ (n : Bool). Bool·beq n true) (links-is q r .0 e .0), refl, refl)

@@ -16,7 +16,7 @@ use Rattle.model.specs.Soundness.{soundBytes}
 use Rattle.model.specs.Answers.{mayTable, mayReply}
 
 -- 02: "Turned away: 15, circular, by the simple engine only, exactly if some feeding circle exists; it comes
--- last"
+-- last", and of change request 7's links: "For CR 6 such links count as feeding"
 abbrev pub simpleTable : Base → Question → List Row
 simpleTable b q = mayTable b q ++ (row 15 (circular (b .rules)) ∷ [])
 

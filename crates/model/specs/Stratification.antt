@@ -1,13 +1,13 @@
 -- Which rule feeds which, forbidden circles and ranks (01, "Rules"): a graph with weights, and its strata.
 -- Theorem 3: `stratified-path`, `stratum-most`, `stratum-walk` in StratificationFacts.
--- `feeds`, `precedes` and `weight` are used through the laws at the end and those of SideFacts.
-use mathlib.Core.Path.{_≡_, refl, sym, ap, _∙_}
-use Prim.Native.Nat.{ℕ, _≤_}
+-- `feeds`, `links`, `precedes` and `weight` are used through the laws at the end and those of SideFacts.
+use mathlib.Core.Path.{_≡_, refl, ap, _∙_}
+use Prim.Native.Nat.{ℕ, _+_, _≤_}
 use native.Mathlib.Omega.{arith}
 use mathlib.Core.Bool.{Bool, true, false, not, _&&_, _||_, Bool·beq}
 use mathlib.Core.List.{List}
 use lib.Dec.{eqb}
-use Rattle.foundation.specs.Tests.{le-true, cases, le-false}
+use Rattle.foundation.specs.Tests.{le-true, cases, le-false, or-intro-left, or-true-right}
 use Rattle.foundation.specs.Totals.{count, count-le}
 use Rattle.foundation.specs.Graph.{heavy, cyclic, rank}
 use Rattle.model.specs.declared.Rule.{Rule}
@@ -61,38 +61,64 @@ lasting Unless = true
 abbrev pub negates : Rule → Bool
 negates r = negating (r .operator)
 
--- q is looked at by r: what q derives may bear on r's right side. Those are the rules that feed r
+-- 02: "a rule with a denial on its left also links to every rule whose positive right side has the same
+-- object, with subject and mode equal or starred on either side"
+unfoldable pub links : Rule → Rule → Bool
+links q r =
+    q .left .negative
+    && not (r .right .negative)
+    && eqb (q .left .object) (r .right .object)
+    && meets (q .left .subject) (r .right .subject)
+    && meets (q .left .mode) (r .right .mode)
+
+-- q is looked at by r: what q derives may bear on whether r's right side counts as held
 unfoldable pub precedes : Rule → Rule → Bool
-precedes q r = feeds q r
+precedes q r = feeds q r || links q r
 
--- what the step from q to r counts in a rank: one if r is a rule with WHENEVERNOT or UNLESS
+-- what the step from q to r counts in a rank: one if r is a rule with WHENEVERNOT or UNLESS, and, 02, "the
+-- link counts one"
 unfoldable pub weight : Rule → Rule → ℕ
-weight q r = count (negates r)
+weight q r = count (negates r) + count (links q r)
 
--- 01: "A circle of feeding with a WHENEVERNOT or UNLESS in it is forbidden"
+-- 01: "A circle of feeding with a WHENEVERNOT or UNLESS in it is forbidden"; 02: "a circle with such a link
+-- is forbidden"
 unfoldable pub stratified : List Rule → Bool
 stratified rules = not (cyclic precedes (heavy weight) rules)
 
 -- 01: "A rule's rank is the most WHENEVERNOT and UNLESS rules on a feeding path that ends in it, itself
--- included"
+-- included"; 02: "the link counts one in a rank"
 unfoldable pub stratum : List Rule → Rule → ℕ
 stratum rules r = rank precedes weight negates rules r
 
 -- ---- laws
 
-pub precedes-feeds : (q r : Rule) → precedes q r ≡ feeds q r
+pub precedes-either : (q r : Rule) → precedes q r ≡ feeds q r || links q r
 unfolding precedes
-precedes-feeds q r = refl
+precedes-either q r = refl
 
-pub weight-negates : (q r : Rule) → weight q r ≡ count (negates r)
+pub feeds-precedes : (q r : Rule) → feeds q r ≡ true → precedes q r ≡ true
+feeds-precedes q r e = precedes-either q r ∙ or-intro-left (feeds q r) (links q r) e
+
+pub links-precedes : (q r : Rule) → links q r ≡ true → precedes q r ≡ true
+links-precedes q r e = precedes-either q r ∙ or-true-right (feeds q r) (links q r) e
+
+pub weight-is : (q r : Rule) → weight q r ≡ count (negates r) + count (links q r)
 unfolding weight
-weight-negates q r = refl
+weight-is q r = refl
 
 pub light : (q r : Rule) → weight q r ≤ 2
-light q r = omega (arith, weight-negates q r, count-le (negates r))
+light q r = omega (arith, weight-is q r, count-le (negates r), count-le (links q r))
 
--- a step counts exactly if it leads to a rule with WHENEVERNOT or UNLESS
-pub heavy-negates : (q r : Rule) → heavy weight q r ≡ negates r
-heavy-negates q r = cases (negates r)
-    (λ e. le-true 1 (weight q r) (omega (arith, weight-negates q r, ap count e)) ∙ sym e)
-    (λ e. le-false 1 (weight q r) (omega (arith, weight-negates q r, ap count e)) ∙ sym e)
+-- a step counts exactly if it leads to a rule with WHENEVERNOT or UNLESS, or is a link
+pub heavy-either : (q r : Rule) → heavy weight q r ≡ negates r || links q r
+heavy-either q r = cases (negates r)
+    (λ e. le-true 1 (weight q r) (omega (arith, weight-is q r, ap count e)) ∙ rw e)
+    (λ e. cases (links q r)
+    (λ l. le-true 1 (weight q r) (omega (arith, weight-is q r, ap count l)) ∙ rw (e, l))
+    (λ l. le-false 1 (weight q r) (omega (arith, weight-is q r, ap count e, ap count l)) ∙ rw (e, l)))
+
+pub negates-heavy : (q r : Rule) → negates r ≡ true → heavy weight q r ≡ true
+negates-heavy q r e = heavy-either q r ∙ or-intro-left (negates r) (links q r) e
+
+pub links-heavy : (q r : Rule) → links q r ≡ true → heavy weight q r ≡ true
+links-heavy q r e = heavy-either q r ∙ or-true-right (negates r) (links q r) e

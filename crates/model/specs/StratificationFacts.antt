@@ -1,38 +1,44 @@
--- Theorem 3: forbidden circles and ranks in 01's words. `label-free`: a rule's label does not matter for
--- them.
-use mathlib.Core.Path.{_≡_, sym, ap, ap₂, _∙_, subst}
-use mathlib.Core.Logic.{_↔_}
-use Prim.Native.Nat.{ℕ, _*_, _≤_, _<_}
-use mathlib.Core.Bool.{Bool, true, false, not}
+-- Theorem 3: forbidden circles and ranks in the papers' words. `label-free`: a rule's label does not matter
+-- for them.
+use mathlib.Core.Path.{_≡_, refl, sym, ap, ap₂, _∙_, subst}
+use mathlib.Core.Logic.{_↔_, _⊎_, inl, inr, ⊎-elim}
+use Prim.Native.Nat.{ℕ, _+_, _*_, _≤_, _<_}
+use mathlib.Core.Bool.{Bool, true, false, not, _||_}
 use mathlib.Core.List.{List, [], _∷_, _++_, map, map-append}
 use lib.ListN.{length}
-use Rattle.foundation.specs.Tests.{and-true, and-intro, not-true, not-false}
+use Rattle.foundation.specs.Tests.{and-true, and-intro, or-cases, not-true, not-false}
 use Rattle.foundation.specs.Lists.{Mem}
 use Rattle.foundation.specs.Totals.{count}
 use Rattle.foundation.specs.Graph.{Path, direct, onward, Walk, strictEdge, heavy, cyclic, cyclic-path}
 use Rattle.foundation.specs.Graph.{cyclic-map}
 use Rattle.foundation.specs.GraphFacts.{Ranked, ranked, rank-most, rank-walk}
 use Rattle.model.specs.declared.Rule.{Rule}
-use Rattle.model.specs.Stratification.{feeds, precedes, negates, weight, stratified, stratum}
-use Rattle.model.specs.Stratification.{precedes-feeds, weight-negates, heavy-negates, light}
+use Rattle.model.specs.Stratification.{feeds, links, precedes, negates, weight, stratified, stratum}
+use Rattle.model.specs.Stratification.{precedes-either, links-precedes, weight-is, heavy-either, light}
+use Rattle.model.specs.Stratification.{negates-heavy, links-heavy}
 
--- a feeding path: each rule feeds the next
+-- 01's feeding, or 02's link
+abbrev pub leads : Rule → Rule → Bool
+leads q r = feeds q r || links q r
+
+-- a path: each rule feeds the next, or links to it
 abbrev pub FeedingPath : List Rule → Rule → Rule → Type 0
-FeedingPath rules q r = Path feeds feeds rules q r
+FeedingPath rules q r = Path leads leads rules q r
 
--- a feeding path that ends in the rule, and the WHENEVERNOT and UNLESS rules on it, both ends included
+-- a path that ends in the rule; what it counts: the WHENEVERNOT and UNLESS rules on it, both ends included,
+-- and the links on it
 abbrev pub FeedingWalk : List Rule → ℕ → Rule → Type 0
-FeedingWalk rules n r = Walk feeds (λ q r. count (negates r)) negates rules n r
+FeedingWalk rules n r = Walk leads (λ q r. count (negates r) + count (links q r)) negates rules n r
 
 -- the paths of `precedes`, and what `weight` counts on them
 pub path-feeds : (rules : List Rule) (q r : Rule) → Path precedes precedes rules q r ≡ FeedingPath rules q r
 path-feeds rules q r t =
-    let edge : Rule → Rule → Bool = λ p s. precedes-feeds p s t in
+    let edge : Rule → Rule → Bool = λ p s. precedes-either p s t in
     Path edge edge rules q r
 
 walk-feeds : (rules : List Rule) (n : ℕ) (r : Rule) →
     Walk precedes weight negates rules n r ≡ FeedingWalk rules n r
-walk-feeds rules n r t = Walk (λ p s. precedes-feeds p s t) (λ p s. weight-negates p s t) negates rules n r
+walk-feeds rules n r t = Walk (λ p s. precedes-either p s t) (λ p s. weight-is p s t) negates rules n r
 
 module _ (rules : List Rule) where
   abbrev Strictly : Rule → Rule → Type 0
@@ -58,33 +64,64 @@ module _ (rules : List Rule) where
       go (direct f) = onward (direct (and-intro (precedes p r) (heavy weight p r) e n)) m f
       go (onward d k f) = onward (go d) k f
 
-  -- 01: "A circle of feeding with a WHENEVERNOT or UNLESS in it": such a rule has a feeding path to itself
-  pub stratified-path : (stratified rules ≡ false)
-      ↔ ((r : Rule) × Mem r rules × (negates r ≡ true) × FeedingPath rules r r)
-  unfolding stratified
+  -- a WHENEVERNOT or UNLESS rule has a path to itself, or a link leads from a rule to itself or to one with a
+  -- path back
+  abbrev pub Forbidden : Type 0
+  Forbidden = ((r : Rule) × Mem r rules × (negates r ≡ true) × FeedingPath rules r r)
+      ⊎ ((q r : Rule) × Mem q rules × Mem r rules × (links q r ≡ true) × ((r ≡ q) ⊎ FeedingPath rules r q))
+
+  -- 01: "A circle of feeding with a WHENEVERNOT or UNLESS in it is forbidden"; 02: "a circle with such a link
+  -- is forbidden"
+  pub stratified-path : (stratified rules ≡ false) ↔ Forbidden
+  unfolding stratified begins
   stratified-path = (
     (λ e. let w = cyclic-path precedes (heavy weight) rules .0
         (not-false (cyclic precedes (heavy weight) rules) e) in
-        let v = begins (w .2) (w .1) in
-        let r = v .0 in (
-          r,
-          v .1,
-          sym (heavy-negates (w .0) r) ∙ v .2,
-          subst (λ (T : Type 0). T) (path-feeds rules r r) (v .4 r (v .3)),
-        )),
-    (λ c. ap not (circle (c .0) (c .1) (c .2)
-        (subst (λ (T : Type 0). T) (sym (path-feeds rules (c .0) (c .0))) (c .3)))),
+        found (w .0) (w .1) (w .2)),
+    (λ c. ap not (⊎-elim (λ w. circle (w .0) (w .1) (w .2) (there (w .0) (w .0) (w .3)))
+        (λ w. linked (w .0) (w .1) (w .2) (w .3) (w .4)
+        (⊎-elim (λ e. inl e) (λ p. inr (there (w .1) (w .0) p)) (w .5))) c)),
   )
     where
+      here : (q r : Rule) → Path precedes precedes rules q r → FeedingPath rules q r
+      here q r p = subst (λ (T : Type 0). T) (path-feeds rules q r) p
+
+      there : (q r : Rule) → FeedingPath rules q r → Path precedes precedes rules q r
+      there q r p = subst (λ (T : Type 0). T) (sym (path-feeds rules q r)) p
+
+      found : (q : Rule) → Mem q rules → Strictly q q → Forbidden
+      found q m c =
+          let v = begins c m in
+          let p = v .0 in
+          or-cases (negates p) (links q p) (sym (heavy-either q p) ∙ v .2)
+          (λ n. inl (p, v .1, n, here p p (v .4 p (v .3))))
+          (λ l. inr (q, p, m, v .1, l, back c))
+        where
+          back : (c : Strictly q q) → (begins c m .0 ≡ q) ⊎ FeedingPath rules (begins c m .0) q
+          back (direct e) = inl refl
+          back (onward {p} d n e) = inr (here (begins d n .0) q (begins d n .4 q e))
+
       circle : (r : Rule) → Mem r rules → negates r ≡ true → Path precedes precedes rules r r →
           cyclic precedes (heavy weight) rules ≡ true
       circle r m n (direct e) = cyclic-path precedes (heavy weight) rules .1
-          (r, m, direct (and-intro (precedes r r) (heavy weight r r) e (heavy-negates r r ∙ n)))
+          (r, m, direct (and-intro (precedes r r) (heavy weight r r) e (negates-heavy r r n)))
       circle r m n (onward {p} c k e) =
-          cyclic-path precedes (heavy weight) rules .1 (p, k, closes c e (heavy-negates p r ∙ n) m)
+          cyclic-path precedes (heavy weight) rules .1 (p, k, closes c e (negates-heavy p r n) m)
+
+      linked : (q r : Rule) → Mem q rules → Mem r rules → links q r ≡ true →
+          (r ≡ q) ⊎ Path precedes precedes rules r q → cyclic precedes (heavy weight) rules ≡ true
+      linked q r m n l (inl e) =
+          let k : links q q ≡ true = ap (λ (z : Rule). links q z) (sym e) ∙ l in
+          cyclic-path precedes (heavy weight) rules .1 (
+            q,
+            m,
+            direct (and-intro (precedes q q) (heavy weight q q) (links-precedes q q k) (links-heavy q q k)),
+          )
+      linked q r m n l (inr c) = cyclic-path precedes (heavy weight) rules .1
+          (q, m, closes c (links-precedes q r l) (links-heavy q r l) n)
 
   -- 01: "A rule's rank is the most WHENEVERNOT and UNLESS rules on a feeding path that ends in it, itself
-  -- included": a path has as many,
+  -- included"; 02: "the link counts one in a rank": a path has as many,
   pub stratum-walk : (r : Rule) → FeedingWalk rules (stratum rules r) r
   unfolding stratum
   stratum-walk r = subst (λ (T : Type 0). T) (walk-feeds rules (stratum rules r) r)
@@ -136,7 +173,7 @@ unlabelled r = record {
 }
 
 unlabelled-same : (rules : List Rule) → stratified (map unlabelled rules) ≡ stratified rules
-unfolding stratified precedes feeds weight
+unfolding stratified precedes feeds links weight
 unlabelled-same rules = ap not (cyclic-map unlabelled precedes rules (heavy weight))
 
 -- one more rule, under this label or another

@@ -3,7 +3,7 @@
 use mathlib.Core.Path.{_≡_, refl, sym, ap, _∙_}
 use mathlib.Core.Bool.{Bool, true, false, _&&_, _||_}
 use Prim.Native.Nat.{ℕ, zero, suc, _+_, _*_, _/_, _%_, _^_, _≤_, _<_}
-use native.Mathlib.Nat.{pow-succ', div-one, div-eq-of-lt, pow-le-pow-right}
+use native.Mathlib.Nat.{pow-succ', div-one, div-eq-of-lt, pow-le-pow-right, lt-of-lt-of-le}
 use native.Mathlib.Omega.{arith}
 use lib.Dec.{eqb, ltb}
 use Rattle.foundation.specs.Tests.{cases, true-eq, false-eq, le-true, le-false}
@@ -99,12 +99,23 @@ low-same a b e = cases (eqb (a % 2) 1)
     small zero h n = refl
     small (suc d) h n = absurd (n (omega arith))
 
-pub same-bits : (n a b : ℕ) → a < 2 ^ n → b < 2 ^ n → ((i : ℕ) → bit i a ≡ bit i b) → a ≡ b
-same-bits zero a b h k e = omega arith
-same-bits (suc n) a b h k e =
+same-low : (n a b : ℕ) → a < 2 ^ n → b < 2 ^ n → ((i : ℕ) → bit i a ≡ bit i b) → a ≡ b
+same-low zero a b h k e = omega arith
+same-low (suc n) a b h k e =
     let l : a < 2 * 2 ^ n = rw (pow-succ' 2 n) at h in
     let m : b < 2 * 2 ^ n = rw (pow-succ' 2 n) at k in
-    let q : a / 2 ≡ b / 2 = same-bits n (a / 2) (b / 2) (omega arith) (omega arith)
+    let q : a / 2 ≡ b / 2 = same-low n (a / 2) (b / 2) (omega arith) (omega arith)
     (λ i. sym (bit-half i a) ∙ e (suc i) ∙ bit-half i b) in
     let d = low-same a b (sym (low-bit a) ∙ e 0 ∙ low-bit b) in
     omega arith
+
+below-power : (n : ℕ) → n < 2 ^ n
+below-power zero = omega arith
+below-power (suc n) = rw (pow-succ' 2 n) (omega (arith, below-power n))
+
+pub same-bits : (a b : ℕ) → ((i : ℕ) → bit i a ≡ bit i b) → a ≡ b
+same-bits a b = same-low (a + b) a b (below a (omega arith)) (below b (omega arith))
+  where
+    below : (k : ℕ) → k ≤ a + b → k < 2 ^ (a + b)
+    below k h =
+        lt-of-lt-of-le (below-power k) (pow-le-pow-right {n = 2} (omega arith) {i = k} {j = a + b} h)

@@ -1,45 +1,59 @@
 -- The masks give the rules that meet a right side (`meeting-bit`); with grantor and option those are the
--- rules that feed it (`feeders-same`).
+-- rules that feed it (`feeders-same`), and the denials that meet a positive one link to it
+-- (`preceders-same`).
 use mathlib.Core.Path.{_≡_, refl, sym, ap, ap₂, _∙_}
-use mathlib.Core.Bool.{Bool, true, false, _&&_, _||_, Bool·beq}
+use mathlib.Core.Bool.{Bool, true, false, not, _&&_, _||_, Bool·beq}
 use mathlib.Core.List.{List}
-use Prim.Native.Nat.{ℕ, suc, _+_, _*_, _-_, _/_, _%_, _^_, _≤_, _<_}
-use native.Mathlib.Nat.{lt-of-lt-of-le, pow-le-pow-right}
+use Prim.Native.Nat.{ℕ, suc, _+_, _*_, _-_, _/_, _%_, _<_}
 use native.Mathlib.Omega.{arith}
-use lib.Bits.{bitAnd}
+use lib.Bits.{bitAnd, bitOr}
 use lib.Dec.{eqb, ltb}
-use lib.ListN.{length, getD}
+use lib.ListN.{getD}
 use Rattle.foundation.specs.Tests.{pick, cases, false-eq, ne-false, true-le, or-true}
 use Rattle.foundation.specs.Tests.{or-false}
-use Rattle.foundation.specs.Tests.{and-true}
-use Rattle.foundation.specs.Masks.{asBit, bit, bit-le, maskOf, mask-lt}
-use Rattle.foundation.specs.Records.{length-records}
-use Rattle.words.specs.Bits.{bit-and}
+use Rattle.foundation.specs.Tests.{and-true, and-false}
+use Rattle.foundation.specs.Masks.{asBit, bit, bit-le}
+use Rattle.words.specs.Bits.{bit-and, bit-or}
 use Rattle.model.specs.declared.Rule.{Rule}
-use Rattle.model.specs.Encoding.{ruleOf}
-use Rattle.model.specs.Stratification.{isStar, meets, feeds, fitsOption}
+use Rattle.model.specs.Stratification.{isStar, meets, feeds, links, precedes, fitsOption}
+use Rattle.model.specs.Stratification.{precedes-either}
 use Rattle.model.specs.Rules.{fitsGrantor}
 use Rattle.encoding.specs.Format.{rulesIn, ruleAt}
 use Rattle.rules.specs.Strata.{feedersOf}
 use Rattle.outlines.specs.Coordinates.{Chart}
-use Rattle.outlines.specs.Masks.{objectCode, subjectCode, modeCodeOf, signCode}
+use Rattle.outlines.specs.Masks.{objectCode, subjectCode, modeCodeOf, signCode, Placed}
 use Rattle.outlines.specs.Standing.{code-is, subject-is, mode-is, sign-is, under, rule-bit}
 use Rattle.outlines.specs.Standing.{object-named}
-use Rattle.outlines.specs.Feed.{Outlined, looksWord, meetingWord}
+use Rattle.outlines.specs.Feed.{Outlined, looksWord, meetingWord, linkersWord, precedersOf}
+use Rattle.outlines.proofs.MaskWords.{no-bit}
 use Rattle.outlines.proofs.BitWalk.{and-last, same-bits}
 
--- sign, object, subject and mode of q's left side meet r's right side
-abbrev pub meetsRight : Rule → Rule → Bool
-meetsRight q r =
-    Bool·beq (q .left .negative) (r .right .negative)
+-- q's left side has the sign g, and its object, subject and mode meet r's right side
+abbrev pub meetsRight : Bool → Rule → Rule → Bool
+meetsRight g q r =
+    Bool·beq (q .left .negative) g
     && eqb (q .left .object) (r .right .object)
     && meets (q .left .subject) (r .right .subject)
     && meets (q .left .mode) (r .right .mode)
 
 feeds-parts : (q r : Rule) →
-    feeds q r ≡ meetsRight q r && fitsGrantor (r .grantor) (q .author) && fitsOption (r .option) false
+    feeds q r
+    ≡ meetsRight (r .right .negative) q r && fitsGrantor (r .grantor) (q .author)
+    && fitsOption (r .option) false
 unfolding feeds
 feeds-parts q r = refl
+
+links-parts : (q r : Rule) → links q r ≡ not (r .right .negative) && meetsRight true q r
+unfolding links
+links-parts q r = signs (q .left .negative) (not (r .right .negative))
+    (eqb (q .left .object) (r .right .object)) (meets (q .left .subject) (r .right .subject))
+    (meets (q .left .mode) (r .right .mode))
+  where
+    signs : (n m o s d : Bool) → n && m && o && s && d ≡ m && (Bool·beq n true && o && s && d)
+    signs true true o s d = refl
+    signs true false o s d = refl
+    signs false true o s d = refl
+    signs false false o s d = refl
 
 meets-star : (u v : ℕ) → isStar v ≡ true → meets u v ≡ true
 meets-star u v e = rw (e, or-true (isStar u))
@@ -60,6 +74,10 @@ four-tests true true true false m = refl
 and-two : (t a s : Bool) → (t && a) && (t && s) ≡ t && (a && s)
 and-two true a s = refl
 and-two false a s = refl
+
+or-two : (t a s : Bool) → (t && a) || (t && s) ≡ t && (a || s)
+or-two true a s = refl
+or-two false a s = refl
 
 guarded : (t a b c : Bool) → (t && a) && b && c ≡ t && (a && b && c)
 guarded true a b c = refl
@@ -92,7 +110,7 @@ module _ {n : ℕ} {body left right sides : List ℕ} (o : Outlined n body left 
     object-code : object ≡ getD (C .objects) (rule i .right .object) 0
     object-code = o .rights i h .object ∙ rw named-object
 
-    pub object-small : object < 65
+    object-small : object < 65
     object-small = omega (
       arith,
       object-code,
@@ -105,7 +123,7 @@ module _ {n : ℕ} {body left right sides : List ℕ} (o : Outlined n body left 
         subject ≡ getD (C .subjects) (rule i .right .subject) 0
     subject-code e = o .rights i h .subject ∙ rw e
 
-    pub subject-small : (subject ≡ 255 → ⊥) → subject < 65
+    subject-small : (subject ≡ 255 → ⊥) → subject < 65
     subject-small ne = cases (isStar (rule i .right .subject))
         (λ e. absurd (ne (o .rights i h .subject ∙ rw e)))
         (λ e. omega (
@@ -116,7 +134,7 @@ module _ {n : ℕ} {body left right sides : List ℕ} (o : Outlined n body left 
           o .grounds .few,
         ))
 
-    sign-bit : sign ≡ asBit (rule i .right .negative)
+    pub sign-bit : sign ≡ asBit (rule i .right .negative)
     sign-bit = omega (
       arith,
       o .lefts i h .signs,
@@ -130,23 +148,21 @@ module _ {n : ℕ} {body left right sides : List ℕ} (o : Outlined n body left 
     mode-star : isStar (rule i .right .mode) ≡ true → mode ≡ 255
     mode-star e = o .rights i h .mode ∙ rw e
 
-    looks-star : isStar (rule i .right .mode) ≡ true → looksWord mode sign ≡ 146 + sign
-    looks-star e = rw (mode-star e)
+    looks-star : (k : ℕ) → isStar (rule i .right .mode) ≡ true → looksWord mode k ≡ 146 + k
+    looks-star k e = rw (mode-star e)
 
-    looks-named : isStar (rule i .right .mode) ≡ false → looksWord mode sign ≡ 130 + (mode + 8 * sign)
-    looks-named e = rw (ne-false mode 255 (λ z. omega (arith, mode-code e, o .grounds .right i h .mode)))
+    looks-named : (k : ℕ) → isStar (rule i .right .mode) ≡ false → looksWord mode k ≡ 130 + (mode + 8 * k)
+    looks-named k e = rw (ne-false mode 255 (λ z. omega (arith, mode-code e, o .grounds .right i h .mode)))
 
-    pub looks-small : looksWord mode sign < 151
-    looks-small = cases (isStar (rule i .right .mode))
-        (λ e. omega (arith, looks-star e, sign-bit, bit-le (rule i .right .negative)))
-        (λ e. omega (
-          arith,
-          looks-named e,
-          mode-code e,
-          o .grounds .right i h .mode,
-          sign-bit,
-          bit-le (rule i .right .negative),
-        ))
+    pub right-placed : Placed right i
+    right-placed = record {
+      object = object-small;
+      subject = subject-small;
+      mode = λ ne. cases (isStar (rule i .right .mode))
+          (λ e. absurd (ne (mode-star e)))
+          (λ e. let z = false-eq (rule i .right .mode) 0 e in
+          omega (arith, mode-code e, o .grounds .right i h .mode));
+    }
 
     -- a rule on the left
     object-meets : (q : ℕ) →
@@ -184,71 +200,91 @@ module _ {n : ℕ} {body left right sides : List ℕ} (o : Outlined n body left 
         rw (o .lefts q l .subject, d) (subject-is (o .charted .subjects) few u v c) ∙ meets-named u v e))
         ∙ and-two (ltb q n) a (meets u v)))
 
-    sign-meets : (q : ℕ) → q < n →
-        eqb (signCode sides q) sign ≡ Bool·beq (rule q .left .negative) (rule i .right .negative)
-    sign-meets q l =
-        ap₂ (λ (k g : ℕ). eqb (k % 2) g) (o .lefts q l .signs) sign-bit ∙ sign-is (rule q)
-        (rule i .right .negative)
+    sign-meets : (g : Bool) (q : ℕ) → q < n →
+        eqb (signCode sides q) (asBit g) ≡ Bool·beq (rule q .left .negative) g
+    sign-meets g q l =
+        ap (λ (k : ℕ). eqb (k % 2) (asBit g)) (o .lefts q l .signs) ∙ sign-is (rule q) g
 
-    mode-meets : (q : ℕ) → bit q (getD left (looksWord mode sign) 0)
-        ≡ ltb q n && (Bool·beq (rule q .left .negative) (rule i .right .negative)
+    mode-meets : (g : Bool) (q : ℕ) → bit q (getD left (looksWord mode (asBit g)) 0)
+        ≡ ltb q n && (Bool·beq (rule q .left .negative) g
         && meets (rule q .left .mode) (rule i .right .mode))
-    mode-meets q =
+    mode-meets g q =
         let u = rule q .left .mode in
         let v = rule i .right .mode in
-        let g = Bool·beq (rule q .left .negative) (rule i .right .negative) in
-        let s = sign-bit in
-        let b = bit-le (rule i .right .negative) in
+        let t = Bool·beq (rule q .left .negative) g in
+        let s : ℕ = asBit g in
+        let b = bit-le g in
         cases (isStar v)
-        (λ e. ap (λ (k : ℕ). bit q (getD left k 0)) (looks-star e)
-        ∙ o .masks .sign sign q (omega arith)
-        ∙ under (ltb q n) (eqb (signCode sides q) sign) (g && meets u v)
-        (λ y. sign-meets q (true-le (suc q) n y) ∙ and-last g
-        ∙ ap (λ (x : Bool). g && x) (sym (meets-star u v e))))
+        (λ e. ap (λ (k : ℕ). bit q (getD left k 0)) (looks-star s e)
+        ∙ o .masks .sign s q (omega arith)
+        ∙ under (ltb q n) (eqb (signCode sides q) s) (t && meets u v)
+        (λ y. sign-meets g q (true-le (suc q) n y) ∙ and-last t
+        ∙ ap (λ (x : Bool). t && x) (sym (meets-star u v e))))
         (λ e. let d = mode-code e in
         let z = false-eq v 0 e in
         let r = o .grounds .right i h .mode in
-        ap (λ (k : ℕ). bit q (getD left k 0)) (looks-named e)
-        ∙ o .masks .mode mode sign q (omega arith) (omega arith)
+        ap (λ (k : ℕ). bit q (getD left k 0)) (looks-named s e)
+        ∙ o .masks .mode mode s q (omega arith) (omega arith)
         ∙ under (ltb q n)
-        (eqb (signCode sides q) sign && (eqb (modeCodeOf sides q) 255 || eqb (modeCodeOf sides q) mode))
-        (g && meets u v)
+        (eqb (signCode sides q) s && (eqb (modeCodeOf sides q) 255 || eqb (modeCodeOf sides q) mode))
+        (t && meets u v)
         (λ y. let l = true-le (suc q) n y in
-        ap₂ (λ (x w : Bool). x && w) (sign-meets q l)
+        ap₂ (λ (x w : Bool). x && w) (sign-meets g q l)
         (ap₂ (λ (k j : ℕ). eqb k 255 || eqb k j) (o .lefts q l .mode) d
         ∙ mode-is u v (o .grounds .left q l .mode) (omega arith) r ∙ meets-named u v e)))
 
-    pub meeting-bit : (q : ℕ) →
-        bit q (meetingWord left right sides i) ≡ ltb q n && meetsRight (rule q) (rule i)
+    pub meeting-bit : (g : Bool) (q : ℕ) →
+        bit q (meetingWord left right i (asBit g)) ≡ ltb q n && meetsRight g (rule q) (rule i)
     unfolding meetingWord
-    meeting-bit q =
+    meeting-bit g q =
         let w = getD left object 0 in
         let a = eqb (rule q .left .object) (rule i .right .object) in
         bit-and (pick (eqb subject 255) w (bitAnd w (getD left (65 + subject) 0)))
-        (getD left (looksWord mode sign) 0) q
-        ∙ ap₂ (λ (x y : Bool). x && y) (subject-meets w q a (object-meets q)) (mode-meets q)
+        (getD left (looksWord mode (asBit g)) 0) q
+        ∙ ap₂ (λ (x y : Bool). x && y) (subject-meets w q a (object-meets q)) (mode-meets g q)
         ∙ four-tests (ltb q n) a (meets (rule q .left .subject) (rule i .right .subject))
-        (Bool·beq (rule q .left .negative) (rule i .right .negative))
+        (Bool·beq (rule q .left .negative) g)
         (meets (rule q .left .mode) (rule i .right .mode))
 
-    pub meeting-inside : (f : ℕ) → f ≡ meetingWord left right sides i → (q : ℕ) → bit q f ≡ true → q < n
-    meeting-inside f e q y = true-le (suc q) n
-        (and-true (ltb q n) (meetsRight (rule q) (rule i)) (sym (ap (bit q) e ∙ meeting-bit q) ∙ y) .0)
+    -- the rules that have the sign of the right side
+    own-bit : (f : ℕ) → f ≡ meetingWord left right i sign → (q : ℕ) →
+        bit q f ≡ ltb q n && meetsRight (rule i .right .negative) (rule q) (rule i)
+    own-bit f e q =
+        ap (bit q) (e ∙ ap (meetingWord left right i) sign-bit) ∙ meeting-bit (rule i .right .negative) q
 
-    pub feeders-same : (f x : ℕ) → f ≡ meetingWord left right sides i → x < 18446744073709551616 →
+    pub meeting-inside : (f : ℕ) → f ≡ meetingWord left right i sign → (q : ℕ) → bit q f ≡ true → q < n
+    meeting-inside f e q y = true-le (suc q) n
+        (and-true (ltb q n) (meetsRight (rule i .right .negative) (rule q) (rule i))
+        (sym (own-bit f e q) ∙ y) .0)
+
+    pub feeders-same : (f x : ℕ) → f ≡ meetingWord left right i sign →
         ((q : ℕ) → bit q x ≡ bit q f && fitsGrantor (rule i .grantor) (rule q .author)
         && fitsOption (rule i .option) false) →
         x ≡ feedersOf (rulesIn n body) (rule i)
-    feeders-same f x e small z =
-        let p : Rule → Bool = λ q. feeds q (rule i) in
-        let l : 2 ^ length (rulesIn n body) ≤ 2 ^ 64 = pow-le-pow-right {n = 2} (omega arith)
-        {i = length (rulesIn n body)} {j = 64}
-        (omega (arith, length-records 28 ruleOf n body, o .grounds .few)) in
-        same-bits 64 x (maskOf p (rulesIn n body)) small (lt-of-lt-of-le (mask-lt p (rulesIn n body)) l)
+    feeders-same f x e z = same-bits x (feedersOf (rulesIn n body) (rule i))
         (λ q. z q
         ∙ ap (λ (b : Bool). b && fitsGrantor (rule i .grantor) (rule q .author)
-        && fitsOption (rule i .option) false) (ap (bit q) e ∙ meeting-bit q)
-        ∙ guarded (ltb q n) (meetsRight (rule q) (rule i)) (fitsGrantor (rule i .grantor) (rule q .author))
-        (fitsOption (rule i .option) false)
+        && fitsOption (rule i .option) false) (own-bit f e q)
+        ∙ guarded (ltb q n) (meetsRight (rule i .right .negative) (rule q) (rule i))
+        (fitsGrantor (rule i .grantor) (rule q .author)) (fitsOption (rule i .option) false)
         ∙ ap (λ (b : Bool). ltb q n && b) (sym (feeds-parts (rule q) (rule i)))
-        ∙ sym (rule-bit n body p q))
+        ∙ sym (rule-bit n body (λ p. feeds p (rule i)) q))
+
+    linkers-bit : (q : ℕ) → bit q (linkersWord left right sides i) ≡ ltb q n && links (rule q) (rule i)
+    unfolding linkersWord
+    linkers-bit q = cases (rule i .right .negative)
+        (λ e. let s : sign ≡ 1 = sign-bit ∙ ap asBit e in
+        rw (s, links-parts (rule q) (rule i), e) (no-bit q ∙ sym (and-false (ltb q n))))
+        (λ e. let s : sign ≡ 0 = sign-bit ∙ ap asBit e in
+        rw (s, links-parts (rule q) (rule i), e) (meeting-bit true q))
+
+    pub preceders-same : bitOr (feedersOf (rulesIn n body) (rule i)) (linkersWord left right sides i)
+        ≡ precedersOf (rulesIn n body) (rule i)
+    preceders-same =
+        let f = feedersOf (rulesIn n body) (rule i) in
+        same-bits (bitOr f (linkersWord left right sides i)) (precedersOf (rulesIn n body) (rule i))
+        (λ q. bit-or f (linkersWord left right sides i) q
+        ∙ ap₂ (λ (a b : Bool). a || b) (rule-bit n body (λ p. feeds p (rule i)) q) (linkers-bit q)
+        ∙ or-two (ltb q n) (feeds (rule q) (rule i)) (links (rule q) (rule i))
+        ∙ ap (λ (b : Bool). ltb q n && b) (sym (precedes-either (rule q) (rule i)))
+        ∙ sym (rule-bit n body (λ p. precedes p (rule i)) q))

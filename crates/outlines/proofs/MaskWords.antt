@@ -1,5 +1,5 @@
 -- Bits put into words: one bit (`put-bit`), the bits of one rule more (`gather-turn`), and bits joined to a
--- range of words (`spread-turn`).
+-- range of words (`spread-turn`) or to each of the first (`join-turn`).
 use mathlib.Core.Path.{_≡_, refl, sym, ap, _∙_}
 use mathlib.Core.Logic.{_⊎_, inl, inr, ⊎-elim}
 use mathlib.Core.Bool.{Bool, true, false, _&&_, _||_}
@@ -17,6 +17,7 @@ use Rattle.foundation.specs.Tests.{true-le, or-false}
 use Rattle.foundation.specs.Masks.{bit}
 use Rattle.outlines.specs.Masks.{objectCode, subjectCode, modeCodeOf, signCode, subjectWord, modeWord}
 use Rattle.outlines.specs.Masks.{inWord, Placed}
+use Rattle.outlines.specs.Feed.{looksWord}
 use Rattle.words.specs.Ones.{bit-shl}
 use Rattle.words.specs.Bits.{bit-or, power-only}
 
@@ -72,6 +73,11 @@ four-joined x false a b d e = or-false _ ∙ or-false _ ∙ or-false _
 four-joined true true a b d e = refl
 four-joined false true a b d e = refl
 
+next-below : (i r : ℕ) → (r ≡ i → ⊥) → ltb r (i + 1) ≡ ltb r i
+next-below i r z = agree (ltb r (i + 1)) (ltb r i)
+    (λ y. let l = true-le (suc r) (i + 1) y in le-true (suc r) i (omega arith))
+    (λ y. let l = true-le (suc r) i y in le-true (suc r) (i + 1) (omega arith))
+
 -- the rules before the i-th, and the i-th
 pub gather-turn : (p : ℕ → Bool) (i r : ℕ) → (ltb r i && p r) || (eqb r i && p i) ≡ ltb r (i + 1) && p r
 gather-turn p i r = cases (eqb r i)
@@ -79,11 +85,7 @@ gather-turn p i r = cases (eqb r i)
     let f : ltb i i ≡ false = le-false (suc i) i (omega arith) in
     let t : ltb i (i + 1) ≡ true = le-true (suc i) (i + 1) (omega arith) in
     rw (q, z, f, t))
-    (λ q. let z = false-eq r i q in
-    let f : ltb r (i + 1) ≡ ltb r i = agree (ltb r (i + 1)) (ltb r i)
-    (λ y. let l = true-le (suc r) (i + 1) y in le-true (suc r) i (omega arith))
-    (λ y. let l = true-le (suc r) i y in le-true (suc r) (i + 1) (omega arith)) in
-    rw (q, f) (or-false (ltb r i && p r)))
+    (λ q. rw (q, next-below i r (false-eq r i q)) (or-false (ltb r i && p r)))
 
 pub gather-start : (p : Bool) (r x : ℕ) → x ≡ 0 → bit r x ≡ ltb r 0 && p
 gather-start p r x e = ap (bit r) e ∙ no-bit r ∙ sym (rw (le-false (suc r) 0 (omega arith)))
@@ -97,17 +99,22 @@ spread-turn from w j x v h = cases (eqb j w)
     let t : ltb w (w + 1) ≡ true = le-true (suc w) (w + 1) (omega arith) in
     let l : leb from w ≡ true = le-true from w h in
     rw (q, z, f, t, l) (ap (λ (b : Bool). b || v) (or-false x)))
-    (λ q. let z = false-eq j w q in
-    let f : ltb j (w + 1) ≡ ltb j w = agree (ltb j (w + 1)) (ltb j w)
-    (λ y. let l = true-le (suc j) (w + 1) y in le-true (suc j) w (omega arith))
-    (λ y. let l = true-le (suc j) w y in le-true (suc j) (w + 1) (omega arith)) in
-    rw (q, f) (or-false (x || (leb from j && ltb j w && v))))
+    (λ q. rw (q, next-below w j (false-eq j w q)) (or-false (x || (leb from j && ltb j w && v))))
 
 pub spread-start : (from j : ℕ) (x v : Bool) → x ≡ x || (leb from j && ltb j from && v)
 spread-start from j x v = cases (leb from j)
     (λ q. let l = true-le from j q in
     rw (q, le-false (suc j) from (omega arith)) (sym (or-false x)))
     (λ q. rw q (sym (or-false x)))
+
+-- the first words are changed, and the next one
+pub join-turn : (f : ℕ → ℕ) (i w v x y : ℕ) → v ≡ f i → x ≡ pick (ltb w i) (f w) y →
+    pick (eqb w i) v x ≡ pick (ltb w (i + 1)) (f w) y
+join-turn f i w v x y e d = cases (eqb w i)
+    (λ q. let z = true-eq w i q in
+    let t : ltb w (i + 1) ≡ true = le-true (suc w) (i + 1) (omega arith) in
+    rw (q, t) (e ∙ ap f (sym z)))
+    (λ q. rw (q, next-below i w (false-eq w i q)) d)
 
 -- ---- the words of a rule
 
@@ -139,3 +146,8 @@ module _ (sides : List ℕ) (r : ℕ) (p : Placed sides r) where
 
   pub mode-below : modeWord (modeCodeOf sides r) (signCode sides r) < 151
   mode-below = ⊎-elim (λ w. omega arith) (λ w. omega arith) mode-cases
+
+  pub looks-below : (g : ℕ) → g < 2 → looksWord (modeCodeOf sides r) g < 151
+  looks-below g h = cases (eqb (modeCodeOf sides r) 255)
+      (λ e. rw e (omega arith))
+      (λ e. let z = p .mode (false-eq (modeCodeOf sides r) 255 e) in rw e (omega arith))

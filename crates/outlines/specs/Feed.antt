@@ -1,5 +1,5 @@
--- Which rule feeds which, from the masks: what the tables are that this is read from (`Outlined`), and the
--- table of it (`Fed`).
+-- Which rule precedes which, and feeds which, from the masks: what the tables are that this is read from
+-- (`Outlined`), and the table of it (`Fed`).
 use mathlib.Core.Path.{_≡_}
 use mathlib.Core.Bool.{Bool, true, false, not, _&&_}
 use mathlib.Core.List.{List}
@@ -8,13 +8,13 @@ use lib.Bits.{bitAnd}
 use lib.Dec.{eqb}
 use lib.ListN.{getD}
 use Rattle.foundation.specs.Tests.{pick}
-use Rattle.foundation.specs.Masks.{bit}
+use Rattle.foundation.specs.Masks.{bit, maskOf}
 use Rattle.model.specs.declared.Rule.{Rule}
 use Rattle.model.specs.declared.OptionTerm.{OptionTerm}
 use Rattle.model.specs.declared.OptionTerm.the-variants.{With, Without, Either}
-use Rattle.model.specs.Stratification.{isStar}
-use Rattle.encoding.specs.Format.{rulesIn}
-use Rattle.rules.specs.Strata.{feedersOf, Holds}
+use Rattle.model.specs.Stratification.{isStar, feeds, precedes}
+use Rattle.encoding.specs.Format.{rulesIn, ruleAt}
+use Rattle.rules.specs.Strata.{Holds}
 use Rattle.outlines.specs.Coordinates.{Grounds, Chart, Charted}
 use Rattle.outlines.specs.Outline.{RightSides, LeftSides}
 use Rattle.outlines.specs.Masks.{Masked}
@@ -42,16 +42,26 @@ pub record Outlined (n : ℕ) (body left right sides : List ℕ) : Type 0 where
 abbrev pub looksWord : ℕ → ℕ → ℕ
 looksWord code sign = pick (eqb code 255) (146 + sign) (130 + (code + 8 * sign))
 
--- the rules that rule i meets in sign, object, subject and mode
-unfoldable pub meetingWord : List ℕ → List ℕ → List ℕ → ℕ → ℕ
-meetingWord left right sides i =
+-- the rules with a sign on the left that rule i meets in object, subject and mode
+unfoldable pub meetingWord : List ℕ → List ℕ → ℕ → ℕ → ℕ
+meetingWord left right i sign =
     let o = getD left (getD right (4 * i) 0) 0 in
     let s = getD right (4 * i + 1) 0 in
     bitAnd (pick (eqb s 255) o (bitAnd o (getD left (65 + s) 0)))
-    (getD left (looksWord (getD right (4 * i + 2) 0) (getD sides (4 * i + 3) 0 / 2)) 0)
+    (getD left (looksWord (getD right (4 * i + 2) 0) sign) 0)
 
--- the table: the feeders of each rule, and from 64 on the choosy rules that each feeds
+-- the rules that link to rule i: denials that a positive right side meets
+unfoldable pub linkersWord : List ℕ → List ℕ → List ℕ → ℕ → ℕ
+linkersWord left right sides i = pick (eqb (getD sides (4 * i + 3) 0 / 2) 0) (meetingWord left right i 1) 0
+
+-- the mask of the rules that precede r
+abbrev pub precedersOf : List Rule → Rule → ℕ
+precedersOf rules r = maskOf (λ q. precedes q r) rules
+
+-- the table
 pub record Fed (n : ℕ) (body : List ℕ) (choosy : ℕ) (feed : List ℕ) : Type 0 where
-  pub feeders : Holds n body (feedersOf (rulesIn n body)) feed
-  pub onward : (i c : ℕ) → i < n → c < n → bit c (getD feed (64 + i) 0) ≡ bit c choosy && bit i
-      (getD feed c 0)
+  -- the rules that precede each rule
+  pub preceders : Holds n body (precedersOf (rulesIn n body)) feed
+  -- the choosy rules that each rule feeds
+  pub onward : (i c : ℕ) → i < n → c < n →
+      bit c (getD feed (64 + i) 0) ≡ bit c choosy && feeds (ruleAt body i) (ruleAt body c)

@@ -1,9 +1,9 @@
-// Which rule feeds which.
+// Which rule feeds which, and which precedes which.
 ghost use mathlib.Core.Path.{_≡_};
 ghost use mathlib.Core.Bool.{true, false, _&&_, _||_};
-ghost use Prim.Native.Nat.{ℕ, _+_, _*_, _/_, _≤_, _<_};
-ghost use lib.Bits.{bitAnd};
-ghost use lib.Dec.{eqb};
+ghost use Prim.Native.Nat.{ℕ, _+_, _*_, _≤_, _<_};
+ghost use lib.Bits.{bitAnd, bitOr};
+ghost use lib.Dec.{eqb, ltb};
 ghost use lib.ListN.{length, getD};
 ghost use Rattle.foundation.specs.Tests.{pick};
 ghost use Rattle.foundation.specs.Masks.{bit, maskOf};
@@ -11,7 +11,8 @@ ghost use Rattle.model.specs.Rules.{fitsGrantor};
 ghost use Rattle.model.specs.Stratification.{fitsOption};
 ghost use Rattle.encoding.specs.Format.{rulesIn, ruleAt};
 ghost use Rattle.rules.specs.Strata.{feedersOf, Holds};
-ghost use Rattle.outlines.specs.Feed.{looksWord, meetingWord, isChoosy, Outlined, Fed};
+ghost use Rattle.outlines.specs.Masks.{Placed};
+ghost use Rattle.outlines.specs.Feed.{looksWord, meetingWord, linkersWord, isChoosy, Outlined, Fed};
 use crate::left::put_word;
 use crate::left::wide;
 use encoding::rule_at;
@@ -112,16 +113,14 @@ fn meet_subject(left: &[u64; 151], f: u64, code: usize) -> u64
     f & left[65 + code]
 }
 
-// The rules whose left side meets the right side of rule i in sign, object, subject and mode.
-fn meeting(left: &[u64; 151], right: &[u8; 256], sides: &[u8; 256], i: usize) -> u64
-    requires { ⌜ (i < 64) × (getD (now right) (4 * i) 0 < 65)
-        × ((getD (now right) (4 * i + 1) 0 ≡ 255 → ⊥) → getD (now right) (4 * i + 1) 0 < 65)
-        × (looksWord (getD (now right) (4 * i + 2) 0) (getD (now sides) (4 * i + 3) 0 / 2) < 151) ⌝ }
-    ensures { λ x. ⌜ x ≡ meetingWord (now (left .entry)) (now (right .entry)) (now (sides .entry)) i ⌝ }
+// The rules whose left side has a sign and meets the right side of rule i in object, subject and mode.
+fn meeting(left: &[u64; 151], right: &[u8; 256], i: usize, sign: usize) -> u64
+    requires { ⌜ (i < 64) × (sign < 2) × Placed (now right) i ⌝ }
+    ensures { λ x. ⌜ x ≡ meetingWord (now (left .entry)) (now (right .entry)) i sign ⌝ }
 {
     let o = wide(right[4 * i]);
     let f = meet_subject(left, left[o], wide(right[4 * i + 1]));
-    let w = looks_word(wide(right[4 * i + 2]), wide(sides[4 * i + 3]) / 2);
+    let w = looks_word(wide(right[4 * i + 2]), sign);
     f & left[w]
 }
 
@@ -137,7 +136,7 @@ fn feeders(
     requires { ⌜ (i < n) × Outlined n (now body) (now left) (now right) (now sides) ⌝ }
     ensures { λ x. ⌜ x ≡ feedersOf (rulesIn n (now (body .entry))) (ruleAt (now (body .entry)) i) ⌝ }
 {
-    let f = meeting(left, right, sides, i);
+    let f = meeting(left, right, i, wide(sides[4 * i + 3]) / 2);
     narrowed(body, n, f, rule_at(body, i * RULE_BYTES))
 }
 
@@ -193,7 +192,40 @@ fn draw_fed(choosy: u64, feed: &mut [u64; 128])
     }
 }
 
-// The rules that feed each rule, and from 64 on the choosy rules that each feeds.
+// The rules that link to rule i: those with a denial on the left, where the right side is positive.
+fn linkers(left: &[u64; 151], right: &[u8; 256], sides: &[u8; 256], i: usize) -> u64
+    requires { ⌜ (i < 64) × Placed (now right) i ⌝ }
+    ensures { λ x. ⌜ x ≡ linkersWord (now (left .entry)) (now (right .entry)) (now (sides .entry)) i ⌝ }
+{
+    if wide(sides[4 * i + 3]) / 2 == 0 {
+        return meeting(left, right, i, 1);
+    }
+    0
+}
+
+// Joins to each rule's word those that link to the rule.
+fn draw_linkers(
+    n: usize,
+    left: &[u64; 151],
+    right: &[u8; 256],
+    sides: &[u8; 256],
+    feed: &mut [u64; 128],
+)
+    requires { ⌜ (n ≤ 64) × ((i : ℕ) → i < n → Placed (now right) i) ⌝ }
+    ensures { λ _. ⌜ ((w : ℕ) → getD (now (feed .exit)) w 0
+        ≡ pick (ltb w n) (bitOr (getD (now (feed .entry)) w 0)
+        (linkersWord (now (left .entry)) (now (right .entry)) (now (sides .entry)) w))
+        (getD (now (feed .entry)) w 0)) ⌝ }
+{
+    let mut i = 0;
+    while i < n {
+        let f = feed[i] | linkers(left, right, sides, i);
+        put_word(feed, i, f);
+        i += 1;
+    }
+}
+
+// The rules that precede each rule, and from 64 on the choosy rules that each feeds.
 pub fn draw_feed(
     body: &[u8],
     n: usize,
@@ -209,4 +241,5 @@ pub fn draw_feed(
 {
     draw_feeders(body, n, left, right, sides, feed);
     draw_fed(choosy, feed);
+    draw_linkers(n, left, right, sides, feed);
 }

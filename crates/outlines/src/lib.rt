@@ -1,5 +1,5 @@
 // Outlines: what an answer needs of the rules and does not depend on the question. Coordinates of subjects
-// and objects, the sides of the rules by coordinates, and which rule feeds which.
+// and objects, the sides of the rules by coordinates, and which rule precedes which.
 mod feed;
 mod left;
 mod numbers;

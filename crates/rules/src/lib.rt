@@ -1,4 +1,5 @@
-// Which rule feeds which, and masks of rules. The tests for circles and the strata of the rules: `ranks`.
+// Which rule feeds which, which links to which, and masks of rules. The tests for circles and the strata of
+// the rules: `ranks`.
 ghost use mathlib.Core.Path.{_≡_};
 ghost use mathlib.Core.Bool.{Bool·beq, false};
 ghost use Prim.Native.Nat.{ℕ, _*_, _≤_, _<_};
@@ -66,6 +67,18 @@ pub fn feeds(q: Rule, r: Rule) -> bool
         & mode
         & ((r.grantor == 0) | (r.grantor == q.author))
         & option
+}
+
+// Whether q's left side is a denial of what r's positive right side looks for.
+pub fn links(q: Rule, r: Rule) -> bool
+    ensures { λ x. ⌜ x ≡ model.links q r ⌝ }
+{
+    if q.left.object != r.right.object {
+        return false;
+    }
+    let subject = meets(q.left.subject, r.right.subject);
+    let mode = meets(fields::wide(q.left.mode), fields::wide(r.right.mode));
+    q.left.negative & !r.right.negative & (q.left.object == r.right.object) & subject & mode
 }
 
 // Whether a rule says WHENEVERNOT or UNLESS.

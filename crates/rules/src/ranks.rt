@@ -16,6 +16,7 @@ ghost use Rattle.rules.specs.Strata.{Holds, ownOf, raised, Ranked, Strat
 ghost use Rattle.encoding.specs.Format.{rulesIn};
 ghost use Rattle.rules.specs.Edges.{stepOf, Row, Edges, Inside, bestOf};
 use crate::feeds;
+use crate::links;
 use crate::negates;
 use encoding::rule_at;
 use model::RULE_BYTES;
@@ -28,17 +29,29 @@ fn counts(r: Rule, every: bool) -> bool
     every | negates(r)
 }
 
+// One for a test that passes.
+fn one(b: bool) -> u8
+    ensures { λ x. ⌜ x ≡ count b ⌝ }
+{
+    if b {
+        return 1;
+    }
+    0
+}
+
 // What the step from q to r counts, and one more; 0 if r does not look at q.
 fn step(q: Rule, r: Rule, every: bool) -> u8
     ensures { λ x. ⌜ x ≡ stepOf every q r ⌝ }
 {
-    if !feeds(q, r) {
+    let fed = feeds(q, r);
+    let linked = links(q, r);
+    if !(fed | linked) {
         return 0;
     }
-    if counts(r, every) {
+    if every {
         return 2;
     }
-    1
+    1 + one(negates(r)) + one(linked)
 }
 
 // Puts the edge from the i-th rule behind c others, if the step is one; how many they are then.
@@ -90,16 +103,6 @@ fn put_edges(s: &[u8], n: usize, every: bool, edges: &mut [u8; 4225], counts: &m
     }
 }
 
-// One for a test that passes.
-fn one_if(b: bool) -> u16
-    ensures { λ x. ⌜ x ≡ count b ⌝ }
-{
-    if b {
-        return 1;
-    }
-    0
-}
-
 // Puts what each rule counts by itself.
 fn put_own(s: &[u8], n: usize, every: bool, own: &mut [u16; 65])
     requires { ⌜ (n * 28 ≤ length (now s)) × (n ≤ 65) × (length (now own) ≡ 65) ⌝ }
@@ -108,7 +111,7 @@ fn put_own(s: &[u8], n: usize, every: bool, own: &mut [u16; 65])
 {
     let mut i = 0;
     while i < n {
-        own[i] = one_if(counts(rule_at(s, i * RULE_BYTES), every));
+        own[i] = one(counts(rule_at(s, i * RULE_BYTES), every)) as u16;
         i += 1;
     }
 }

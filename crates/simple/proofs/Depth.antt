@@ -1,9 +1,9 @@
--- The longest feeding path left, which falls while `held` and `gives` ask each other: `held` asks a rule on
--- it (`reach-rule`), and the rules that the right side of that rule may be given by are before it on such a
--- path (`reach-right`).
+-- The longest path of feeding and links left, which falls while `held` and `gives` ask each other: `held`
+-- asks a rule on it (`reach-rule`), and the rules that the right side of that rule, or a denial of it, may be
+-- given by are before it on such a path (`sight-right`).
 use mathlib.Core.Path.{_≡_, refl, sym, _∙_}
-use mathlib.Core.Bool.{true, false}
-use Prim.Native.Nat.{ℕ, _-_, _≤_, _<_}
+use mathlib.Core.Bool.{Bool, true, false}
+use Prim.Native.Nat.{ℕ, _-_, _≤_, _<_, max}
 use native.Mathlib.Omega.{arith}
 use Rattle.foundation.specs.Tests.{pick, cases}
 use Rattle.foundation.specs.Lists.{Mem}
@@ -15,11 +15,11 @@ use Rattle.model.specs.declared.Pattern.{Pattern}
 use Rattle.model.specs.Base.{Base}
 use Rattle.model.specs.Stratification.{precedes}
 use Rattle.model.specs.Circles.{circular, circular-cyclic}
-use Rattle.model.specs.Rules.{derivesFor, rightOf}
-use Rattle.model.specs.HoldsLaws.{fit-precedes}
+use Rattle.model.specs.Rules.{derivesFor, rightOf, asked}
+use Rattle.model.specs.HoldsLaws.{Fed, fit-precedes, strictly-linked}
 
 module _ (b : Base) where
-  -- how many rules are on the longest feeding path that ends in r,
+  -- how many rules are on the longest path that ends in r,
   unfoldable pub depth : Rule → ℕ
   depth r = rank precedes (λ q r. 1) (λ r. true) (b .rules) r
 
@@ -30,6 +30,21 @@ module _ (b : Base) where
   -- and on the longest one that ends in a rule that may give p
   unfoldable pub reach : Pattern → ℕ
   reach p = most (depthFor p) (b .rules)
+
+  -- what is looked at to know whether p is in force: p, and denials of it if it is none itself
+  abbrev pub sight : Pattern → ℕ
+  sight p = max (reach p) (pick (p .negative) 0 (reach (asked (p .access) true)))
+
+  pub sight-denial : (p : Pattern) → p .negative ≡ false → reach (asked (p .access) true) ≤ sight p
+  sight-denial p n = rw n (omega arith)
+
+  sight-less : (p : Pattern) (n : ℕ) → reach p < n →
+      (p .negative ≡ false → reach (asked (p .access) true) < n) → sight p < n
+  sight-less p n = less (p .negative) (reach p) (reach (asked (p .access) true))
+    where
+      less : (c : Bool) (i j : ℕ) → i < n → (c ≡ false → j < n) → max i (pick c 0 j) < n
+      less true i j f g = omega (arith, f)
+      less false i j f g = omega (arith, f, g refl)
 
   pub reach-rule : (p : Pattern) (r : Rule) → Mem r (b .rules) → depthFor p r ≤ reach p
   unfolding reach
@@ -53,15 +68,23 @@ module _ (b : Base) where
     unfolding depth
     depth-less q r n m f = ranked precedes (λ q r. 1) (λ r. true) (b .rules) light free .less q r n m f refl
 
-    pub reach-right : (p : Pattern) (r : Rule) → Mem r (b .rules) → derivesFor b p r ≡ true →
-        reach (rightOf r (p .access)) < depthFor p r
+    -- what is derived only by rules that r looks at
+    reach-fed : (p : Pattern) (r : Rule) → Mem r (b .rules) → Fed b r p → reach p < depth r
     unfolding reach
-    reach-right p r m d =
-        let right = rightOf r (p .access) in
-        rw d (omega (
-          arith,
-          depth-one r m,
-          most-le (depthFor right) (b .rules) (depth r - 1) (λ q n. cases (derivesFor b right q)
-              (λ f. rw f (omega (arith, depth-less q r n m (fit-precedes b q r (p .access) f))))
-              (λ f. rw f (omega arith))),
-        ))
+    reach-fed p r m h = omega (
+      arith,
+      depth-one r m,
+      most-le (depthFor p) (b .rules) (depth r - 1) (λ q n. cases (derivesFor b p q)
+          (λ f. rw f (omega (arith, depth-less q r n m (h q f))))
+          (λ f. rw f (omega arith))),
+    )
+
+    pub sight-right : (p : Pattern) (r : Rule) → Mem r (b .rules) → derivesFor b p r ≡ true →
+        sight (rightOf r (p .access)) < depthFor p r
+    unfolding rightOf
+    sight-right p r m d =
+        let x = p .access in
+        let right = rightOf r x in
+        let f = reach-fed right r m (λ q e. fit-precedes b q r x e) in
+        rw d (sight-less right (depth r) f
+        (λ n. reach-fed (asked (right .access) true) r m (λ q e. strictly-linked b r x n q e .0)))

@@ -18,7 +18,8 @@ use Rattle.model.specs.declared.Pattern.{Pattern}
 use Rattle.model.specs.Base.{Base}
 use Rattle.model.specs.Support.{live}
 use Rattle.model.specs.Stratification.{stratified}
-use Rattle.model.specs.Rules.{fact, fits, derivesFor, rightOf, operate, holds}
+use Rattle.model.specs.Rules.{fact, fits, derivesFor, rightOf, asked, operate, holds}
+use Rattle.model.specs.RightFacts.{right-positive, right-denial}
 use Rattle.model.specs.HoldsLaws.{derived, holding, holds-law, derived-law}
 use Rattle.model.specs.Encoding.{ruleOf, decode}
 use Rattle.encoding.specs.Format.{countsOf}
@@ -48,6 +49,23 @@ held-given s p t n k e =
     ap (given s p t) k
     ∙ ap (anyb (givesIn (decode s) p t)) (sym (decoded-rules s))
     ∙ sym (holds-law (decode s) t p ∙ rw e)
+
+-- ---- in force
+
+module _ (b : Base) (p : Pattern) (t : ℕ) (h : Bool) (e : h ≡ holds always b t p) where
+  pub force-unheld : h ≡ false → false ≡ holding b t p
+  force-unheld n = ap (λ (x : Bool). x && (p .negative || not (holds always b t (asked (p .access) true))))
+      (sym n ∙ e)
+
+  pub force-denial : h ≡ true → p .negative ≡ true → true ≡ holding b t p
+  force-denial y n = sym y ∙ e ∙ sym (right-denial (holds always b t) (holds always b t) p n)
+
+  pub force-positive : h ≡ true → p .negative ≡ false → (d : Bool) →
+      d ≡ holds always b t (asked (p .access) true) → not d ≡ holding b t p
+  force-positive y n d g =
+      ap not g
+      ∙ ap (λ (x : Bool). x && not (holds always b t (asked (p .access) true))) (sym y ∙ e)
+      ∙ sym (right-positive (holds always b t) (holds always b t) p n)
 
 -- ---- gives
 

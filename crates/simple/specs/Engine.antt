@@ -16,7 +16,7 @@ use Rattle.model.specs.HoldsLaws.{derived, holding}
 use Rattle.model.specs.Encoding.{decode}
 use Rattle.model.specs.Soundness.{soundBytes}
 
--- 02: "It serves rule sets in which feeding has no circle of any sort"
+-- 02: "It serves rule sets in which feeding has no circle of any sort"; "such links count as feeding"
 pub record Served (s : List ℕ) : Type 0 where
   pub sound : soundBytes s ≡ true
   pub uncircular : circular (decode s .rules) ≡ false
@@ -24,6 +24,10 @@ pub record Served (s : List ℕ) : Type 0 where
 -- p is held at t
 abbrev pub heldAt : List ℕ → Pattern → ℕ → Bool
 heldAt s p t = holds always (decode s) t p
+
+-- p counts as held on a right side at t
+abbrev pub inForceAt : List ℕ → Pattern → ℕ → Bool
+inForceAt s p t = holding (decode s) t p
 
 -- some authorization gives p at t
 abbrev pub grantedAt : List ℕ → Pattern → ℕ → Bool

@@ -1,10 +1,11 @@
 // A simple engine for the question MAY, to be read, and to compare the main one with.
 //
 // It looks at one instant at a time and keeps nothing. Whether something is held depends on the rules that
-// may give it (`held`), and whether a rule gives it depends on what is held (`gives`): the two call each
-// other. That ends where no rule feeds itself in the end, since the rules that may give a right side feed the
-// rule that looks at it: the longest feeding path left falls at each turn. Where one does, the reply is 15,
-// behind 2, 3 and 6.
+// may give it (`held`), and whether a rule gives it depends on what is held and not denied (`gives`,
+// `in_force`): they call each other. That ends where no rule feeds itself in the end, links counting as
+// feeding, since the rules that may give a right side feed the rule that looks at it, and those that may give
+// a denial of it link to that rule: the longest path left falls at each turn. Where one does, the reply is
+// 15, behind 2, 3 and 6.
 //
 // Below, `s` is the bytes of the base, `p` what is looked for, `t` an instant. The lines `requires` and
 // `ensures` are what is proved of a function, in the words of specs/Engine.antt, which `ghost use` names;
@@ -12,7 +13,7 @@
 ghost use mathlib.Core.Path.{_≡_};
 ghost use Prim.Native.Nat.{_≤_};
 ghost use Rattle.model.specs.Simple.{simpleAnswer};
-ghost use Rattle.simple.specs.Engine.{Served, Listed, heldAt, givenAt, wantedFrom};
+ghost use Rattle.simple.specs.Engine.{Served, Listed, heldAt, inForceAt, givenAt, wantedFrom};
 
 mod sides;
 mod stored;
@@ -77,8 +78,24 @@ fn held(s: &[u8], p: Pattern, t: u32) -> bool
     false
 }
 
-// Whether a rule gives p at t: its left side is p, t is in its interval, and its right side is held, or not
-// held, as its operator says, at t or at all instants from the rule's start to t.
+// Whether p counts as held on a right side at t: it is held, and, if it is no denial itself, no denial of its
+// access is, whoever gave it.
+fn in_force(s: &[u8], p: Pattern, t: u32) -> bool
+    requires { ⌜ Served (now s) ⌝ }
+    ensures { λ x. ⌜ x ≡ inForceAt (now (s .entry)) p t ⌝ }
+{
+    if !held(s, p, t) {
+        return false;
+    }
+    if p.negative {
+        return true;
+    }
+    let x = p.access;
+    !held(s, asked(x, true), t)
+}
+
+// Whether a rule gives p at t: its left side is p, t is in its interval, and its right side is in force, or
+// not, as its operator says, at t or at all instants from the rule's start to t.
 fn gives(s: &[u8], r: Rule, p: Pattern, t: u32) -> bool
     requires { ⌜ Served (now s) × Listed (now s) r ⌝ }
     ensures { λ x. ⌜ x ≡ givenAt (now (s .entry)) r p t ⌝ }
@@ -90,20 +107,20 @@ fn gives(s: &[u8], r: Rule, p: Pattern, t: u32) -> bool
     let right = right_of(r, p.access);
     let o = r.operator;
     match o {
-        Operator::Whenever => held(s, right, t),
+        Operator::Whenever => in_force(s, right, t),
         Operator::AsLongAs => throughout(s, right, i.start, t, true),
-        Operator::WheneverNot => !held(s, right, t),
+        Operator::WheneverNot => !in_force(s, right, t),
         Operator::Unless => throughout(s, right, i.start, t, false),
     }
 }
 
-// Whether p is held (wanted: true), or not held (wanted: false), at every single instant from one to another.
+// Whether p is in force (wanted: true), or not (wanted: false), at every single instant from one to another.
 fn throughout(s: &[u8], p: Pattern, from: u32, to: u32, wanted: bool) -> bool
     requires { ⌜ Served (now s) × (from ≤ to) ⌝ }
     ensures { λ x. ⌜ x ≡ wantedFrom (now (s .entry)) p from to wanted ⌝ }
 {
     for u in from..=to {
-        if held(s, p, u) != wanted {
+        if in_force(s, p, u) != wanted {
             return false;
         }
     }

@@ -51,7 +51,7 @@ pub fn rule(s: &[u8], i: usize) -> Rule
     rule_at(s, rules_at(counts_of(s)) + i * RULE_BYTES)
 }
 
-// Whether feeding leads from some rule back to it.
+// Whether feeding, links counting as feeding, leads from some rule back to it.
 pub fn has_circle(s: &[u8]) -> bool
     requires { ⌜ soundBytes (now s) ≡ true ⌝ }
     ensures { λ r. ⌜ r ≡ circles.circular (decode (now (s .entry)) .rules) ⌝ }

@@ -12,7 +12,7 @@ use Rattle.foundation.specs.Intervals.{prepend}
 use Rattle.foundation.specs.Marks.{next, walk}
 use Rattle.model.specs.Base.{emptyBase}
 use Rattle.model.specs.Support.{supports, supportedIn, supported, coveredFor}
-use Rattle.model.specs.Stratification.{feeds, precedes, weight, stratified, stratum}
+use Rattle.model.specs.Stratification.{feeds, links, precedes, weight, stratified, stratum}
 use Rattle.model.specs.Requests.{takes, affects}
 use Rattle.model.specs.Rules.{fits, standsFor, derivesFor, rightOf, derivedBelow, holds, mayWith}
 use Rattle.model.specs.Means.{Means, atMarks, keepAt, leaveAt, restrictAt, gapsAt}
@@ -124,9 +124,8 @@ Passes (c ∷ rest) = (transcript (atMarks 64) (readAtMarks 64) (lines (c .input
 
 computed : Passes table
 unfolding iter reaches cyclic rankIn rank prepend next walk supports supportedIn supported coveredFor feeds
-    precedes
-    weight stratified holds stratum derivedBelow mayWith keepAt leaveAt restrictAt gapsAt alwaysAt mayAtMarks
-    whenAtMarks decimal readLine fits standsFor derivesFor rightOf takes affects
+    links precedes weight stratified holds stratum derivedBelow mayWith keepAt leaveAt restrictAt gapsAt
+    alwaysAt mayAtMarks whenAtMarks decimal readLine fits standsFor derivesFor rightOf takes affects
 computed = (refl, (refl, (refl, (refl, (refl, (refl, (refl, (refl, (refl, (refl, (refl, (refl, tt))))))))))))
 
 at : (cs : List Case) → Passes cs → (c : Case) → Mem c cs →

@@ -119,7 +119,8 @@ pub struct Side {
     pub negative: bool,
 }
 
-/// What a rule asks of its right side.
+/// What a rule asks of its right side. A right counts as held where it is in force: where no denial of that
+/// subject, mode and object is held too, whoever gave it.
 #[derive(Clone, Copy, Debug, PartialEq, Eq)]
 pub enum Operator {
     /// It is held at the instant.

@@ -78,7 +78,7 @@ impl fmt::Display for Refusal {
             }
             Refusal::AlreadySo => "already so: nothing to do",
             Refusal::NotHeld => "not held: nothing to do",
-            Refusal::NotStratified => "not stratified: a rule with WHENEVERNOT or UNLESS would feed itself",
+            Refusal::NotStratified => "not stratified: a rule would negate or deny what it rests on",
             Refusal::Barred => "barred: leave out the instants at which the giver is denied, or have the denial withdrawn",
             Refusal::Full => "full: withdraw what has passed, or lend a list of 1,100 pairs, a page of 45,056 bytes, a byte for each question",
             Refusal::Circular => "circular: ask `may`, which serves all rules",

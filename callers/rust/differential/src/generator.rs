@@ -1,5 +1,5 @@
 //! Random requests and questions that fit what is in the base, so that much is accepted, and some that do not.
-use crate::image::{Contents, Holder, Line};
+use crate::image::{Contents, Holder, Line, Rule};
 use crate::pair::Step;
 use crate::random::Random;
 use crate::text;
@@ -23,6 +23,12 @@ fn term(number: u32) -> Term {
     } else {
         Term::Number(number)
     }
+}
+
+// A side about this subject, mode and object; its stars stay.
+fn about(side: Side, (subject, mode, object): (u32, u32, u32)) -> Side {
+    let number = |old: Term, new: u32| if old == Term::Any { old } else { Term::Number(new) };
+    Side { subject: number(side.subject, subject), mode: number(side.mode, mode), object, ..side }
 }
 
 impl Generator<'_> {
@@ -144,7 +150,27 @@ impl Generator<'_> {
             (0..=90, _) => q.requester = self.root(contents, object),
             _ => q.requester = self.subject(),
         }
+        if self.world.in_force && self.random.percent(if kind == 3 { 70 } else { 35 }) {
+            self.meet(&mut q, contents);
+        }
         q
+    }
+
+    // What a rule looks at as a right, with its subject and mode or any for a star.
+    fn looked_at(&mut self, contents: &Contents) -> Option<(u32, u32, u32)> {
+        let positive: Vec<Rule> = contents.rules.iter().copied().filter(|rule| rule.flags & 2 == 0).collect();
+        let rule = self.random.pick_any(&positive)?;
+        let subject = if rule.right_subject == 0 { self.subject() } else { rule.right_subject };
+        let mode = if rule.right_mode == 0 { self.mode() } else { rule.right_mode };
+        Some((subject, mode, rule.right_object))
+    }
+
+    // Lets a grant or denial, by one who may, be about what a rule looks at.
+    fn meet(&mut self, q: &mut Numbers, contents: &Contents) {
+        if let Some((subject, mode, object)) = self.looked_at(contents) {
+            (q.subject, q.mode, q.object) = (subject, mode, object);
+            q.requester = self.root(contents, object);
+        }
     }
 
     fn revoke(&mut self, contents: &Contents, now: u32) -> Numbers {
@@ -221,7 +247,30 @@ impl Generator<'_> {
             50..=64 if !right.negative || self.random.percent(15) => OptionTerm::With,
             _ => OptionTerm::Without,
         };
+        if self.world.in_force {
+            self.join(&mut q, contents);
+        }
         q
+    }
+
+    // Lets a rule look at a right, deny what another looks at, or pass on what another gives to where it is looked
+    // at, so that rights go through several rules and come round.
+    fn join(&mut self, q: &mut Numbers, contents: &Contents) {
+        q.right.negative &= !self.random.percent(80);
+        let chance = self.random.below(100);
+        let Some(seen) = self.looked_at(contents).filter(|_| chance < 60) else { return };
+        q.left = about(q.left, seen);
+        q.left.negative = chance < 28;
+        let given: Vec<Rule> = contents.rules.iter().copied().filter(|rule| rule.flags & 1 == 0).collect();
+        if let Some(rule) = self.random.pick_any(&given).filter(|_| !q.left.negative) {
+            let (subject, mode) = (self.subject(), self.mode());
+            let subject = if rule.left_subject == 0 { subject } else { rule.left_subject };
+            let mode = if rule.left_mode == 0 { mode } else { rule.left_mode };
+            q.right = Side { negative: false, ..about(q.right, (subject, mode, rule.left_object)) };
+            q.operator = self.random.between(1, 2);
+            (q.grantor, q.right_option) = (Term::Any, OptionTerm::Either);
+        }
+        q.requester = self.author(contents, q.left.object, q.right.object);
     }
 
     // Stars on both sides or on neither, but on one side now and then.

@@ -222,6 +222,9 @@ impl Pair {
             Some(oracle) => oracle.request(&asked),
         };
         self.tally.request(q.kind, if let oracle::Reply::Refused(row) = expected { row } else { 0 });
+        if let (oracle::Reply::Refused(12), Some(oracle)) = (expected, &self.oracle) {
+            self.tally.closed_by_link += u64::from(oracle.closes_by_link(&asked));
+        }
         match (expected, &self.oracle) {
             (oracle::Reply::Done { label, lines }, Some(oracle)) => {
                 same(reply, (0, label, lines))?;
@@ -248,6 +251,10 @@ impl Pair {
             Some(oracle) => oracle.may(x.subject, x.mode, x.object, instant),
         };
         self.tally.may(expected);
+        if let (Ok(_), Some(oracle)) = (expected, &self.oracle) {
+            self.tally.linked += u64::from(oracle.links() > 0);
+            self.tally.denied += u64::from(oracle.looks_at_denied(x.subject, x.mode));
+        }
         same(reply, expected.map_or_else(refused, |yes| (0, 0, u32::from(yes))))?;
         same_bytes(&self.base, &self.before)?;
         Ok(reply.0)

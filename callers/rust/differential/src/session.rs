@@ -68,6 +68,13 @@ pub fn session(seed: u64) -> Result<Tally, Box<Failure>> {
     play(seed, |_, generator| generator.random.below(8), |base, _, generator| other_base(base, generator))
 }
 
+/// One random session with denials beside rules, with a few damaged bases that come of it.
+pub fn in_force_session(seed: u64) -> Result<Tally, Box<Failure>> {
+    let world = |random: &mut Random| World::random(random).in_force();
+    let count = |_: &[u8], generator: &mut Generator| generator.random.below(8);
+    play_in(seed, world, count, |base, _, generator| other_base(base, generator))
+}
+
 /// A random session, and many damaged bases that come of it.
 pub fn damaged_session(seed: u64, count: usize) -> Result<Tally, Box<Failure>> {
     play(seed, |_, _| count, |base, _, generator| other_base(base, generator))
@@ -137,10 +144,12 @@ pub fn round_session(seed: u64, counts: &[usize]) -> Result<Tally, Box<Failure>>
     )
 }
 
-/// A short random session, and questions to the simple engine over its last base and over damaged bases that come of it.
+/// A short random session, every third with denials beside rules, and questions to the simple engine over its last
+/// base and over damaged bases that come of it.
 pub fn simple_session(seed: u64) -> Result<Tally, Box<Failure>> {
     let mut random = Random::new(seed);
     let world = World::small(&mut random);
+    let world = if seed % 3 == 0 { world.in_force() } else { world };
     questioned(&format!("simple session {seed}"), Generator { random: &mut random, world }, |pair, generator, _| {
         let contents = Contents::read(pair.base());
         for _ in 0..40 {
@@ -199,9 +208,18 @@ fn play(
     count: impl Fn(&[u8], &mut Generator) -> usize,
     other: impl Fn(&[u8], usize, &mut Generator) -> Vec<u8>,
 ) -> Result<Tally, Box<Failure>> {
+    play_in(seed, World::random, count, other)
+}
+
+fn play_in(
+    seed: u64,
+    world: impl Fn(&mut Random) -> World,
+    count: impl Fn(&[u8], &mut Generator) -> usize,
+    other: impl Fn(&[u8], usize, &mut Generator) -> Vec<u8>,
+) -> Result<Tally, Box<Failure>> {
     let mut random = Random::new(seed);
-    let world = World::random(&mut random);
-    let name = format!("session {seed}");
+    let world = world(&mut random);
+    let name = if world.in_force { format!("session {seed} in force") } else { format!("session {seed}") };
     let mut pair = Pair::new(world.boundaries());
     let mut generator = Generator { random: &mut random, world };
     let ran = begin(&mut pair, &mut generator).and_then(|length| run(&mut pair, &mut generator, length));

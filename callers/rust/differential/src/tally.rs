@@ -30,6 +30,12 @@ pub struct Tally {
     pub judged: u64,
     /// How many of them were sound.
     pub sound: u64,
+    /// Answers to MAY over bases with links between rules.
+    pub linked: u64,
+    /// Answers to MAY to which a rule matters whose right side is held and denied at some instant.
+    pub denied: u64,
+    /// Rules refused with 12 for a circle that is forbidden for its links alone.
+    pub closed_by_link: u64,
     most_lines: usize,
     most_rules: usize,
 }
@@ -171,6 +177,9 @@ impl Tally {
         self.round_questions += other.round_questions;
         sum(&mut self.round_bytes, &other.round_bytes);
         sum(&mut self.rounds_refused, &other.rounds_refused);
+        self.linked += other.linked;
+        self.denied += other.denied;
+        self.closed_by_link += other.closed_by_link;
         self.judged += other.judged;
         self.sound += other.sound;
         self.sizes(other.most_lines, other.most_rules);
@@ -199,6 +208,8 @@ impl fmt::Display for Tally {
         writeln!(f, "{} requests, at most {} lines and {} rules", self.requests(), self.most_lines, self.most_rules)?;
         let [no, yes] = self.may;
         writeln!(f, "MAY: {yes} yes, {no} no; WHEN: {} runs, at most {}", self.runs, self.most_runs)?;
+        write!(f, "MAY: {} over bases with links, {} where a rule looks at", self.linked, self.denied)?;
+        writeln!(f, " a right held and denied; {} rules refused for links alone", self.closed_by_link)?;
         writeln!(f, "the longest sheet: {} bytes", self.longest_sheet)?;
         if self.texts + self.texts_refused > 0 {
             let (answered, unreadable, refused) = self.texts();

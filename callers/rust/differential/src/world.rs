@@ -25,6 +25,8 @@ pub struct World {
     pub rise: usize,
     /// Whether intervals are short, so that there are many runs.
     pub short: bool,
+    /// Whether rules mostly look at rights, and denials mostly meet what rules look at.
+    pub in_force: bool,
     /// How often each kind is asked for.
     pub weights: [usize; 12],
     boundaries: Vec<u32>,
@@ -46,11 +48,12 @@ fn pool(random: &mut Random, count: usize, most: u32) -> Vec<u32> {
 }
 
 //                          NEW GR DE RV RP RN AR DR GA RA GF RF
-const FLAVOURS: [[usize; 12]; 4] = [
+const FLAVOURS: [[usize; 12]; 5] = [
     [2, 34, 10, 8, 12, 6, 10, 3, 6, 4, 4, 3], // of everything
     [2, 60, 8, 8, 14, 3, 2, 1, 5, 5, 1, 1],   // chains of grants and their withdrawal
     [2, 22, 10, 3, 5, 3, 38, 6, 6, 1, 5, 1],  // rules
     [2, 24, 10, 4, 6, 4, 16, 3, 12, 9, 9, 7], // privileges
+    [2, 24, 20, 2, 3, 4, 34, 5, 3, 1, 1, 1],  // denials beside rules
 ];
 
 impl World {
@@ -72,6 +75,7 @@ impl World {
             length: length as usize,
             rise: (75 * count / length).clamp(10, 60) as usize,
             short: dense || random.percent(30),
+            in_force: false,
             weights: FLAVOURS[random.weighted(&[40, 25, 25, 10])],
             boundaries: boundaries(first, count),
         }
@@ -91,9 +95,15 @@ impl World {
             length: random.between(8, 30) as usize,
             rise: 20,
             short: random.percent(30),
+            in_force: false,
             weights: FLAVOURS[2],
             boundaries: boundaries(0, count),
         }
+    }
+
+    /// That world, with denials beside rules.
+    pub fn in_force(self) -> World {
+        World { in_force: true, weights: FLAVOURS[4], ..self }
     }
 
     /// The instants at which a cell of the oracle starts.

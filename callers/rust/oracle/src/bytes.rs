@@ -1,6 +1,6 @@
 //! 01, "The base as bytes": writing, and reading with every sentence of soundness on its own.
 
-use crate::held::cycle_through_negation;
+use crate::held::forbidden_circle;
 use crate::support::unsupported;
 use crate::*;
 
@@ -489,7 +489,7 @@ fn authors_have_powers(base: &Oracle) -> bool {
 /// "the rules have no forbidden circle"
 fn is_stratified(base: &Oracle) -> bool {
     let rules: Vec<&StandingRule> = base.rules.values().collect();
-    !cycle_through_negation(&rules)
+    !forbidden_circle(&rules)
 }
 
 impl Oracle {

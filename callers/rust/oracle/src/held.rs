@@ -1,4 +1,4 @@
-//! 01, "Rules", and the two questions.
+//! 01, "Rules", with 02, CR 7, "Rules look at rights in force"; and the two questions.
 
 use crate::*;
 
@@ -25,20 +25,45 @@ pub(crate) fn feeds(q: &StandingRule, r: &StandingRule) -> bool {
         && (r.rule.option == OptionTerm::Either || r.rule.option == OptionTerm::Without)
 }
 
-/// "A circle of feeding with a WHENEVERNOT or UNLESS in it is forbidden; a rule that feeds itself is a
-/// circle." From each such rule a path of feeding is searched that comes back to it.
-pub(crate) fn cycle_through_negation(rules: &[&StandingRule]) -> bool {
-    (0..rules.len()).any(|i| negated(rules[i]) && comes_back(rules, i))
+/// "a rule with a denial on its left also links to every rule whose positive right side has the same object,
+/// with subject and mode equal or starred on either side"; granter and option are not asked about.
+pub(crate) fn links(q: &StandingRule, r: &StandingRule) -> bool {
+    let left = &q.rule.left;
+    let right = &r.rule.right;
+    left.negative
+        && !right.negative
+        && left.object == right.object
+        && meet(left.subject, right.subject)
+        && meet(left.mode, right.mode)
 }
 
-/// Whether a path of feeding leads from a rule back to it.
-pub(crate) fn comes_back(rules: &[&StandingRule], home: usize) -> bool {
+/// 01 and CR 7 name two sorts of circles; neither may be there.
+pub(crate) fn forbidden_circle(rules: &[&StandingRule]) -> bool {
+    negated_circle(rules) || linked_circle(rules)
+}
+
+/// "A circle of feeding with a WHENEVERNOT or UNLESS in it is forbidden; a rule that feeds itself is a
+/// circle." From each such rule a path is searched that comes back to it.
+fn negated_circle(rules: &[&StandingRule]) -> bool {
+    (0..rules.len()).any(|i| negated(rules[i]) && reaches(rules, i, i, false))
+}
+
+/// "a circle with such a link is forbidden": of feeding and links mixed, and a rule that links to itself is
+/// one. From the end of each link a path is searched that comes back to its beginning.
+fn linked_circle(rules: &[&StandingRule]) -> bool {
+    let back = |q: usize, r: usize| q == r || reaches(rules, r, q, true);
+    (0..rules.len()).any(|q| (0..rules.len()).any(|r| links(rules[q], rules[r]) && back(q, r)))
+}
+
+/// Whether a path of feeding, or of feeding and links, of one step at least leads from a rule to another or
+/// back to it.
+pub(crate) fn reaches(rules: &[&StandingRule], from: usize, to: usize, with_links: bool) -> bool {
     let mut seen = vec![false; rules.len()];
-    let mut to_visit = vec![home];
+    let mut to_visit = vec![from];
     while let Some(i) = to_visit.pop() {
         for j in 0..rules.len() {
-            if feeds(rules[i], rules[j]) {
-                if j == home {
+            if feeds(rules[i], rules[j]) || with_links && links(rules[i], rules[j]) {
+                if j == to {
                     return true;
                 }
                 if !seen[j] {
@@ -52,8 +77,9 @@ pub(crate) fn comes_back(rules: &[&StandingRule], home: usize) -> bool {
 }
 
 /// "A rule's rank is the most WHENEVERNOT and UNLESS rules on a feeding path that ends in it, itself
-/// included." Paths are lengthened by one rule at a time until no rank rises any more; that ends, since
-/// without a forbidden circle going round a circle adds nothing.
+/// included", where paths go over links too "and the link counts one in a rank". Paths are lengthened by one
+/// rule at a time until no rank rises any more; that ends, since without a forbidden circle going round a
+/// circle adds nothing.
 pub(crate) fn strata(rules: &[&StandingRule]) -> Vec<u32> {
     let own: Vec<u32> = rules.iter().map(|rule| u32::from(negated(rule))).collect();
     let mut strata = own.clone();
@@ -61,8 +87,10 @@ pub(crate) fn strata(rules: &[&StandingRule]) -> Vec<u32> {
         let mut risen = false;
         for r in 0..rules.len() {
             for q in 0..rules.len() {
-                if strata[q] + own[r] > strata[r] && feeds(rules[q], rules[r]) {
-                    strata[r] = strata[q] + own[r];
+                let link = links(rules[q], rules[r]);
+                let through = strata[q] + u32::from(link) + own[r];
+                if through > strata[r] && (link || feeds(rules[q], rules[r])) {
+                    strata[r] = through;
                     risen = true;
                 }
             }
@@ -101,6 +129,12 @@ impl Wanted {
             }
     }
 
+    /// "no denial for that subject, object and mode [...], whoever gave it": what must not be held where
+    /// this, a positive right side, counts as held.
+    pub(crate) fn denial(&self) -> Wanted {
+        Wanted { negative: true, grantor: Term::Any, option: OptionTerm::Either, ..*self }
+    }
+
     /// Does what a rule gives fit? "The left side is never transferable and its granter is the author."
     fn fits_rule(&self, single: &Single) -> bool {
         self.subject == single.subject
@@ -127,6 +161,8 @@ struct Single {
     wanted: Wanted,
     /// The cells where the right side is held, as far as is known: by lines from the outset.
     right: Set,
+    /// The cells where the right side, if it is positive, is denied, likewise.
+    denied: Set,
     /// The cells at which this rule gives its left side, as far as is known.
     gives: Set,
 }
@@ -149,8 +185,8 @@ impl Oracle {
     /// `subject` and `mode`: that pair itself, and with a pair also the right side's pair of every rule
     /// whose left side can be about it. That is enough: whether something is held about a pair is decided
     /// by lines about that pair and by rules with that pair on the left, and whether such a rule gives it
-    /// is decided by what is held about the pair on its right; no other pair is ever asked about. (A test
-    /// compares with the expansion over all pairs.)
+    /// is decided by what is held about the pair on its right, denials of that pair included; no other pair
+    /// is ever asked about. (A test compares with the expansion over all pairs.)
     fn pairs_that_matter(&self, subject: u32, mode: u32) -> Vec<(u32, u32)> {
         let mut pairs = vec![(subject, mode)];
         let mut next = 0;
@@ -204,6 +240,11 @@ impl Oracle {
                     stratum,
                     wanted,
                     right: self.held_by_lines(&wanted),
+                    denied: if wanted.negative {
+                        Set::empty(&self.cells)
+                    } else {
+                        self.held_by_lines(&wanted.denial())
+                    },
                     gives: Set::empty(&self.cells),
                 });
             }
@@ -296,6 +337,29 @@ impl Oracle {
         Ok(runs)
     }
 
+    /// How many links there are between the rules: for a test to count.
+    pub fn links(&self) -> usize {
+        let rules: Vec<&StandingRule> = self.rules.values().collect();
+        rules.iter().map(|q| rules.iter().filter(|r| links(q, r)).count()).sum()
+    }
+
+    /// Whether some rule that matters to a question has, at an instant of its interval, a right side that is
+    /// held and denied: for a test to count.
+    pub fn looks_at_denied(&self, subject: u32, mode: u32) -> bool {
+        let singles = self.build(&self.pairs_that_matter(subject, mode));
+        let denied = |single: &Single| {
+            (single.first..=single.last).any(|cell| single.right.has(cell) && single.denied.has(cell))
+        };
+        singles.iter().any(denied)
+    }
+
+    /// Whether the circle that a rule would close is forbidden for its links alone: for a test to count.
+    pub fn closes_by_link(&self, q: &Request) -> bool {
+        let new = self.new_rule(q);
+        let rules: Vec<&StandingRule> = self.rules.values().chain([&new]).collect();
+        linked_circle(&rules) && !negated_circle(&rules)
+    }
+
     /// WHEN, with the stars expanded over every subject of a list and every mode: for the test that
     /// `pairs_that_matter` is enough.
     #[doc(hidden)]
@@ -313,13 +377,22 @@ impl Oracle {
 /// Adds to what single rule r gives, cell by cell. Says whether anything was added.
 ///
 /// "In its interval, WHENEVER gives the left side at t if the right is held at t; ASLONGAS if held at all
-/// instants from the rule's start to t; WHENEVERNOT and UNLESS likewise with 'not held'."
+/// instants from the rule's start to t; WHENEVERNOT and UNLESS likewise with 'not held'." Where, from CR 7,
+/// "a positive right side counts as held at t, under all four operators, exactly if it is held and no denial
+/// for that subject, object and mode is held at t, whoever gave it. A denial on the right counts as before."
+///
+/// A rule that can give such a denial links to this one, so its rank is smaller and what it gives is known.
 fn apply(singles: &mut [Single], r: usize) -> bool {
-    // "Held means given by a line or by a rule, denied or not."
+    // "Held means given by a line or by a rule"
     let mut right = std::mem::take(&mut singles[r].right);
+    let mut denied = std::mem::take(&mut singles[r].denied);
+    let wanted = singles[r].wanted;
     for q in 0..singles.len() {
-        if singles[r].wanted.fits_rule(&singles[q]) {
+        if wanted.fits_rule(&singles[q]) {
             right.put_all(&singles[q].gives);
+        }
+        if !wanted.negative && wanted.denial().fits_rule(&singles[q]) {
+            denied.put_all(&singles[q].gives);
         }
     }
     let single = &mut singles[r];
@@ -327,7 +400,7 @@ fn apply(singles: &mut [Single], r: usize) -> bool {
     let mut held_so_far = true; // at all instants from the rule's start to t
     let mut not_held_so_far = true;
     for cell in single.first..=single.last {
-        let held = right.has(cell);
+        let held = right.has(cell) && !denied.has(cell);
         held_so_far &= held;
         not_held_so_far &= !held;
         let given = match single.operator {
@@ -343,5 +416,6 @@ fn apply(singles: &mut [Single], r: usize) -> bool {
         }
     }
     single.right = right;
+    single.denied = denied;
     added
 }

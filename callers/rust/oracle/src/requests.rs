@@ -1,6 +1,6 @@
-//! 01, "Requests" and "Replies that refuse", rows 3 to 13; 02, CR 4, row 14.
+//! 01, "Requests" and "Replies that refuse", rows 3 to 13; 02, CR 4, row 14, and CR 7 for row 12.
 
-use crate::held::cycle_through_negation;
+use crate::held::forbidden_circle;
 use crate::support::restrict_to_supported;
 use crate::*;
 
@@ -158,7 +158,7 @@ impl Oracle {
         let new = self.new_rule(q);
         let mut rules: Vec<&StandingRule> = self.rules.values().collect();
         rules.push(&new);
-        cycle_through_negation(&rules)
+        forbidden_circle(&rules)
     }
 
     /// The first and last cell of the interval that a request names.
@@ -166,7 +166,7 @@ impl Oracle {
         (self.cells.starting(q.start), self.cells.ending(q.end))
     }
 
-    fn new_rule(&self, q: &Request) -> StandingRule {
+    pub(crate) fn new_rule(&self, q: &Request) -> StandingRule {
         let (first, last) = self.span(q);
         StandingRule { author: q.requester, rule: q.rule, first, last }
     }

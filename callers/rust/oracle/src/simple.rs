@@ -1,11 +1,11 @@
 //! Document 02, change request 6: "A simple engine to compare with", to the letter.
-use crate::held::{comes_back, left_can_be, meet, put_in, Wanted};
+use crate::held::{left_can_be, meet, put_in, reaches, Wanted};
 use crate::*;
 
 impl Oracle {
-    /// MAY of the simple engine: "15, circular, by the simple engine only, exactly if some feeding circle exists; it
-    /// comes last". None where it would look at an instant more than `looks` times: "It steps through single instants",
-    /// and a test has no time for long spans.
+    /// MAY of the simple engine: "15, circular, by the simple engine only, exactly if some feeding circle exists;
+    /// it comes last"; and "For CR 6 such links count as feeding" (CR 7). None where it would look at an instant more
+    /// than `looks` times: "It steps through single instants", and a test has no time for long spans.
     pub fn simple_may(
         &self,
         subject: u32,
@@ -18,7 +18,7 @@ impl Oracle {
             return Some(Err(row));
         }
         let rules: Vec<&StandingRule> = self.rules.values().collect();
-        if (0..rules.len()).any(|home| comes_back(&rules, home)) {
+        if (0..rules.len()).any(|home| reaches(&rules, home, home, true)) {
             return Some(Err(15));
         }
         let asked =
@@ -61,11 +61,18 @@ impl Oracle {
         let from = if rule.operator == WHENEVER || rule.operator == WHENEVERNOT { instant } else { start };
         let is_held = rule.operator == WHENEVER || rule.operator == ASLONGAS;
         for each in from..=instant {
-            if self.held_at(&right, each, looks)? != is_held {
+            if self.in_force_at(&right, each, looks)? != is_held {
                 return Some(false);
             }
         }
         Some(true)
+    }
+
+    /// "a positive right side counts as held at t [...] exactly if it is held and no denial for that subject,
+    /// object and mode is held at t, whoever gave it. A denial on the right counts as before." (CR 7)
+    fn in_force_at(&self, right: &Wanted, instant: u32, looks: &mut u64) -> Option<bool> {
+        let held = self.held_at(right, instant, looks)?;
+        Some(held && (right.negative || !self.held_at(&right.denial(), instant, looks)?))
     }
 }
 

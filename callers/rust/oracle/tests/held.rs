@@ -78,7 +78,16 @@ fn holds(facts: &BTreeSet<Fact>, rule: &Single, t: u32) -> bool {
     })
 }
 
-/// The smallest set with the lines, closed under the rules, where "not held" is asked of `other`.
+/// Is a denial of the right side's subject, mode and object held, whoever gave it? Not asked of a denial.
+fn denied(facts: &BTreeSet<Fact>, rule: &Single, t: u32) -> bool {
+    let (subject, mode, object, negative) = rule.right;
+    let low = (subject, mode, object, true, 0, false, 0);
+    let high = (subject, mode, object, true, u32::MAX, true, u32::MAX);
+    !negative && facts.range(low..=high).any(|fact| fact.6 == t)
+}
+
+/// The smallest set with the lines, closed under the rules, where "not held" is asked of `other`; so is "not
+/// denied" where a positive right side has to be in force.
 fn closure(lines: &BTreeSet<Fact>, rules: &[Single], other: &BTreeSet<Fact>, world: &World) -> BTreeSet<Fact> {
     let mut facts = lines.clone();
     loop {
@@ -88,11 +97,13 @@ fn closure(lines: &BTreeSet<Fact>, rules: &[Single], other: &BTreeSet<Fact>, wor
                 if t < rule.start || t > rule.end {
                     continue;
                 }
+                let in_force = |u: u32| holds(&facts, rule, u) && !denied(other, rule, u);
+                let out_of_force = |u: u32| !holds(other, rule, u) || denied(&facts, rule, u);
                 let gives = match rule.operator {
-                    WHENEVER => holds(&facts, rule, t),
-                    ASLONGAS => (rule.start..=t).all(|u| holds(&facts, rule, u)),
-                    WHENEVERNOT => !holds(other, rule, t),
-                    _ => (rule.start..=t).all(|u| !holds(other, rule, u)),
+                    WHENEVER => in_force(t),
+                    ASLONGAS => (rule.start..=t).all(in_force),
+                    WHENEVERNOT => out_of_force(t),
+                    _ => (rule.start..=t).all(out_of_force),
                 };
                 let (subject, mode, object, negative) = rule.left;
                 let fact = (subject, mode, object, negative, rule.author, false, t);
@@ -106,6 +117,41 @@ fn closure(lines: &BTreeSet<Fact>, rules: &[Single], other: &BTreeSet<Fact>, wor
         }
         facts.extend(new);
     }
+}
+
+/// The simple engine's MAY is the main one's, unless a circle is there.
+#[test]
+fn simple_is_main() {
+    let (mut answered, mut yes, mut circular, mut denied) = (0, 0, 0, 0);
+    for seed in 0..1_500u64 {
+        let mut world = [SMALL, MIDDLE][seed as usize % 2];
+        (world.cells, world.wild) = (10, 100_000);
+        let mut dice = Dice(77 + seed);
+        let mut base = begun(&world, &mut dice);
+        for _ in 0..30 + seed % 40 {
+            let q = world.request(&mut dice, &base);
+            if base.rules() < 6 || q.kind != ADDRULE {
+                base.request(&q);
+            }
+        }
+        for _ in 0..40 {
+            let (subject, mode) = (1 + dice.below(world.subjects), 1 + dice.below(world.modes));
+            let (object, instant) = (1 + dice.below(world.objects), world.instant(&mut dice));
+            let main = base.may(subject, mode, object, instant);
+            match base.simple_may(subject, mode, object, instant, 20_000) {
+                Some(Err(15)) => circular += 1,
+                Some(reply) => {
+                    assert_eq!(reply, main);
+                    answered += 1;
+                    yes += u32::from(main == Ok(true));
+                    denied += u32::from(base.looks_at_denied(subject, mode));
+                }
+                None => {}
+            }
+        }
+    }
+    println!("{answered} answered, {yes} yes, {denied} with a right held and denied; {circular} circular");
+    assert!(answered > 20_000 && yes > 2_000 && denied > 500 && circular > 2_000);
 }
 
 #[test]

@@ -240,6 +240,22 @@ fn broken_one_at_a_time() {
             b.rules[1][6] = 6;
             b.rules[1][10] = 0
         }),
+        // rule 7 looks at 7 for everybody; granter and option do not matter to a link
+        ("circle with a link", |b| b.rules[0][10] = 9),
+        ("circle with a link and without a negated operator", |b| {
+            b.rules[0][10] = 9;
+            b.rules[1][9] = 2
+        }),
+        ("circle of two links", |b| {
+            b.rules[0][10] = 9;
+            b.rules[1][9] = 1;
+            b.rules[1][10] = 5
+        }),
+        ("link to itself", |b| {
+            b.rules[1][3] = 7;
+            b.rules[1][9] = 1;
+            b.rules[1][10] = 5
+        }),
         ("circle of one", |b| {
             b.rules[1][3] = 7;
             b.rules[1][6] = 1;
@@ -269,8 +285,17 @@ fn allowed() {
         ("owner as subject and granter", |b| b.lines[4][2] = 1),
         ("right denial with starred option", |b| b.rules[0][10] = 10),
         ("right denial without option", |b| b.rules[0][10] = 2),
-        ("left denial", |b| b.rules[0][10] = 9),
-        ("both denials", |b| b.rules[0][10] = 3),
+        ("left denial that the other looks past: at a denial, by another granter", |b| {
+            b.rules[0][10] = 9;
+            b.rules[1][10] = 2
+        }),
+        ("both denials: a link that leads back nowhere", |b| b.rules[0][10] = 3),
+        ("circle through a denial without a link", |b| {
+            b.rules[0][10] = 9;
+            b.rules[1][6] = 0;
+            b.rules[1][9] = 1;
+            b.rules[1][10] = 10
+        }),
         ("rule starts before the clock", |b| b.rules[0][12] = 0),
         ("rule of one instant", |b| b.rules[0][12] = 90),
         ("granter named", |b| b.rules[0][6] = 1023),

@@ -1,5 +1,6 @@
-//! `long REQUESTS SEED`: random sessions until so many requests were compared, and a table of what came up.
-use differential::session::session;
+//! `long REQUESTS SEED`: random sessions, every fourth with denials beside rules, until so many requests were
+//! compared, and a table of what came up.
+use differential::session::{in_force_session, session};
 use differential::tally::Tally;
 use std::process::ExitCode;
 use std::time::Instant;
@@ -16,7 +17,7 @@ fn main() -> ExitCode {
     let mut seed = first << 32;
     println!("sessions from seed {seed} on");
     while tally.requests() < requests {
-        match session(seed) {
+        match if seed % 4 == 3 { in_force_session(seed) } else { session(seed) } {
             Ok(more) => tally.add(&more),
             Err(failure) => {
                 println!("{failure:?}\n{tally}\n1 difference");

@@ -26,6 +26,7 @@ returns c =
       operator = ap (λ (q : Rule). q .operator) (b .before .before .rule-at .ensures) k;
       active = getD (now (a .active)) (a .r) 0;
       right = d .before .before .before .region-at .ensures k;
+      denied = eqb (signs / 2) 1;
       first = (d .before .before .table-start .ensures
           ∙ ap (λ (x : Bool). pick x (getD (now (a .first)) (a .r) 0)
           (pick (eqb (signs / 2) 1) (sizeOf (a .f .grid) whole) 0)) (b .has-bit .ensures)) k;

@@ -1,41 +1,65 @@
 use borrow.Author.Needs.{needs}
 use native.Mathlib.Omega.{arith}
-use mathlib.Core.Path.{_≡_, refl}
-use Rattle.outlines.proofs.Feeding.{object-small, subject-small, looks-small, meeting-inside}
-use Rattle.outlines.proofs.Feeding.{feeders-same}
+use mathlib.Core.Path.{_≡_, refl, ap, _∙_}
+use Prim.Native.Nat.{ℕ, _/_}
+use denote.Ref.{now}
+use Rattle.foundation.specs.Masks.{bit-le}
+use Rattle.encoding.specs.Format.{ruleAt}
+use Rattle.outlines.specs.Feed.{meetingWord}
+use Rattle.outlines.proofs.Feeding.{sign-bit, right-placed, meeting-inside, feeders-same}
 use Rattle.outlines.proofs.feed.feeders.Statement.{statement}
 use Rattle.outlines.proofs.feed.feeders.Tie as tie
 
+mul-wide : tie.Need-mul-wide
+mul-wide c = omega (arith, c .before .pre .1 .grounds .few)
+
+add-wide : tie.Need-add-wide
+add-wide c = omega (arith, c .before .pre .1 .grounds .few)
+
+element-copy-out-wide : tie.Need-element-copy-out-wide
+element-copy-out-wide c = omega (arith, c .before .pre .1 .grounds .few)
+
 meeting-requires : tie.Need-meeting-requires
 meeting-requires c κs =
-    let b = c .before in
+    let b = c .before .before .before in
     let o = b .pre .1 in
     let h = b .pre .0 in
     let i = b .args .i in
-    (omega (arith, o .grounds .few), object-small o i h, subject-small o i h, looks-small o i h)
+    let s = bit-le (ruleAt (now (b .args .body)) i .right .negative) in (
+      omega (arith, o .grounds .few),
+      omega (arith, s, sign-bit o i h, c .wide .ensures .0),
+      right-placed o i h,
+    )
 
 mul-rule-at : tie.Need-mul-rule-at
-mul-rule-at c = omega (arith, c .before .before .pre .1 .grounds .few)
+mul-rule-at c = omega (arith, c .before .before .before .before .pre .1 .grounds .few)
 
 rule-at-requires : tie.Need-rule-at-requires
-rule-at-requires c κs = omega (arith, c .before .before .pre .1 .grounds .there)
+rule-at-requires c κs = omega (arith, c .before .before .before .before .pre .1 .grounds .there)
 
 narrowed-requires : tie.Need-narrowed-requires
 narrowed-requires c κs =
-    let b = c .before .before .before in (
+    let b = c .before .before .before .before .before in
+    let a = b .args in (
       b .pre .1 .grounds .there,
-      meeting-inside (b .pre .1) (b .args .i) (b .pre .0) _
-          (c .before .meeting .ensures),
+      meeting-inside (b .pre .1) (a .i) (b .pre .0) _ (c .before .meeting .ensures
+          ∙ ap (λ (k : ℕ). meetingWord (now (a .left)) (now (a .right)) (a .i) (k / 2))
+          (c .before .before .wide .ensures .0)),
     )
 
 returns : tie.Need-returns
 returns c =
-    let b = c .before .before .before .before in
-    feeders-same (b .pre .1) (b .args .i) (b .pre .0) (c .before .before .meeting .result)
+    let b = c .before .before .before .before .before .before in
+    let a = b .args in
+    feeders-same (b .pre .1) (a .i) (b .pre .0) (c .before .before .meeting .result)
     (c .narrowed .result)
-    (c .before .before .meeting .ensures) (omega arith)
+    (c .before .before .meeting .ensures
+    ∙ ap (λ (k : ℕ). meetingWord (now (a .left)) (now (a .right)) (a .i) (k / 2))
+    (c .before .before .before .wide .ensures .0))
     (λ q. rw (c .before .rule-at .ensures) at (c .narrowed .ensures q))
 
 pub feeders-spec : {M : Type 1} → statement M
 feeders-spec =
-    tie.close (tie.spec meeting-requires mul-rule-at rule-at-requires narrowed-requires returns)
+    tie.close
+    (tie.spec mul-wide add-wide element-copy-out-wide (λ c κs. search needs) meeting-requires mul-rule-at
+    rule-at-requires narrowed-requires returns)

@@ -1,64 +1,53 @@
 use borrow.Author.Needs.{needs}
 use native.Mathlib.Omega.{arith}
-use mathlib.Core.Path.{_≡_, refl, ap₂, _∙_}
-use Prim.Native.Nat.{ℕ, _+_, _/_}
+use mathlib.Core.Path.{_≡_, refl, ap, ap₂, _∙_}
+use Prim.Native.Nat.{ℕ, _+_}
 use denote.Ref.{now}
 use lib.Dec.{eqb}
 use lib.ListN.{getD}
 use lib.Bits.{bitAnd}
 use Rattle.foundation.specs.Tests.{pick}
 use Rattle.outlines.specs.Feed.{looksWord, meetingWord}
+use Rattle.outlines.proofs.MaskWords.{looks-below}
 use Rattle.outlines.proofs.feed.meeting.Statement.{statement}
 use Rattle.outlines.proofs.feed.meeting.Tie as tie
 
 meet-subject-requires : tie.Need-meet-subject-requires
 meet-subject-requires c κs =
-    let p = c .before .before .before .before .before .pre .2 in
+    let p = c .before .before .before .before .before .pre .2 .subject in
     rw (c .wide2 .ensures .0) p
 
 mul-result : tie.Need-mul-result
 mul-result c =
+    let b = c .before .before .before .before .before .before .before .before .before in
     let e = c .looks-word .ensures
-    ∙ ap₂ (λ (m g : ℕ). looksWord m (g / 2)) (c .before .before .before .wide3 .ensures .0)
-    (c .before .wide4 .ensures .0) in
-    omega (
-      arith,
-      c .before .before .before .before .before .before .before .before .before .before .before .pre .3,
-    )
+    ∙ ap (λ (m : ℕ). looksWord m (b .args .sign)) (c .before .wide3 .ensures .0) in
+    omega (arith, looks-below (now (b .args .right)) (b .args .i) (b .pre .2) (b .args .sign) (b .pre .1))
 
 element-copy-out-result : tie.Need-element-copy-out-result
 element-copy-out-result c =
+    let b = c .before .before .before .before .before .before .before .before .before in
     let e = c .looks-word .ensures
-    ∙ ap₂ (λ (m g : ℕ). looksWord m (g / 2)) (c .before .before .before .wide3 .ensures .0)
-    (c .before .wide4 .ensures .0) in
-    omega (
-      arith,
-      c .before .before .before .before .before .before .before .before .before .before .before .pre .3,
-    )
+    ∙ ap (λ (m : ℕ). looksWord m (b .args .sign)) (c .before .wide3 .ensures .0) in
+    omega (arith, looks-below (now (b .args .right)) (b .args .i) (b .pre .2) (b .args .sign) (b .pre .1))
 
 returns : tie.Need-returns
 unfolding meetingWord
 returns c =
-    let a =
-    c .before .before .before .before .before .before .before .before .before .before
-    .before .before .args in
+    let a = c .before .before .before .before .before .before .before .before .before .before .args in
     let l = now (a .left) in
     let e = c .before .looks-word .ensures
-    ∙ ap₂ (λ (m g : ℕ). looksWord m (g / 2)) (c .before .before .before .before .wide3 .ensures .0)
-    (c .before .before .wide4 .ensures .0) in
+    ∙ ap (λ (m : ℕ). looksWord m (a .sign)) (c .before .before .wide3 .ensures .0) in
     ap₂ (λ (f w : ℕ). bitAnd f (getD l w 0))
-    (c .before .before .before .before .before .before .meet-subject .ensures
+    (c .before .before .before .before .meet-subject .ensures
     ∙ ap₂ (λ (o s : ℕ). pick (eqb s 255) (getD l o 0) (bitAnd (getD l o 0) (getD l (65 + s) 0)))
-    (c .before .before .before .before .before .before .before .before .before .before .wide .ensures .0)
-    (c .before .before .before .before .before .before .before .wide2 .ensures .0)) e
+    (c .before .before .before .before .before .before .before .before .wide .ensures .0)
+    (c .before .before .before .before .before .wide2 .ensures .0)) e
 
 pub meeting-spec : {M : Type 1} → statement M
 meeting-spec =
     tie.close
     (tie.spec (λ c. search needs) (λ c. search needs) (λ c κs. search needs) (λ c. search needs)
-    (λ c. search needs) (λ c. search needs)
-    (λ c. search needs) (λ c. search needs) (λ c κs. search needs) meet-subject-requires (λ c. search needs)
-    (λ c. search needs)
-    (λ c. search needs) (λ c κs. search needs) (λ c. search needs) (λ c. search needs) (λ c. search needs)
-    (λ c κs. search needs)
+    (λ c. search needs) (λ c. search needs) (λ c. search needs) (λ c. search needs) (λ c κs. search needs)
+    meet-subject-requires (λ c. search needs) (λ c. search needs) (λ c. search needs) (λ c κs. search needs)
     (λ c κs. search needs) mul-result element-copy-out-result returns)

@@ -5,7 +5,7 @@ use mathlib.Core.Path.{_≡_, ap, _∙_}
 use Prim.Native.Nat.{_-_, _≤_}
 use lib.ListN.{length, length-set}
 use denote.Ref.{now}
-use Rattle.foundation.specs.Totals.{count}
+use Rattle.foundation.specs.Totals.{count, count-le}
 use Rattle.rules.specs.Strata.{Holds, ownOf}
 use Rattle.encoding.specs.Format.{ruleAt}
 use Rattle.rules.proofs.Rounds.{fill-turn}
@@ -21,6 +21,9 @@ abbrev μ-loop : tie.MeasureT-loop
 loop-holds : tie.Need-loop-holds Inv-loop μ-loop
 loop-holds c = (omega arith, c .before .pre .2, λ i h. absurd (omega arith))
 
+cast-own : tie.Need-cast-own Inv-loop μ-loop
+cast-own c = omega (arith, c .one .ensures, count-le (c .before .counts .result))
+
 loop-again : tie.Need-loop-again Inv-loop μ-loop
 loop-again c =
     let l = c .before .before .before .before in
@@ -28,10 +31,10 @@ loop-again c =
     let own = l .loop .own in
     let i = l .loop .i in (
       omega arith,
-      length-set own i (c .one-if .result) ∙ l .loop .inv .1,
-      fill-turn (λ i. count (ownOf (b .args .every) (ruleAt (now (b .args .s)) i))) own i (c .one-if .result)
+      length-set own i (c .one .result) ∙ l .loop .inv .1,
+      fill-turn (λ i. count (ownOf (b .args .every) (ruleAt (now (b .args .s)) i))) own i (c .one .result)
           (omega (arith, l .loop .inv .1, b .pre .1))
-          (c .one-if .ensures ∙ ap count (c .before .counts .ensures
+          (c .one .ensures ∙ ap count (c .before .counts .ensures
           ∙ ap (ownOf (b .args .every)) (c .before .before .rule-at .ensures))) (l .loop .inv .2),
     )
 
@@ -42,5 +45,6 @@ pub put-own-spec : {M : Type 1} → statement M
 put-own-spec =
     tie.close
     (tie.spec Inv-loop μ-loop loop-holds (λ c. search needs) (λ c κs. search needs) (λ c κs. search needs)
-    (λ c κs. search needs) (λ c. search needs) (λ c. search needs) (λ c. search needs) (λ c. search needs)
+    (λ c κs. search needs) cast-own (λ c. search needs) (λ c. search needs) (λ c. search needs)
+    (λ c. search needs)
     loop-again returns)

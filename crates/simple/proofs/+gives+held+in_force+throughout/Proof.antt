@@ -1,6 +1,6 @@
--- `held`, `gives` and `throughout` meet their contracts. What falls is the longest feeding path left (Depth):
--- `held` asks only rules that end such a path, and `gives` asks about a right side that only rules before it
--- can give.
+-- `held`, `in_force`, `gives` and `throughout` meet their contracts. What falls is the longest path left
+-- (Depth): `held` asks only rules that end such a path, and `gives` asks about a right side that only rules
+-- before it can give or deny.
 use borrow.Author.Needs.{needs}
 use native.Mathlib.Omega.{arith}
 use mathlib.Core.Path.{_≡_, refl, sym, ap, _∙_}
@@ -16,7 +16,7 @@ use Rattle.model.specs.declared.Pattern.{Pattern}
 use Rattle.model.specs.declared.Operator.{Operator}
 use Rattle.model.specs.declared.Operator.the-variants.{Whenever, AsLongAs, WheneverNot, Unless}
 use Rattle.model.specs.Stratification.{stratified}
-use Rattle.model.specs.Rules.{operate}
+use Rattle.model.specs.Rules.{operate, holds}
 use Rattle.model.specs.HoldsLaws.{holding}
 use Rattle.model.specs.Encoding.{ruleOf, decode}
 use Rattle.encoding.specs.Format.{countsOf}
@@ -24,36 +24,43 @@ use Rattle.lookup.proofs.SoundBodies.{base-sound}
 use Rattle.lookup.proofs.Loops.{AnyFrom, any-starts, any-fails, any-passes, any-ends}
 use Rattle.simple.specs.Stored.{rulesFrom}
 use Rattle.simple.specs.Engine.{Served, grantedAt, givesIn, wantedIn}
-use Rattle.simple.proofs.Depth.{depthFor, reach, reach-rule, reach-right}
+use Rattle.simple.proofs.Depth.{depthFor, reach, sight, sight-denial, reach-rule, sight-right}
 use Rattle.simple.proofs.Steps as steps
 use Rattle.simple.proofs.gives.Reads as gives
 use Rattle.simple.proofs.gives.Kinds as gives-kinds
-use Rattle.simple.proofs.+gives+held+throughout.Lts-gives as gives-lts
+use Rattle.simple.proofs.+gives+held+in_force+throughout.Lts-gives as gives-lts
 use Rattle.simple.proofs.held.Reads as held
 use Rattle.simple.proofs.held.Kinds as held-kinds
-use Rattle.simple.proofs.+gives+held+throughout.Lts-held as held-lts
+use Rattle.simple.proofs.+gives+held+in_force+throughout.Lts-held as held-lts
+use Rattle.simple.proofs.in_force.Reads as in-force
+use Rattle.simple.proofs.in_force.Kinds as in-force-kinds
+use Rattle.simple.proofs.+gives+held+in_force+throughout.Lts-in_force as in-force-lts
 use Rattle.simple.proofs.throughout.Reads as throughout
 use Rattle.simple.proofs.throughout.Kinds as throughout-kinds
-use Rattle.simple.proofs.+gives+held+throughout.Lts-throughout as throughout-lts
+use Rattle.simple.proofs.+gives+held+in_force+throughout.Lts-throughout as throughout-lts
 use Rattle.lookup.proofs.has_instant.Reads as has-instant-reads
+use Rattle.simple.proofs.sides.asked.Reads as asked-reads
 use Rattle.simple.proofs.sides.is_granted.Reads as is-granted-reads
 use Rattle.simple.proofs.sides.may_give.Reads as may-give-reads
 use Rattle.simple.proofs.sides.right_of.Reads as right-of-reads
 use Rattle.simple.proofs.stored.rule.Reads as rule-reads
 use Rattle.simple.proofs.stored.rule_count.Reads as rule-count-reads
-use Rattle.simple.proofs.+gives+held+throughout.{statement}
-use Rattle.simple.proofs.+gives+held+throughout.Tie.{close}
+use Rattle.simple.proofs.+gives+held+in_force+throughout.{statement}
+use Rattle.simple.proofs.+gives+held+in_force+throughout.Tie.{close}
 
 -- ---- the measures
 
 abbrev μ-gives : Measures 1 gives-kinds.ps ℕ
-μ-gives κs a = 3 * depthFor (decode (now (a .0))) (a .1 .1 .0) (a .1 .0)
+μ-gives κs a = 4 * depthFor (decode (now (a .0))) (a .1 .1 .0) (a .1 .0)
 
 abbrev μ-held : Measures 1 held-kinds.ps ℕ
-μ-held κs a = 3 * reach (decode (now (a .0))) (a .1 .0) + 1
+μ-held κs a = 4 * reach (decode (now (a .0))) (a .1 .0) + 1
+
+abbrev μ-in-force : Measures 1 in-force-kinds.ps ℕ
+μ-in-force κs a = 4 * sight (decode (now (a .0))) (a .1 .0) + 2
 
 abbrev μ-throughout : Measures 1 throughout-kinds.ps ℕ
-μ-throughout κs a = 3 * reach (decode (now (a .0))) (a .1 .0) + 2
+μ-throughout κs a = 4 * sight (decode (now (a .0))) (a .1 .0) + 3
 
 abbrev gives-at : ℕ → In 1 gives-kinds.ps
 gives-at t = and 1 gives-kinds.ps (is 1 gives-kinds.ps μ-gives t) gives.Pre
@@ -66,6 +73,12 @@ held-at t = and 1 held-kinds.ps (is 1 held-kinds.ps μ-held t) held.Pre
 
 abbrev held-below : ℕ → In 1 held-kinds.ps
 held-below t = and 1 held-kinds.ps (falls 1 held-kinds.ps _<_ μ-held t) held.Pre
+
+abbrev in-force-at : ℕ → In 1 in-force-kinds.ps
+in-force-at t = and 1 in-force-kinds.ps (is 1 in-force-kinds.ps μ-in-force t) in-force.Pre
+
+abbrev in-force-below : ℕ → In 1 in-force-kinds.ps
+in-force-below t = and 1 in-force-kinds.ps (falls 1 in-force-kinds.ps _<_ μ-in-force t) in-force.Pre
 
 abbrev throughout-at : ℕ → In 1 throughout-kinds.ps
 throughout-at t = and 1 throughout-kinds.ps (is 1 throughout-kinds.ps μ-throughout t) throughout.Pre
@@ -83,8 +96,8 @@ gives-claims t = (
   has-instant-reads.Learnt,
   right-of-reads.Asked,
   right-of-reads.Learnt,
-  held-below t,
-  held.Post,
+  in-force-below t,
+  in-force.Post,
   throughout-below t,
   throughout.Post,
 )
@@ -102,7 +115,10 @@ held-claims t = (
 )
 
 abbrev throughout-claims : ℕ → throughout-lts.Claims
-throughout-claims t = (held-below t, held.Post)
+throughout-claims t = (in-force-below t, in-force.Post)
+
+abbrev in-force-claims : ℕ → in-force-lts.Claims
+in-force-claims t = (held-below t, held.Post, asked-reads.Asked, asked-reads.Learnt)
 
 -- below, t is what the measure is where a function is entered
 
@@ -166,7 +182,7 @@ module _ (t : ℕ) where
       let a = start c .args in
       inInterval-true (a .r .interval) (a .t) (sym (h .has-instant .ensures) ∙ passed c .1) .0
 
-  fewer : (c : Asking) → 3 * reach (decode (now (start c .args .s))) (c .right-of .result) + 2 < t
+  fewer : (c : Asking) → 4 * sight (decode (now (start c .args .s))) (c .right-of .result) + 3 < t
   fewer c =
       let d = start c in
       let b = decode (now (d .args .s)) in
@@ -174,13 +190,13 @@ module _ (t : ℕ) where
       omega (
         arith,
         d .pre .0,
-        ap (reach b) (c .right-of .ensures),
-        reach-right b (d .pre .1 .0 .uncircular) (d .args .p) (d .args .r) (d .pre .1 .1)
+        ap (sight b) (c .right-of .ensures),
+        sight-right b (d .pre .1 .0 .uncircular) (d .args .p) (d .args .r) (d .pre .1 .1)
             (sym (l .ensures b) ∙ passed c .0),
       )
 
-  gives-held-requires : gives-lts.Need-held-requires (gives-claims t) (gives-at t) gives.Post
-  gives-held-requires c κs =
+  gives-in-force-requires : gives-lts.Need-in-force-requires (gives-claims t) (gives-at t) gives.Post
+  gives-in-force-requires c κs =
       let r = c .before .before in
       (omega (arith, fewer r), start r .pre .1 .0)
 
@@ -189,8 +205,8 @@ module _ (t : ℕ) where
       let r = c .before .before in
       (fewer r, (start r .pre .1 .0, omega (arith, begun r)))
 
-  gives-held-requires-2 : gives-lts.Need-held-requires-2 (gives-claims t) (gives-at t) gives.Post
-  gives-held-requires-2 c κs =
+  gives-in-force-requires-2 : gives-lts.Need-in-force-requires-2 (gives-claims t) (gives-at t) gives.Post
+  gives-in-force-requires-2 c κs =
       let r = c .before .before in
       (omega (arith, fewer r), start r .pre .1 .0)
 
@@ -210,7 +226,7 @@ module _ (t : ℕ) where
   gives-returns-2 c =
       let e = c .before in
       let r = e .before .before in
-      c .held .ensures ∙ ap (asks r Whenever) (r .right-of .ensures)
+      c .in-force .ensures ∙ ap (asks r Whenever) (r .right-of .ensures)
       ∙ decided (r .before) Whenever (e .enum-told .given .1)
 
   gives-returns-3 : gives-lts.Need-returns-3 (gives-claims t) (gives-at t) gives.Post
@@ -224,7 +240,7 @@ module _ (t : ℕ) where
   gives-returns-4 c =
       let e = c .before in
       let r = e .before .before in
-      ap not (c .held2 .ensures) ∙ ap (asks r WheneverNot) (r .right-of .ensures)
+      ap not (c .in-force2 .ensures) ∙ ap (asks r WheneverNot) (r .right-of .ensures)
       ∙ decided (r .before) WheneverNot (e .enum-told3 .given .1)
 
   gives-returns-5 : gives-lts.Need-returns-5 (gives-claims t) (gives-at t) gives.Post
@@ -327,6 +343,47 @@ module _ (t : ℕ) where
       (l .loop .inv .1)
       ∙ steps.held-given s (a .p) (a .t) _ (l .loop .inv .0) (ungranted l)
 
+-- ---- in force
+
+module _ (t : ℕ) where
+  in-force-held-requires : in-force-lts.Need-held-requires (in-force-claims t) (in-force-at t) in-force.Post
+  in-force-held-requires c κs = (omega (arith, c .before .pre .0), c .before .pre .1)
+
+  in-force-returns : in-force-lts.Need-returns (in-force-claims t) (in-force-at t) in-force.Post
+  in-force-returns c =
+      let h = c .before in
+      let a = h .before .before .args in
+      steps.force-unheld (decode (now (a .s))) (a .p) (a .t) (h .held .result) (h .held .ensures)
+      (not-true (h .held .result) (c .if1 .taken))
+
+  in-force-returns-2 : in-force-lts.Need-returns-2 (in-force-claims t) (in-force-at t) in-force.Post
+  in-force-returns-2 c =
+      let e = c .before in
+      let h = e .before in
+      let a = h .before .before .args in
+      steps.force-denial (decode (now (a .s))) (a .p) (a .t) (h .held .result) (h .held .ensures)
+      (not-false (h .held .result) (e .if1 .left)) (c .if2 .taken)
+
+  in-force-held-requires-2 : in-force-lts.Need-held-requires-2 (in-force-claims t) (in-force-at t)
+      in-force.Post
+  in-force-held-requires-2 c κs =
+      let e = c .before .before in
+      let d = e .before .before .before .before in
+      let b = decode (now (d .args .s)) in
+      let l = sight-denial b (d .args .p) (e .if2 .left) in
+      (omega (arith, d .pre .0, ap (reach b) (c .asked .ensures), l), d .pre .1)
+
+  in-force-returns-3 : in-force-lts.Need-returns-3 (in-force-claims t) (in-force-at t) in-force.Post
+  in-force-returns-3 c =
+      let q = c .before in
+      let e = q .before .before in
+      let h = e .before .before in
+      let a = h .before .before .args in
+      let b = decode (now (a .s)) in
+      steps.force-positive b (a .p) (a .t) (h .held .result) (h .held .ensures)
+      (not-false (h .held .result) (e .before .if1 .left)) (e .if2 .left) (c .held2 .result)
+      (c .held2 .ensures ∙ ap (holds always b (a .t)) (q .asked .ensures))
+
 -- ---- throughout: at all instants before the one that is asked about it is as wanted
 
 abbrev throughout-Inv-loop : throughout-lts.InvT-loop
@@ -342,22 +399,22 @@ module _ (t : ℕ) where
       throughout.Post throughout-Inv-loop throughout-μ-loop
   throughout-loop-holds c = (omega arith, c .before .pre .1 .1, λ v h k. absurd (omega arith))
 
-  throughout-held-requires : throughout-lts.Need-held-requires (throughout-claims t) (throughout-at t)
+  throughout-in-force-requires : throughout-lts.Need-in-force-requires (throughout-claims t) (throughout-at t)
       throughout.Post throughout-Inv-loop throughout-μ-loop
-  throughout-held-requires c κs =
+  throughout-in-force-requires c κs =
       let d = c .before .before .before in
       (omega (arith, d .pre .0), d .pre .1 .0)
 
   -- what is asked of an instant
-  wanted : (c : throughout-lts.After-held (throughout-claims t) (throughout-at t) throughout.Post
+  wanted : (c : throughout-lts.After-in-force (throughout-claims t) (throughout-at t) throughout.Post
       throughout-Inv-loop throughout-μ-loop) →
       (let l = c .before .before in
       let a = l .before .before .args in
-      Bool·beq (c .held .result) (a .wanted)
+      Bool·beq (c .in-force .result) (a .wanted)
       ≡ wantedIn (decode (now (a .s))) (a .p) (a .wanted) (l .loop .u))
   wanted c =
       let a = c .before .before .before .before .args in
-      ap (λ (x : Bool). Bool·beq x (a .wanted)) (c .held .ensures) ∙ steps.alike-wanted _ (a .wanted)
+      ap (λ (x : Bool). Bool·beq x (a .wanted)) (c .in-force .ensures) ∙ steps.alike-wanted _ (a .wanted)
 
   throughout-returns : throughout-lts.Need-returns (throughout-claims t) (throughout-at t) throughout.Post
       throughout-Inv-loop throughout-μ-loop
@@ -396,18 +453,21 @@ module _ (t : ℕ) where
       sym (all-always (a .from) (a .to) (wantedIn (decode (now (a .s))) (a .p) (a .wanted))
       (λ v h k. so-far (c .before) v h (omega arith)))
 
-pub +gives+held+throughout-spec : {M : Type 1} → statement M
-+gives+held+throughout-spec = close μ-gives μ-held μ-throughout
+pub +gives+held+in-force+throughout-spec : {M : Type 1} → statement M
++gives+held+in-force+throughout-spec = close μ-gives μ-held μ-in-force μ-throughout
     (λ t. gives-lts.spec (gives-claims t) (gives-at t) gives.Post
     (λ c κs. search needs) (λ c κs. search needs) (gives-returns t) (λ c κs. search needs) (λ c. search needs)
-    (gives-held-requires t) (λ c. search needs) (gives-throughout-requires t) (λ c. search needs)
-    (gives-held-requires-2 t) (λ c. search needs) (gives-throughout-requires-2 t)
+    (gives-in-force-requires t) (λ c. search needs) (gives-throughout-requires t) (λ c. search needs)
+    (gives-in-force-requires-2 t) (λ c. search needs) (gives-throughout-requires-2 t)
     (gives-returns-2 t) (gives-returns-3 t) (gives-returns-4 t) (gives-returns-5 t))
     (λ t. held-lts.spec (held-claims t) (held-at t) held.Post held-Inv-loop held-μ-loop
     (held-is-granted-requires t) (held-returns t) (held-rule-count-requires t) (held-loop-holds t)
     (held-rule-requires t) (held-gives-requires t) (held-returns-2 t) (λ c. search needs) (λ c. search needs)
     (held-loop-again t) (held-returns-3 t))
+    (λ t. in-force-lts.spec (in-force-claims t) (in-force-at t) in-force.Post (in-force-held-requires t)
+    (in-force-returns t) (in-force-returns-2 t) (λ c κs. search needs) (in-force-held-requires-2 t)
+    (in-force-returns-3 t))
     (λ t. throughout-lts.spec (throughout-claims t) (throughout-at t) throughout.Post throughout-Inv-loop
-    throughout-μ-loop (throughout-loop-holds t) (throughout-held-requires t) (throughout-returns t)
+    throughout-μ-loop (throughout-loop-holds t) (throughout-in-force-requires t) (throughout-returns t)
     (λ c. search needs) (λ c. search needs) (throughout-loop-again t) (throughout-returns-2 t)
     (throughout-returns-3 t))
