@@ -43,7 +43,7 @@ static void administrator(uint32_t object, uint32_t subject)
 /* With 0 for a star. */
 static side side_of(uint32_t subject, uint32_t mode, uint32_t object)
 {
-    return (side){subject == 0, subject, mode == 0, mode, object, false};
+    return (side){subject == 0, subject, mode == 0, mode, object == 0, object, false};
 }
 
 /* A rule of owner 1 from start to end. A choosy one looks only at what owner 1 granted. */
@@ -118,6 +118,33 @@ void widest_unless(void)
 void widest_circle(void)
 {
     widest_of(ACCESS_BASE_ASLONGAS, true, 29);
+}
+
+/* 64 rules of the owner of all 22 meters, with starred meters where they can be: from subject to subject on
+ * every meter, from meter to meter for every subject, and the rest for every subject and meter, choosy ones;
+ * lines at all those places. */
+static void all_meters_of(uint32_t operation)
+{
+    make(22);
+    administrator(1, 2);
+    for (uint32_t i = 0; i < ROOMY_LINES; i++)
+        grant(0, 1, 1 + i / 3 % 8, 1 + i % 22, 3 + i % 23, 10 + 2 * i, 20 + 3 * i);
+    for (uint32_t j = 0; j < 22; j++)
+        full_rule(side_of(3 + j, 0, 0), operation, side_of(4 + j, 0, 0), true, 5, ACCESS_BASE_LAST);
+    for (uint32_t j = 1; j <= 21; j++)
+        full_rule(side_of(0, 0, j), operation, side_of(0, 0, j + 1), true, 5, ACCESS_BASE_LAST);
+    for (uint32_t j = 0; j < 21; j++)
+        full_rule(side_of(0, 0, 0), operation, side_of(0, 0, 0), true, 5, ACCESS_BASE_LAST);
+}
+
+void all_meters(void)
+{
+    all_meters_of(ACCESS_BASE_WHENEVER);
+}
+
+void all_meters_aslongas(void)
+{
+    all_meters_of(ACCESS_BASE_ASLONGAS);
 }
 
 /* ---- without rules */
@@ -318,4 +345,15 @@ void many_places(void)
         rule(0, 0, 1 + j, j % 2 == 1 ? ACCESS_BASE_WHENEVERNOT : ACCESS_BASE_WHENEVER, 0, 0, 2 + j);
     for (uint32_t i = 0; i < 1000; i++)
         grant(1, 1, 1 + i % 8, 1 + i % 26, 2 + i % 33, 10 + 2 * i, 20 + 3 * i);
+}
+
+/* An owner of 128 meters with eight rules for all of them: from one agent to the next, the last looking at
+ * what the owner granted; lines of the last agent on every meter. */
+void one_owner(void)
+{
+    make(128);
+    for (uint32_t j = 0; j < 8; j++)
+        full_rule(side_of(2 + j, 0, 0), ACCESS_BASE_WHENEVER, side_of(3 + j, 0, 0), j == 7, 1, ACCESS_BASE_LAST);
+    for (uint32_t i = 0; i < 1024; i++)
+        grant(1, 1, 1 + i / 128, 1 + i % 128, 10, 10 + 2 * i, 20 + 3 * i);
 }

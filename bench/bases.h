@@ -15,6 +15,8 @@ void widest(void);
 void widest_choosy(void);
 void widest_unless(void);
 void widest_circle(void);
+void all_meters(void);
+void all_meters_aslongas(void);
 
 /* Without rules. */
 void across(void);
@@ -35,5 +37,6 @@ void zigzag(void);
 void circle(void);
 void circle_few(void);
 void many_places(void);
+void one_owner(void);
 
 #endif

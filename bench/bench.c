@@ -104,7 +104,7 @@ static void add_chain(struct setup *s, int lines)
 static struct access_base_side some_side(bool star, uint32_t object, bool negative)
 {
     uint32_t subject = star ? 0 : 2 + below(40), mode = star ? 0 : 1 + below(4);
-    return (struct access_base_side){star, subject, star, mode, object, negative};
+    return (struct access_base_side){star, subject, star, mode, false, object, negative};
 }
 
 /* Rules whose right side lies on the next object, so that they feed each other over seven ranks and in no circle; every
@@ -249,7 +249,11 @@ static void print_side(FILE *f, const struct access_base_side *s)
         fprintf(f, " *");
     else
         fprintf(f, " %" PRIu32, s->mode);
-    fprintf(f, " %" PRIu32 " %c", s->object, s->negative ? '-' : '+');
+    if (s->any_object)
+        fprintf(f, " *");
+    else
+        fprintf(f, " %" PRIu32, s->object);
+    fprintf(f, " %c", s->negative ? '-' : '+');
 }
 
 static void print_request(FILE *f, const request *q)

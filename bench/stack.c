@@ -39,7 +39,7 @@ static bool is_sound(int i)
 /* A request of each kind. The first rule's label is ROOMY_LINES + 1. */
 static bool request_of(int i)
 {
-    side any = {true, 0, true, 0, 1, false};
+    side any = {true, 0, true, 0, false, 1, false};
     request q = {.kind = 1 + (uint32_t)i, .now = 4, .requester = 1, .mode = 1, .object = 1, .subject = 3, .start = 4,
                  .end = 5000, .label = 1, .rule = {.left = any, .operation = 1, .right = any, .any_grantor = true,
                                                    .any_option = true}};
@@ -148,7 +148,9 @@ static const struct {
              {"far-reaching rules", widest},
              {"the same, each naming its grantor", widest_choosy},
              {"the same with UNLESS", widest_unless},
-             {"with ASLONGAS and a circle, each naming its grantor", widest_circle}};
+             {"with ASLONGAS and a circle, each naming its grantor", widest_circle},
+             {"rules for all meters, each naming its grantor", all_meters},
+             {"the same with ASLONGAS", all_meters_aslongas}};
 
 static const struct {
     const char *name;
@@ -174,7 +176,10 @@ int main(int argc, char **argv)
     printf("| function |");
     for (int b = 0; b < BASES; b++)
         printf(" %s |", bases[b].name);
-    printf("\n|---|---|---|---|---|---|\n");
+    printf("\n|---|");
+    for (int b = 0; b < BASES; b++)
+        printf("---|");
+    printf("\n");
     for (int f = 0; f < FUNCTIONS; f++)
         if (strstr(functions[f].name, word) != NULL)
             row(f);

@@ -151,6 +151,9 @@ static void all_questions(void)
     questions("64 such rules, each naming its grantor", widest_choosy, 3, 1500);
     questions("64 such rules with UNLESS", widest_unless, 3, 1500);
     questions("64 such rules with ASLONGAS and a circle, each naming its grantor", widest_circle, 3, 1500);
+    questions("eight rules for all of an owner's 128 meters", one_owner, 2, 1000);
+    questions("64 rules, 43 of them for all of an owner's 22 meters, each naming its grantor", all_meters, 3, 1500);
+    questions("the same with ASLONGAS", all_meters_aslongas, 3, 1500);
 }
 
 int main(int argc, char **argv)

@@ -69,7 +69,7 @@ enum access_base_refusal {
     ACCESS_BASE_OUT_OF_RANGE = 3,  /* unknown kind, a field outside its range, or a rule's stars or option do not fit */
     ACCESS_BASE_BEHIND_CLOCK = 4,  /* now is below the clock */
     ACCESS_BASE_BAD_INTERVAL = 5,  /* end below start; or a grant, denial or rule starts before now */
-    ACCESS_BASE_NO_SUCH_OBJECT = 6,/* the object (for a rule, either one) does not exist */
+    ACCESS_BASE_NO_SUCH_OBJECT = 6,/* the object (for a rule, either one that is named) does not exist */
     ACCESS_BASE_NO_SUCH_LABEL = 7, /* no line (REVOKE) or rule (DROPRULE) has the label */
     ACCESS_BASE_NOT_PERMITTED = 8, /* not its granter, author or owner, or without a rule's powers */
     ACCESS_BASE_NOT_SUPPORTED = 9, /* some instant of the grant or denial is not covered; the earliest is given */
@@ -90,7 +90,7 @@ enum access_base_body {
     ACCESS_BASE_AUTHORIZATIONS = 4, /* label, grantor, subject, object, mode, negative, option, granted, start, end */
     ACCESS_BASE_RULES = 5           /* label, author, left: subject, mode, object, negative; operator; right: subject, mode,
                                      * object, negative, grantor, option (0 without, 1 with, 2 either); start, end.
-                                     * A subject, mode or grantor of 0 is the star */
+                                     * A subject, mode, object or grantor of 0 is the star */
 };
 
 /* So many numbers is a record of a body: 0 for a body that there is not. */
@@ -100,12 +100,16 @@ static inline uint32_t access_base_width(uint32_t body)
     return body <= ACCESS_BASE_RULES ? widths[body] : 0;
 }
 
-/* One side of a rule. Where any_subject or any_mode is true the star stands there, and the number is not looked at. */
+/* One side of a rule. Where any_subject, any_mode or any_object is true the star stands there, and the number is not
+ * looked at; a number of 0 is no star and out of range. A star for one of the three is on both sides of a rule or on
+ * neither. With starred objects the rule stands for each object that its author owns or administers when a question is
+ * put, the same on both sides, and the author needs no powers to add it. */
 struct access_base_side {
     bool any_subject;
     uint32_t subject;
     bool any_mode;
     uint32_t mode;
+    bool any_object;
     uint32_t object;
     bool negative; /* a denial */
 };
@@ -172,9 +176,10 @@ bool access_base_is_sound(const uint8_t *base, size_t base_length);
 uint64_t access_base_request(
     uint8_t *base, size_t base_length, uint32_t kind, uint32_t now, uint32_t requester, uint32_t label, uint32_t mode,
     uint32_t object, uint32_t subject, uint32_t start, uint32_t end, bool option, bool left_any_subject,
-    uint32_t left_subject, bool left_any_mode, uint32_t left_mode, uint32_t left_object, bool left_negative,
-    uint32_t operation, bool right_any_subject, uint32_t right_subject, bool right_any_mode, uint32_t right_mode,
-    uint32_t right_object, bool right_negative, bool any_grantor, uint32_t grantor, bool any_option, bool with_option);
+    uint32_t left_subject, bool left_any_mode, uint32_t left_mode, bool left_any_object, uint32_t left_object,
+    bool left_negative, uint32_t operation, bool right_any_subject, uint32_t right_subject, bool right_any_mode,
+    uint32_t right_mode, bool right_any_object, uint32_t right_object, bool right_negative, bool any_grantor,
+    uint32_t grantor, bool any_option, bool with_option);
 
 uint64_t access_base_may(
     const uint8_t *base, size_t base_length, uint32_t subject, uint32_t mode, uint32_t object, uint32_t instant);
@@ -222,9 +227,10 @@ static inline struct access_base_reply access_base_do(
     const struct access_base_rule *u = &q->rule;
     return access_base_reply_of(access_base_request(
         base, base_length, q->kind, q->now, q->requester, q->label, q->mode, q->object, q->subject, q->start, q->end,
-        q->option, u->left.any_subject, u->left.subject, u->left.any_mode, u->left.mode, u->left.object,
-        u->left.negative, u->operation, u->right.any_subject, u->right.subject, u->right.any_mode, u->right.mode,
-        u->right.object, u->right.negative, u->any_grantor, u->grantor, u->any_option, u->with_option));
+        q->option, u->left.any_subject, u->left.subject, u->left.any_mode, u->left.mode, u->left.any_object,
+        u->left.object, u->left.negative, u->operation, u->right.any_subject, u->right.subject, u->right.any_mode,
+        u->right.mode, u->right.any_object, u->right.object, u->right.negative, u->any_grantor, u->grantor,
+        u->any_option, u->with_option));
 }
 
 /* MAY: whether the subject may do it to the object at the instant. Changes nothing. */

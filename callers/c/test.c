@@ -74,6 +74,38 @@ static void fields(void)
     expect(is(ORDER(.kind = ACCESS_BASE_DROPRULE, .now = 8, .requester = 1, .label = 4), 0, 0, 1), "DROPRULE 4");
 }
 
+/* A rule with starred objects, by one who has no meter: the objects' numbers are not looked at, the bytes have 0 there. */
+static void starred_objects(void)
+{
+    static const uint8_t starred[28] = {1, 0, 0x45, 0x01, 2, 0, 0, 0, 3,  0, 0, 0, 0, 0,
+                                        1, 4, 1,    8,    0, 0, 9, 0, 0,  0, 10, 0, 0, 0};
+    static const uint32_t numbers[] = {1, 0x145, 2, 1, 0, 0, ACCESS_BASE_WHENEVER, 3, 4, 0, 0, 0, 2, 9, 10};
+    uint32_t list[15];
+    access_base_make(base, ACCESS_BASE_BYTES);
+    for (int side = 0; side < 4; side++) {
+        struct access_base_side left = {.subject = 2, .mode = 1, .object = 7, .any_object = (side & 1) != 0};
+        struct access_base_side right = {.subject = 3, .mode = 4, .object = 0, .any_object = (side & 2) != 0};
+        static const uint32_t wanted[] = {ACCESS_BASE_OUT_OF_RANGE, ACCESS_BASE_OUT_OF_RANGE, ACCESS_BASE_OUT_OF_RANGE, 0};
+        expect(is(ORDER(.kind = ACCESS_BASE_ADDRULE, .now = 8, .requester = 0x145, .start = 9, .end = 10,
+                        .rule = {.left = left, .operation = ACCESS_BASE_WHENEVER, .right = right, .any_grantor = true,
+                                 .any_option = true}), wanted[side], side == 3, 0), "an object of 0, one star, two stars");
+    }
+    expect(memcmp(base + 32, starred, sizeof starred) == 0, "the bytes of a rule with starred objects");
+    expect(access_base_is_sound(base, ACCESS_BASE_BYTES), "it is sound without any object");
+    expect(is(access_base_read(base, ACCESS_BASE_BYTES, ACCESS_BASE_RULES, 0, list, 15), 0, 0, 1), "one rule");
+    expect(memcmp(list, numbers, sizeof numbers) == 0, "its numbers, 0 for the star");
+    ORDER(.kind = ACCESS_BASE_NEW, .now = 8, .requester = 1, .object = 7);
+    ORDER(.kind = ACCESS_BASE_GRANT, .now = 8, .requester = 1, .mode = 4, .object = 7, .subject = 3, .start = 8, .end = 20);
+    expect(is(access_base_ask_may(base, ACCESS_BASE_BYTES, 2, 1, 7, 9), 0, 0, 0), "a meter that is not the author's");
+    ORDER(.kind = ACCESS_BASE_GRANTADM, .now = 8, .requester = 1, .object = 7, .subject = 0x145);
+    expect(is(access_base_ask_may(base, ACCESS_BASE_BYTES, 2, 1, 7, 9), 0, 0, 1), "one that he administers");
+    expect(is(access_base_ask_simple_may(base, ACCESS_BASE_BYTES, 2, 1, 7, 9), 0, 0, 1), "by the simple engine too");
+    expect(is(ORDER(.kind = ACCESS_BASE_REVOKEADM, .now = 8, .requester = 1, .object = 7, .subject = 0x145), 0, 0, 1),
+           "REVOKEADM");
+    expect(is(access_base_ask_may(base, ACCESS_BASE_BYTES, 2, 1, 7, 9), 0, 0, 0), "and no longer administers");
+    expect(is(access_base_read(base, ACCESS_BASE_BYTES, ACCESS_BASE_RULES, 0, list, 15), 0, 0, 1), "the rule is there still");
+}
+
 /* The instant with 9, the two answers of MAY, the runs of WHEN in lists of several lengths. */
 static void replies(void)
 {
@@ -375,6 +407,7 @@ int main(void)
     fields();
     records();
     replies();
+    starred_objects();
     texts();
     rounds(); /* over the base that the texts leave */
     sheets();

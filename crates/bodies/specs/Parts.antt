@@ -54,20 +54,21 @@ mayRuleIn os ads rfs s left right =
     (listed os left s || listed ads left s)
     && ((listed os right s || listed ads right s) || listed rfs right s)
 
--- a star of subject or mode is on both sides or on neither
+-- a star is on both sides or on neither
 abbrev pub starsMeet : Rule → Bool
 starsMeet r =
     Bool·beq (isStar (r .left .subject)) (isStar (r .right .subject))
     && Bool·beq (isStar (r .left .mode)) (isStar (r .right .mode))
+    && Bool·beq (isStar (r .left .object)) (isStar (r .right .object))
 
--- one rule by itself, beside the privileges
+-- one rule by itself, beside the privileges; starred objects need not exist and give no need of powers
 abbrev pub ruleTest : List Privilege → List Privilege → List Privilege → ℕ → Rule → Bool
 ruleTest os ads rfs last r =
     ruleIn r
     && startsFirst (r .interval)
-    && (existsIn os (r .left .object) && existsIn os (r .right .object))
+    && (isStar (r .left .object) || (existsIn os (r .left .object) && existsIn os (r .right .object)))
     && leb (r .label) last
-    && mayRuleIn os ads rfs (r .author) (r .left .object) (r .right .object)
+    && (isStar (r .left .object) || mayRuleIn os ads rfs (r .author) (r .left .object) (r .right .object))
     && starsMeet r
     && optionFits (r .right .negative) (r .option)
 

@@ -78,7 +78,8 @@ pub fn authorization_test(
 }
 
 // A rule is in range, its objects exist, its label was given, its author may set it up, a star is on both
-// sides or on neither, and a denial on the right is not marked transferable.
+// sides or on neither, and a denial on the right is not marked transferable. Starred objects need not exist,
+// and the author of such a rule needs no powers.
 pub fn rule_test(
     objects: &[u8],
     no: usize,
@@ -98,13 +99,14 @@ pub fn rule_test(
     let right = r.right;
     let i = r.interval;
     let option = r.option;
+    let any = left.object == 0;
     let may_left = is_root(objects, no, administrators, na, left.object, r.author);
     let may_right = is_root(objects, no, administrators, na, right.object, r.author);
     rule_in(r)
         & (i.start <= i.end)
-        & (has_object(objects, no, left.object) & has_object(objects, no, right.object))
+        & (any | (has_object(objects, no, left.object) & has_object(objects, no, right.object)))
         & (r.label <= last)
-        & (may_left & (may_right | is_listed(referrers, nf, right.object, r.author)))
+        & (any | (may_left & (may_right | is_listed(referrers, nf, right.object, r.author))))
         & stars_meet(r)
         & option_fits(right.negative, option)
 }

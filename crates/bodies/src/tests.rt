@@ -37,13 +37,13 @@ pub fn authorization_in(a: Authorization) -> bool
         & interval_in(a.interval)
 }
 
-// One side of a rule: 0 is the star of subject and mode.
+// One side of a rule: 0 is the star.
 fn side_in(s: Side) -> bool
     ensures { λ r. ⌜ r ≡ sideIn s ⌝ }
 {
     ((s.subject == 0) | ((1 <= s.subject) & (s.subject <= 1023)))
         & ((s.mode == 0) | ((1 <= s.mode) & (s.mode <= 8)))
-        & ((1 <= s.object) & (s.object <= 128))
+        & ((s.object == 0) | ((1 <= s.object) & (s.object <= 128)))
 }
 
 // Every number of a rule is in its range, or the star where one may stand.
@@ -84,9 +84,11 @@ pub fn neighbour_test(a: Authorization, b: Authorization) -> bool
         & ((la != lb) | (same_head(a.head, b.head) & apart))
 }
 
-// A star of subject or mode stands on both sides of a rule or on neither.
+// A star of subject, mode or object stands on both sides of a rule or on neither.
 pub fn stars_meet(r: Rule) -> bool
     ensures { λ x. ⌜ x ≡ starsMeet r ⌝ }
 {
-    ((r.left.subject == 0) == (r.right.subject == 0)) & ((r.left.mode == 0) == (r.right.mode == 0))
+    ((r.left.subject == 0) == (r.right.subject == 0))
+        & ((r.left.mode == 0) == (r.right.mode == 0))
+        & ((r.left.object == 0) == (r.right.object == 0))
 }

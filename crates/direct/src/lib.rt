@@ -2,15 +2,19 @@
 mod intervals;
 
 ghost use mathlib.Core.Path.{_≡_};
-ghost use Prim.Native.Nat.{_*_, _≤_, _<_};
+ghost use mathlib.Core.Bool.{true};
+ghost use Prim.Native.Nat.{ℕ, _*_, _≤_, _<_};
 ghost use lib.ListN.{length};
 ghost use Rattle.foundation.specs.Lists.{anyb};
-ghost use Rattle.model.specs.Base.{Base};
+ghost use Rattle.model.specs.Base.{Base, controls};
+ghost use Rattle.model.specs.Encoding.{decode};
 ghost use Rattle.model.specs.Rules.{standsFor};
+ghost use Rattle.model.specs.Soundness.{soundBytes};
 ghost use Rattle.encoding.specs.Format.{authorizationsIn, rulesIn};
 ghost use Rattle.direct.specs.Direct.{heldDirectly, liveFor};
 pub use intervals::walk_directly;
 use lookup::has_instant;
+use lookup::stands_on;
 use model::AUTHORIZATION_BYTES;
 use model::Access;
 use model::Authorization;
@@ -18,24 +22,29 @@ use model::RULE_BYTES;
 use model::Rule;
 
 // Whether a rule stands for one that derives an access.
-fn stands(q: Rule, x: Access) -> bool
-    ensures { λ r. ⌜ ((b : Base) → r ≡ standsFor b q x) ⌝ }
+fn stands(s: &[u8], q: Rule, x: Access) -> bool
+    requires { ⌜ soundBytes (now s) ≡ true ⌝ }
+    ensures { λ r. ⌜ r ≡ standsFor (decode (now (s .entry))) q x ⌝ }
 {
     let l = q.left;
-    ((l.subject == 0) | (l.subject as u32 == x.subject))
+    if ((l.subject == 0) | (l.subject as u32 == x.subject))
         & ((l.mode == 0) | (l.mode as u32 == x.mode))
-        & (l.object as u32 == x.object)
+    {
+        return stands_on(s, q, x.object);
+    }
+    false
 }
 
-// Whether some rule does, in a base that has these rules.
-pub fn stands_some(body: &[u8], n: usize, x: Access) -> bool
-    requires { ⌜ n * 28 ≤ length (now body) ⌝ }
+// Whether some rule does, in a base that has these rules, and the owners and administrators of the base of s.
+pub fn stands_some(s: &[u8], body: &[u8], n: usize, x: Access) -> bool
+    requires { ⌜ (soundBytes (now s) ≡ true) × (n * 28 ≤ length (now body)) ⌝ }
     ensures { λ r. ⌜ ((b : Base) → b .rules ≡ rulesIn n (now (body .entry)) →
+        ((o u : ℕ) → controls b o u ≡ controls (decode (now (s .entry))) o u) →
         r ≡ anyb (λ q. standsFor b q x) (b .rules)) ⌝ }
 {
     let mut i = 0;
     while i < n {
-        if stands(encoding::rule_at(body, i * RULE_BYTES), x) {
+        if stands(s, encoding::rule_at(body, i * RULE_BYTES), x) {
             return true;
         }
         i += 1;

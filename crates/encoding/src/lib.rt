@@ -37,6 +37,7 @@ pub use heading::referrers_at;
 pub use heading::rules_at;
 pub use insertion::insert_authorization;
 pub use insertion::place_of;
+pub use terms::number_of;
 pub use terms::rule_of;
 
 // How many records each body has.

@@ -12,7 +12,7 @@ use model::SideTerms;
 use model::Term;
 
 // A number, or 0 for a star.
-fn number_of(t: Term) -> u32
+pub fn number_of(t: Term) -> u32
     ensures { λ r. ⌜ r ≡ numberOf t ⌝ }
 {
     match t {
@@ -28,10 +28,11 @@ fn side_of(t: SideTerms) -> Side
 {
     let subject = t.subject;
     let mode = t.mode;
+    let object = t.object;
     Side {
         subject: number_of(subject) as u16,
         mode: number_of(mode) as u8,
-        object: t.object as u16,
+        object: number_of(object) as u16,
         negative: t.negative,
     }
 }

@@ -6,7 +6,7 @@ use Prim.Native.Nat.{ℕ, _+_, _*_, _≤_, _<_}
 use lib.ListN.{length, getD}
 use Rattle.foundation.specs.Masks.{bit}
 use Rattle.model.specs.declared.Access.{Access}
-use Rattle.model.specs.Base.{Base}
+use Rattle.model.specs.Base.{Base, controls}
 use Rattle.encoding.specs.Format.{ruleAt}
 use Rattle.questions.specs.Operators.{lasting}
 use Rattle.reach.specs.Net.{Closed}
@@ -27,46 +27,53 @@ pub record Onto (U : List ℕ) (size : ℕ) : Type 0 where
   pub all : (c : ℕ) → 0 < c → c < size → (v : ℕ) × (getD U v 0 ≡ c)
   pub star : getD U 0 0 ≡ 0
 
+-- two bases have the same owners and administrators: the same rules stand for an access in both
+abbrev pub SamePowers : Base → Base → Type 0
+SamePowers b c = (o u : ℕ) → controls b o u ≡ controls c o u
+
 -- what was drawn for n rules: `asked` is the asked access, with subject or object 0, which nobody has, where
--- it is listed; `rules` are those that matter; `words` and `bits` are the lengths of the tables
-pub record Drawn (n : ℕ) (C : Chart) (asked : Access) (p : Prepared) (rules words bits : ℕ) : Type 0 where
-  pub grounds : Grounds n (p .body)
-  pub charted : Charted n (p .body) C
-  pub subjects : Onto (C .subjects) (C .width)
-  pub objects : Onto (C .objects) (C .height)
-  pub unlisted : (getD (C .subjects) (asked .subject) 0 ≡ 0) × (getD (C .objects) (asked .object) 0 ≡ 0)
-  pub rights : RightSides (C .subjects) (C .objects) n (p .body) (p .right)
-  pub lefts : LeftSides (C .subjects) (C .objects) n (p .body) (p .sides)
-  -- the masks, before those of the asked access were drawn, and with them
-  pub outlined : List ℕ
-  pub masks : Masked n (C .width) (p .sides) outlined
-  pub own : Owned n (p .body) asked outlined (p .left)
-  pub feed : (choosy : ℕ) × Fed n (p .body) choosy (p .feed)
-      × ((c : ℕ) → c < n → bit c choosy ≡ isChoosy (ruleAt (p .body) c))
-  -- what is needed
-  pub closed : Closed (record { left = p .left; right = p .right; subjects = C .width }) (p .need)
-  pub size : length (p .need) ≡ C .height * C .width
-  -- numbers of pairs and modes
-  pub numbers : (length (p .number) ≡ length (p .need))
-      × ((j : ℕ) → j < length (p .need) → getD (p .number) j 0 ≡ before (p .need) j)
-  pub codes : (length (p .codes) ≡ length (p .need))
-      × ((j : ℕ) → j < length (p .need) → used (getD (p .need) j 0) ≡ true →
-      getD (p .codes) (before (p .need) j) 0 ≡ codeOf (C .width) j)
-  pub grid : (p .frame .grid .subjects ≡ C .width) × (p .frame .grid .objects ≡ C .height)
-      × (p .frame .grid .pairs ≡ before (p .need) (length (p .need)))
-  pub modes : (p .frame .grid .modes < 256) × ((j k : ℕ) → j < length (p .need) → k < 8 →
-      bit k (getD (p .need) j 0) || bit (8 + k) (getD (p .need) j 0) ≡ true →
-      bit k (p .frame .grid .modes) ≡ true)
-  pub needs : Needed (p .left) (p .need) (p .codes) (C .width) (p .frame .grid .pairs) rules
-  -- the tables of fields and of broken bits
-  pub choosy : (c : ℕ) → bit c (p .frame .choosy) ≡ bit c rules && isChoosy (ruleAt (p .body) c)
-  pub laid : Ready (p .frame) (p .right) (p .first) words
-  pub fields : p .frame .fields < 4294967296
-  pub lasts : ℕ
-  pub lasts-is : (r : ℕ) → bit r lasts ≡ bit r rules && lasting (ruleAt (p .body) r .operator)
-  pub total : ℕ
-  pub starts : (0 < bits) → Laid (ruleTables (p .frame .grid) (p .sides) lasts (p .starts)) 0 total
-  pub room : (0 < bits) → (total ≤ 64 * bits) × (total < 4294967296)
+-- it is listed; `rules` are those that matter; `words` and `bits` are the lengths of the tables. Owners and
+-- administrators were asked of `holder`.
+pub record Drawn (holder : Base) (n : ℕ) (C : Chart) (asked : Access) (p : Prepared) (rules words bits : ℕ) :
+    Type 0
+  where
+    pub grounds : Grounds n (p .body)
+    pub charted : Charted n (p .body) C
+    pub subjects : Onto (C .subjects) (C .width)
+    pub objects : Onto (C .objects) (C .height)
+    pub unlisted : (getD (C .subjects) (asked .subject) 0 ≡ 0) × (getD (C .objects) (asked .object) 0 ≡ 0)
+    pub rights : RightSides (C .subjects) (C .objects) n (p .body) (p .right)
+    pub lefts : LeftSides (C .subjects) (C .objects) n (p .body) (p .sides)
+    -- the masks, before those of the asked access were drawn, and with them
+    pub outlined : List ℕ
+    pub masks : Masked holder n C (p .body) (p .sides) outlined
+    pub own : Owned holder n (p .body) asked outlined (p .left)
+    pub feed : (choosy : ℕ) × Fed n (p .body) choosy (p .feed)
+        × ((c : ℕ) → c < n → bit c choosy ≡ isChoosy (ruleAt (p .body) c))
+    -- what is needed
+    pub closed : Closed (record { left = p .left; right = p .right; subjects = C .width }) (p .need)
+    pub size : length (p .need) ≡ C .height * C .width
+    -- numbers of pairs and modes
+    pub numbers : (length (p .number) ≡ length (p .need))
+        × ((j : ℕ) → j < length (p .need) → getD (p .number) j 0 ≡ before (p .need) j)
+    pub codes : (length (p .codes) ≡ length (p .need))
+        × ((j : ℕ) → j < length (p .need) → used (getD (p .need) j 0) ≡ true →
+        getD (p .codes) (before (p .need) j) 0 ≡ codeOf (C .width) j)
+    pub grid : (p .frame .grid .subjects ≡ C .width) × (p .frame .grid .objects ≡ C .height)
+        × (p .frame .grid .pairs ≡ before (p .need) (length (p .need)))
+    pub modes : (p .frame .grid .modes < 256) × ((j k : ℕ) → j < length (p .need) → k < 8 →
+        bit k (getD (p .need) j 0) || bit (8 + k) (getD (p .need) j 0) ≡ true →
+        bit k (p .frame .grid .modes) ≡ true)
+    pub needs : Needed (p .left) (p .need) (p .codes) (C .width) (p .frame .grid .pairs) rules
+    -- the tables of fields and of broken bits
+    pub choosy : (c : ℕ) → bit c (p .frame .choosy) ≡ bit c rules && isChoosy (ruleAt (p .body) c)
+    pub laid : Ready (p .frame) (p .right) (p .first) words
+    pub fields : p .frame .fields < 4294967296
+    pub lasts : ℕ
+    pub lasts-is : (r : ℕ) → bit r lasts ≡ bit r rules && lasting (ruleAt (p .body) r .operator)
+    pub total : ℕ
+    pub starts : (0 < bits) → Laid (ruleTables (p .frame .grid) (p .sides) lasts (p .starts)) 0 total
+    pub room : (0 < bits) → (total ≤ 64 * bits) × (total < 4294967296)
 
 -- the scene, for a base
 abbrev pub sceneOf : Base → Chart → Access → Prepared → Scene

@@ -36,11 +36,11 @@ use Rattle.places.specs.Numbering.{before}
 use Rattle.outlines.specs.Coordinates.{Numbered, Chart, coordinate, subjectOf, objectOf, modeOf, pairOf}
 use Rattle.outlines.specs.CoordinateFacts.{known-is}
 use Rattle.outlines.specs.Outline.{Stands}
-use Rattle.outlines.specs.Standing.{stands}
+use Rattle.outlines.specs.Standing.{stands, stands-alike}
 use Rattle.outlines.specs.Needed.{needed, needed-known, needed-bit, needed-both}
 use Rattle.grounding.specs.Meaning.{TurnOf}
 use Rattle.grounding.specs.Turns.{Prepared, turnIn}
-use Rattle.engine.specs.Drawn.{Drawn, sceneOf}
+use Rattle.engine.specs.Drawn.{SamePowers, Drawn, sceneOf}
 use Rattle.engine.specs.Places.{number-below, pair-back}
 use Rattle.engine.specs.Standing.{rule-low}
 use Rattle.engine.specs.Reading.{right-needed}
@@ -87,8 +87,8 @@ cell-is : (C : Chart) (asked : Access) (h : Head) →
 unfolding coordinate
 cell-is C asked h = refl
 
-module _ {n : ℕ} {C : Chart} {asked : Access} {p : Prepared} {matter words bits : ℕ}
-    (d : Drawn n C asked p matter words bits) where
+module _ {holder : Base} {n : ℕ} {C : Chart} {asked : Access} {p : Prepared} {matter words bits : ℕ}
+    (d : Drawn holder n C asked p matter words bits) where
   abbrev cellIn : Head → Cell
   cellIn h = cellOf (C .subjects) (C .objects) asked h
 
@@ -135,29 +135,30 @@ module _ {n : ℕ} {C : Chart} {asked : Access} {p : Prepared} {matter words bit
 
   -- ---- rules
 
-  drawn-stands : Stands n (p .body) C asked (p .left)
-  drawn-stands = stands (d .grounds) C (d .charted) (p .sides) (d .lefts) asked (d .outlined) (p .left)
-      (d .masks) (d .own)
+  drawn-stands : (b : Base) → SamePowers b holder → Stands b n (p .body) C asked (p .left)
+  drawn-stands b powers = stands-alike holder b n (p .body) C asked (p .left) (λ o u. sym (powers o u))
+      (stands (d .grounds) C (d .charted) (p .sides) (d .lefts) holder asked (d .outlined) (p .left)
+      (d .masks) (d .own))
 
   -- a rule that stands for a needed access matters
-  pub standing-matters : (b : Base) (r : ℕ) → r < n → (x : Access) → needed C asked (p .need) x ≡ true →
-      standsFor b (ruleAt (p .body) r) x ≡ true → bit r matter ≡ true
-  standing-matters b r h x e s =
+  pub standing-matters : (b : Base) → SamePowers b holder → (r : ℕ) → r < n → (x : Access) →
+      needed C asked (p .need) x ≡ true → standsFor b (ruleAt (p .body) r) x ≡ true → bit r matter ≡ true
+  standing-matters b powers r h x e s =
       let k = needed-known C asked (p .need) x e in
       let sign = ruleAt (p .body) r .left .negative in
       let q : ℕ = modeOf x + 8 * asBit sign in
       let i : ℕ = before (p .need) (pairOf C asked x) in
       let back = pair-back d x e in
       let there : bit r (standing (p .left) (objectOf C asked x) (subjectOf C asked x) q) ≡ true =
-      drawn-stands b x k r (omega (arith, d .grounds .few)) sign
+      drawn-stands b powers x k r (omega (arith, d .grounds .few)) sign
       ∙ and-intro (ltb r n) (standsFor b (ruleAt (p .body) r) x && Bool·beq sign sign) (le-true (suc r) n h)
       (and-intro (standsFor b (ruleAt (p .body) r) x) (Bool·beq sign sign) s (beq-self sign)) in
       d .needs .all i q r (number-below d x e)
       (rw (back .0, back .1) (needed-bit C asked (p .need) x e sign))
       (rw (back .0, back .1) there)
 
-  module _ (base : Base) (whole : base .rules ≡ rulesIn n (p .body)) (number : Rule → ℕ)
-      (numbering : Numbering (base .rules) number (ruleAt (p .body))) where
+  module _ (base : Base) (powers : SamePowers base holder) (whole : base .rules ≡ rulesIn n (p .body))
+      (number : Rule → ℕ) (numbering : Numbering (base .rules) number (ruleAt (p .body))) where
     -- the rules that matter
     abbrev pub ruleMatters : Rule → Bool
     ruleMatters r = bit (number r) matter
@@ -175,14 +176,14 @@ module _ {n : ℕ} {C : Chart} {asked : Access} {p : Prepared} {matter words bit
         standsFor base r x ≡ true → ruleMatters r ≡ true
     rules-standing r x m e s =
         let w = rule-number r m in
-        standing-matters base (number r) (w .0) x e (rw (w .1) s)
+        standing-matters base powers (number r) (w .0) x e (rw (w .1) s)
 
     pub rules-inward : (r : Rule) (x : Access) → Mem r (base .rules) → needed C asked (p .need) x ≡ true →
         standsFor base r x ≡ true → needed C asked (p .need) (rightOf r x .access) ≡ true
     rules-inward r x m e s =
         let w = rule-number r m in
         subst (λ (q : Rule). needed C asked (p .need) (rightOf q x .access) ≡ true) (w .1)
-        (right-needed d base (number r) (rules-standing r x m e s) x e (rw (w .1) s))
+        (right-needed d base (number r) (rules-standing r x m e s) powers x e (rw (w .1) s))
 
     -- the rules of the narrowed base are those that matter
     pub selected-rules : keepIf ruleMatters (base .rules) ≡ selected matter (rulesIn n (p .body))
@@ -229,7 +230,7 @@ module _ {n : ℕ} {C : Chart} {asked : Access} {p : Prepared} {matter words bit
           ((j : ℕ) → bit j (getD active r 0) ≡ inside count marks (ruleAt (p .body) r .interval) j) →
           TurnOf (sceneOf (narrowed base keepLine ruleMatters) C asked p) count (λ i. getD marks i 0)
           (ruleAt (p .body) r) (turnIn p active r)
-      narrowed-turn r e count marks active masks = turn-of d less active r e
+      narrowed-turn r e count marks active masks = turn-of d less powers active r e
           (rule-kept r (rule-low d r e) e) count marks masks
 
       -- what it says about a needed access

@@ -59,8 +59,8 @@ objectIn codes i = getD codes i 0 / 256
 abbrev pub subjectIn : List ℕ → ℕ → ℕ
 subjectIn codes i = getD codes i 0 % 256
 
-module _ {n : ℕ} {C : Chart} {asked : Access} {p : Prepared} {rules words bits : ℕ}
-    (d : Drawn n C asked p rules words bits) where
+module _ {holder : Base} {n : ℕ} {C : Chart} {asked : Access} {p : Prepared} {rules words bits : ℕ}
+    (d : Drawn holder n C asked p rules words bits) where
   pub narrow : (C .width ≤ 65) × (0 < C .width) × (C .height ≤ 65)
   narrow = (
     omega (arith, d .charted .subjects .few, d .grounds .few),

@@ -28,13 +28,15 @@ use Rattle.grounding.specs.Meaning.{placeOf}
 use Rattle.grounding.specs.Turns.{Prepared, turnIn}
 use Rattle.engine.specs.declared.Query.{Query}
 use Rattle.engine.specs.declared.Found.{Found}
-use Rattle.engine.specs.Drawn.{Drawn, sceneOf}
+use Rattle.engine.specs.Drawn.{SamePowers, Drawn, sceneOf}
 
 -- the tables are drawn for the asked access x, and `base` has what matters to it: the rules of the mask, and
--- authorizations at needed accesses
+-- authorizations at needed accesses; and all owners and administrators
 pub record Posed (n : ℕ) (C : Chart) (own : Access) (p : Prepared) (needed words bits : ℕ) (base : Base)
     (x : Access) : Type 0 where
-  pub drawn : Drawn n C own p needed words bits
+  pub holder : Base
+  pub drawn : Drawn holder n C own p needed words bits
+  pub powers : SamePowers base holder
   pub strata : stratified (base .rules) ≡ true
   pub rules : base .rules ≡ selected needed (rulesIn n (p .body))
   pub matters : outlines.needed C own (p .need) x ≡ true

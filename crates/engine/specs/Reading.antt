@@ -24,17 +24,17 @@ use Rattle.tables.specs.Giving.{reaches}
 use Rattle.outlines.specs.Coordinates.{Chart}
 use Rattle.outlines.specs.CoordinateFacts.{known-is}
 use Rattle.outlines.specs.Aims.{aim-object, aim-subject, aim-mode}
-use Rattle.outlines.specs.Standing.{stands}
+use Rattle.outlines.specs.Standing.{stands, stands-alike}
 use Rattle.outlines.specs.Needed.{needed, needed-known, needed-right}
 use Rattle.grounding.specs.Steps.{turnedSpot, pairIn, rightPlace, Ordinary, Reads}
 use Rattle.grounding.specs.Turns.{Prepared, turnIn, Able}
 use Rattle.grounding.specs.Meaning.{placeOf}
-use Rattle.engine.specs.Drawn.{Drawn, sceneOf}
+use Rattle.engine.specs.Drawn.{SamePowers, Drawn, sceneOf}
 use Rattle.engine.specs.Places.{size-few, pair-below, pair-code, place-within, grid-small}
 use Rattle.engine.specs.Standing.{rule-low, range-few, stands-in}
 
-module _ {n : ℕ} {C : Chart} {asked : Access} {p : Prepared} {rules words bits : ℕ}
-    (d : Drawn n C asked p rules words bits) where
+module _ {holder : Base} {n : ℕ} {C : Chart} {asked : Access} {p : Prepared} {rules words bits : ℕ}
+    (d : Drawn holder n C asked p rules words bits) where
   -- the broken bits of a rule that looks back have room, where bits are kept
   pub lasting-room : (r : ℕ) → bit r rules ≡ true → lasting (ruleAt (p .body) r .operator) ≡ true → 0 < bits →
       (getD (p .starts) r 0 + sizeOf (p .frame .grid) (regionAt (p .sides) r) ≤ 64 * bits)
@@ -59,14 +59,16 @@ module _ {n : ℕ} {C : Chart} {asked : Access} {p : Prepared} {rules words bits
         λ j. record { subject = s j; mode = m j; object = o j }
 
     -- which is needed
-    pub right-needed : (x : Access) → needed C asked (p .need) x ≡ true →
+    pub right-needed : SamePowers base holder → (x : Access) → needed C asked (p .need) x ≡ true →
         standsFor base (ruleAt (p .body) r) x ≡ true →
         needed C asked (p .need) (rightOf (ruleAt (p .body) r) x .access) ≡ true
-    right-needed x m s = needed-right (d .grounds) C (d .charted) (p .left) (p .right) (d .rights) asked
-        (stands (d .grounds) C (d .charted) (p .sides) (d .lefts) asked (d .outlined) (p .left) (d .masks)
-        (d .own)) (p .need) (d .closed) base r (rule-low d r e) x s m
+    right-needed powers x m s = needed-right (d .grounds) C (d .charted) (p .left) (p .right) (d .rights)
+        asked base (stands-alike holder base n (p .body) C asked (p .left) (λ o u. sym (powers o u))
+        (stands (d .grounds) C (d .charted) (p .sides) (d .lefts) holder asked (d .outlined) (p .left)
+        (d .masks) (d .own))) (p .need) (d .closed) r (rule-low d r e) x s m
 
-    module _ (active : List ℕ) (low : getD active r 0 < 9223372036854775808)
+    module _ (powers : SamePowers base holder) (active : List ℕ)
+        (low : getD active r 0 < 9223372036854775808)
         (fits : getD active r 0 < 2 ^ (2 ^ p .frame .width)) where
       -- the table that it looks at
       table-room : turnIn p active r .first + sizeOf (p .frame .grid) (turnIn p active r .table)
@@ -96,7 +98,7 @@ module _ {n : ℕ} {C : Chart} {asked : Access} {p : Prepared} {rules words bits
           Reads (turnIn p active r) (p .frame) (p .number) words bits (placeOf (sceneOf base C asked p) x)
       reads-at x m s =
           let y = rightOf (ruleAt (p .body) r) x .access in
-          let k = right-needed x m s in
+          let k = right-needed powers x m s in
           let q = spot-right x in
           let g = p .frame .grid in
           let place = rightPlace (turnIn p active r) g (p .number) (sceneOf base C asked p .spot x) in
@@ -153,7 +155,7 @@ module _ {n : ℕ} {C : Chart} {asked : Access} {p : Prepared} {rules words bits
                   (c .object, c .subject, rw (d .grid .0) (c .inside));
               reads = λ i m _ k s.
                   let l = range-few d active r in
-                  let w = stands-in d r h base active i m (omega arith) s in
+                  let w = stands-in d r h base powers active i m (omega arith) s in
                   subst (λ (q : Place). Reads (turnIn p active r) (p .frame) (p .number) words bits q)
                   (sym (w .place)) (reads-at (w .access) (w .matters) (w .stands));
             };

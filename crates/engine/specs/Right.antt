@@ -82,7 +82,7 @@ module _ {n : ℕ} {C : Chart} {own : Access} {p : Prepared} {needed words bits�
   -- the rules that matter can have their turns
   pub able : (l : List ℕ) → Low l needed (p .frame .width) → (r : ℕ) → bit r needed ≡ true →
       Able p l words bits₀ r
-  able l low r e = rule-able (posed .drawn) base r e l (low r e .0) (low r e .1)
+  able l low r e = rule-able (posed .drawn) base r e (posed .powers) l (low r e .0) (low r e .1)
 
   rule-few : (r : ℕ) → bit r needed ≡ true → (r < n) × (n ≤ 64)
   rule-few r e = (rule-low (posed .drawn) r e, posed .drawn .grounds .few)
@@ -161,9 +161,10 @@ module _ {n : ℕ} {C : Chart} {own : Access} {p : Prepared} {needed words bits�
           strata = posed .strata;
           window = views .window;
           low = λ r e. let h = rule-few r e in omega (arith, h .0, h .1);
-          turn = λ r e. turn-of d base active r e (rule-mem r e) count marks (λ j. done .acts r j e);
-          stands = λ r e. stands-for d r (rule-few r e .0) base active;
-          reached = λ r e. stands-at d r (rule-few r e .0) base active;
+          turn = λ r e. turn-of d base (posed .powers) active r e (rule-mem r e) count marks
+              (λ j. done .acts r j e);
+          stands = λ r e. stands-for d r (rule-few r e .0) base (posed .powers) active;
+          reached = λ r e. stands-at d r (rule-few r e .0) base (posed .powers) active;
           carried = carried active;
           feed = feed-has d;
           all = λ q m. selected-rule needed n (p .body) q (rw (posed .rules) at m);
@@ -266,7 +267,7 @@ module _ {n : ℕ} {C : Chart} {own : Access} {p : Prepared} {needed words bits�
         (λ r e y m s. record {
           table = e;
           within = place-within d base y m;
-          inside = left-in d r (rule-few r (looks r e .0) .0) base active y m s;
+          inside = left-in d r (rule-few r (looks r e .0) .0) base (posed .powers) active y m s;
         }) marked kept
         (λ r e l. same r ∙ d .lasts-is r
         ∙ and-intro (bit r needed) (operators.lasting (ruleAt (p .body) r .operator)) e l)

@@ -40,7 +40,7 @@ use Rattle.outlines.specs.Feed.{isEither, isChoosy}
 use Rattle.grounding.specs.Steps.{turned, turnedSpot}
 use Rattle.grounding.specs.Meaning.{pat, Kept, TurnOf}
 use Rattle.grounding.specs.Turns.{Prepared, lookedBy, turnIn}
-use Rattle.engine.specs.Drawn.{Drawn, sceneOf}
+use Rattle.engine.specs.Drawn.{SamePowers, Drawn, sceneOf}
 use Rattle.engine.specs.Places.{place-within}
 use Rattle.engine.specs.Standing.{rule-low}
 use Rattle.engine.specs.Reading.{spot-right, right-needed}
@@ -121,8 +121,8 @@ turned-in b x y e = record {
   object = λ f. ap (λ (s : Spot). s .object) e ∙ rw f;
 }
 
-module _ {n : ℕ} {C : Chart} {asked : Access} {p : Prepared} {matter words bits : ℕ}
-    (d : Drawn n C asked p matter words bits) where
+module _ {holder : Base} {n : ℕ} {C : Chart} {asked : Access} {p : Prepared} {matter words bits : ℕ}
+    (d : Drawn holder n C asked p matter words bits) where
   -- ---- right sides
 
   -- the place of an access
@@ -161,7 +161,8 @@ module _ {n : ℕ} {C : Chart} {asked : Access} {p : Prepared} {matter words bit
 
   -- ---- the turn
 
-  module _ (base : Base) (active : List ℕ) (r : ℕ) (e : bit r matter ≡ true) where
+  module _ (base : Base) (powers : SamePowers base holder) (active : List ℕ) (r : ℕ)
+      (e : bit r matter ≡ true) where
     abbrev one : Rule
     one = ruleAt (p .body) r
 
@@ -219,7 +220,7 @@ module _ {n : ℕ} {C : Chart} {asked : Access} {p : Prepared} {matter words bit
         Kept (sceneOf base C asked p) table (rightOf one x .access)
     right-kept x m s =
         let y = rightOf one x .access in
-        let w = right-needed d base r e x m s in
+        let w = right-needed d base r e powers x m s in
         (w, record { table = table-there; within = place-within d base y w; inside = right-in x })
 
     -- and what fits that

@@ -9,13 +9,14 @@ use native.Mathlib.Nat.{mul-le-mul-right}
 use native.Mathlib.Omega.{arith}
 use lib.Dec.{eqb, ltb}
 use lib.ListN.{length, getD}
-use Rattle.foundation.specs.Tests.{pick, cases, true-eq, false-eq, ne-false, true-le, false-le, le-true}
+use Rattle.foundation.specs.Tests.{cases, true-eq, false-eq, true-le, false-le, le-true}
 use Rattle.foundation.specs.Tests.{and-true, and-intro, and-three}
 use Rattle.foundation.specs.Masks.{bit}
 use Rattle.model.specs.declared.Access.{Access}
 use Rattle.model.specs.Base.{Base}
 use Rattle.model.specs.Stratification.{isStar}
-use Rattle.model.specs.Rules.{standsFor}
+use Rattle.model.specs.Rules.{standsOn, standsFor}
+use Rattle.model.specs.SideFacts.{stands-same}
 use Rattle.encoding.specs.Format.{ruleAt}
 use Rattle.places.specs.Numbering.{used, before, before-more, before-apart}
 use Rattle.places.specs.Regions.{free, In}
@@ -23,18 +24,18 @@ use Rattle.tables.specs.declared.Place.{Place}
 use Rattle.tables.specs.Layout.{regionAt}
 use Rattle.outlines.specs.Coordinates.{Chart, subjectOf, objectOf, modeOf, known, pairOf}
 use Rattle.outlines.specs.CoordinateFacts.{known-is}
-use Rattle.outlines.specs.Masks.{onObject, onSubject}
-use Rattle.outlines.specs.Standing.{stands-by, object-bit, subject-bit, mode-is, object-named}
+use Rattle.outlines.specs.Masks.{onSubject}
+use Rattle.outlines.specs.Standing.{stands-by, object-bit, subject-bit, mode-is}
 use Rattle.outlines.specs.Needed.{needed, needed-known, needed-bit, needed-both}
 use Rattle.grounding.specs.Steps.{StandsAt, placeAt, AtPair}
 use Rattle.grounding.specs.Turns.{Prepared, numberAt, turnIn, rangeFor}
 use Rattle.grounding.specs.Meaning.{placeOf, StandsIn}
-use Rattle.engine.specs.Drawn.{Drawn, sceneOf}
+use Rattle.engine.specs.Drawn.{SamePowers, Drawn, sceneOf}
 use Rattle.engine.specs.Places.{objectIn, subjectIn, coordinate-entry, narrow, access-at}
-use Rattle.engine.specs.Places.{pair-used, number-is, pair-at, pair-back}
+use Rattle.engine.specs.Places.{pair-used, number-is, number-below, pair-at, pair-back}
 
-module _ {n : ℕ} {C : Chart} {asked : Access} {p : Prepared} {rules words bits : ℕ}
-    (d : Drawn n C asked p rules words bits) where
+module _ {holder : Base} {n : ℕ} {C : Chart} {asked : Access} {p : Prepared} {rules words bits : ℕ}
+    (d : Drawn holder n C asked p rules words bits) where
   -- ---- the range of a rule
 
   -- the number of a pair, or how many there are
@@ -90,26 +91,26 @@ module _ {n : ℕ} {C : Chart} {asked : Access} {p : Prepared} {rules words bits
       let x = access-at d (objectIn (p .codes) (w .0)) (subjectIn (p .codes) (w .0)) 0 (a .object)
       (a .subject) in
       let b : bit r (getD (p .left) (objectOf C asked (x .access)) 0) ≡ true = rw (x .object) (w .2) in
-      let q = sym (object-bit (d .grounds) C (d .charted) (p .sides) (d .lefts) asked (d .outlined) (p .left)
-      (d .masks) (d .own) (x .access) (omega (arith, x .object, a .object)) r) ∙ b in
-      true-le (suc r) n (and-true (ltb r n) (onObject (x .access .object) (ruleAt (p .body) r)) q .0)
+      let q = sym (object-bit (d .grounds) C (d .charted) (p .sides) (d .lefts) holder asked (d .outlined)
+      (p .left) (d .masks) (d .own) (x .access) (omega (arith, x .object, a .object)) r) ∙ b in
+      true-le (suc r) n (and-true (ltb r n) (standsOn holder (ruleAt (p .body) r) (x .access .object)) q .0)
 
   -- a rule stands for a known access exactly if the masks of its object and its subject have the rule, and
   -- the rule has its mode
   module _ (r : ℕ) (h : r < n) where
     object-mask : (x : Access) → objectOf C asked x < C .height →
-        bit r (getD (p .left) (objectOf C asked x) 0) ≡ onObject (x .object) (ruleAt (p .body) r)
+        bit r (getD (p .left) (objectOf C asked x) 0) ≡ standsOn holder (ruleAt (p .body) r) (x .object)
     object-mask x k =
         let t : ltb r n ≡ true = le-true (suc r) n h in
-        object-bit (d .grounds) C (d .charted) (p .sides) (d .lefts) asked (d .outlined) (p .left) (d .masks)
-        (d .own) x k r ∙ rw t
+        object-bit (d .grounds) C (d .charted) (p .sides) (d .lefts) holder asked (d .outlined) (p .left)
+        (d .masks) (d .own) x k r ∙ rw t
 
     subject-mask : (x : Access) → subjectOf C asked x < C .width →
         bit r (getD (p .left) (65 + subjectOf C asked x) 0) ≡ onSubject (x .subject) (ruleAt (p .body) r)
     subject-mask x k =
         let t : ltb r n ≡ true = le-true (suc r) n h in
-        subject-bit (d .grounds) C (d .charted) (p .sides) (d .lefts) asked (d .outlined) (p .left) (d .masks)
-        (d .own) x k r ∙ rw t
+        subject-bit (d .grounds) C (d .charted) (p .sides) (d .lefts) holder asked (d .outlined) (p .left)
+        (d .masks) (d .own) x k r ∙ rw t
 
     mode-mask : (x : Access) → 1 ≤ x .mode → x .mode ≤ 8 →
         free (getD (p .sides) (4 * r + 2) 0) || eqb (getD (p .sides) (4 * r + 2) 0) (modeOf x)
@@ -118,19 +119,20 @@ module _ {n : ℕ} {C : Chart} {asked : Access} {p : Prepared} {rules words bits
         ap (λ (k : ℕ). eqb k 255 || eqb k (modeOf x)) (d .lefts r h .mode)
         ∙ mode-is (ruleAt (p .body) r .left .mode) (x .mode) (d .grounds .left r h .mode) a b
 
-    pub stands-is : (base : Base) (x : Access) → known C asked x ≡ true →
+    pub stands-is : (base : Base) → SamePowers base holder → (x : Access) → known C asked x ≡ true →
         standsFor base (ruleAt (p .body) r) x
         ≡ bit r (getD (p .left) (65 + subjectOf C asked x) 0)
         && (free (getD (p .sides) (4 * r + 2) 0) || eqb (getD (p .sides) (4 * r + 2) 0) (modeOf x))
         && bit r (getD (p .left) (objectOf C asked x) 0)
-    stands-is base x k =
+    stands-is base powers x k =
         let w = known-is C asked x .0 k in
-        stands-by base (ruleAt (p .body) r) x
+        stands-same base holder (ruleAt (p .body) r) x (powers (x .object) (ruleAt (p .body) r .author))
+        ∙ stands-by holder (ruleAt (p .body) r) x
         ∙ sym (ap₂ (λ (a b : Bool). a && b)
         (ap₂ (λ (a b : Bool). a && b) (subject-mask x (w .1)) (mode-mask x (w .2) (w .3)))
         (object-mask x (w .0)))
 
-    module _ (base : Base) (active : List ℕ) where
+    module _ (base : Base) (powers : SamePowers base holder) (active : List ℕ) where
       abbrev pub StandsHere : ℕ → ℕ → Type 0
       StandsHere = StandsAt (turnIn p active r) (p .frame) (p .left) (p .need) (p .codes)
 
@@ -167,7 +169,7 @@ module _ {n : ℕ} {C : Chart} {asked : Access} {p : Prepared} {rules words bits
             access = x;
             matters = needed-both C asked (p .need) x k (rw (mode, sym here) (v .0))
                 (rw (mode, sym here) (v .1));
-            stands = stands-is base x k
+            stands = stands-is base powers x k
                 ∙ and-three (bit r (getD (p .left) (65 + subjectOf C asked x) 0))
                 (free code || eqb code (modeOf x)) (bit r (getD (p .left) (objectOf C asked x) 0)) .1
                 (rw (y .subject) (s .subject), rw mode (w .2), rw (y .object) (s .object));
@@ -188,24 +190,26 @@ module _ {n : ℕ} {C : Chart} {asked : Access} {p : Prepared} {rules words bits
       module _ (x : Access) (e : needed C asked (p .need) x ≡ true)
           (s : standsFor base (ruleAt (p .body) r) x ≡ true) where
         side : (onSubject (x .subject) (ruleAt (p .body) r) ≡ true)
-            × (onObject (x .object) (ruleAt (p .body) r) ≡ true)
+            × (standsOn base (ruleAt (p .body) r) (x .object) ≡ true)
         side =
             let q = ruleAt (p .body) r in
             let m = q .left .mode in
             let w = and-three (onSubject (x .subject) q) (isStar m || eqb m (x .mode))
-            (onObject (x .object) q) .0 (sym (stands-by base q x) ∙ s) in
+            (standsOn base q (x .object)) .0 (sym (stands-by base q x) ∙ s) in
             (w .0, w .2)
 
-        object-code : getD (p .sides) (4 * r) 0 ≡ objectOf C asked x
-        object-code =
+        object-code : free (getD (p .sides) (4 * r) 0) ≡ false →
+            getD (p .sides) (4 * r) 0 ≡ objectOf C asked x
+        object-code named =
             let w = known-is C asked x .0 (needed-known C asked (p .need) x e) in
             let v = ruleAt (p .body) r .left .object in
             let c = coordinate-entry (C .objects) (asked .object) (x .object)
             (omega (arith, w .0, narrow d .2)) in
-            d .lefts r h .object
-            ∙ ap (λ (b : Bool). pick b 255 (getD (C .objects) v 0))
-            (object-named (d .grounds) C (d .charted) (p .sides) (d .lefts) r h)
-            ∙ ap (λ (k : ℕ). getD (C .objects) k 0) (true-eq v (x .object) (side .1)) ∙ sym c
+            cases (isStar v)
+            (λ y. let q : getD (p .sides) (4 * r) 0 ≡ 255 = d .lefts r h .object ∙ rw y in
+            absurd (false-eq (getD (p .sides) (4 * r) 0) 255 named q))
+            (λ y. d .lefts r h .object ∙ rw y
+            (ap (λ (k : ℕ). getD (C .objects) k 0) (true-eq v (x .object) (rw y at (side .1))) ∙ sym c))
 
         subject-code : free (getD (p .sides) (4 * r + 1) 0) ≡ false →
             getD (p .sides) (4 * r + 1) 0 ≡ subjectOf C asked x
@@ -227,10 +231,10 @@ module _ {n : ℕ} {C : Chart} {asked : Access} {p : Prepared} {rules words bits
             let code : ℕ = getD (p .sides) (4 * r + 2) 0 in
             let v = and-three (bit r (getD (p .left) (65 + subjectOf C asked x) 0)) (free code || eqb code m)
             (bit r (getD (p .left) (objectOf C asked x) 0)) .0
-            (sym (stands-is base x (needed-known C asked (p .need) x e)) ∙ s) in
+            (sym (stands-is base powers x (needed-known C asked (p .need) x e)) ∙ s) in
             record {
               subject = λ f. sym (subject-code f);
-              object = λ f. sym object-code;
+              object = λ f. sym (object-code f);
               mode = λ f. sym (true-eq code m (ap (λ (b : Bool). b || eqb code m) (sym f) ∙ v .1));
             }
 
@@ -242,17 +246,18 @@ module _ {n : ℕ} {C : Chart} {asked : Access} {p : Prepared} {rules words bits
             let b : ℕ = getD (p .sides) (4 * r) 0 in
             let t : ℕ = getD (p .sides) (4 * r + 1) 0 in
             let g : ℕ = p .frame .grid .subjects in
-            let row : b * g ≡ objectOf C asked x * C .width = rw (object-code, d .grid .0) in
             let q : suc (objectOf C asked x) * C .width ≤ C .height * C .width =
             mul-le-mul-right (C .width) (w .0) in
-            let named : free b ≡ false =
-            ne-false b 255 (λ z. omega (arith, object-code, w .0, narrow d .2)) in
+            cases (free b)
+            (λ starred. rw starred (omega arith, number-below d x e))
+            (λ named.
+            let row : b * g ≡ objectOf C asked x * C .width = rw (object-code named, d .grid .0) in
             cases (free t)
             (λ f. rw (named, f) (number-between (b * g) (pairOf C asked x) (b * g + g) (omega arith)
             (omega (arith, d .grid .0, w .1)) (omega (arith, d .grid .0, d .size)) u))
             (λ f. let c = subject-code f in
             rw (named, f) (number-between (b * g + t) (pairOf C asked x) (b * g + t + 1) (omega arith)
-            (omega arith) (omega (arith, w .1, d .size)) u))
+            (omega arith) (omega (arith, w .1, d .size)) u)))
 
         pub stands-at : AtPair (turnIn p active r) (p .frame) (p .left) (p .need) (p .codes)
             (rangeFor p active r .from) (rangeFor p active r .to) (placeOf (sceneOf base C asked p) x)
@@ -264,7 +269,7 @@ module _ {n : ℕ} {C : Chart} {asked : Access} {p : Prepared} {rules words bits
             let w = known-is C asked x .0 k in
             let code : ℕ = getD (p .sides) (4 * r + 2) 0 in
             let v = and-three (bit r (getD (p .left) (65 + subjectOf C asked x) 0)) (free code || eqb code m)
-            (bit r (getD (p .left) (objectOf C asked x) 0)) .0 (sym (stands-is base x k) ∙ s) in
+            (bit r (getD (p .left) (objectOf C asked x) 0)) .0 (sym (stands-is base powers x k) ∙ s) in
             let here : getD (p .need)
             (objectIn (p .codes) i * p .frame .grid .subjects + subjectIn (p .codes) i) 0
             ≡ getD (p .need) (pairOf C asked x) 0 = rw (b .0, b .1, d .grid .0) in

@@ -32,11 +32,11 @@ termOf any n = pick any Any (Number n)
 abbrev pub optionOf : Bool → Bool → OptionTerm
 optionOf any with = pick any Either (pick with With Without)
 
-abbrev pub side : Bool → ℕ → Bool → ℕ → ℕ → Bool → SideTerms
-side anySubject subject anyMode mode object negative = record {
+abbrev pub side : Bool → ℕ → Bool → ℕ → Bool → ℕ → Bool → SideTerms
+side anySubject subject anyMode mode anyObject object negative = record {
   subject = termOf anySubject subject;
   mode = termOf anyMode mode;
-  object = object;
+  object = termOf anyObject object;
   negative = negative;
 }
 

@@ -192,6 +192,7 @@ pub extern "C" fn access_base_request(
     left_subject: u32,
     left_any_mode: bool,
     left_mode: u32,
+    left_any_object: bool,
     left_object: u32,
     left_negative: bool,
     operator: u32,
@@ -199,6 +200,7 @@ pub extern "C" fn access_base_request(
     right_subject: u32,
     right_any_mode: bool,
     right_mode: u32,
+    right_any_object: bool,
     right_object: u32,
     right_negative: bool,
     any_grantor: bool,
@@ -217,12 +219,12 @@ pub extern "C" fn access_base_request(
       interval = interval start end;
       option = option;
       rule = record {
-        left = side «left_any_subject» «left_subject» «left_any_mode» «left_mode» «left_object»
-            «left_negative»;
+        left = side «left_any_subject» «left_subject» «left_any_mode» «left_mode» «left_any_object»
+            «left_object» «left_negative»;
         operator = operator;
         right =
-            side «right_any_subject» «right_subject» «right_any_mode» «right_mode» «right_object»
-            «right_negative»;
+            side «right_any_subject» «right_subject» «right_any_mode» «right_mode» «right_any_object»
+            «right_object» «right_negative»;
         grantor = termOf «any_grantor» grantor;
         option = optionOf «any_option» «with_option»;
       };
@@ -231,13 +233,13 @@ pub extern "C" fn access_base_request(
     let left = SideTerms {
         subject: term(left_any_subject, left_subject),
         mode: term(left_any_mode, left_mode),
-        object: left_object,
+        object: term(left_any_object, left_object),
         negative: left_negative,
     };
     let right = SideTerms {
         subject: term(right_any_subject, right_subject),
         mode: term(right_any_mode, right_mode),
-        object: right_object,
+        object: term(right_any_object, right_object),
         negative: right_negative,
     };
     let rule = RuleTerms {

@@ -200,7 +200,7 @@ fn derive_modes(
 }
 
 // Whether the rule stands on an object and a subject.
-fn stands(t: Turn, left: &[u64; 151], o: usize, s: usize) -> bool
+fn stands(t: Turn, left: &[u64; 152], o: usize, s: usize) -> bool
     requires { ⌜ (o < 65) × (s < 65) × (t .rule < 64) ⌝ }
     ensures { λ r. ⌜ (r ≡ true → (bit (t .rule) (getD (now (left .entry)) o 0) ≡ true)
         × (bit (t .rule) (getD (now (left .entry)) (65 + s) 0) ≡ true))
@@ -211,7 +211,7 @@ fn stands(t: Turn, left: &[u64; 151], o: usize, s: usize) -> bool
 }
 
 // The modes of the pair with a code at which the rule stands; none where it does not.
-fn standing_modes(t: Turn, g: Grid, left: &[u64; 151], need: &[u16], o: usize, s: usize) -> u64
+fn standing_modes(t: Turn, g: Grid, left: &[u64; 152], need: &[u16], o: usize, s: usize) -> u64
     requires { ⌜ (o < 65) × (s < 65) × (t .rule < 64) × (t .sign < 2)
         × (o * g .subjects + s < length (now need)) ⌝ }
     ensures { λ r. ⌜ ((m : ℕ) → bit m r ≡ true →
@@ -232,7 +232,7 @@ fn standing_modes(t: Turn, g: Grid, left: &[u64; 151], need: &[u16], o: usize, s
 pub fn derive_pairs(
     t: Turn,
     f: Frame,
-    left: &[u64; 151],
+    left: &[u64; 152],
     need: &[u16],
     codes: &[u16],
     number: &[u16],
@@ -325,7 +325,7 @@ fn mark_modes(
 pub fn mark_pairs(
     t: Turn,
     f: Frame,
-    left: &[u64; 151],
+    left: &[u64; 152],
     need: &[u16],
     codes: &[u16],
     number: &[u16],

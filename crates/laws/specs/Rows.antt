@@ -17,7 +17,7 @@ use Rattle.model.specs.Stratification.{stratified}
 use Rattle.model.specs.Requests.{NEW, ADDRULE, GRANTADM, GRANTREF, is, grants, labels, newHead, rulesAfter}
 use Rattle.model.specs.Means.{plainly}
 use Rattle.model.specs.Step.{namesObject, namesSubject, namesMode, namesInterval, ruleTermsIn, badInterval}
-use Rattle.model.specs.Step.{noObject}
+use Rattle.model.specs.Step.{anyObject, leftObject, rightObject, noObject}
 use Rattle.model.specs.Step.{notPermitted, notSupported, alreadyThere, notStratified, countsHold, full}
 use Rattle.model.specs.Step.{effect}
 use Rattle.model.specs.Soundness.{intervalIn, startsFirst}
@@ -76,15 +76,15 @@ module _ (b : Base) (q : Request) (g : Accepted b q) where
   object-exists k n = must-pass (noObject b q) (exists b (q .object)) (g .object) (λ e. rw (k, n, e))
 
   pub both-exist : is q (ADDRULE ∷ []) ≡ true →
-      exists b (q .rule .left .object) && exists b (q .rule .right .object) ≡ true
-  both-exist k = must-pass (noObject b q) (exists b (q .rule .left .object)
-      && exists b (q .rule .right .object))
+      anyObject (q .rule) || (exists b (leftObject q) && exists b (rightObject q)) ≡ true
+  both-exist k = must-pass (noObject b q)
+      (anyObject (q .rule) || (exists b (leftObject q) && exists b (rightObject q)))
       (g .object) (λ e. rw (k, e, or-true))
 
   pub may-rule : is q (ADDRULE ∷ []) ≡ true →
-      mayRule b (q .requester) (q .rule .left .object) (q .rule .right .object) ≡ true
+      anyObject (q .rule) || mayRule b (q .requester) (leftObject q) (rightObject q) ≡ true
   may-rule k = must-pass (notPermitted b q)
-      (mayRule b (q .requester) (q .rule .left .object) (q .rule .right .object))
+      (anyObject (q .rule) || mayRule b (q .requester) (leftObject q) (rightObject q))
       (g .permitted) (λ e. rw (k, e, or-true))
 
   -- a grant or denial of who neither owns nor administers is covered

@@ -23,7 +23,7 @@ term-in range (Number n) e = or-true-right (isStar n) (range n) e
 
 -- the tests of a request's side of a rule
 abbrev pub sideTests : SideTerms → List Bool
-sideTests s = termIn isSubject (s .subject) ∷ termIn isMode (s .mode) ∷ isObject (s .object) ∷ []
+sideTests s = termIn isSubject (s .subject) ∷ termIn isMode (s .mode) ∷ termIn isObject (s .object) ∷ []
 
 pub side-tests : (s : SideTerms) → sideTermsIn s ≡ true → (x : Bool) → Mem x (sideTests s) → x ≡ true
 side-tests s = conjunct (sideTests s)
@@ -34,7 +34,7 @@ side-in s e =
     rw (
       term-in isSubject (s .subject) (t _ (inl refl)),
       term-in isMode (s .mode) (t _ (inr (inl refl))),
-      t _ (inr (inr (inl refl))),
+      term-in isObject (s .object) (t _ (inr (inr (inl refl)))),
     )
 
 -- a number in a range above 0 is no star, so that stars match where the request's do
@@ -58,5 +58,6 @@ ruleTests u =
     ∷ termIn isSubject (u .grantor)
     ∷ starsAgree (u .left .subject) (u .right .subject)
     ∷ starsAgree (u .left .mode) (u .right .mode)
+    ∷ starsAgree (u .left .object) (u .right .object)
     ∷ optionFits (u .right .negative) (u .option)
     ∷ [])

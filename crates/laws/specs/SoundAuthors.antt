@@ -1,7 +1,7 @@
 -- An accepted request on a sound base: each rule's author has the powers that ADDRULE needs
 -- (`authors-after`). For what REVOKEADM or REVOKEREF takes from an author drops the rules that need it.
 use mathlib.Core.Path.{_≡_}
-use mathlib.Core.Bool.{true, false, _&&_, _||_}
+use mathlib.Core.Bool.{Bool, true, false, _&&_, _||_}
 use mathlib.Core.List.{[], _∷_}
 use Prim.Native.Nat.{ℕ, suc}
 use lib.Dec.{eqb}
@@ -12,6 +12,7 @@ use Rattle.foundation.specs.Lists.{all-mem}
 use Rattle.model.specs.declared.Rule.{Rule}
 use Rattle.model.specs.declared.Request.{Request}
 use Rattle.model.specs.Base.{Base, owns, administers, refers, controls, mayRule}
+use Rattle.model.specs.Stratification.{isStar}
 use Rattle.model.specs.Requests.{ADDRULE, REVOKEADM, REVOKEREF, is, newRule, drops}
 use Rattle.model.specs.Means.{plainly}
 use Rattle.model.specs.Step.{effect}
@@ -87,9 +88,18 @@ module _ (b : Base) (q : Request) where
             (λ f. rw (v .same, v .object, v .subject, f)))))))
             (λ h. or-true-right (controls after t u) (refers after t u) (refers-stays b q t u h c))
 
+    -- that of a rule with starred objects needs none
+    abbrev allowed : Base → Rule → Bool
+    allowed c r = isStar (r .left .object) || mayRule c (r .author) (r .left .object) (r .right .object)
+
+    rule-stays : (r : Rule) → drops b q r ≡ false → allowed b r ≡ true → allowed after r ≡ true
+    rule-stays r d e =
+        let star = isStar (r .left .object) in
+        let then = mayRule after (r .author) (r .left .object) (r .right .object) in
+        or-cases star (mayRule b (r .author) (r .left .object) (r .right .object)) e
+        (λ a. or-intro-left star then a) (λ a. or-true-right star then (author-stays r d a))
+
     pub authors-after : authorsMay after ≡ true
-    authors-after = kept-all b q (λ r. mayRule after (r .author) (r .left .object) (r .right .object))
-        (λ r m d. author-stays r d
-        (all-mem (λ r. mayRule b (r .author) (r .left .object) (r .right .object)) (b .rules)
-        (s .authors) r m))
-        (λ k. author-stays new (rw (kind-is q ADDRULE k)) (may-rule b q g k))
+    authors-after = kept-all b q (allowed after)
+        (λ r m d. rule-stays r d (all-mem (allowed b) (b .rules) (s .authors) r m))
+        (λ k. rule-stays new (rw (kind-is q ADDRULE k)) (may-rule b q g k))

@@ -1,21 +1,22 @@
 -- An accepted request on a sound base: the rules are sound after it, but for their authors (SoundAuthors).
 use mathlib.Core.Path.{_≡_, refl, sym, _∙_}
 use mathlib.Core.Logic.{inl, inr, ⊎-elim}
-use mathlib.Core.Bool.{Bool, true, not, _&&_, Bool·beq, true≢false}
+use mathlib.Core.Bool.{Bool, true, not, _&&_, _||_, Bool·beq, true≢false}
 use mathlib.Core.List.{[], _∷_}
 use Prim.Native.Nat.{ℕ, suc}
 use native.Mathlib.Omega.{arith}
 use lib.Dec.{leb, ltb}
-use Rattle.foundation.specs.Tests.{cases, and-true, and-intro, le-true, ltb-trans}
+use Rattle.foundation.specs.Tests.{cases, and-true, and-intro, or-cases, or-intro-left, or-true-right}
+use Rattle.foundation.specs.Tests.{le-true, ltb-trans}
 use Rattle.foundation.specs.Lists.{allb, Mem, all-mem, conjunct}
 use Rattle.model.specs.declared.Rule.{Rule}
 use Rattle.model.specs.declared.Request.{Request}
-use Rattle.model.specs.Ranges.{isSubject, isMode, lastLabel}
+use Rattle.model.specs.Ranges.{isSubject, isObject, isMode, lastLabel}
 use Rattle.model.specs.Base.{Base, exists}
 use Rattle.model.specs.Stratification.{isStar, stratified}
 use Rattle.model.specs.Requests.{ADDRULE, DROPRULE, REVOKEADM, REVOKEREF, is, labels, newRule, drops}
 use Rattle.model.specs.Means.{plainly}
-use Rattle.model.specs.Step.{optionFits, effect}
+use Rattle.model.specs.Step.{optionFits, leftObject, rightObject, effect}
 use Rattle.model.specs.StepFacts.{Accepted}
 use Rattle.model.specs.Soundness.{chained, ruleIn, startsFirst, starsMatch, rightDenialsPlain}
 use Rattle.model.specs.SoundnessFacts.{Sound}
@@ -76,19 +77,25 @@ module _ (b : Base) (q : Request) where
         (all-mem (λ r. startsFirst (r .interval)) (b .rules) (intervals-test b s _ (inr (inl refl))))
         (λ k. starts-first b q g (rw (kind-is q ADDRULE k)))
 
-    pub exist-rules :
-        allb (λ r. exists after (r .left .object) && exists after (r .right .object)) (after .rules) ≡ true
-    exist-rules = rules-all b q (λ r. exists after (r .left .object) && exists after (r .right .object))
+    -- the objects of a rule exist, or are starred
+    abbrev there : Base → ℕ → ℕ → Bool
+    there c l r = isStar l || (exists c l && exists c r)
+
+    pub exist-rules : allb (λ r. isStar (r .left .object)
+        || (exists after (r .left .object) && exists after (r .right .object))) (after .rules) ≡ true
+    exist-rules = rules-all b q (λ r. there after (r .left .object) (r .right .object))
         (λ r m. both (r .left .object) (r .right .object)
-        (all-mem (λ r. exists b (r .left .object) && exists b (r .right .object)) (b .rules)
+        (all-mem (λ r. there b (r .left .object) (r .right .object)) (b .rules)
         (exist-test b s _ (inr (inr (inr (inl refl))))) r m))
-        (λ k. both (q .rule .left .object) (q .rule .right .object) (both-exist b q g k))
+        (λ k. both (leftObject q) (rightObject q) (both-exist b q g k))
       where
-        both : (l r : ℕ) → exists b l && exists b r ≡ true → exists after l && exists after r ≡ true
-        both l r e =
-            let w = and-true (exists b l) (exists b r) e in
-            and-intro (exists after l) (exists after r)
-            (exists-stays b q l (w .0)) (exists-stays b q r (w .1))
+        both : (l r : ℕ) → there b l r ≡ true → there after l r ≡ true
+        both l r e = or-cases (isStar l) (exists b l && exists b r) e
+            (λ a. or-intro-left (isStar l) (exists after l && exists after r) a)
+            (λ a. let w = and-true (exists b l) (exists b r) a in
+            or-true-right (isStar l) (exists after l && exists after r)
+            (and-intro (exists after l) (exists after r)
+            (exists-stays b q l (w .0)) (exists-stays b q r (w .1))))
 
     pub labels-rules : allb (λ r. leb (r .label) (after .last)) (after .rules) ≡ true
     labels-rules = rules-all b q (λ r. leb (r .label) (after .last))
@@ -96,11 +103,13 @@ module _ (b : Base) (q : Request) where
         (λ k. let e : labels q ≡ true = rw (kind-is q ADDRULE k) in
         rw e (le-true (suc (b .last)) (suc (b .last)) (omega arith)))
 
+    abbrev matching : Rule → Bool
+    matching r = Bool·beq (isStar (r .left .subject)) (isStar (r .right .subject))
+        && Bool·beq (isStar (r .left .mode)) (isStar (r .right .mode))
+        && Bool·beq (isStar (r .left .object)) (isStar (r .right .object))
+
     pub stars-after : starsMatch after ≡ true
-    stars-after = rules-all b q (λ r. Bool·beq (isStar (r .left .subject)) (isStar (r .right .subject))
-        && Bool·beq (isStar (r .left .mode)) (isStar (r .right .mode)))
-        (all-mem (λ r. Bool·beq (isStar (r .left .subject)) (isStar (r .right .subject))
-        && Bool·beq (isStar (r .left .mode)) (isStar (r .right .mode))) (b .rules) (s .stars))
+    stars-after = rules-all b q matching (all-mem matching (b .rules) (s .stars))
         (λ k. let l = side-tests (q .rule .left) (terms-in k _ (inl refl)) in
         let r = side-tests (q .rule .right) (terms-in k _ (inr (inl refl))) in
         rw (
@@ -109,12 +118,15 @@ module _ (b : Base) (q : Request) where
           stars-match isMode refl (q .rule .left .mode) (q .rule .right .mode)
               (l _ (inr (inl refl))) (r _ (inr (inl refl)))
               (terms-in k _ (inr (inr (inr (inr (inr (inl refl))))))),
+          stars-match isObject refl (q .rule .left .object) (q .rule .right .object)
+              (l _ (inr (inr (inl refl)))) (r _ (inr (inr (inl refl))))
+              (terms-in k _ (inr (inr (inr (inr (inr (inr (inl refl)))))))),
         ))
 
     pub right-after : rightDenialsPlain after ≡ true
     right-after = rules-all b q (λ r. optionFits (r .right .negative) (r .option))
         (all-mem (λ r. optionFits (r .right .negative) (r .option)) (b .rules) (s .right))
-        (λ k. terms-in k _ (inr (inr (inr (inr (inr (inr (inl refl))))))))
+        (λ k. terms-in k _ (inr (inr (inr (inr (inr (inr (inr (inl refl)))))))))
 
     pub strata-after : stratified (after .rules) ≡ true
     strata-after = cases (is q (ADDRULE ∷ []))

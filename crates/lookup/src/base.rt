@@ -4,6 +4,7 @@ ghost use mathlib.Core.Bool.{true};
 ghost use Rattle.foundation.specs.Lists.{anyb};
 ghost use Rattle.model.specs.Base as base;
 ghost use Rattle.model.specs.Encoding.{decode};
+ghost use Rattle.model.specs.Rules.{standsOn};
 ghost use Rattle.model.specs.Soundness.{soundBytes};
 ghost use Rattle.lookup.specs.Numbers.{hasLabel, ofOther, labelled, ofOtherAuthor};
 use crate::bodies::any_labelled;
@@ -13,6 +14,7 @@ use crate::bodies::has_label;
 use crate::bodies::has_object;
 use crate::bodies::is_listed;
 use crate::bodies::narrow;
+use model::Rule;
 
 // The object exists.
 pub fn exists(s: &[u8], o: u32) -> bool
@@ -58,6 +60,17 @@ pub fn controls(s: &[u8], o: u32, u: u32) -> bool
     ensures { λ r. ⌜ r ≡ base.controls (decode (now (s .entry))) o u ⌝ }
 {
     owns(s, o, u) | administers(s, o, u)
+}
+
+// The rule's left side is on the object: it names it, or is starred there and its author controls the object.
+pub fn stands_on(s: &[u8], q: Rule, o: u32) -> bool
+    requires { ⌜ soundBytes (now s) ≡ true ⌝ }
+    ensures { λ r. ⌜ r ≡ standsOn (decode (now (s .entry))) q o ⌝ }
+{
+    if q.left.object == 0 {
+        return controls(s, o, q.author as u32);
+    }
+    q.left.object as u32 == o
 }
 
 // The subject may set up a rule with these objects on its left and on its right.

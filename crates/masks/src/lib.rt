@@ -135,7 +135,7 @@ pub fn next_dirty(dirty: u64, r: u32, up: bool) -> Next
 }
 
 // The rules that stand on one of the modes, with a sign, that are needed.
-fn on_modes(left: &[u64; 151], need: u16) -> u64
+fn on_modes(left: &[u64; 152], need: u16) -> u64
     ensures { λ m. ⌜ ((k r : ℕ) → bit k need ≡ true → bit r (getD (now (left .entry)) (130 + k) 0) ≡ true →
         bit r m ≡ true) ⌝ }
 {
@@ -150,7 +150,7 @@ fn on_modes(left: &[u64; 151], need: u16) -> u64
 }
 
 // The rules that stand at a pair with a mode and a sign that are needed there.
-fn at_pair(left: &[u64; 151], o: usize, s: usize, need: u16) -> u64
+fn at_pair(left: &[u64; 152], o: usize, s: usize, need: u16) -> u64
     requires { ⌜ (o < 65) × (s < 65) ⌝ }
     ensures { λ m. ⌜ StandsAt (now (left .entry)) o s need m ⌝ }
 {
@@ -160,7 +160,7 @@ fn at_pair(left: &[u64; 151], o: usize, s: usize, need: u16) -> u64
 // The rules that stand at a place that is needed, or more. `codes` has the pairs: 256 times the object, and
 // the subject.
 pub fn needed_rules(
-    left: &[u64; 151],
+    left: &[u64; 152],
     need: &[u16],
     codes: &[u16],
     pairs: usize,

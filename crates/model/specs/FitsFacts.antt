@@ -57,6 +57,9 @@ or-star range bound n h f e = or-cases (isStar n) (range n) e (λ z. omega (arit
 subject-or-star-fits : (n : ℕ) → orStar isSubject n ≡ true → n < 256 ^ 2
 subject-or-star-fits n = or-star isSubject (256 ^ 2) n (omega arith) (subject-fits n)
 
+object-or-star-fits : (n : ℕ) → orStar isObject n ≡ true → n < 256 ^ 2
+object-or-star-fits n = or-star isObject (256 ^ 2) n (omega arith) (object-fits n)
+
 mode-or-star-fits : (n : ℕ) → orStar isMode n ≡ true → n < 256
 mode-or-star-fits n = or-star isMode 256 n (omega arith) (mode-fits n)
 
@@ -110,12 +113,12 @@ pub record SideFits (s : Side) : Type 0 where
 
 side-fits : (s : Side) → sideIn s ≡ true → SideFits s
 side-fits s e =
-    let t = conjunct (orStar isSubject (s .subject) ∷ orStar isMode (s .mode) ∷ isObject (s .object) ∷ [])
-    e in
+    let t = conjunct (orStar isSubject (s .subject) ∷ orStar isMode (s .mode) ∷ orStar isObject (s .object)
+    ∷ []) e in
     record {
       subject = subject-or-star-fits (s .subject) (t _ (inl refl));
       mode = mode-or-star-fits (s .mode) (t _ (inr (inl refl)));
-      object = object-fits (s .object) (t _ (inr (inr (inl refl))));
+      object = object-or-star-fits (s .object) (t _ (inr (inr (inl refl))));
     }
 
 pub record RuleFits (r : Rule) : Type 0 where

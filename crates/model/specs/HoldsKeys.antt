@@ -65,7 +65,7 @@ module _ (base : Base) where
   right-near x y r m a = (
     starred-number (λ r. r .right .subject) (x .subject) (y .subject) r m (a .0),
     starred-number (λ r. r .right .mode) (x .mode) (y .mode) r m (a .1),
-    right-number (λ r. r .right .object) (x .object) r m,
+    starred-number (λ r. r .right .object) (x .object) (y .object) r m (a .2),
   )
 
   -- the accesses near x

@@ -178,7 +178,7 @@ abbrev pub sideOf : SideTerms → Side
 sideOf s = record {
   subject = numberOf (s .subject);
   mode = numberOf (s .mode);
-  object = s .object;
+  object = numberOf (s .object);
   negative = s .negative;
 }
 

@@ -18,7 +18,7 @@ use Rattle.model.specs.declared.OptionTerm.the-variants.{Either}
 use Rattle.model.specs.declared.Access.{Access}
 pub use Rattle.model.specs.declared.Pattern.{Pattern}
 use Rattle.model.specs.Ranges.{lastInstant}
-use Rattle.model.specs.Base.{Base}
+use Rattle.model.specs.Base.{Base, controls}
 use Rattle.model.specs.Support.{live}
 use Rattle.model.specs.Stratification.{star, isStar, fitsOption, stratum}
 
@@ -36,13 +36,18 @@ fits p h =
     && fitsGrantor (p .grantor) (h .grantor)
     && fitsOption (p .option) (h .option)
 
+-- 02: a rule with starred objects "stands for each object on which its author is owner or administrator at
+-- the time of the question"; another for the one that it names
+abbrev pub standsOn : Base → Rule → ℕ → Bool
+standsOn b r o = pick (isStar (r .left .object)) (controls b o (r .author)) (eqb (r .left .object) o)
+
 -- 01: "A starred rule stands for one rule per subject or mode": the accesses on the left of the rules it
--- stands for in the base. Objects are not starred, so nothing in the base is looked at.
+-- stands for in the base (SideFacts: `stands-named`, `stands-starred`)
 unfoldable pub standsFor : Base → Rule → Access → Bool
 standsFor b r x =
     (isStar (r .left .subject) || eqb (r .left .subject) (x .subject))
     && (isStar (r .left .mode) || eqb (r .left .mode) (x .mode))
-    && eqb (r .left .object) (x .object)
+    && standsOn b r (x .object)
 
 -- 01: "The left side is never transferable and its granter is the author": what the rule derives is what is
 -- looked for
@@ -59,7 +64,7 @@ rightOf r x = record {
   access = record {
     subject = pick (isStar (r .right .subject)) (x .subject) (r .right .subject);
     mode = pick (isStar (r .right .mode)) (x .mode) (r .right .mode);
-    object = r .right .object;
+    object = pick (isStar (r .right .object)) (x .object) (r .right .object);
   };
   negative = r .right .negative;
   grantor = r .grantor;

@@ -9,9 +9,10 @@ use Rattle.foundation.specs.Tests.{pick, cases, true-eq, not-true, beq-eq, and-
 use Rattle.model.specs.declared.Head.{Head}
 use Rattle.model.specs.declared.Rule.{Rule}
 use Rattle.model.specs.declared.Access.{Access}
-use Rattle.model.specs.Base.{Base}
+use Rattle.model.specs.Base.{Base, controls}
 use Rattle.model.specs.Stratification.{isStar, meets, fitsOption, feeds, links}
-use Rattle.model.specs.Rules.{Pattern, fits, fitsGrantor, standsFor, derivesFor, rightOf, asked}
+use Rattle.model.specs.Rules.{Pattern, fits, fitsGrantor, standsOn, standsFor, derivesFor, rightOf}
+use Rattle.model.specs.Rules.{asked}
 
 -- an authorization with the head h is what is looked for
 pub fits-is : (p : Pattern) (h : Head) → (fits p h ≡ true)
@@ -32,11 +33,36 @@ fits-is p h = and-six
 pub stands-is : (b : Base) (r : Rule) (x : Access) → (standsFor b r x ≡ true)
     ↔ ((isStar (r .left .subject) || eqb (r .left .subject) (x .subject) ≡ true)
     × (isStar (r .left .mode) || eqb (r .left .mode) (x .mode) ≡ true)
-    × (eqb (r .left .object) (x .object) ≡ true))
+    × (standsOn b r (x .object) ≡ true))
 unfolding standsFor
 stands-is b r x = and-three
     (isStar (r .left .subject) || eqb (r .left .subject) (x .subject))
-    (isStar (r .left .mode) || eqb (r .left .mode) (x .mode)) (eqb (r .left .object) (x .object))
+    (isStar (r .left .mode) || eqb (r .left .mode) (x .mode)) (standsOn b r (x .object))
+
+-- a rule that names its object stands for accesses to that one
+pub stands-named : (b : Base) (r : Rule) (x : Access) → isStar (r .left .object) ≡ false →
+    standsFor b r x
+    ≡ (isStar (r .left .subject) || eqb (r .left .subject) (x .subject))
+    && (isStar (r .left .mode) || eqb (r .left .mode) (x .mode))
+    && eqb (r .left .object) (x .object)
+unfolding standsFor
+stands-named b r x e = rw e
+
+-- one with starred objects for accesses to those that its author owns or administers, and no others
+pub stands-starred : (b : Base) (r : Rule) (x : Access) → isStar (r .left .object) ≡ true →
+    standsFor b r x
+    ≡ (isStar (r .left .subject) || eqb (r .left .subject) (x .subject))
+    && (isStar (r .left .mode) || eqb (r .left .mode) (x .mode))
+    && controls b (x .object) (r .author)
+unfolding standsFor
+stands-starred b r x e = rw e
+
+-- of a base only owners and administrators are looked at
+pub stands-same : (b c : Base) (r : Rule) (x : Access) →
+    controls b (x .object) (r .author) ≡ controls c (x .object) (r .author) →
+    standsFor b r x ≡ standsFor c r x
+unfolding standsFor
+stands-same b c r x e = rw e
 
 -- what r derives is what is looked for
 pub derives-is : (b : Base) (p : Pattern) (r : Rule) → (derivesFor b p r ≡ true)
@@ -57,19 +83,16 @@ derives-stands b p r e = derives-is b p r .0 e .0
 
 pub feeds-is : (q r : Rule) → (feeds q r ≡ true)
     ↔ ((Bool·beq (q .left .negative) (r .right .negative) ≡ true)
-    × (eqb (q .left .object) (r .right .object) ≡ true)
+    × (meets (q .left .object) (r .right .object) ≡ true)
     × (meets (q .left .subject) (r .right .subject) ≡ true)
     × (meets (q .left .mode) (r .right .mode) ≡ true)
     × (fitsGrantor (r .grantor) (q .author) ≡ true)
     × (fitsOption (r .option) false ≡ true))
 unfolding feeds
 feeds-is q r = and-six
-    (Bool·beq (q .left .negative) (r .right .negative)) (eqb (q .left .object) (r .right .object))
+    (Bool·beq (q .left .negative) (r .right .negative)) (meets (q .left .object) (r .right .object))
     (meets (q .left .subject) (r .right .subject)) (meets (q .left .mode) (r .right .mode))
     (fitsGrantor (r .grantor) (q .author)) (fitsOption (r .option) false)
-
-pub feeds-object : (q r : Rule) → feeds q r ≡ true → q .left .object ≡ r .right .object
-feeds-object q r e = true-eq (q .left .object) (r .right .object) (feeds-is q r .0 e .1)
 
 -- a number of a left side that fits that of a right side, its star standing for z, meets it
 fit-meets : (n m z : ℕ) → isStar n || eqb n (pick (isStar m) z m) ≡ true → meets n m ≡ true
@@ -77,20 +100,34 @@ fit-meets n m z e = cases (isStar n)
     (λ a. rw a)
     (λ a. cases (isStar m) (λ b. rw (a, b)) (λ b. rw (a, b) (rw (a, b) at e)))
 
+-- the same of an object, a starred one standing for those that pass a test
+fit-object : (n m z : ℕ) (c : Bool) → pick (isStar n) c (eqb n (pick (isStar m) z m)) ≡ true →
+    meets n m ≡ true
+fit-object n m z c e = cases (isStar n)
+    (λ a. rw a)
+    (λ a. cases (isStar m) (λ b. rw (a, b)) (λ b. rw (a, b) (rw (a, b) at e)))
+
+-- a rule that stands for the access of a right side meets it in object, subject and mode
+stand-meets : (b : Base) (q r : Rule) (x : Access) → standsFor b q (rightOf r x .access) ≡ true →
+    (meets (q .left .object) (r .right .object) ≡ true)
+    × (meets (q .left .subject) (r .right .subject) ≡ true)
+    × (meets (q .left .mode) (r .right .mode) ≡ true)
+unfolding rightOf
+stand-meets b q r x e =
+    let s = stands-is b q (rightOf r x .access) .0 e in (
+      fit-object (q .left .object) (r .right .object) (x .object)
+          (controls b (rightOf r x .access .object) (q .author)) (s .2),
+      fit-meets (q .left .subject) (r .right .subject) (x .subject) (s .0),
+      fit-meets (q .left .mode) (r .right .mode) (x .mode) (s .1),
+    )
+
 -- what fits a rule's right side is derived by a rule that feeds it
 pub fit-feeds : (b : Base) (q r : Rule) (x : Access) → derivesFor b (rightOf r x) q ≡ true → feeds q r ≡ true
 unfolding rightOf
 fit-feeds b q r x e =
     let d = derives-is b (rightOf r x) q .0 e in
-    let s = stands-is b q (rightOf r x .access) .0 (d .0) in
-    feeds-is q r .1 (
-      d .1,
-      s .2,
-      fit-meets (q .left .subject) (r .right .subject) (x .subject) (s .0),
-      fit-meets (q .left .mode) (r .right .mode) (x .mode) (s .1),
-      d .2,
-      d .3,
-    )
+    let m = stand-meets b q r x (d .0) in
+    feeds-is q r .1 (d .1, m .0, m .1, m .2, d .2, d .3)
 
 -- and a rule that feeds it derives that where it stands for the access that r looks for
 pub feeds-fit : (b : Base) (q r : Rule) (x : Access) → feeds q r ≡ true →
@@ -103,7 +140,7 @@ feeds-fit b q r x e s = let w = feeds-is q r .0 e in derives-is b (rightOf r x) 
 pub links-is : (q r : Rule) → (links q r ≡ true)
     ↔ ((q .left .negative ≡ true)
     × (not (r .right .negative) ≡ true)
-    × (eqb (q .left .object) (r .right .object) ≡ true)
+    × (meets (q .left .object) (r .right .object) ≡ true)
     × (meets (q .left .subject) (r .right .subject) ≡ true)
     × (meets (q .left .mode) (r .right .mode) ≡ true))
 unfolding links
@@ -121,7 +158,7 @@ links-is q r = (
     m = not (r .right .negative)
 
     o : Bool
-    o = eqb (q .left .object) (r .right .object)
+    o = meets (q .left .object) (r .right .object)
 
     u : Bool
     u = meets (q .left .subject) (r .right .subject)
@@ -142,14 +179,8 @@ pub fit-links : (b : Base) (q r : Rule) (x : Access) → r .right .negative ≡ 
 unfolding rightOf
 fit-links b q r x n e =
     let d = derives-is b (asked (rightOf r x .access) true) q .0 e in
-    let s = stands-is b q (rightOf r x .access) .0 (d .0) in
-    links-is q r .1 (
-      beq-eq (q .left .negative) true (d .1),
-      ap not n,
-      s .2,
-      fit-meets (q .left .subject) (r .right .subject) (x .subject) (s .0),
-      fit-meets (q .left .mode) (r .right .mode) (x .mode) (s .1),
-    )
+    let m = stand-meets b q r x (d .0) in
+    links-is q r .1 (beq-eq (q .left .negative) true (d .1), ap not n, m .0, m .1, m .2)
 
 -- and a rule that links to it derives that where it stands for the access that r looks for
 pub links-fit : (b : Base) (q r : Rule) (x : Access) → links q r ≡ true →

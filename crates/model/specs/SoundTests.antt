@@ -1,11 +1,12 @@
 -- The tests of a sound base that are joined by &&, one by one.
 use mathlib.Core.Path.{_≡_}
-use mathlib.Core.Bool.{Bool, true, not, _&&_}
+use mathlib.Core.Bool.{Bool, true, not, _&&_, _||_}
 use mathlib.Core.List.{List, [], _∷_}
 use lib.Dec.{leb, ltb, eqb}
 use Rattle.foundation.specs.Lists.{anyb, allb, Mem, conjunct}
 use Rattle.model.specs.Ranges.{isInstant, lastLabel}
 use Rattle.model.specs.Base.{Base, exists, owns}
+use Rattle.model.specs.Stratification.{isStar}
 use Rattle.model.specs.Requests.{before}
 use Rattle.model.specs.Soundness.{chained, rises, privilegeIn, authorizationIn, ruleIn, startsFirst}
 use Rattle.model.specs.SoundnessFacts.{Sound}
@@ -42,7 +43,8 @@ module _ (b : Base) where
       (allb (λ p. exists b (p .object)) (b .administrators)
       ∷ allb (λ p. exists b (p .object)) (b .referrers)
       ∷ allb (λ a. exists b (a .head .object)) (b .authorizations)
-      ∷ allb (λ r. exists b (r .left .object) && exists b (r .right .object)) (b .rules)
+      ∷ allb (λ r. isStar (r .left .object) || (exists b (r .left .object) && exists b (r .right .object)))
+      (b .rules)
       ∷ [])
 
   abbrev pub ownersTests : List Bool

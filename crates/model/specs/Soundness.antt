@@ -60,7 +60,7 @@ abbrev pub orStar : (ℕ → Bool) → ℕ → Bool
 orStar range n = isStar n || range n
 
 abbrev pub sideIn : Side → Bool
-sideIn s = orStar isSubject (s .subject) && orStar isMode (s .mode) && isObject (s .object)
+sideIn s = orStar isSubject (s .subject) && orStar isMode (s .mode) && orStar isObject (s .object)
 
 abbrev pub ruleIn : Rule → Bool
 ruleIn r =
@@ -97,13 +97,14 @@ grantedInTime b =
 abbrev pub denialsPlain : Base → Bool
 denialsPlain b = allb (λ a. not (a .head .negative && a .head .option)) (b .authorizations)
 
--- 01: "objects named exist"
+-- 01: "objects named exist"; a star names none
 abbrev pub objectsExist : Base → Bool
 objectsExist b =
     allb (λ p. exists b (p .object)) (b .administrators)
     && allb (λ p. exists b (p .object)) (b .referrers)
     && allb (λ a. exists b (a .head .object)) (b .authorizations)
-    && allb (λ r. exists b (r .left .object) && exists b (r .right .object)) (b .rules)
+    && allb (λ r. isStar (r .left .object) || (exists b (r .left .object) && exists b (r .right .object)))
+    (b .rules)
 
 -- 01: "the owner is no administrator or referrer of that object"
 abbrev pub ownersApart : Base → Bool
@@ -142,14 +143,17 @@ allSupported b =
     allb (λ a. always (a .interval .start) (a .interval .end) (λ t. supportedAt b t (a .head)))
     (b .authorizations)
 
--- 01: "each author has the powers that ADDRULE needs"
+-- 01: "each author has the powers that ADDRULE needs"; 02: of a starred rule "soundness wants no powers"
 abbrev pub authorsMay : Base → Bool
-authorsMay b = allb (λ r. mayRule b (r .author) (r .left .object) (r .right .object)) (b .rules)
+authorsMay b =
+    allb (λ r. isStar (r .left .object) || mayRule b (r .author) (r .left .object) (r .right .object))
+    (b .rules)
 
--- 01: "a star for subject or mode is on both sides of a rule or neither"
+-- 01: "a star for subject or mode is on both sides of a rule or neither"; 02: for the object likewise
 abbrev pub starsMatch : Base → Bool
 starsMatch b = allb (λ r. Bool·beq (isStar (r .left .subject)) (isStar (r .right .subject))
-    && Bool·beq (isStar (r .left .mode)) (isStar (r .right .mode))) (b .rules)
+    && Bool·beq (isStar (r .left .mode)) (isStar (r .right .mode))
+    && Bool·beq (isStar (r .left .object)) (isStar (r .right .object))) (b .rules)
 
 -- 01: "a denial on the right isn't marked transferable"
 abbrev pub rightDenialsPlain : Base → Bool

@@ -25,13 +25,13 @@ use Rattle.model.specs.Ranges.{mostAdministrators, mostReferrers, mostAu
 use Rattle.model.specs.Ranges.{mostObjects}
 use Rattle.model.specs.Base.{Base, exists, owns, administers, refers, controls, mayRule}
 use Rattle.model.specs.Withdrawal.{authorization}
-use Rattle.model.specs.Stratification.{stratified}
+use Rattle.model.specs.Stratification.{isStar, stratified}
 use Rattle.model.specs.Requests.{NEW, GRANT, DENY, REVOKE, REVOKEP, REVOKEN, ADDRULE, DROPRULE}
 use Rattle.model.specs.Requests.{GRANTADM}
 use Rattle.model.specs.Requests.{REVOKEADM, GRANTREF, REVOKEREF, is, grants, labels, withdraws}
 use Rattle.model.specs.Requests.{objectsAfter}
 use Rattle.model.specs.Requests.{administratorsAfter, referrersAfter, rootAfter, newHead, affects}
-use Rattle.model.specs.Requests.{rulesAfter}
+use Rattle.model.specs.Requests.{numberOf, rulesAfter}
 use Rattle.model.specs.Means.{Means, plainly}
 
 -- ---- the table's conditions, one a row
@@ -62,7 +62,7 @@ abbrev pub termIn : (ℕ → Bool) → Term → Bool
 termIn range Any = true
 termIn range (Number n) = range n
 
--- 01: "a star for subject or mode is on both sides of a rule or neither"
+-- 01: "a star for subject or mode is on both sides of a rule or neither"; 02: for the object likewise
 abbrev pub starsAgree : Term → Term → Bool
 starsAgree Any Any = true
 starsAgree Any (Number n) = false
@@ -76,7 +76,7 @@ optionFits negative Without = true
 optionFits negative Either = true
 
 abbrev pub sideTermsIn : SideTerms → Bool
-sideTermsIn s = termIn isSubject (s .subject) && termIn isMode (s .mode) && isObject (s .object)
+sideTermsIn s = termIn isSubject (s .subject) && termIn isMode (s .mode) && termIn isObject (s .object)
 
 -- the fields of a rule, with "a sound rule's star or option rule"
 abbrev pub ruleTermsIn : RuleTerms → Bool
@@ -87,6 +87,7 @@ ruleTermsIn u =
     && termIn isSubject (u .grantor)
     && starsAgree (u .left .subject) (u .right .subject)
     && starsAgree (u .left .mode) (u .right .mode)
+    && starsAgree (u .left .object) (u .right .object)
     && optionFits (u .right .negative) (u .option)
 
 -- 3: "a field outside its range, or a sound rule's star or option rule broken"
@@ -116,11 +117,23 @@ badInterval q =
     (namesInterval q && ltb (q .interval .end) (q .interval .start))
     || (labels q && ltb (q .interval .start) (q .now))
 
+-- the objects of a request's rule as the base would have them
+abbrev pub leftObject : Request → ℕ
+leftObject q = numberOf (q .rule .left .object)
+
+abbrev pub rightObject : Request → ℕ
+rightObject q = numberOf (q .rule .right .object)
+
+-- the rule's objects are starred. 02: "6 and 8 are not tested for it at ADDRULE"
+abbrev pub anyObject : RuleTerms → Bool
+anyObject u = isStar (numberOf (u .left .object))
+
 -- 6: "the object (for a rule, either one) does not exist, NEW excepted"
 abbrev pub noObject : Base → Request → Bool
 noObject b q =
     (namesObject q && not (is q (NEW ∷ [])) && not (exists b (q .object)))
-    || (is q (ADDRULE ∷ []) && not (exists b (q .rule .left .object) && exists b (q .rule .right .object)))
+    || (is q (ADDRULE ∷ []) && not (anyObject (q .rule)
+    || (exists b (leftObject q) && exists b (rightObject q))))
 
 -- 7: "no line (REVOKE) or rule (DROPRULE) has the label"
 abbrev pub noLabel : Base → Request → Bool
@@ -138,8 +151,8 @@ notPermitted b q =
     || (is q (DROPRULE ∷ []) && anyb (λ r. eqb (r .label) (q .label) && not (eqb (r .author) (q .requester)))
     (b .rules))
     || (is q (GRANTADM ∷ REVOKEADM ∷ GRANTREF ∷ REVOKEREF ∷ []) && not (owns b (q .object) (q .requester)))
-    || (is q (ADDRULE ∷ []) && not (mayRule b (q .requester) (q .rule .left .object)
-    (q .rule .right .object)))
+    || (is q (ADDRULE ∷ []) && not (anyObject (q .rule)
+    || mayRule b (q .requester) (leftObject q) (rightObject q)))
 
 -- 02, CR 4: "a line denying the requester that object and mode"
 abbrev pub denies : Request → Head → Bool

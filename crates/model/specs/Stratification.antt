@@ -16,7 +16,7 @@ use Rattle.model.specs.declared.Operator.the-variants.{Whenever, AsLongA
 use Rattle.model.specs.declared.OptionTerm.{OptionTerm}
 use Rattle.model.specs.declared.OptionTerm.the-variants.{With, Without, Either}
 
--- 01, The base as bytes: "Zero is the star for subject, mode and right granter"
+-- 01, The base as bytes: "Zero is the star for subject, mode and right granter"; 02: for the object too
 abbrev pub star : ℕ
 star = 0
 
@@ -34,11 +34,12 @@ fitsOption Without o = not o
 fitsOption Either o = true
 
 -- 01: "Rule q feeds rule r if q's left side can fit r's right: same sign and object, subject and mode equal
--- or starred on either side, granter starred or q's author, option starred or not transferable"
+-- or starred on either side, granter starred or q's author, option starred or not transferable"; 02: "A
+-- starred object fits any in feeding", whoever the authors are
 unfoldable pub feeds : Rule → Rule → Bool
 feeds q r =
     Bool·beq (q .left .negative) (r .right .negative)
-    && eqb (q .left .object) (r .right .object)
+    && meets (q .left .object) (r .right .object)
     && meets (q .left .subject) (r .right .subject)
     && meets (q .left .mode) (r .right .mode)
     && (isStar (r .grantor) || eqb (r .grantor) (q .author))
@@ -62,12 +63,13 @@ abbrev pub negates : Rule → Bool
 negates r = negating (r .operator)
 
 -- 02: "a rule with a denial on its left also links to every rule whose positive right side has the same
--- object, with subject and mode equal or starred on either side"
+-- object, with subject and mode equal or starred on either side"; "A starred object fits any in feeding and
+-- in the links"
 unfoldable pub links : Rule → Rule → Bool
 links q r =
     q .left .negative
     && not (r .right .negative)
-    && eqb (q .left .object) (r .right .object)
+    && meets (q .left .object) (r .right .object)
     && meets (q .left .subject) (r .right .subject)
     && meets (q .left .mode) (r .right .mode)
 

@@ -163,7 +163,7 @@ pub data Line : Type 0 where
 
 -- what a request has of a rule where it names none
 abbrev pub noSide : SideTerms
-noSide = record { subject = Any; mode = Any; object = 0; negative = false }
+noSide = record { subject = Any; mode = Any; object = Any; negative = false }
 
 abbrev pub noRule : RuleTerms
 noRule = record { left = noSide; operator = 0; right = noSide; grantor = Any; option = Either }
@@ -223,12 +223,12 @@ grantLine now who = do
   y ← field option
   read (ordering GRANT now who 0 mode object subject (interval start end) y noRule)
 
--- one side of a rule: "subject, mode, object, sign"
+-- one side of a rule: "subject, mode, object, sign"; 02: the object "may now be starred ... as ... text `*`"
 abbrev pub side : Reader SideTerms
 side = do
   subject ← field term
   mode ← field term
-  object ← field number
+  object ← field term
   negative ← field sign
   read (record { subject = subject; mode = mode; object = object; negative = negative })
 

@@ -81,7 +81,7 @@ pub enum OptionTerm {
     Either,
 }
 
-// One side of a rule in the base. A subject or a mode of 0 is the star.
+// One side of a rule in the base. A subject, a mode or an object of 0 is the star.
 pub struct Side {
     pub subject: u16,
     pub mode: u8,
@@ -112,7 +112,7 @@ pub enum Term {
 pub struct SideTerms {
     pub subject: Term,
     pub mode: Term,
-    pub object: u32,
+    pub object: Term,
     pub negative: bool,
 }
 

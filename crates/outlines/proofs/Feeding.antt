@@ -4,7 +4,7 @@
 use mathlib.Core.Path.{_≡_, refl, sym, ap, ap₂, _∙_}
 use mathlib.Core.Bool.{Bool, true, false, not, _&&_, _||_, Bool·beq}
 use mathlib.Core.List.{List}
-use Prim.Native.Nat.{ℕ, suc, _+_, _*_, _-_, _/_, _%_, _<_}
+use Prim.Native.Nat.{ℕ, suc, _+_, _*_, _-_, _/_, _%_, _≤_, _<_}
 use native.Mathlib.Omega.{arith}
 use lib.Bits.{bitAnd, bitOr}
 use lib.Dec.{eqb, ltb}
@@ -20,10 +20,10 @@ use Rattle.model.specs.Stratification.{precedes-either}
 use Rattle.model.specs.Rules.{fitsGrantor}
 use Rattle.encoding.specs.Format.{rulesIn, ruleAt}
 use Rattle.rules.specs.Strata.{feedersOf}
-use Rattle.outlines.specs.Coordinates.{Chart}
+use Rattle.outlines.specs.Coordinates.{Numbered, Chart}
+use Rattle.outlines.specs.Outline.{codeIn}
 use Rattle.outlines.specs.Masks.{objectCode, subjectCode, modeCodeOf, signCode, Placed}
-use Rattle.outlines.specs.Standing.{code-is, subject-is, mode-is, sign-is, under, rule-bit}
-use Rattle.outlines.specs.Standing.{object-named}
+use Rattle.outlines.specs.Standing.{star-is, code-small, subject-is, mode-is, sign-is, under, rule-bit}
 use Rattle.outlines.specs.Feed.{Outlined, looksWord, meetingWord, linkersWord, precedersOf}
 use Rattle.outlines.proofs.MaskWords.{no-bit}
 use Rattle.outlines.proofs.BitWalk.{and-last, same-bits}
@@ -32,7 +32,7 @@ use Rattle.outlines.proofs.BitWalk.{and-last, same-bits}
 abbrev pub meetsRight : Bool → Rule → Rule → Bool
 meetsRight g q r =
     Bool·beq (q .left .negative) g
-    && eqb (q .left .object) (r .right .object)
+    && meets (q .left .object) (r .right .object)
     && meets (q .left .subject) (r .right .subject)
     && meets (q .left .mode) (r .right .mode)
 
@@ -46,7 +46,7 @@ feeds-parts q r = refl
 links-parts : (q r : Rule) → links q r ≡ not (r .right .negative) && meetsRight true q r
 unfolding links
 links-parts q r = signs (q .left .negative) (not (r .right .negative))
-    (eqb (q .left .object) (r .right .object)) (meets (q .left .subject) (r .right .subject))
+    (meets (q .left .object) (r .right .object)) (meets (q .left .subject) (r .right .subject))
     (meets (q .left .mode) (r .right .mode))
   where
     signs : (n m o s d : Bool) → n && m && o && s && d ≡ m && (Bool·beq n true && o && s && d)
@@ -62,14 +62,16 @@ meets-named : (u v : ℕ) → isStar v ≡ false → isStar u || eqb u v ≡ mee
 meets-named u v e = rw (e, or-false (isStar u))
 
 -- the tests of a rule in the order of the masks, and in that of the definition
-four-tests : (t a s g m : Bool) → (t && (a && s)) && (t && (g && m)) ≡ t && (((g && a) && s) && m)
-four-tests false a s g m = refl
-four-tests true false s true m = refl
-four-tests true false s false m = refl
-four-tests true true false true m = refl
-four-tests true true false false m = refl
-four-tests true true true true m = refl
-four-tests true true true false m = refl
+four-tests : (g m s a : Bool) → ((g && m) && s) && a ≡ ((g && a) && s) && m
+four-tests false m s a = refl
+four-tests true true true true = refl
+four-tests true true true false = refl
+four-tests true true false true = refl
+four-tests true true false false = refl
+four-tests true false true true = refl
+four-tests true false true false = refl
+four-tests true false false true = refl
+four-tests true false false false = refl
 
 and-two : (t a s : Bool) → (t && a) && (t && s) ≡ t && (a && s)
 and-two true a s = refl
@@ -82,6 +84,19 @@ or-two false a s = refl
 guarded : (t a b c : Bool) → (t && a) && b && c ≡ t && (a && b && c)
 guarded true a b c = refl
 guarded false a b c = refl
+
+-- of the rules w those of m, where m has the rules that meet a right side's number v; all of them for a star
+narrow-meets : {field : Rule → ℕ} {n : ℕ} {body U : List ℕ} {size : ℕ} → Numbered field n body U size →
+    n ≤ 64 → (u v w m q code : ℕ) (a : Bool) → code ≡ codeIn U v →
+    (isStar v ≡ false → bit q m ≡ ltb q n && (isStar u || eqb u v)) → bit q w ≡ ltb q n && a →
+    bit q (pick (eqb code 255) w (bitAnd w m)) ≡ ltb q n && (a && meets u v)
+narrow-meets {n = n} t few u v w m q code a c e z =
+    let f : eqb code 255 ≡ isStar v = ap (λ (k : ℕ). eqb k 255) c ∙ star-is t few v in
+    cases (isStar v)
+    (λ s. rw (f ∙ s, meets-star u v s) (z ∙ ap (λ (b : Bool). ltb q n && b) (and-last a)))
+    (λ s. rw (f ∙ s) (bit-and w m q
+    ∙ ap₂ (λ (x y : Bool). x && y) z (e s ∙ ap (λ (b : Bool). ltb q n && b) (meets-named u v s))
+    ∙ and-two (ltb q n) a (meets u v)))
 
 module _ {n : ℕ} {body left right sides : List ℕ} (o : Outlined n body left right sides) (i : ℕ) (h : i < n)
   where
@@ -104,35 +119,13 @@ module _ {n : ℕ} {body left right sides : List ℕ} (o : Outlined n body left 
     sign = getD sides (4 * i + 3) 0 / 2
 
     -- the codes of the right side
-    named-object : isStar (rule i .right .object) ≡ false
-    named-object = ne-false (rule i .right .object) 0 (λ z. omega (arith, o .grounds .right i h .some))
-
-    object-code : object ≡ getD (C .objects) (rule i .right .object) 0
-    object-code = o .rights i h .object ∙ rw named-object
-
-    object-small : object < 65
-    object-small = omega (
-      arith,
-      object-code,
-      o .charted .objects .below (rule i .right .object),
-      o .charted .objects .few,
-      o .grounds .few,
-    )
+    object-code : isStar (rule i .right .object) ≡ false →
+        object ≡ getD (C .objects) (rule i .right .object) 0
+    object-code e = o .rights i h .object ∙ rw e
 
     subject-code : isStar (rule i .right .subject) ≡ false →
         subject ≡ getD (C .subjects) (rule i .right .subject) 0
     subject-code e = o .rights i h .subject ∙ rw e
-
-    subject-small : (subject ≡ 255 → ⊥) → subject < 65
-    subject-small ne = cases (isStar (rule i .right .subject))
-        (λ e. absurd (ne (o .rights i h .subject ∙ rw e)))
-        (λ e. omega (
-          arith,
-          subject-code e,
-          o .charted .subjects .below (rule i .right .subject),
-          o .charted .subjects .few,
-          o .grounds .few,
-        ))
 
     pub sign-bit : sign ≡ asBit (rule i .right .negative)
     sign-bit = omega (
@@ -156,8 +149,10 @@ module _ {n : ℕ} {body left right sides : List ℕ} (o : Outlined n body left 
 
     pub right-placed : Placed right i
     right-placed = record {
-      object = object-small;
-      subject = subject-small;
+      object = code-small (o .charted .objects) (o .grounds .few) (rule i .right .object)
+          (o .rights i h .object);
+      subject = code-small (o .charted .subjects) (o .grounds .few) (rule i .right .subject)
+          (o .rights i h .subject);
       mode = λ ne. cases (isStar (rule i .right .mode))
           (λ e. absurd (ne (mode-star e)))
           (λ e. let z = false-eq (rule i .right .mode) 0 e in
@@ -165,40 +160,45 @@ module _ {n : ℕ} {body left right sides : List ℕ} (o : Outlined n body left 
     }
 
     -- a rule on the left
-    object-meets : (q : ℕ) →
-        bit q (getD left object 0) ≡ ltb q n && eqb (rule q .left .object) (rule i .right .object)
-    object-meets q =
-        let c = o .charted .objects .named i h named-object in
-        o .masks .object object q (omega (arith, object-code)) object-small
-        ∙ under (ltb q n) (eqb (objectCode sides q) object)
-        (eqb (rule q .left .object) (rule i .right .object))
-        (λ e. let l = true-le (suc q) n e in
-        rw (o .lefts q l .object, object-code)
-        (code-is (o .charted .objects) (o .grounds .few) (rule q .left .object) (rule i .right .object) c
-        (object-named (o .grounds) C (o .charted) sides (o .lefts) q l)))
+    object-meets : (w q : ℕ) (a : Bool) → bit q w ≡ ltb q n && a →
+        bit q (pick (eqb object 255) w (bitAnd w (bitOr (getD left 151 0) (getD left object 0))))
+        ≡ ltb q n && (a && meets (rule q .left .object) (rule i .right .object))
+    object-meets w q a =
+        let u = rule q .left .object in
+        let v = rule i .right .object in
+        let few = o .grounds .few in
+        narrow-meets (o .charted .objects) few u v w (bitOr (getD left 151 0) (getD left object 0)) q object a
+        (o .rights i h .object)
+        (λ e. let c = o .charted .objects .named i h e in
+        let d = object-code e in
+        let m = o .charted .objects .below v in
+        let k = o .charted .objects .few in
+        bit-or (getD left 151 0) (getD left object 0) q
+        ∙ ap₂ (λ (x y : Bool). x || y) (o .masks .starred q)
+        (o .masks .object object q (omega arith) (omega arith))
+        ∙ or-two (ltb q n) (eqb (objectCode sides q) 255) (eqb (objectCode sides q) object)
+        ∙ under (ltb q n) (eqb (objectCode sides q) 255 || eqb (objectCode sides q) object)
+        (isStar u || eqb u v)
+        (λ y. let l = true-le (suc q) n y in
+        rw (o .lefts q l .object, d) (subject-is (o .charted .objects) few u v c)))
 
     subject-meets : (w q : ℕ) (a : Bool) → bit q w ≡ ltb q n && a →
         bit q (pick (eqb subject 255) w (bitAnd w (getD left (65 + subject) 0)))
         ≡ ltb q n && (a && meets (rule q .left .subject) (rule i .right .subject))
-    subject-meets w q a z =
+    subject-meets w q a =
         let u = rule q .left .subject in
         let v = rule i .right .subject in
-        cases (isStar v)
-        (λ e. let f : subject ≡ 255 = o .rights i h .subject ∙ rw e in
-        rw (f, meets-star u v e) (z ∙ ap (λ (b : Bool). ltb q n && b) (and-last a)))
+        let few = o .grounds .few in
+        narrow-meets (o .charted .subjects) few u v w (getD left (65 + subject) 0) q subject a
+        (o .rights i h .subject)
         (λ e. let c = o .charted .subjects .named i h e in
         let d = subject-code e in
         let m = o .charted .subjects .below v in
-        let k = o .charted .subjects .few in
-        let few = o .grounds .few in
-        rw (ne-false subject 255 (λ y. omega arith))
-        (bit-and w (getD left (65 + subject) 0) q
-        ∙ ap₂ (λ (x y : Bool). x && y) z
-        (o .masks .subject subject q (omega arith) (omega arith)
-        ∙ under (ltb q n) (eqb (subjectCode sides q) 255 || eqb (subjectCode sides q) subject) (meets u v)
+        o .masks .sided .subject subject q (omega arith) (omega arith)
+        ∙ under (ltb q n) (eqb (subjectCode sides q) 255 || eqb (subjectCode sides q) subject)
+        (isStar u || eqb u v)
         (λ y. let l = true-le (suc q) n y in
-        rw (o .lefts q l .subject, d) (subject-is (o .charted .subjects) few u v c) ∙ meets-named u v e))
-        ∙ and-two (ltb q n) a (meets u v)))
+        rw (o .lefts q l .subject, d) (subject-is (o .charted .subjects) few u v c)))
 
     sign-meets : (g : Bool) (q : ℕ) → q < n →
         eqb (signCode sides q) (asBit g) ≡ Bool·beq (rule q .left .negative) g
@@ -216,7 +216,7 @@ module _ {n : ℕ} {body left right sides : List ℕ} (o : Outlined n body left 
         let b = bit-le g in
         cases (isStar v)
         (λ e. ap (λ (k : ℕ). bit q (getD left k 0)) (looks-star s e)
-        ∙ o .masks .sign s q (omega arith)
+        ∙ o .masks .sided .sign s q (omega arith)
         ∙ under (ltb q n) (eqb (signCode sides q) s) (t && meets u v)
         (λ y. sign-meets g q (true-le (suc q) n y) ∙ and-last t
         ∙ ap (λ (x : Bool). t && x) (sym (meets-star u v e))))
@@ -224,7 +224,7 @@ module _ {n : ℕ} {body left right sides : List ℕ} (o : Outlined n body left 
         let z = false-eq v 0 e in
         let r = o .grounds .right i h .mode in
         ap (λ (k : ℕ). bit q (getD left k 0)) (looks-named s e)
-        ∙ o .masks .mode mode s q (omega arith) (omega arith)
+        ∙ o .masks .sided .mode mode s q (omega arith) (omega arith)
         ∙ under (ltb q n)
         (eqb (signCode sides q) s && (eqb (modeCodeOf sides q) 255 || eqb (modeCodeOf sides q) mode))
         (t && meets u v)
@@ -237,14 +237,14 @@ module _ {n : ℕ} {body left right sides : List ℕ} (o : Outlined n body left 
         bit q (meetingWord left right i (asBit g)) ≡ ltb q n && meetsRight g (rule q) (rule i)
     unfolding meetingWord
     meeting-bit g q =
-        let w = getD left object 0 in
-        let a = eqb (rule q .left .object) (rule i .right .object) in
-        bit-and (pick (eqb subject 255) w (bitAnd w (getD left (65 + subject) 0)))
-        (getD left (looksWord mode (asBit g)) 0) q
-        ∙ ap₂ (λ (x y : Bool). x && y) (subject-meets w q a (object-meets q)) (mode-meets g q)
-        ∙ four-tests (ltb q n) a (meets (rule q .left .subject) (rule i .right .subject))
-        (Bool·beq (rule q .left .negative) g)
-        (meets (rule q .left .mode) (rule i .right .mode))
+        let w = getD left (looksWord mode (asBit g)) 0 in
+        let t = Bool·beq (rule q .left .negative) g in
+        let a = meets (rule q .left .object) (rule i .right .object) in
+        let u = meets (rule q .left .subject) (rule i .right .subject) in
+        let m = meets (rule q .left .mode) (rule i .right .mode) in
+        object-meets (pick (eqb subject 255) w (bitAnd w (getD left (65 + subject) 0))) q ((t && m) && u)
+        (subject-meets w q (t && m) (mode-meets g q))
+        ∙ ap (λ (b : Bool). ltb q n && b) (four-tests t m u a)
 
     -- the rules that have the sign of the right side
     own-bit : (f : ℕ) → f ≡ meetingWord left right i sign → (q : ℕ) →

@@ -4,3 +4,4 @@ pub mod MaskWords
 pub mod Masking
 pub mod BitWalk
 pub mod Feeding
+pub mod Controlling

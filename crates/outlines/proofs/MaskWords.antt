@@ -15,8 +15,8 @@ use Rattle.foundation.specs.Tests.{pick, cases, agree, true-eq, false-eq, eq-tr
 use Rattle.foundation.specs.Tests.{le-false}
 use Rattle.foundation.specs.Tests.{true-le, or-false}
 use Rattle.foundation.specs.Masks.{bit}
-use Rattle.outlines.specs.Masks.{objectCode, subjectCode, modeCodeOf, signCode, subjectWord, modeWord}
-use Rattle.outlines.specs.Masks.{inWord, Placed}
+use Rattle.outlines.specs.Masks.{objectCode, subjectCode, modeCodeOf, signCode}
+use Rattle.outlines.specs.Masks.{objectWord, subjectWord, modeWord, inWord, Placed}
 use Rattle.outlines.specs.Feed.{looksWord}
 use Rattle.words.specs.Ones.{bit-shl}
 use Rattle.words.specs.Bits.{bit-or, power-only}
@@ -118,14 +118,20 @@ join-turn f i w v x y e d = cases (eqb w i)
 
 -- ---- the words of a rule
 
-pub in-word : (sides : List ℕ) (i w o s m g : ℕ) → o ≡ objectCode sides i →
+pub in-word : (sides : List ℕ) (i w o s m g : ℕ) → o ≡ objectWord (objectCode sides i) →
     s ≡ subjectWord (subjectCode sides i) → m ≡ modeWord (modeCodeOf sides i) (signCode sides i) →
     g ≡ 146 + signCode sides i → ((eqb w o || eqb w s) || eqb w m) || eqb w g ≡ inWord sides i w
 unfolding inWord
 in-word sides i w o s m g a b d e = rw (a, b, d, e)
 
 module _ (sides : List ℕ) (r : ℕ) (p : Placed sides r) where
-  -- the word of the subject, and of the mode
+  -- the words of the object, of the subject, and of the mode
+  pub object-cases : ((objectCode sides r ≡ 255) × (objectWord (objectCode sides r) ≡ 151))
+      ⊎ ((objectCode sides r < 65) × (objectWord (objectCode sides r) ≡ objectCode sides r))
+  object-cases = cases (eqb (objectCode sides r) 255)
+      (λ e. inl (true-eq (objectCode sides r) 255 e, rw e))
+      (λ e. inr (p .object (false-eq (objectCode sides r) 255 e), rw e))
+
   pub subject-cases : ((subjectCode sides r ≡ 255) × (subjectWord (subjectCode sides r) ≡ 148))
       ⊎ ((subjectCode sides r < 65) × (subjectWord (subjectCode sides r) ≡ 65 + subjectCode sides r))
   subject-cases = cases (eqb (subjectCode sides r) 255)
@@ -141,13 +147,16 @@ module _ (sides : List ℕ) (r : ℕ) (p : Placed sides r) where
       (λ e. inl (true-eq (modeCodeOf sides r) 255 e, rw e))
       (λ e. inr (p .mode (false-eq (modeCodeOf sides r) 255 e), rw e))
 
-  pub subject-below : subjectWord (subjectCode sides r) < 151
+  pub object-below : objectWord (objectCode sides r) < 152
+  object-below = ⊎-elim (λ w. omega arith) (λ w. omega arith) object-cases
+
+  pub subject-below : subjectWord (subjectCode sides r) < 152
   subject-below = ⊎-elim (λ w. omega arith) (λ w. omega arith) subject-cases
 
-  pub mode-below : modeWord (modeCodeOf sides r) (signCode sides r) < 151
+  pub mode-below : modeWord (modeCodeOf sides r) (signCode sides r) < 152
   mode-below = ⊎-elim (λ w. omega arith) (λ w. omega arith) mode-cases
 
-  pub looks-below : (g : ℕ) → g < 2 → looksWord (modeCodeOf sides r) g < 151
+  pub looks-below : (g : ℕ) → g < 2 → looksWord (modeCodeOf sides r) g < 152
   looks-below g h = cases (eqb (modeCodeOf sides r) 255)
       (λ e. rw e (omega arith))
       (λ e. let z = p .mode (false-eq (modeCodeOf sides r) 255 e) in rw e (omega arith))

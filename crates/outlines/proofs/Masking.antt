@@ -1,5 +1,5 @@
--- The words that a rule is in, by its codes (`in-object`, `in-subject`, `in-mode`, `in-sign`), and the masks
--- once the starred rules are spread (`masked`).
+-- The words that a rule is in, by its codes (`in-object`, `in-starred`, `in-subject`, `in-mode`, `in-sign`),
+-- and the masks once starred subjects and modes are spread (`written`).
 use mathlib.Core.Path.{_≡_, refl, sym, ap₂, _∙_}
 use mathlib.Core.Logic.{_⊎_, inl, inr, ⊎-elim}
 use mathlib.Core.Bool.{Bool, true, false, _&&_, _||_}
@@ -13,14 +13,14 @@ use Rattle.foundation.specs.Tests.{le-false}
 use Rattle.foundation.specs.Tests.{true-le, and-true, and-intro, or-false, or-cases}
 use Rattle.foundation.specs.Tests.{or-intro-left, or-true-right}
 use Rattle.foundation.specs.Masks.{bit}
-use Rattle.outlines.specs.Masks.{objectCode, subjectCode, modeCodeOf, signCode, subjectWord, modeWord}
-use Rattle.outlines.specs.Masks.{inWord, Placed, Masked}
+use Rattle.outlines.specs.Masks.{objectCode, subjectCode, modeCodeOf, signCode}
+use Rattle.outlines.specs.Masks.{objectWord, subjectWord, modeWord, inWord, Placed, Written}
 use Rattle.outlines.specs.Standing.{under}
-use Rattle.outlines.proofs.MaskWords.{subject-cases, mode-cases}
+use Rattle.outlines.proofs.MaskWords.{object-cases, subject-cases, mode-cases}
 
 module _ (sides : List ℕ) (r : ℕ) where
   abbrev object : ℕ
-  object = objectCode sides r
+  object = objectWord (objectCode sides r)
 
   abbrev subject : ℕ
   subject = subjectWord (subjectCode sides r)
@@ -65,7 +65,10 @@ module _ (sides : List ℕ) (r : ℕ) where
       (eq-true w (146 + sign) z)
 
   module _ (p : Placed sides r) where
-    -- the words of subjects, and of modes, are apart from the others
+    -- the words of objects, of subjects, and of modes are apart from the others
+    not-object : (w : ℕ) → 65 ≤ w → (w ≡ 151 → ⊥) → w ≡ object → ⊥
+    not-object w h k z = ⊎-elim (λ a. omega arith) (λ a. omega arith) (object-cases sides r p)
+
     not-subject : (w : ℕ) → (w < 65) ⊎ ((130 ≤ w) × (w ≡ 148 → ⊥)) → w ≡ subject → ⊥
     not-subject w h z = ⊎-elim
         (λ a. ⊎-elim (λ l. omega arith) (λ l. omega arith) h)
@@ -78,19 +81,34 @@ module _ (sides : List ℕ) (r : ℕ) where
         (λ a. ⊎-elim (λ l. omega arith) (λ l. omega arith) h)
         (mode-cases sides r p)
 
-    pub in-object : (o : ℕ) → o < 65 → inWord sides r o ≡ eqb object o
-    in-object o h = agree (inWord sides r o) (eqb object o)
+    abbrev objected : ℕ
+    objected = objectCode sides r
+
+    pub in-object : (o : ℕ) → o < 65 → inWord sides r o ≡ eqb objected o
+    in-object o h = agree (inWord sides r o) (eqb objected o)
         (λ e. word-elim o e
-        (λ z. eq-true object o (sym z))
+        (λ z. ⊎-elim (λ a. absurd (omega arith)) (λ a. eq-true objected o (omega arith))
+        (object-cases sides r p))
         (λ z. absurd (not-subject o (inl h) z))
         (λ z. absurd (not-mode o (inl (omega arith)) z))
         (λ z. absurd (omega arith)))
-        (λ e. word-object o (sym (true-eq object o e)))
+        (λ e. let y = true-eq objected o e in word-object o
+        (⊎-elim (λ a. absurd (omega arith)) (λ a. omega arith) (object-cases sides r p)))
+
+    pub in-starred : inWord sides r 151 ≡ eqb objected 255
+    in-starred = agree (inWord sides r 151) (eqb objected 255)
+        (λ e. word-elim 151 e
+        (λ z. ⊎-elim (λ a. eq-true objected 255 (a .0)) (λ a. absurd (omega arith)) (object-cases sides r p))
+        (λ z. absurd (not-subject 151 (inr (omega arith, λ y. omega arith)) z))
+        (λ z. ⊎-elim (λ a. absurd (omega arith)) (λ a. absurd (omega arith)) (mode-cases sides r p))
+        (λ z. absurd (omega arith)))
+        (λ e. let y = true-eq objected 255 e in word-object 151
+        (⊎-elim (λ a. sym (a .1)) (λ a. absurd (omega arith)) (object-cases sides r p)))
 
     pub in-sign : (g : ℕ) → g < 2 → inWord sides r (146 + g) ≡ eqb sign g
     in-sign g h = agree (inWord sides r (146 + g)) (eqb sign g)
         (λ e. word-elim (146 + g) e
-        (λ z. absurd (omega (arith, p .object)))
+        (λ z. absurd (not-object (146 + g) (omega arith) (λ y. omega arith) z))
         (λ z. absurd (not-subject (146 + g) (inr (omega arith, λ y. omega arith)) z))
         (λ z. absurd (not-mode (146 + g) (inr (omega arith, omega arith)) z))
         (λ z. eq-true sign g (omega arith)))
@@ -104,14 +122,14 @@ module _ (sides : List ℕ) (r : ℕ) where
     in-subject s h = agree (inWord sides r (65 + s) || inWord sides r 148) (eqb code 255 || eqb code s)
         (λ e. or-cases (inWord sides r (65 + s)) (inWord sides r 148) e
         (λ q. word-elim (65 + s) q
-        (λ z. absurd (omega (arith, p .object)))
+        (λ z. absurd (not-object (65 + s) (omega arith) (λ y. omega arith) z))
         (λ z. ⊎-elim (λ a. absurd (omega arith))
         (λ a. or-true-right (eqb code 255) (eqb code s) (eq-true code s (omega arith)))
         (subject-cases sides r p))
         (λ z. absurd (not-mode (65 + s) (inl (omega arith)) z))
         (λ z. absurd (omega arith)))
         (λ q. word-elim 148 q
-        (λ z. absurd (omega (arith, p .object)))
+        (λ z. absurd (not-object 148 (omega arith) (λ y. omega arith) z))
         (λ z. ⊎-elim (λ a. or-intro-left (eqb code 255) (eqb code s) (eq-true code 255 (a .0)))
         (λ a. absurd (omega arith)) (subject-cases sides r p))
         (λ z. absurd (not-mode 148 (inr (omega arith, omega arith)) z))
@@ -134,7 +152,7 @@ module _ (sides : List ℕ) (r : ℕ) where
         agree (inWord sides r w || inWord sides r (149 + g)) (eqb sign g && (eqb moded 255 || eqb moded m))
         (λ e. or-cases (inWord sides r w) (inWord sides r (149 + g)) e
         (λ q. word-elim w q
-        (λ z. absurd (omega (arith, p .object)))
+        (λ z. absurd (not-object w (omega arith) (λ y. omega arith) z))
         (λ z. absurd (not-subject w (inr (omega arith, λ y. omega arith)) z))
         (λ z. ⊎-elim (λ a. absurd (omega arith))
         (λ a. and-intro (eqb sign g) (eqb moded 255 || eqb moded m) (eq-true sign g (omega arith))
@@ -142,7 +160,7 @@ module _ (sides : List ℕ) (r : ℕ) where
         (mode-cases sides r p))
         (λ z. absurd (omega arith)))
         (λ q. word-elim (149 + g) q
-        (λ z. absurd (omega (arith, p .object)))
+        (λ z. absurd (not-object (149 + g) (omega arith) (λ y. omega arith) z))
         (λ z. absurd (not-subject (149 + g) (inr (omega arith, λ y. omega arith)) z))
         (λ z. ⊎-elim
         (λ a. and-intro (eqb sign g) (eqb moded 255 || eqb moded m) (eq-true sign g (omega arith))
@@ -234,19 +252,24 @@ module _ (n subjects : ℕ) (sides : List ℕ) (placed : (r : ℕ) → r < n →
       ∙ two w 150 r
   mode-word m (suc (suc g)) r h k = absurd (omega arith)
 
-  pub masked : Masked n subjects sides l₃
-  masked = record {
+  pub written : Written n subjects sides l₃
+  written = record {
+    sided = record {
+      subject = λ s r z h. subject-word s r h
+          ∙ under (ltb r n) (inWord sides r (65 + s) || inWord sides r 148)
+          (eqb (subjectCode sides r) 255 || eqb (subjectCode sides r) s)
+          (λ e. in-subject sides r (placed r (true-le (suc r) n e)) s (omega arith));
+      mode = λ m g r h k. mode-word m g r h k
+          ∙ under (ltb r n) (inWord sides r (130 + (m + 8 * g)) || inWord sides r (149 + g))
+          (eqb (signCode sides r) g && (eqb (modeCodeOf sides r) 255 || eqb (modeCodeOf sides r) m))
+          (λ e. in-mode sides r (placed r (true-le (suc r) n e)) m g h k);
+      sign = λ g r h. alone (146 + g) r (inr (omega arith))
+          ∙ under (ltb r n) (inWord sides r (146 + g)) (eqb (signCode sides r) g)
+          (λ e. in-sign sides r (placed r (true-le (suc r) n e)) g h);
+    };
     object = λ o r z h. alone o r (inl h) ∙ under (ltb r n) (inWord sides r o) (eqb (objectCode sides r) o)
         (λ e. in-object sides r (placed r (true-le (suc r) n e)) o h);
-    subject = λ s r z h. subject-word s r h
-        ∙ under (ltb r n) (inWord sides r (65 + s) || inWord sides r 148)
-        (eqb (subjectCode sides r) 255 || eqb (subjectCode sides r) s)
-        (λ e. in-subject sides r (placed r (true-le (suc r) n e)) s (omega arith));
-    mode = λ m g r h k. mode-word m g r h k
-        ∙ under (ltb r n) (inWord sides r (130 + (m + 8 * g)) || inWord sides r (149 + g))
-        (eqb (signCode sides r) g && (eqb (modeCodeOf sides r) 255 || eqb (modeCodeOf sides r) m))
-        (λ e. in-mode sides r (placed r (true-le (suc r) n e)) m g h k);
-    sign = λ g r h. alone (146 + g) r (inr (omega arith))
-        ∙ under (ltb r n) (inWord sides r (146 + g)) (eqb (signCode sides r) g)
-        (λ e. in-sign sides r (placed r (true-le (suc r) n e)) g h);
+    starred = λ r. alone 151 r (inr (omega arith))
+        ∙ under (ltb r n) (inWord sides r 151) (eqb (objectCode sides r) 255)
+        (λ e. in-starred sides r (placed r (true-le (suc r) n e)));
   }

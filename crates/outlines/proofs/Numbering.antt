@@ -12,7 +12,7 @@ use lib.Seq.{getD-set-same, getD-set-other}
 use Rattle.foundation.specs.Tests.{pick, cases, true-eq, false-eq, eq-true, ne-false, not-true, and-true}
 use Rattle.model.specs.declared.Rule.{Rule}
 use Rattle.encoding.specs.Format.{ruleAt}
-use Rattle.outlines.specs.Coordinates.{unlisted, Added, Numbered}
+use Rattle.outlines.specs.Coordinates.{unlisted, Added, namedIn, Numbered}
 
 -- the code's test, turned round
 turned-round : (a b : Bool) → not a && b ≡ not (a || not b)
@@ -43,11 +43,24 @@ added-one U v next h e =
       count = rw f (add-one next);
     }
 
+-- one rule more: one more that names something, if it does
+named-one : (field : Rule → ℕ) (i : ℕ) (body : List ℕ) → eqb (field (ruleAt body i)) 0 ≡ false →
+    namedIn field (suc i) body ≡ suc (namedIn field i body)
+unfolding namedIn
+named-one field i body e = rw e
+
+named-more : (field : Rule → ℕ) (i : ℕ) (body : List ℕ) → namedIn field i body ≤ namedIn field (suc i) body
+unfolding namedIn
+named-more field i body = cases (eqb (field (ruleAt body i)) 0)
+    (λ e. rw e (omega arith))
+    (λ e. rw e (omega arith))
+
 pub numbered-start : (field : Rule → ℕ) (body U : List ℕ) → ((v : ℕ) → getD U v 0 ≡ 0) →
     Numbered field 0 body U 1
 numbered-start field body U z = record {
   some = omega arith;
   few = omega arith;
+  fewer = omega arith;
   below = λ v. omega (arith, z v);
   apart = λ v w h e. absurd (omega (arith, z v));
   named = λ i h e. absurd (omega arith);
@@ -110,6 +123,12 @@ module _ {field : Rule → ℕ} {i : ℕ} {body U U′ : List ℕ} {size size′
     new-numbered = record {
       some = omega (arith, new-count);
       few = omega (arith, new-count, m .few);
+      fewer = omega (
+        arith,
+        new-count,
+        m .fewer,
+        named-one field i body (not-true (eqb own 0) (free .0)),
+      );
       below = λ v. cases (eqb v own)
           (λ q. rw (true-eq v own q) (omega (arith, new-own, new-count)))
           (λ q. omega (arith, new-other v q, new-count, m .below v));
@@ -128,6 +147,7 @@ module _ {field : Rule → ℕ} {i : ℕ} {body U U′ : List ℕ} {size size′
       record {
         some = omega (arith, m .some);
         few = omega (arith, m .few);
+        fewer = omega (arith, m .fewer, named-more field i body);
         below = λ v. omega (arith, o v, m .below v);
         apart = λ v w h e. m .apart v w (omega (arith, o v)) (omega (arith, o v, o w));
         named = λ j h e. cases (eqb j i)

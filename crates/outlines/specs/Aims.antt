@@ -6,7 +6,7 @@ use Prim.Native.Nat.{ℕ, suc, _+_, _*_, _-_, _/_, _^_, _≤_, _<_}
 use native.Mathlib.Omega.{arith}
 use lib.Dec.{eqb, leb, ltb}
 use lib.ListN.{getD}
-use Rattle.foundation.specs.Tests.{cases, false-eq, eq-true, ne-false, true-le, le-true}
+use Rattle.foundation.specs.Tests.{cases, false-eq, eq-true, true-le, le-true}
 use Rattle.foundation.specs.Tests.{false-le}
 use Rattle.foundation.specs.Tests.{and-intro}
 use Rattle.foundation.specs.Masks.{bit}
@@ -21,7 +21,7 @@ use Rattle.reach.specs.Net.{turned, aimPair, aimBits, Formed}
 use Rattle.outlines.specs.Coordinates.{Grounds, Numbered, Chart, Charted, subjectOf}
 use Rattle.outlines.specs.Coordinates.{objectOf}
 use Rattle.outlines.specs.Coordinates.{known, modeOf, pairOf}
-use Rattle.outlines.specs.CoordinateFacts.{listed, known-is, turned-coordinate, coordinate-below}
+use Rattle.outlines.specs.CoordinateFacts.{known-is, turned-coordinate, coordinate-below}
 use Rattle.outlines.specs.CoordinateFacts.{turned-mode}
 use Rattle.outlines.specs.Outline.{codeIn, RightSides}
 
@@ -43,16 +43,13 @@ module _ {n : ℕ} {body : List ℕ} (g : Grounds n body) (C : Chart) (t : Chart
     abbrev aim : Access → Access
     aim x = rightOf (ruleAt body r) x .access
 
-    object-named : isStar (ruleAt body r .right .object) ≡ false
-    object-named = ne-false (ruleAt body r .right .object) 0 (λ z. omega (arith, g .right r h .some))
-
     pub aim-object : (x : Access) →
         turned (getD right (4 * r) 0) (objectOf C asked x) ≡ objectOf C asked (aim x)
     unfolding rightOf
     aim-object x =
-        let s = turned-coordinate (t .objects) (g .few) (asked .object) (x .object)
-        (ruleAt body r .right .object) (t .objects .named r h) in
-        rw (codes r h .object) (s ∙ rw object-named)
+        rw (codes r h .object)
+        (turned-coordinate (t .objects) (g .few) (asked .object) (x .object)
+        (ruleAt body r .right .object) (t .objects .named r h))
 
     pub aim-subject : (x : Access) →
         turned (getD right (4 * r + 1) 0) (subjectOf C asked x) ≡ subjectOf C asked (aim x)
@@ -79,8 +76,8 @@ module _ {n : ℕ} {body : List ℕ} (g : Grounds n body) (C : Chart) (t : Chart
         let m = ruleAt body r .right .mode in
         let l = g .right r h .mode in
         known-is C asked (aim x) .1 (
-          rw (listed (C .objects) (asked .object) (ruleAt body r .right .object)
-              (t .objects .named r h object-named)) (t .objects .below (ruleAt body r .right .object)),
+          coordinate-below (t .objects) (g .few) (asked .object) (x .object)
+              (ruleAt body r .right .object) (t .objects .named r h) (w .0),
           coordinate-below (t .subjects) (g .few) (asked .subject) (x .subject)
               (ruleAt body r .right .subject) (t .subjects .named r h) (w .1),
           cases (isStar m) (λ e. rw e (w .2)) (λ e. let z = false-eq m 0 e in rw e (omega arith)),

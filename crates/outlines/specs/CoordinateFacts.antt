@@ -15,7 +15,8 @@ use Rattle.model.specs.declared.Access.{Access}
 use Rattle.model.specs.Ranges.{isMode}
 use Rattle.model.specs.Stratification.{isStar}
 use Rattle.reach.specs.Net.{turned}
-use Rattle.outlines.specs.Coordinates.{Numbered, Chart, Charted, coordinate, subjectOf, objectOf, known}
+use Rattle.outlines.specs.Coordinates.{Numbered, Apart, Chart, Charted, coordinate, subjectOf, objectOf}
+use Rattle.outlines.specs.Coordinates.{known}
 use Rattle.outlines.specs.Coordinates.{modeOf, pairOf}
 use Rattle.outlines.specs.Outline.{codeIn, modeCode}
 
@@ -34,6 +35,10 @@ coordinate-cases U own v h = cases (eqb (getD U v 0) 0)
     (λ q. inr (true-eq (getD U v 0) 0 e, true-eq v own q, rw (e, q)))
     (λ q. absurd (omega (arith, rw (e, q) at h))))
     (λ e. let z = false-eq (getD U v 0) 0 e in inl (omega arith, rw e))
+
+pub numbered-apart : {field : Rule → ℕ} {n : ℕ} {body U : List ℕ} {size : ℕ} → Numbered field n body U size →
+    n ≤ 64 → Apart U
+numbered-apart m few = record { below = λ v. omega (arith, m .below v, m .few); apart = m .apart }
 
 module _ {field : Rule → ℕ} {n : ℕ} {body U : List ℕ} {size : ℕ} (m : Numbered field n body U size)
     (few : n ≤ 64) (own : ℕ) where

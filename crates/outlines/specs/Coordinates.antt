@@ -3,7 +3,7 @@
 use mathlib.Core.Path.{_≡_}
 use mathlib.Core.Bool.{Bool, false, not, _&&_}
 use mathlib.Core.List.{List}
-use Prim.Native.Nat.{ℕ, suc, _+_, _*_, _-_, _≤_, _<_}
+use Prim.Native.Nat.{ℕ, zero, suc, _+_, _*_, _-_, _≤_, _<_}
 use lib.Dec.{eqb, ltb}
 use lib.ListN.{length, getD}
 use Rattle.foundation.specs.Tests.{pick}
@@ -16,10 +16,9 @@ use Rattle.encoding.specs.Format.{ruleAt}
 
 -- ---- what soundness says of the rules
 
--- a side of a rule: its numbers are in range, a subject or a mode of 0 being the star
+-- a side of a rule: its numbers are in range, 0 being the star
 pub record Ranged (s : Side) : Type 0 where
   pub subject : s .subject ≤ 1023
-  pub some : 0 < s .object
   pub object : s .object ≤ 128
   pub mode : s .mode ≤ 8
 
@@ -28,6 +27,10 @@ pub record Grounds (n : ℕ) (body : List ℕ) : Type 0 where
   pub there : n * 28 ≤ length body
   pub left : (i : ℕ) → i < n → Ranged (ruleAt body i .left)
   pub right : (i : ℕ) → i < n → Ranged (ruleAt body i .right)
+  -- a subject or an object is starred on both sides of a rule or on neither
+  pub stars : (i : ℕ) → i < n →
+      (isStar (ruleAt body i .left .subject) ≡ isStar (ruleAt body i .right .subject))
+      × (isStar (ruleAt body i .left .object) ≡ isStar (ruleAt body i .right .object))
 
 -- ---- tables of coordinates
 
@@ -41,10 +44,18 @@ pub record Added (U : List ℕ) (v next : ℕ) (U′ : List ℕ) (next′ : ℕ)
   pub at : (w : ℕ) → getD U′ w 0 ≡ pick (unlisted U v && eqb w v) next (getD U w 0)
   pub count : next′ ≡ pick (unlisted U v) (suc next) next
 
+-- how many of the first n rules have no star in a field
+unfoldable pub namedIn : (Rule → ℕ) → ℕ → List ℕ → ℕ
+namedIn field zero body = 0
+namedIn field (suc n) body =
+    pick (isStar (field (ruleAt body n))) (namedIn field n body) (suc (namedIn field n body))
+
 -- U has coordinates, below `size`, of what a field of the first n rules names
 pub record Numbered (field : Rule → ℕ) (n : ℕ) (body U : List ℕ) (size : ℕ) : Type 0 where
   pub some : 0 < size
   pub few : size ≤ suc n
+  -- coordinate 0, and at most one for each rule that names something
+  pub fewer : size ≤ suc (namedIn field n body)
   pub below : (v : ℕ) → getD U v 0 < size
   pub apart : (v w : ℕ) → 0 < getD U v 0 → getD U v 0 ≡ getD U w 0 → v ≡ w
   pub named : (i : ℕ) → i < n → isStar (field (ruleAt body i)) ≡ false → 0 < getD U (field (ruleAt body i)) 0
@@ -52,6 +63,11 @@ pub record Numbered (field : Rule → ℕ) (n : ℕ) (body U : List ℕ) (size :
   pub onto : (c : ℕ) → 0 < c → c < size → (v : ℕ) × (getD U v 0 ≡ c)
   -- 0, which nobody has, has none
   pub star : getD U 0 0 ≡ 0
+
+-- each number has its own coordinate, or none
+pub record Apart (U : List ℕ) : Type 0 where
+  pub below : (v : ℕ) → getD U v 0 < 65
+  pub apart : (v w : ℕ) → 0 < getD U v 0 → getD U v 0 ≡ getD U w 0 → v ≡ w
 
 abbrev pub rightSubject : Rule → ℕ
 rightSubject r = r .right .subject

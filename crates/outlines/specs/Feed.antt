@@ -4,7 +4,7 @@ use mathlib.Core.Path.{_≡_}
 use mathlib.Core.Bool.{Bool, true, false, not, _&&_}
 use mathlib.Core.List.{List}
 use Prim.Native.Nat.{ℕ, _+_, _*_, _/_, _<_}
-use lib.Bits.{bitAnd}
+use lib.Bits.{bitAnd, bitOr}
 use lib.Dec.{eqb}
 use lib.ListN.{getD}
 use Rattle.foundation.specs.Tests.{pick}
@@ -17,7 +17,7 @@ use Rattle.encoding.specs.Format.{rulesIn, ruleAt}
 use Rattle.rules.specs.Strata.{Holds}
 use Rattle.outlines.specs.Coordinates.{Grounds, Chart, Charted}
 use Rattle.outlines.specs.Outline.{RightSides, LeftSides}
-use Rattle.outlines.specs.Masks.{Masked}
+use Rattle.outlines.specs.Masks.{Written}
 
 -- an option that fits any
 abbrev pub isEither : OptionTerm → Bool
@@ -36,19 +36,21 @@ pub record Outlined (n : ℕ) (body left right sides : List ℕ) : Type 0 where
   pub charted : Charted n body chart
   pub rights : RightSides (chart .subjects) (chart .objects) n body right
   pub lefts : LeftSides (chart .subjects) (chart .objects) n body sides
-  pub masks : Masked n (chart .width) sides left
+  pub masks : Written n (chart .width) sides left
 
 -- the word of what a right side's mode meets, with a sign: of the sign alone for a star
 abbrev pub looksWord : ℕ → ℕ → ℕ
 looksWord code sign = pick (eqb code 255) (146 + sign) (130 + (code + 8 * sign))
 
--- the rules with a sign on the left that rule i meets in object, subject and mode
+-- the rules with a sign on the left that rule i meets in mode, subject and object: a starred object meets
+-- all, a named one the rules that name it and the starred ones
 unfoldable pub meetingWord : List ℕ → List ℕ → ℕ → ℕ → ℕ
 meetingWord left right i sign =
-    let o = getD left (getD right (4 * i) 0) 0 in
+    let m = getD left (looksWord (getD right (4 * i + 2) 0) sign) 0 in
     let s = getD right (4 * i + 1) 0 in
-    bitAnd (pick (eqb s 255) o (bitAnd o (getD left (65 + s) 0)))
-    (getD left (looksWord (getD right (4 * i + 2) 0) sign) 0)
+    let o = getD right (4 * i) 0 in
+    let f = pick (eqb s 255) m (bitAnd m (getD left (65 + s) 0)) in
+    pick (eqb o 255) f (bitAnd f (bitOr (getD left 151 0) (getD left o 0)))
 
 -- the rules that link to rule i: denials that a positive right side meets
 unfoldable pub linkersWord : List ℕ → List ℕ → List ℕ → ℕ → ℕ

@@ -65,12 +65,12 @@ pair-subject : (o w s : ℕ) → s < w → (o * w + s) % w ≡ s
 pair-subject o w s h = mul-add-mod-self-right o w s ∙ mod-eq-of-lt h
 
 module _ {n : ℕ} {body : List ℕ} (g : Grounds n body) (C : Chart) (t : Charted n body C) (left right : List ℕ)
-    (codes : RightSides (C .subjects) (C .objects) n body right) (asked : Access)
-    (stands : Stands n body C asked left) (need : List ℕ)
+    (codes : RightSides (C .subjects) (C .objects) n body right) (asked : Access) (b : Base)
+    (stands : Stands b n body C asked left) (need : List ℕ)
     (closed : Closed (record { left = left; right = right; subjects = C .width }) need) where
-  pub needed-right : (b : Base) (r : ℕ) → r < n → (x : Access) → standsFor b (ruleAt body r) x ≡ true →
+  pub needed-right : (r : ℕ) → r < n → (x : Access) → standsFor b (ruleAt body r) x ≡ true →
       needed C asked need x ≡ true → needed C asked need (rightOf (ruleAt body r) x .access) ≡ true
-  needed-right b r h x s e =
+  needed-right r h x s e =
       let k = needed-known C asked need x e in
       let p = known-is C asked x .0 k in
       let sign = ruleAt body r .left .negative in
@@ -79,7 +79,7 @@ module _ {n : ℕ} {body : List ℕ} (g : Grounds n body) (C : Chart) (t : Chart
       let f : q % 8 ≡ modeOf x = omega (arith, bit-le sign) in
       let o = pair-object (objectOf C asked x) (C .width) (subjectOf C asked x) (p .1) in
       let u = pair-subject (objectOf C asked x) (C .width) (subjectOf C asked x) (p .1) in
-      let there = stands b x k r (omega (arith, g .few)) sign
+      let there = stands x k r (omega (arith, g .few)) sign
       ∙ and-intro (ltb r n) (standsFor b (ruleAt body r) x && Bool·beq sign sign) (le-true (suc r) n h)
       (and-intro (standsFor b (ruleAt body r) x) (Bool·beq sign sign) s (beq-self sign)) in
       let follow : (c : ℕ) → bit c (aimBits right r (modeOf x)) ≡ true → has need (pairOf C asked y) c ≡

@@ -46,9 +46,8 @@ LeftSides U O n body sides = (i : ℕ) → i < n → Coded U O (ruleAt body i .l
 
 -- ---- masks
 
--- the masks have, for each access that has a place, the rules that stand for it, by sign
-abbrev pub Stands : ℕ → List ℕ → Chart → Access → List ℕ → Type 0
-Stands n body C asked left = (b : Base) (x : Access) → known C asked x ≡ true → (r : ℕ) → r < 64 →
-    (g : Bool) →
+-- the masks have, for each access that has a place, the rules that stand for it in the base, by sign
+abbrev pub Stands : Base → ℕ → List ℕ → Chart → Access → List ℕ → Type 0
+Stands b n body C asked left = (x : Access) → known C asked x ≡ true → (r : ℕ) → r < 64 → (g : Bool) →
     bit r (standing left (objectOf C asked x) (subjectOf C asked x) (modeOf x + 8 * asBit g))
     ≡ ltb r n && (standsFor b (ruleAt body r) x && Bool·beq (ruleAt body r .left .negative) g)

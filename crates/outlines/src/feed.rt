@@ -103,7 +103,7 @@ fn looks_word(code: usize, sign: usize) -> usize
 }
 
 // Of some rules those that meet a right side's subject.
-fn meet_subject(left: &[u64; 151], f: u64, code: usize) -> u64
+fn meet_subject(left: &[u64; 152], f: u64, code: usize) -> u64
     requires { ⌜ ((code ≡ 255 → ⊥) → code < 65) ⌝ }
     ensures { λ x. ⌜ x ≡ pick (eqb code 255) f (bitAnd f (getD (now (left .entry)) (65 + code) 0)) ⌝ }
 {
@@ -113,15 +113,26 @@ fn meet_subject(left: &[u64; 151], f: u64, code: usize) -> u64
     f & left[65 + code]
 }
 
+// Of some rules those that meet a right side's object: those that name it, and the starred ones.
+fn meet_object(left: &[u64; 152], f: u64, code: usize) -> u64
+    requires { ⌜ ((code ≡ 255 → ⊥) → code < 65) ⌝ }
+    ensures { λ x. ⌜ x ≡ pick (eqb code 255) f
+        (bitAnd f (bitOr (getD (now (left .entry)) 151 0) (getD (now (left .entry)) code 0))) ⌝ }
+{
+    if code == 255 {
+        return f;
+    }
+    f & (left[151] | left[code])
+}
+
 // The rules whose left side has a sign and meets the right side of rule i in object, subject and mode.
-fn meeting(left: &[u64; 151], right: &[u8; 256], i: usize, sign: usize) -> u64
+fn meeting(left: &[u64; 152], right: &[u8; 256], i: usize, sign: usize) -> u64
     requires { ⌜ (i < 64) × (sign < 2) × Placed (now right) i ⌝ }
     ensures { λ x. ⌜ x ≡ meetingWord (now (left .entry)) (now (right .entry)) i sign ⌝ }
 {
-    let o = wide(right[4 * i]);
-    let f = meet_subject(left, left[o], wide(right[4 * i + 1]));
     let w = looks_word(wide(right[4 * i + 2]), sign);
-    f & left[w]
+    let f = meet_subject(left, left[w], wide(right[4 * i + 1]));
+    meet_object(left, f, wide(right[4 * i]))
 }
 
 // The rules that feed rule i.
@@ -129,7 +140,7 @@ fn feeders(
     body: &[u8],
     n: usize,
     i: usize,
-    left: &[u64; 151],
+    left: &[u64; 152],
     right: &[u8; 256],
     sides: &[u8; 256],
 ) -> u64
@@ -144,7 +155,7 @@ fn feeders(
 fn draw_feeders(
     body: &[u8],
     n: usize,
-    left: &[u64; 151],
+    left: &[u64; 152],
     right: &[u8; 256],
     sides: &[u8; 256],
     feed: &mut [u64; 128],
@@ -193,7 +204,7 @@ fn draw_fed(choosy: u64, feed: &mut [u64; 128])
 }
 
 // The rules that link to rule i: those with a denial on the left, where the right side is positive.
-fn linkers(left: &[u64; 151], right: &[u8; 256], sides: &[u8; 256], i: usize) -> u64
+fn linkers(left: &[u64; 152], right: &[u8; 256], sides: &[u8; 256], i: usize) -> u64
     requires { ⌜ (i < 64) × Placed (now right) i ⌝ }
     ensures { λ x. ⌜ x ≡ linkersWord (now (left .entry)) (now (right .entry)) (now (sides .entry)) i ⌝ }
 {
@@ -206,7 +217,7 @@ fn linkers(left: &[u64; 151], right: &[u8; 256], sides: &[u8; 256], i: usize) ->
 // Joins to each rule's word those that link to the rule.
 fn draw_linkers(
     n: usize,
-    left: &[u64; 151],
+    left: &[u64; 152],
     right: &[u8; 256],
     sides: &[u8; 256],
     feed: &mut [u64; 128],
@@ -229,7 +240,7 @@ fn draw_linkers(
 pub fn draw_feed(
     body: &[u8],
     n: usize,
-    left: &[u64; 151],
+    left: &[u64; 152],
     right: &[u8; 256],
     sides: &[u8; 256],
     choosy: u64,

@@ -1,13 +1,17 @@
 // Masks of rules by what is on their left: a bit a rule, a word a coordinate, mode or sign.
 ghost use mathlib.Core.Path.{_≡_};
-ghost use mathlib.Core.Bool.{_&&_, _||_};
+ghost use mathlib.Core.Bool.{true, _&&_, _||_};
 ghost use Prim.Native.Nat.{ℕ, _+_, _*_, _≤_, _<_};
 ghost use lib.Dec.{eqb, leb, ltb};
 ghost use lib.ListN.{length, getD};
 ghost use Rattle.foundation.specs.Tests.{pick};
 ghost use Rattle.foundation.specs.Masks.{bit};
-ghost use Rattle.outlines.specs.Masks.{subjectWord, modeWord, inWord, Placed, Masked, Owned};
+ghost use Rattle.model.specs.Encoding.{decode};
+ghost use Rattle.model.specs.Soundness.{soundBytes};
+ghost use Rattle.outlines.specs.Masks.{objectWord, subjectWord, modeWord, inWord};
+ghost use Rattle.outlines.specs.Masks.{Placed, Written, Owned};
 use encoding::rule_at;
+use lookup::stands_on;
 use model::Access;
 use model::RULE_BYTES;
 
@@ -25,6 +29,17 @@ pub fn wide(x: u8) -> usize
     ensures { λ r. ⌜ (r ≡ x) × (r < 256) ⌝ }
 {
     x as usize
+}
+
+// The word of an object's code.
+fn object_word(code: usize) -> usize
+    requires { ⌜ code < 256 ⌝ }
+    ensures { λ r. ⌜ r ≡ objectWord code ⌝ }
+{
+    if code == 255 {
+        return 151;
+    }
+    code
 }
 
 // The word of a subject's code.
@@ -63,20 +78,20 @@ fn put_four(left: &mut [u64], i: u32, a: usize, b: usize, d: usize, e: usize)
 }
 
 // Puts rule i into its words.
-fn put_masks(left: &mut [u64; 151], sides: &[u8; 256], i: usize)
+fn put_masks(left: &mut [u64; 152], sides: &[u8; 256], i: usize)
     requires { ⌜ (i < 64) × Placed (now sides) i ⌝ }
     ensures { λ _. ⌜ ((w r : ℕ) → bit r (getD (now (left .exit)) w 0)
         ≡ bit r (getD (now (left .entry)) w 0) || (eqb r i && inWord (now (sides .entry)) i w)) ⌝ }
 {
     let sign = wide(sides[4 * i + 3]) % 2;
-    let object = wide(sides[4 * i]);
+    let object = object_word(wide(sides[4 * i]));
     let subject = subject_word(wide(sides[4 * i + 1]));
     let mode = mode_word(wide(sides[4 * i + 2]), sign);
     put_four(left, i as u32, object, subject, mode, 146 + sign);
 }
 
 // Puts each rule into its words.
-fn gather(left: &mut [u64; 151], sides: &[u8; 256], n: usize)
+fn gather(left: &mut [u64; 152], sides: &[u8; 256], n: usize)
     requires { ⌜ (n ≤ 64) × ((r : ℕ) → r < n → Placed (now sides) r) × ((w : ℕ) → getD (now left) w 0 ≡ 0) ⌝ }
     ensures { λ _. ⌜ ((w r : ℕ) → bit r (getD (now (left .exit)) w 0)
         ≡ ltb r n && inWord (now (sides .entry)) r w) ⌝ }
@@ -101,11 +116,11 @@ fn spread(left: &mut [u64], from: usize, to: usize, rules: u64)
     }
 }
 
-// The masks of the left sides by coordinate from 1 on, by mode and by sign.
-pub fn draw_masks(sides: &[u8; 256], n: usize, subjects: usize, left: &mut [u64; 151])
+// The masks of the left sides as written, by coordinate from 1 on, by mode and by sign.
+pub fn draw_masks(sides: &[u8; 256], n: usize, subjects: usize, left: &mut [u64; 152])
     requires { ⌜ (n ≤ 64) × (subjects ≤ 65) × ((r : ℕ) → r < n → Placed (now sides) r)
         × ((w : ℕ) → getD (now left) w 0 ≡ 0) ⌝ }
-    ensures { λ _. ⌜ Masked n subjects (now (sides .entry)) (now (left .exit)) ⌝ }
+    ensures { λ _. ⌜ Written n subjects (now (sides .entry)) (now (left .exit)) ⌝ }
 {
     gather(left, sides, n);
     let any = left[148];
@@ -126,9 +141,10 @@ pub fn put_word(table: &mut [u64], at: usize, v: u64)
 }
 
 // The masks of coordinate 0, that of the asked object and of the asked subject.
-pub fn own_masks(body: &[u8], n: usize, x: Access, left: &mut [u64; 151])
-    requires { ⌜ (n * 28 ≤ length (now body)) × (n ≤ 64) ⌝ }
-    ensures { λ _. ⌜ Owned n (now (body .entry)) x (now (left .entry)) (now (left .exit)) ⌝ }
+pub fn own_masks(s: &[u8], body: &[u8], n: usize, x: Access, left: &mut [u64; 152])
+    requires { ⌜ (soundBytes (now s) ≡ true) × (n * 28 ≤ length (now body)) × (n ≤ 64) ⌝ }
+    ensures { λ _. ⌜ Owned (decode (now (s .entry))) n (now (body .entry)) x (now (left .entry))
+        (now (left .exit)) ⌝ }
 {
     let mut objects = 0;
     let mut subjects = 0;
@@ -136,7 +152,7 @@ pub fn own_masks(body: &[u8], n: usize, x: Access, left: &mut [u64; 151])
     while 0 < i {
         i -= 1;
         let r = rule_at(body, i * RULE_BYTES);
-        let object = r.left.object as u32 == x.object;
+        let object = stands_on(s, r, x.object);
         let subject = (r.left.subject == 0) | (r.left.subject as u32 == x.subject);
         objects = 2 * objects + object as u64;
         subjects = 2 * subjects + subject as u64;

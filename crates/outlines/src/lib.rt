@@ -1,10 +1,12 @@
 // Outlines: what an answer needs of the rules and does not depend on the question. Coordinates of subjects
 // and objects, the sides of the rules by coordinates, and which rule precedes which.
+mod controlled;
 mod feed;
 mod left;
 mod numbers;
 mod sides;
 
+pub use controlled::draw_controlled;
 pub use feed::choosy_of;
 pub use feed::draw_feed;
 pub use left::draw_masks;

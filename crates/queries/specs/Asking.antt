@@ -2,7 +2,7 @@
 -- answer
 -- says (`Answers`).
 use mathlib.Core.Path.{_≡_, refl, sym, ap, ap₂, _∙_, subst}
-use mathlib.Core.Logic.{_⊎_, inl, inr}
+use mathlib.Core.Logic.{_⊎_}
 use mathlib.Core.Bool.{Bool, true, false, not, _&&_}
 use mathlib.Core.List.{List}
 use Prim.Native.Nat.{ℕ, suc, _+_, _*_, _-_, _^_, _≤_, _<_}
@@ -16,7 +16,7 @@ use Rattle.foundation.specs.Intervals.{inInterval}
 use Rattle.foundation.specs.Masks.{bit}
 use Rattle.model.specs.declared.Access.{Access}
 use Rattle.model.specs.Base.{Base}
-use Rattle.model.specs.Ranges.{lastInstant, isSubject, isMode, isObject}
+use Rattle.model.specs.Ranges.{isSubject, isMode, isObject}
 use Rattle.model.specs.Answers.{accessIn}
 use Rattle.model.specs.Rules.{may}
 use Rattle.encoding.specs.Format.{ruleAt}
@@ -28,7 +28,6 @@ use Rattle.tables.specs.declared.Frame.{Frame}
 use Rattle.tables.specs.declared.Place.{Place}
 use Rattle.tables.specs.Layout.{roomOf}
 use Rattle.masks.specs.Masks.{Needed}
-use Rattle.scan.specs.declared.Track.{Track}
 use Rattle.scan.specs.Runs.{Reached}
 use Rattle.outlines.specs.Coordinates.{Chart, modeOf, pairOf}
 use Rattle.outlines.specs.CoordinateFacts.{pair-below}
@@ -38,21 +37,12 @@ use Rattle.engine.specs.declared.Query.{Query}
 use Rattle.engine.specs.declared.Found.{Found}
 use Rattle.queries.specs.Bounds.{bits-few}
 use Rattle.outlines.specs.Masks.{Owned}
-use Rattle.queries.specs.Drawing.{
-  RulesDrawn,
-  Blank,
-  ownOf,
-  Outline,
-  chart-small,
-  net-formed,
-  own-known,
-  own-pair,
-  Mapped,
-}
-use Rattle.queries.specs.Drawing.{map-small, needed-low, needed-in, asked-needed, Arranged}
+use Rattle.queries.specs.Drawing.{RulesDrawn, Blank, ownOf, Outline, chart-small, net-formed}
+use Rattle.queries.specs.Drawing.{own-known, own-pair, Mapped}
+use Rattle.queries.specs.Drawing.{map-gridded, needed-low, needed-in, asked-needed, Arranged}
 use Rattle.engine.specs.Posed.{Finds}
 use Rattle.engine.specs.Going.{chartOf}
-use Rattle.queries.specs.Starting.{Tabled, zeros-at}
+use Rattle.queries.specs.Starting.{Bodies, Tabled, zeros-at}
 
 -- ---- the answer
 
@@ -82,23 +72,30 @@ finds-answers one t q base x r old new to from listing f = record {
       let z : q .to ≡ 4294967295 = to ∙ ap (λ (b : Bool). pick b t 4294967295) e in
       let y : suc (q .to) ≡ 4294967296 = omega arith in
       subst (λ (u : ℕ). Reached (may base x) u old 4294967296 (r .track) new) z
-      (subst (λ (v : ℕ). Reached (may base x) (q .to) old v (r .track) new) y (f .listed (listing ∙ ap not
-      e)));
+      (subst (λ (v : ℕ). Reached (may base x) (q .to) old v (r .track) new) y
+      (f .listed (listing ∙ ap not e)));
 }
 
 -- ---- before places are reached
 
-pub record Sketch (n : ℕ) (C : Chart) (x own : Access) (s o : ℕ) (body left feed sides right : List ℕ)
-    (choosy : ℕ) : Type 0 where
-  pub outline : Outline n C x body left feed sides right choosy
+pub record Sketch (holder : Base) (n : ℕ) (C : Chart) (x own : Access) (s o : ℕ)
+    (body left feed sides right : List ℕ) (choosy : ℕ) : Type 0 where
+  pub outline : Outline holder n C x body left feed sides right choosy
   pub own-is : own ≡ ownOf C x
   pub subject : s ≡ getD (C .subjects) (x .subject) 0
   pub object : o ≡ getD (C .objects) (x .object) 0
   pub some : 1 ≤ x .mode
   pub few : x .mode ≤ 8
 
-module _ {n : ℕ} {C : Chart} {x own : Access} {s o : ℕ} {body left feed sides right : List ℕ} {choosy : ℕ}
-    (k : Sketch n C x own s o body left feed sides right choosy) where
+-- the bodies are those of a base, and what is known of its rules
+pub record Task (lines : List ℕ) (total n : ℕ) (C : Chart) (x own : Access) (s o : ℕ)
+    (body left feed sides right : List ℕ) (choosy : ℕ) (base : Base) : Type 0 where
+  pub holder : Base
+  pub sketch : Sketch holder n C x own s o body left feed sides right choosy
+  pub bodies : Bodies holder lines total body n base
+
+module _ {holder : Base} {n : ℕ} {C : Chart} {x own : Access} {s o : ℕ} {body left feed sides right : List ℕ}
+    {choosy : ℕ} (k : Sketch holder n C x own s o body left feed sides right choosy) where
   sketch-pair : pairOf C (ownOf C x) x ≡ o * C .width + s
   sketch-pair = own-pair (k .outline) ∙ rw (k .subject, k .object)
 
@@ -141,10 +138,10 @@ module _ {n : ℕ} {C : Chart} {x own : Access} {s o : ℕ} {body left feed side
       lasts-in r e = needed-in (k .outline) m needs r (lasts-needed r e)
 
       -- the broken bits have room
-      pub lasts-room : roomOf g sides lasts 64 ≤ 33280
-      lasts-room = bits-few C (k .outline .rules .grounds) (k .outline .rules .charted) g (map-small (k
-          .outline) m) lasts
-          (λ r e. needed-low (k .outline) m needs r (lasts-needed r e)) sides (k .outline .rules .lefts)
+      pub lasts-room : roomOf g sides lasts 64 ≤ 120256
+      lasts-room = bits-few C (k .outline .rules .grounds) (k .outline .rules .charted)
+          (map-gridded (k .outline) m) lasts (λ r e. needed-low (k .outline) m needs r (lasts-needed r e))
+          sides (k .outline .rules .lefts)
 
 -- ---- a question, once the rules are drawn
 
@@ -163,17 +160,17 @@ access-ranges x a =
     )
 
 -- the masks of the asked access are put in
-module _ {n : ℕ} {C : Chart} {body left left′ feed sides right : List ℕ} {choosy : ℕ}
-    (d : RulesDrawn n C body left feed sides right choosy) (x own : Access) (in-range : accessIn x ≡ true)
-    (own-is : own ≡ ownOf C x) (owned : Owned n body own left left′) where
-  pub sketched : Sketch n C x own (getD (C .subjects) (x .subject) 0) (getD (C .objects) (x .object) 0) body
-      left′
-      feed sides right choosy
+module _ {holder : Base} {n : ℕ} {C : Chart} {body left left′ feed sides right : List ℕ} {choosy : ℕ}
+    (d : RulesDrawn holder n C body left feed sides right choosy) (x own : Access)
+    (in-range : accessIn x ≡ true) (own-is : own ≡ ownOf C x)
+    (owned : Owned holder n body own left left′) where
+  pub sketched : Sketch holder n C x own (getD (C .subjects) (x .subject) 0)
+      (getD (C .objects) (x .object) 0) body left′ feed sides right choosy
   sketched = record {
     outline = record {
       outlined = left;
       rules = d;
-      owned = subst (λ (y : Access). Owned n body y left left′) own-is owned;
+      owned = subst (λ (y : Access). Owned holder n body y left left′) own-is owned;
     };
     own-is = own-is;
     subject = refl;
@@ -194,25 +191,22 @@ part-blank n table b i = cases (ltb i n)
     (λ e. List·getD-eq-default (take n table) 0 {n = i} (omega (
       arith,
       false-le (suc i) n e,
-      length-take n
-          table,
+      length-take n table,
       min-le-left n (length table),
     )))
 
 -- the pairs are few
-pub pairs-few : {n : ℕ} {C : Chart} {x own : Access} {s o : ℕ} {body left feed sides right : List ℕ} {choosy
-    : ℕ} →
-    Sketch n C x own s o body left feed sides right choosy → C .height * C .width ≤ 4225
+pub pairs-few : {holder : Base} {n : ℕ} {C : Chart} {x own : Access} {s o : ℕ}
+    {body left feed sides right : List ℕ} {choosy : ℕ} →
+    Sketch holder n C x own s o body left feed sides right choosy → C .height * C .width ≤ 4225
 pairs-few {C = C} k = chart-small C (k .outline .rules .grounds .few) (k .outline .rules .charted) .3
 
 -- ---- the tables
 
-module _ {n : ℕ} {subjects objects : List ℕ} {width height : ℕ} {x own : Access} {s o : ℕ} {body left feed
-    sides
-    right : List ℕ} {choosy : ℕ}
-    (k : Sketch n (record { subjects = subjects; objects = objects; width = width; height = height }) x own
-    s o body
-    left feed sides right choosy) {need number codes first starts : List ℕ} {f : Frame}
+module _ {holder : Base} {n : ℕ} {subjects objects : List ℕ} {width height : ℕ} {x own : Access} {s o : ℕ}
+    {body left feed sides right : List ℕ} {choosy : ℕ}
+    (k : Sketch holder n (record { subjects = subjects; objects = objects; width = width; height = height }) x
+    own s o body left feed sides right choosy) {need number codes first starts : List ℕ} {f : Frame}
     (m : Mapped (record { subjects = subjects; objects = objects; width = width; height = height }) left
     right need
     number codes (f .grid)) {rules : ℕ} (needs : Needed left need codes width (f .grid .pairs) rules)
@@ -227,7 +221,7 @@ module _ {n : ℕ} {subjects objects : List ℕ} {width height : ℕ} {x own : A
         spot = record { subject = s; mode = x .mode - 1; object = o };
       } →
       q .to ≡ lastAsked one t → q .listing ≡ not one → LooksFrom one t body lasts (q .from) →
-      Tabled n (chartOf subjects objects f)
+      Tabled holder n (chartOf subjects objects f)
       (prepared body left feed sides right need codes number first starts f) rules lasts bits q x
   sketch-tabled q one t there a own-is place to listing looks =
       let same : _≡_ {A = Chart}
@@ -238,9 +232,8 @@ module _ {n : ℕ} {subjects objects : List ℕ} {width height : ℕ} {x own : A
         width = sym (m .grid .0) i;
         height = sym (m .grid .1) i;
       } in
-      subst (λ (C : Chart). Tabled n C (prepared body left feed sides right need codes number first starts
-      f) rules
-      lasts bits q x) same
+      subst (λ (C : Chart). Tabled holder n C
+      (prepared body left feed sides right need codes number first starts f) rules lasts bits q x) same
       (record {
         choosy = choosy;
         outline = k .outline;

@@ -3,9 +3,9 @@
 -- reached and numbered (`Mapped`), and the tables of fields and of broken bits are laid out (`Arranged`). So
 -- they are drawn, whatever the width of the fields (`drawn`).
 use mathlib.Core.Path.{_≡_, refl, sym, ap, _∙_, subst}
-use mathlib.Core.Bool.{Bool, true, false, _&&_, _||_, true≢false}
+use mathlib.Core.Bool.{Bool, true, false, _&&_, _||_}
 use mathlib.Core.List.{List}
-use Prim.Native.Nat.{ℕ, suc, _+_, _*_, _-_, _/_, _%_, _^_, _≤_, _<_}
+use Prim.Native.Nat.{ℕ, suc, _+_, _*_, _/_, _%_, _^_, _≤_, _<_}
 use native.Mathlib.Nat.{mod-lt, div-add-mod', div-lt-iff-lt-mul, mul-le-mul}
 use native.Mathlib.Omega.{arith}
 use lib.Bits.{bitAnd}
@@ -15,31 +15,35 @@ use lib.ListN.{length, getD}
 use Rattle.foundation.specs.Tests.{pick, cases, true-eq, eq-true, false-eq, le-true, true-le, and-true}
 use Rattle.foundation.specs.Masks.{bit, maskOf}
 use Rattle.model.specs.declared.Access.{Access}
+use Rattle.model.specs.Base.{Base}
+use Rattle.model.specs.Rules.{standsOn}
 use Rattle.encoding.specs.Format.{rulesIn, ruleAt}
 use Rattle.questions.specs.Operators.{lasting}
 use Rattle.words.specs.Bits.{bit-and}
 use Rattle.words.specs.Fields as fields
-use Rattle.reach.specs.Net.{Closed, Formed}
+use Rattle.reach.specs.Net.{Closed, Formed, Only, standing}
 use Rattle.places.specs.declared.Grid.{Grid}
 use Rattle.places.specs.Numbering.{used, before, before-le, before-onto, codeOf}
 use Rattle.places.specs.Regions.{sizeOf}
 use Rattle.tables.specs.declared.Frame.{Frame}
 use Rattle.tables.specs.Layout.{Laid, Small, ruleTables, allTables, roomOf, whole}
 use Rattle.masks.specs.Masks.{PairCode, Needed}
-use Rattle.outlines.specs.Coordinates.{Grounds, Chart, Charted, Numbered, coordinate, subjectOf, objectOf}
+use Rattle.outlines.specs.Coordinates.{Grounds, Chart, Charted, coordinate}
 use Rattle.outlines.specs.Coordinates.{known, modeOf, pairOf}
 use Rattle.outlines.specs.CoordinateFacts.{known-is}
 use Rattle.outlines.specs.Outline.{RightSides, LeftSides}
-use Rattle.outlines.specs.Masks.{Masked, Owned, onObject, objectCode}
+use Rattle.outlines.specs.Masks.{Masked, Owned}
 use Rattle.outlines.specs.Standing.{rule-bit}
 use Rattle.outlines.specs.Aims.{formed, both-bits}
 use Rattle.outlines.specs.Feed.{isChoosy, Fed}
 use Rattle.outlines.specs.Needed.{needed, needed-both}
 use Rattle.selection.specs.Selection.{RulesIn}
-use Rattle.grounding.specs.Turns.{Prepared, prepared}
+use Rattle.grounding.specs.Turns.{prepared}
 use Rattle.queries.specs.declared.Extent.{Extent}
-use Rattle.engine.specs.Drawn.{Onto, Drawn}
-use Rattle.queries.specs.Bounds.{fields-few, bits-few}
+use Rattle.engine.specs.Drawn.{Drawn}
+use Rattle.queries.specs.Reached.{pairs-within}
+use Rattle.queries.specs.Bounds.{subjectStar, objectStar, Gridded, right-codes, pairs-few, fields-few}
+use Rattle.queries.specs.Bounds.{bits-few}
 
 -- ---- the asked access
 
@@ -69,16 +73,18 @@ own-coordinate U v = cases (eqb (getD U v 0) 0)
 
 -- ---- the outline of the rules
 
--- the rules by coordinates, whatever is asked
-pub record RulesDrawn (n : ℕ) (C : Chart) (body left feed sides right : List ℕ) (choosy : ℕ) : Type 0 where
-  pub grounds : Grounds n body
-  pub charted : Charted n body C
-  pub rights : RightSides (C .subjects) (C .objects) n body right
-  pub behind : (k : ℕ) → n ≤ k / 4 → getD right k 0 ≡ 0
-  pub lefts : LeftSides (C .subjects) (C .objects) n body sides
-  pub masks : Masked n (C .width) sides left
-  pub fed : Fed n body choosy feed
-  pub choosy-is : choosy ≡ maskOf isChoosy (rulesIn n body)
+-- the rules by coordinates, whatever is asked; owners and administrators are those of `holder`
+pub record RulesDrawn (holder : Base) (n : ℕ) (C : Chart) (body left feed sides right : List ℕ) (choosy : ℕ) :
+    Type 0
+  where
+    pub grounds : Grounds n body
+    pub charted : Charted n body C
+    pub rights : RightSides (C .subjects) (C .objects) n body right
+    pub behind : (k : ℕ) → n ≤ k / 4 → getD right k 0 ≡ 0
+    pub lefts : LeftSides (C .subjects) (C .objects) n body sides
+    pub masks : Masked holder n C body sides left
+    pub fed : Fed n body choosy feed
+    pub choosy-is : choosy ≡ maskOf isChoosy (rulesIn n body)
 
 -- a table as it is made
 abbrev pub Blank : List ℕ → Type 0
@@ -94,33 +100,38 @@ chartFor subjects objects e = record {
 }
 
 -- the same with the masks of the asked access
-pub record Outline (n : ℕ) (C : Chart) (x : Access) (body left feed sides right : List ℕ) (choosy : ℕ) :
-    Type 0
+pub record Outline (holder : Base) (n : ℕ) (C : Chart) (x : Access) (body left feed sides right : List ℕ)
+    (choosy : ℕ) : Type 0
   where
     pub outlined : List ℕ
-    pub rules : RulesDrawn n C body outlined feed sides right choosy
-    pub owned : Owned n body (ownOf C x) outlined left
+    pub rules : RulesDrawn holder n C body outlined feed sides right choosy
+    pub owned : Owned holder n body (ownOf C x) outlined left
 
 -- the masks of an access come and go, and what is drawn stays
-pub still-drawn : {n : ℕ} {C : Chart} {body left left′ feed sides right : List ℕ} {choosy : ℕ} (own : Access)
-    →
-    RulesDrawn n C body left feed sides right choosy → Owned n body own left left′ →
-    RulesDrawn n C body left′ feed sides right choosy
-still-drawn {n} {C} {body} {left} {left′} {feed} {sides} {right} {choosy} own d w = record {
+pub still-drawn : {holder : Base} {n : ℕ} {C : Chart} {body left left′ feed sides right : List ℕ} {choosy : ℕ}
+    (own : Access) → RulesDrawn holder n C body left feed sides right choosy →
+    Owned holder n body own left left′ → RulesDrawn holder n C body left′ feed sides right choosy
+still-drawn {holder} {n} {C} {body} {left} {left′} {feed} {sides} {right} {choosy} own d w = record {
   grounds = d .grounds;
   charted = d .charted;
   rights = d .rights;
   behind = d .behind;
   lefts = d .lefts;
   masks = record {
-    object = λ o r some few. ap (bit r) (w .other o (λ e. omega arith) (λ e. omega arith))
-        ∙ d .masks .object o r some few;
-    subject = λ s r some few. ap (bit r) (w .other (65 + s) (λ e. omega arith) (λ e. omega arith))
-        ∙ d .masks .subject s r some few;
-    mode = λ m g r few two. ap (bit r) (w .other (130 + (m + 8 * g)) (λ e. omega arith) (λ e. omega arith))
-        ∙ d .masks .mode m g r few two;
-    sign = λ g r two. ap (bit r) (w .other (146 + g) (λ e. omega arith) (λ e. omega arith))
-        ∙ d .masks .sign g r two;
+    sided = record {
+      subject = λ s r some few. ap (bit r) (w .other (65 + s) (λ e. omega arith) (λ e. omega arith))
+          ∙ d .masks .sided .subject s r some few;
+      mode = λ m g r few two. ap (bit r) (w .other (130 + (m + 8 * g)) (λ e. omega arith) (λ e. omega arith))
+          ∙ d .masks .sided .mode m g r few two;
+      sign = λ g r two. ap (bit r) (w .other (146 + g) (λ e. omega arith) (λ e. omega arith))
+          ∙ d .masks .sided .sign g r two;
+    };
+    object = λ v r some.
+        let below = d .charted .objects .below v in
+        let few = d .charted .objects .few in
+        let n64 = d .grounds .few in
+        ap (bit r) (w .other (getD (C .objects) v 0) (λ e. omega arith) (λ e. omega arith))
+        ∙ d .masks .object v r some;
   };
   fed = d .fed;
   choosy-is = d .choosy-is;
@@ -134,8 +145,8 @@ chart-small C few t =
     let h : C .height ≤ 65 = omega (arith, t .objects .few) in
     (w, t .subjects .some, h, mul-le-mul h w)
 
-module _ {n : ℕ} {C : Chart} {x : Access} {body left feed sides right : List ℕ} {choosy : ℕ}
-    (o : Outline n C x body left feed sides right choosy) where
+module _ {holder : Base} {n : ℕ} {C : Chart} {x : Access} {body left feed sides right : List ℕ} {choosy : ℕ}
+    (o : Outline holder n C x body left feed sides right choosy) where
   -- the net is well formed
   pub net-formed : Formed right (C .width) (C .height * C .width)
   net-formed = formed (o .rules .grounds) C (o .rules .charted) right (o .rules .rights) (o .rules .behind)
@@ -158,15 +169,29 @@ module _ {n : ℕ} {C : Chart} {x : Access} {body left feed sides right : List �
   object-low c r h e = cases (eqb c 0)
       (λ z. let q : bit r (getD left 0 0) ≡ true = ap (λ (i : ℕ). bit r (getD left i 0)) (sym (true-eq c 0
       z)) ∙ e in
-      let w : ltb r n && onObject (ownOf C x .object) (ruleAt body r) ≡ true =
-      sym (rule-bit n body (onObject (ownOf C x .object)) r) ∙ ap (bit r) (sym (o .owned .object)) ∙ q in
-      true-le (suc r) n (and-true (ltb r n) (onObject (ownOf C x .object) (ruleAt body r)) w .0))
+      let own = ownOf C x .object in
+      let w : ltb r n && standsOn holder (ruleAt body r) own ≡ true =
+      sym (rule-bit n body (λ z. standsOn holder z own) r) ∙ ap (bit r) (sym (o .owned .object)) ∙ q in
+      true-le (suc r) n (and-true (ltb r n) (standsOn holder (ruleAt body r) own) w .0))
       (λ z. let s = chart-small C (o .rules .grounds .few) (o .rules .charted) in
       let nz = false-eq c 0 z in
-      let w : ltb r n && eqb (objectCode sides r) c ≡ true =
-      sym (o .rules .masks .object c r (omega arith) (omega (arith, s .2)))
+      let v = o .rules .charted .objects .onto c (omega arith) h in
+      let w : ltb r n && standsOn holder (ruleAt body r) (v .0) ≡ true =
+      sym (o .rules .masks .object (v .0) r (omega (arith, v .1)))
+      ∙ ap (λ (i : ℕ). bit r (getD (o .outlined) i 0)) (v .1)
       ∙ ap (bit r) (sym (o .owned .other c nz (λ y. omega (arith, s .2)))) ∙ e in
-      true-le (suc r) n (and-true (ltb r n) (eqb (objectCode sides r) c) w .0))
+      true-le (suc r) n (and-true (ltb r n) (standsOn holder (ruleAt body r) (v .0)) w .0))
+
+  -- so are those that stand at a pair
+  pub standing-low : (c s k r : ℕ) → c < C .height → bit r (standing left c s k) ≡ true → r < n
+  unfolding standing
+  standing-low c s k r h e =
+      let two : ℕ = bitAnd (getD left c 0) (getD left (65 + s) 0) in
+      let a = and-true (bit r two) (bit r (getD left (130 + k) 0))
+      (sym (bit-and two (getD left (130 + k) 0) r) ∙ e) in
+      let b = and-true (bit r (getD left c 0)) (bit r (getD left (65 + s) 0))
+      (sym (bit-and (getD left c 0) (getD left (65 + s) 0) r) ∙ a .0) in
+      object-low c r h (b .0)
 
 -- ---- the places
 
@@ -174,6 +199,9 @@ module _ {n : ℕ} {C : Chart} {x : Access} {body left feed sides right : List �
 pub record Mapped (C : Chart) (left right need number codes : List ℕ) (g : Grid) : Type 0 where
   pub closed : Closed (record { left = left; right = right; subjects = C .width }) need
   pub size : length need ≡ C .height * C .width
+  -- at no other pairs than the asked one and those that rules lead to
+  pub only : (pair : ℕ) × (pair < length need)
+      × Only (record { left = left; right = right; subjects = C .width }) pair need
   pub numbers : (length number ≡ length need)
       × ((j : ℕ) → j < length need → getD number j 0 ≡ before need j)
   pub codes-are : (length codes ≡ length need)
@@ -183,8 +211,8 @@ pub record Mapped (C : Chart) (left right need number codes : List ℕ) (g : Gri
   pub modes : (g .modes < 256) × ((j k : ℕ) → j < length need → k < 8 →
       bit k (getD need j 0) || bit (8 + k) (getD need j 0) ≡ true → bit k (g .modes) ≡ true)
 
-module _ {n : ℕ} {C : Chart} {x : Access} {body left feed sides right : List ℕ} {choosy : ℕ}
-    (o : Outline n C x body left feed sides right choosy) {need number codes : List ℕ} {g : Grid}
+module _ {holder : Base} {n : ℕ} {C : Chart} {x : Access} {body left feed sides right : List ℕ} {choosy : ℕ}
+    (o : Outline holder n C x body left feed sides right choosy) {need number codes : List ℕ} {g : Grid}
     (m : Mapped C left right need number codes g) where
   pub map-small : Small g
   map-small =
@@ -195,6 +223,30 @@ module _ {n : ℕ} {C : Chart} {x : Access} {body left feed sides right : List �
         pairs = omega (arith, m .grid .2, before-le need (length need), m .size, s .3);
         modes = ones-le 8 (g .modes) (omega (arith, m .modes .0));
       }
+
+  pub map-gridded : Gridded body n g C
+  map-gridded = record {
+    subjects = omega (arith, m .grid .0);
+    objects = omega (arith, m .grid .1);
+    pairs =
+        let some = o .rules .charted .subjects .some in
+        let w : ℕ = C .width in
+        let p : ℕ = m .only .0 in
+        let h : p / w < C .height = div-lt-iff-lt-mul some .1 (omega (arith, m .only .1, m .size)) in
+        let asked = subst (λ (j : ℕ). Only (record { left = left; right = right; subjects = w }) j need)
+        (sym (div-add-mod' p w)) (m .only .2) in
+        omega (
+          arith,
+          m .grid .2,
+          pairs-within n w (C .height) (subjectStar body) (objectStar body) right
+              (right-codes C (o .rules .grounds) (o .rules .charted) right (o .rules .rights)) (p / w) (p % w)
+              h (mod-lt p some) left (standing-low o) need asked,
+        );
+    modes = ones-le 8 (g .modes) (omega (arith, m .modes .0));
+  }
+
+  pub map-few : g .pairs ≤ 1452
+  map-few = pairs-few C (o .rules .grounds) (o .rules .charted) map-gridded
 
   -- the codes of the pairs
   object-below : (i : ℕ) → i < g .pairs →
@@ -259,9 +311,9 @@ pub record Arranged (n : ℕ) (body sides right first starts : List ℕ) (choosy
 abbrev pub sized : Frame → ℕ → Frame
 sized f k = record { grid = f .grid; width = k; fields = f .fields; choosy = f .choosy }
 
-module _ {n : ℕ} {C : Chart} {x : Access} {body left feed sides right : List ℕ} {choosy : ℕ}
-    (o : Outline n C x body left feed sides right choosy) {need number codes first starts : List ℕ} {f :
-    Frame}
+module _ {holder : Base} {n : ℕ} {C : Chart} {x : Access} {body left feed sides right : List ℕ} {choosy : ℕ}
+    (o : Outline holder n C x body left feed sides right choosy)
+    {need number codes first starts : List ℕ} {f : Frame}
     (m : Mapped C left right need number codes (f .grid)) {rules lasts total : ℕ}
     (needs : Needed left need codes (C .width) (f .grid .pairs) rules)
     (a : Arranged n body sides right first starts choosy rules lasts total f) where
@@ -284,27 +336,30 @@ module _ {n : ℕ} {C : Chart} {x : Access} {body left feed sides right : List �
       none false = refl
 
   -- they are small
-  pub fields-small : f .fields ≤ 100880
+  pub fields-small : f .fields ≤ 131328
   fields-small = omega (
     arith,
     a .count,
-    fields-few C (o .rules .grounds) (o .rules .charted) (f .grid) (map-small o m) (f .choosy)
+    fields-few C (o .rules .grounds) (o .rules .charted) (map-gridded o m) (f .choosy)
         (λ r e. needed-low o m needs r (and-true (bit r rules) (isChoosy (ruleAt body r))
         (sym (choosy-bits r) ∙ e) .0)) right (o .rules .rights),
   )
 
-  pub total-small : total ≤ 33280
+  pub total-small : total ≤ 120256
   total-small = omega (
     arith,
     a .total-is,
-    bits-few C (o .rules .grounds) (o .rules .charted) (f .grid) (map-small o m) lasts
+    bits-few C (o .rules .grounds) (o .rules .charted) (map-gridded o m) lasts
         (λ r e. needed-low o m needs r (and-true (bit r rules) (lasting (ruleAt body r .operator))
         (sym (a .lasts-is r) ∙ e) .0)) sides (o .rules .lefts),
   )
 
+  pub pairs-small : f .grid .pairs ≤ 1452
+  pairs-small = map-few o m
+
   -- so they are drawn
   pub drawn : (k words bits : ℕ) → k ≤ 6 → f .fields * 2 ^ k ≤ 64 * words → (0 < bits → total ≤ 64 * bits) →
-      Drawn n C (ownOf C x)
+      Drawn holder n C (ownOf C x)
       (prepared body left feed sides right need codes number first starts (sized f k)) rules words bits
   drawn k words bits narrow fits room = record {
     grounds = o .rules .grounds;

@@ -3,7 +3,7 @@
 -- rule's number is its place (`numbers`).
 use mathlib.Core.Path.{_≡_, refl, sym, ap, _∙_, subst}
 use mathlib.Core.Logic.{inl, inr}
-use mathlib.Core.Bool.{Bool, true, false, _&&_, _||_}
+use mathlib.Core.Bool.{Bool, true, false, _&&_, _||_, Bool·beq}
 use mathlib.Core.List.{List, [], _∷_}
 use Prim.Native.Nat.{ℕ, zero, suc, _+_, _*_, _/_, _≤_, _<_}
 use native.Mathlib.Omega.{arith}
@@ -12,13 +12,13 @@ use lib.ListN.{length, drop}
 use lib.Seq.{drop-nil}
 use Rattle.foundation.specs.declared.Interval.{Interval}
 use Rattle.foundation.specs.Tests.{pick, cases, le-true, true-le, eq-true, true-eq, ne-false, and-true}
+use Rattle.foundation.specs.Tests.{and-three, beq-eq}
 use Rattle.foundation.specs.Intervals.{maximal}
 use Rattle.foundation.specs.Lists.{anyb, Mem, all-mem, conjunct}
 use Rattle.foundation.specs.Records.{length-records, record-nth, record-mem, mem-record}
 use Rattle.model.specs.declared.Access.{Access}
 use Rattle.model.specs.declared.Rule.{Rule}
 use Rattle.model.specs.declared.Side.{Side}
-use Rattle.model.specs.Answers.{accessIn}
 use Rattle.model.specs.Base.{Base}
 use Rattle.model.specs.Effects.{withRules}
 use Rattle.model.specs.Encoding.{decode, authorizationOf, ruleOf}
@@ -51,13 +51,11 @@ side-ranged : (s : Side) → sideIn s ≡ true → Ranged s
 side-ranged s e =
     let a = orStar isSubject (s .subject) in
     let b = orStar isMode (s .mode) in
-    let w = and-true (a && b) (isObject (s .object)) e in
+    let w = and-true (a && b) (orStar isObject (s .object)) e in
     let v = and-true a b (w .0) in
-    let o = and-true (leb 1 (s .object)) (leb (s .object) 128) (w .1) in
     record {
       subject = star-below 1023 (s .subject) (v .0);
-      some = true-le 1 (s .object) (o .0);
-      object = true-le (s .object) 128 (o .1);
+      object = star-below 128 (s .object) (w .1);
       mode = star-below 8 (s .mode) (v .1);
     }
   where
@@ -73,6 +71,24 @@ rule-sides r e =
     ∷ orStar isSubject (r .grantor) ∷ intervalIn (r .interval) ∷ []) e in (
       side-ranged (r .left) (t _ (inr (inr (inl refl)))),
       side-ranged (r .right) (t _ (inr (inr (inr (inl refl))))),
+    )
+
+-- stars stand on both sides or on neither
+abbrev starsIn : Rule → Bool
+starsIn r =
+    Bool·beq (isStar (r .left .subject)) (isStar (r .right .subject))
+    && Bool·beq (isStar (r .left .mode)) (isStar (r .right .mode))
+    && Bool·beq (isStar (r .left .object)) (isStar (r .right .object))
+
+rule-stars : (r : Rule) → starsIn r ≡ true →
+    (isStar (r .left .subject) ≡ isStar (r .right .subject))
+    × (isStar (r .left .object) ≡ isStar (r .right .object))
+rule-stars r e =
+    let w = and-three (Bool·beq (isStar (r .left .subject)) (isStar (r .right .subject)))
+    (Bool·beq (isStar (r .left .mode)) (isStar (r .right .mode)))
+    (Bool·beq (isStar (r .left .object)) (isStar (r .right .object))) .0 e in (
+      beq-eq (isStar (r .left .subject)) (isStar (r .right .subject)) (w .0),
+      beq-eq (isStar (r .left .object)) (isStar (r .right .object)) (w .2),
     )
 
 -- ---- numbers
@@ -149,7 +165,16 @@ module _ (s : List ℕ) (e : soundBytes s ≡ true) (c : Counts) (q : c ≡ coun
       let m = record-mem 28 ruleOf (c .rules) (lent s ra) i h in
       rule-sides r (all-mem ruleIn (rulesIn (c .rules) (lent s ra)) (rw as-rules (rules-in s e)) r m)
 
-  pub sound-bodies : Bodies (lent s la) (c .authorizations) (lent s ra) (c .rules) (decode s)
+  stars : (i : ℕ) → i < c .rules →
+      (isStar (ruleAt (lent s ra) i .left .subject) ≡ isStar (ruleAt (lent s ra) i .right .subject))
+      × (isStar (ruleAt (lent s ra) i .left .object) ≡ isStar (ruleAt (lent s ra) i .right .object))
+  stars i h =
+      let r = ruleAt (lent s ra) i in
+      let m = record-mem 28 ruleOf (c .rules) (lent s ra) i h in
+      rule-stars r (all-mem starsIn (rulesIn (c .rules) (lent s ra)) (rw as-rules (base-sound s e .stars))
+      r m)
+
+  pub sound-bodies : Bodies (decode s) (lent s la) (c .authorizations) (lent s ra) (c .rules) (decode s)
   sound-bodies =
       let f = fitting s e c q in
       let w = base-sound s e in
@@ -163,6 +188,7 @@ module _ (s : List ℕ) (e : soundBytes s ≡ true) (c : Counts) (q : c ≡ coun
           there = there s ra (rulesAt c) (c .rules * 28) ar (omega (arith, f));
           left = λ i h. sides i h .0;
           right = λ i h. sides i h .1;
+          stars = stars;
         };
         strata = w .strata;
         number = numberIn (rulesIn (c .rules) (lent s ra));
@@ -175,12 +201,13 @@ module _ (s : List ℕ) (e : soundBytes s ≡ true) (c : Counts) (q : c ≡ coun
               (all-mem (λ a. startsFirst (a .interval)) (decode s .authorizations)
               (intervals-test (decode s) w _ (inl refl)) a m),
         );
+        powers = λ o u. refl;
       }
 
 -- ---- a base without its rules
 
-pub ruleless-bodies : {lines : List ℕ} {total : ℕ} {body : List ℕ} {n : ℕ} {base : Base} →
-    Bodies lines total body n base → Bodies lines total body 0 (withRules [] base)
+pub ruleless-bodies : {holder : Base} {lines : List ℕ} {total : ℕ} {body : List ℕ} {n : ℕ} {base : Base} →
+    Bodies holder lines total body n base → Bodies holder lines total body 0 (withRules [] base)
 ruleless-bodies {base = base} b = record {
   lines-are = b .lines-are;
   rules-are = refl;
@@ -191,6 +218,7 @@ ruleless-bodies {base = base} b = record {
     there = omega arith;
     left = λ i h. absurd (omega arith);
     right = λ i h. absurd (omega arith);
+    stars = λ i h. absurd (omega arith);
   };
   strata = stratified-less [] (base .rules) (λ r m. absurd (m .lower)) (b .strata);
   number = λ r. 0;
@@ -200,12 +228,13 @@ ruleless-bodies {base = base} b = record {
     nth = λ i h. absurd (omega arith);
   };
   lines-in = b .lines-in;
+  powers = b .powers;
 }
 
 -- ---- WHEN
 
-module _ {lines : List ℕ} {total : ℕ} {body : List ℕ} {n : ℕ} {base : Base}
-    (b : Bodies lines total body n base) (x : Access) where
+module _ {holder : Base} {lines : List ℕ} {total : ℕ} {body : List ℕ} {n : ℕ} {base : Base}
+    (b : Bodies holder lines total body n base) (x : Access) where
   -- no more intervals than there are authorizations and rules, and one
   pub most : length (when base x) ≤ total + n + 1
   most = omega (

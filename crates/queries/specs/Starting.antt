@@ -1,16 +1,16 @@
 -- A question is put to the tables once they are drawn (`posed`), and the walk over them can start (`walks`).
--- What it finds in the narrowed base is true of the whole one (`found-last`, `found-listed`).
-use mathlib.Core.Path.{_≡_, refl, sym, ap, ap₂, _∙_, subst}
+-- What it finds in the narrowed base is true of the whole one (`whole-found`).
+use mathlib.Core.Path.{_≡_, refl, sym, ap, _∙_, subst}
 use mathlib.Core.Logic.{_⊎_, ⊎-elim, _↔_, inl, inr}
 use mathlib.Core.Bool.{Bool, true, false, not, _&&_, _||_, true≢false}
 use mathlib.Core.List.{List, []}
-use Prim.Native.Nat.{ℕ, suc, _+_, _*_, _-_, _/_, _%_, _^_, _≤_, _<_}
+use Prim.Native.Nat.{ℕ, suc, _+_, _*_, _-_, _%_, _^_, _≤_, _<_}
 use native.Mathlib.Nat.{zero-div, mul-le-mul-right}
 use native.Mathlib.Omega.{arith}
-use lib.Dec.{eqb, leb, ltb}
+use lib.Dec.{eqb, leb}
 use lib.ListN.{length, getD, replicate, length-replicate}
-use Rattle.foundation.specs.Tests.{cases, true-eq, le-true, and-true, and-intro}
-use Rattle.foundation.specs.Lists.{keepIf, Mem, kept}
+use Rattle.foundation.specs.Tests.{cases, true-eq, false-eq, le-true, and-true, and-intro, or-none}
+use Rattle.foundation.specs.Lists.{Mem, kept}
 use Rattle.foundation.specs.Intervals.{inInterval, maximal}
 use Rattle.foundation.specs.Masks.{bit}
 use Rattle.foundation.specs.Records.{length-records, record-mem}
@@ -18,12 +18,10 @@ use Rattle.foundation.specs.Counting.{maximal-count}
 use Rattle.model.specs.declared.Access.{Access}
 use Rattle.model.specs.declared.Authorization.{Authorization}
 use Rattle.model.specs.declared.Rule.{Rule}
-use Rattle.model.specs.declared.Head.{Head}
 use Rattle.model.specs.Base.{Base}
 use Rattle.model.specs.Encoding.{authorizationOf, ruleOf}
-use Rattle.model.specs.Ranges.{isMode}
 use Rattle.model.specs.Stratification.{stratified}
-use Rattle.model.specs.Rules.{standsFor, may}
+use Rattle.model.specs.Rules.{may}
 use Rattle.model.specs.Means.{allMarks}
 use Rattle.model.specs.HoldsMarks.{may-steady, all-marks-length}
 use Rattle.encoding.specs.Format.{rulesIn, ruleAt, authorizationsIn}
@@ -34,27 +32,24 @@ use Rattle.derivation.specs.Carried.{Carried}
 use Rattle.words.specs.Fields.{fieldOf}
 use Rattle.masks.specs.Masks.{Needed, clear-fields}
 use Rattle.relevance.specs.declared.Chosen.{Chosen}
-use Rattle.relevance.specs.Chosen.{authorizationAt, picked, Picks}
+use Rattle.relevance.specs.Chosen.{authorizationAt}
 use Rattle.relevance.specs.Needed as choice
 use Rattle.relevance.specs.Needed.{Placed, Choice, choice-picks, cellOf, isNeeded}
-use Rattle.places.specs.declared.Spot.{Spot}
 use Rattle.tables.specs.declared.Frame.{Frame}
 use Rattle.tables.specs.declared.Place.{Place}
-use Rattle.scan.specs.declared.Track.{Track}
 use Rattle.scan.specs.Runs.{Reached}
-use Rattle.outlines.specs.Coordinates.{Grounds, Chart, modeOf, pairOf}
+use Rattle.outlines.specs.Coordinates.{Grounds, Chart}
 use Rattle.outlines.specs.Needed.{needed}
 use Rattle.grounding.specs.Steps.{brokenIn, brokenAt}
 use Rattle.grounding.specs.Meaning.{placeOf}
 use Rattle.grounding.specs.Turns.{Prepared, prepared, turnIn}
 use Rattle.engine.specs.declared.Query.{Query}
 use Rattle.engine.specs.declared.Found.{Found}
-use Rattle.engine.specs.Drawn.{Drawn, sceneOf}
+use Rattle.engine.specs.Drawn.{SamePowers, Drawn, sceneOf}
 use Rattle.queries.specs.Drawing.{ownOf, own-coordinate, Outline, chart-small, Mapped, Arranged, sized}
 use Rattle.queries.specs.Drawing.{fields-small, total-small, drawn}
 use Rattle.engine.specs.Narrowed.{
   Both,
-  both-tests,
   ruleMatters,
   selected-rules,
   chosen-lines,
@@ -66,23 +61,27 @@ use Rattle.engine.specs.Posed.{Posed, Walks, Finds}
 
 -- ---- the bodies of a base
 
--- the bytes hold the authorizations and the rules of a base, and what soundness says of these
-pub record Bodies (lines : List ℕ) (total : ℕ) (body : List ℕ) (n : ℕ) (base : Base) : Type 0 where
-  pub lines-are : base .authorizations ≡ authorizationsIn total lines
-  pub rules-are : base .rules ≡ rulesIn n body
-  pub few : total ≤ 1024
-  pub there : total * 24 ≤ length lines
-  pub grounds : Grounds n body
-  pub strata : stratified (base .rules) ≡ true
-  pub number : Rule → ℕ
-  pub numbering : Numbering (base .rules) number (ruleAt body)
-  pub lines-in : (a : Authorization) → Mem a (base .authorizations) →
-      Placed (a .head) × (a .interval .start ≤ a .interval .end)
+-- the bytes hold the authorizations and the rules of a base, and what soundness says of these; its owners and
+-- administrators are those of `holder`
+pub record Bodies (holder : Base) (lines : List ℕ) (total : ℕ) (body : List ℕ) (n : ℕ) (base : Base) : Type 0
+  where
+    pub lines-are : base .authorizations ≡ authorizationsIn total lines
+    pub rules-are : base .rules ≡ rulesIn n body
+    pub few : total ≤ 1024
+    pub there : total * 24 ≤ length lines
+    pub grounds : Grounds n body
+    pub strata : stratified (base .rules) ≡ true
+    pub number : Rule → ℕ
+    pub numbering : Numbering (base .rules) number (ruleAt body)
+    pub lines-in : (a : Authorization) → Mem a (base .authorizations) →
+        Placed (a .head) × (a .interval .start ≤ a .interval .end)
+    pub powers : SamePowers base holder
 
 -- MAY says yes in few intervals, up to whichever instant
-few-intervals : {lines : List ℕ} {total : ℕ} {body : List ℕ} {n : ℕ} {base : Base} →
-    Bodies lines total body n base → (x : Access) (to : ℕ) → length (maximal 0 to (λ t. may base x t)) ≤ 1089
-few-intervals {lines} {total} {body} {n} {base} b x to = omega (
+few-intervals : {holder : Base} {lines : List ℕ} {total : ℕ} {body : List ℕ} {n : ℕ} {base : Base} →
+    Bodies holder lines total body n base → (x : Access) (to : ℕ) →
+    length (maximal 0 to (λ t. may base x t)) ≤ 1089
+few-intervals {holder} {lines} {total} {body} {n} {base} b x to = omega (
   arith,
   maximal-count (λ t. may base x t) (allMarks base) (may-steady base x) to,
   all-marks-length base,
@@ -97,9 +96,9 @@ few-intervals {lines} {total} {body} {n} {base} b x to = omega (
 -- ---- the authorizations that are chosen
 
 -- the tables are ready to choose by
-module _ {n : ℕ} {C : Chart} {x : Access} {body left feed sides right : List ℕ} {choosy : ℕ}
-    (o : Outline n C x body left feed sides right choosy) where
-  pub choice-ready : {lines : List ℕ} {total : ℕ} {base : Base} → Bodies lines total body n base →
+module _ {holder : Base} {n : ℕ} {C : Chart} {x : Access} {body left feed sides right : List ℕ} {choosy : ℕ}
+    (o : Outline holder n C x body left feed sides right choosy) where
+  pub choice-ready : {lines : List ℕ} {total : ℕ} {base : Base} → Bodies holder lines total body n base →
       (need which : List ℕ) → length need ≡ C .height * C .width → total ≤ length which →
       choice.Ready lines total (C .subjects) (C .objects) (C .width) need which
   choice-ready {lines} {total} {base} b need which size room =
@@ -136,30 +135,31 @@ chosen-both C own need a =
 
 -- ---- the question
 
-module _ {n : ℕ} {C : Chart} {own : Access} {p : Prepared} {rules words bits : ℕ}
-    (d : Drawn n C own p rules words bits) {lines : List ℕ} {total : ℕ} {base : Base}
-    (b : Bodies lines total (p .body) n base) where
+module _ {holder : Base} {n : ℕ} {C : Chart} {own : Access} {p : Prepared} {rules words bits : ℕ}
+    (d : Drawn holder n C own p rules words bits) {lines : List ℕ} {total : ℕ} {base : Base}
+    (b : Bodies holder lines total (p .body) n base) where
   abbrev pub chosenLine : Authorization → Bool
   chosenLine = isNeeded (C .subjects) (C .objects) own (C .width) (p .need)
 
   -- the base with what matters alone
   abbrev pub less : Base
-  less = narrowed base chosenLine (ruleMatters d base (b .rules-are) (b .number) (b .numbering))
+  less = narrowed base chosenLine (ruleMatters d base (b .powers) (b .rules-are) (b .number) (b .numbering))
 
   pub posed : (x : Access) → needed C own (p .need) x ≡ true → Posed n C own p rules words bits less x
   posed x m = record {
+    holder = holder;
     drawn = d;
+    powers = b .powers;
     strata = narrowed-stratified base (b .strata) chosenLine
-        (ruleMatters d base (b .rules-are) (b .number) (b .numbering));
-    rules = selected-rules d base (b .rules-are) (b .number) (b .numbering);
+        (ruleMatters d base (b .powers) (b .rules-are) (b .number) (b .numbering));
+    rules = selected-rules d base (b .powers) (b .rules-are) (b .number) (b .numbering);
     matters = m;
     lines = λ a e.
         let w = b .lines-in a (kept chosenLine (base .authorizations) a e .0) in (
-          kept-line d base (b .rules-are) (b .number) (b .numbering) chosenLine (chosen-both C own (p
-              .need)) a
-              (and-intro (leb 1 (a .head .mode)) (leb (a .head .mode) 8) (le-true 1 (a .head .mode) (w .0
-              .some))
-              (le-true (a .head .mode) 8 (w .0 .mode))) e,
+          kept-line d base (b .powers) (b .rules-are) (b .number) (b .numbering) chosenLine
+              (chosen-both C own (p .need)) a
+              (and-intro (leb 1 (a .head .mode)) (leb (a .head .mode) 8)
+              (le-true 1 (a .head .mode) (w .0 .some)) (le-true (a .head .mode) 8 (w .0 .mode))) e,
           w .0,
           w .1,
         );
@@ -167,7 +167,7 @@ module _ {n : ℕ} {C : Chart} {own : Access} {p : Prepared} {rules words bits :
 
   -- it says of the asked access what the whole base says
   pub less-may : (x : Access) → needed C own (p .need) x ≡ true → (t : ℕ) → may base x t ≡ may less x t
-  less-may = narrowed-may d base (b .rules-are) (b .number) (b .numbering) chosenLine
+  less-may = narrowed-may d base (b .powers) (b .rules-are) (b .number) (b .numbering) chosenLine
       (chosen-both C own (p .need)) (b .strata)
 
 -- ---- the tables, and what is asked of them
@@ -193,10 +193,11 @@ pub record Asked (C : Chart) (x : Access) (body number : List ℕ) (lasts : ℕ)
   pub whole : q .listing ≡ true → q .from ≡ 0
 
 -- all tables, for fields of whichever width
-pub record Tabled (n : ℕ) (C : Chart) (p : Prepared) (rules lasts total : ℕ) (q : Query) (x : Access) : Type 0
+pub record Tabled (holder : Base) (n : ℕ) (C : Chart) (p : Prepared) (rules lasts total : ℕ) (q : Query)
+    (x : Access) : Type 0
   where
     pub choosy : ℕ
-    pub outline : Outline n C x (p .body) (p .left) (p .feed) (p .sides) (p .right) choosy
+    pub outline : Outline holder n C x (p .body) (p .left) (p .feed) (p .sides) (p .right) choosy
     pub mapped : Mapped C (p .left) (p .right) (p .need) (p .number) (p .codes) (p .frame .grid)
     pub needs : Needed (p .left) (p .need) (p .codes) (C .width) (p .frame .grid .pairs) rules
     pub arranged : Arranged n (p .body) (p .sides) (p .right) (p .first) (p .starts) choosy rules lasts total
@@ -216,16 +217,19 @@ unbroken bits zero i = ap (λ (v : ℕ). eqb v 1) (clear-fields 0 (suc i) bits (
 abbrev pub Keeps : Query → ℕ → ℕ → Type 0
 Keeps q lasts bits = (q .from ≡ q .to) ⊎ (((r : ℕ) → bit r lasts ≡ true → ⊥) ⊎ (0 < bits))
 
-module _ {C : Chart} {p : Prepared} {lasts total : ℕ} {q : Query} {x : Access} (c : Chosen)
-    (t : Tabled (c .rules) C p (c .needed) lasts total q x) (k : ℕ) (words bits : List ℕ) (narrow : k ≤ 6)
+module _ {holder : Base} {C : Chart} {p : Prepared} {lasts total : ℕ} {q : Query} {x : Access} (c : Chosen)
+    (t : Tabled holder (c .rules) C p (c .needed) lasts total q x) (k : ℕ) (words bits : List ℕ)
+    (narrow : k ≤ 6)
     (fits : p .frame .fields * 2 ^ k ≤ 64 * length words)
     (room : 0 < length bits → total ≤ 64 * length bits) where
-  pub tables-drawn : Drawn (c .rules) C (ownOf C x) (withWidth p k) (c .needed) (length words) (length bits)
+  pub tables-drawn : Drawn holder (c .rules) C (ownOf C x) (withWidth p k) (c .needed) (length words)
+      (length bits)
   tables-drawn = drawn (t .outline) (t .mapped) (t .needs) (t .arranged) k (length words) (length bits)
       narrow fits
       room
 
-  module _ {lines : List ℕ} {count : ℕ} {base : Base} (b : Bodies lines count (p .body) (c .rules) base)
+  module _ {lines : List ℕ} {count : ℕ} {base : Base}
+      (b : Bodies holder lines count (p .body) (c .rules) base)
       (entry which : List ℕ) (chosen : Choice (isNeeded (C .subjects) (C .objects) (ownOf C x) (C .width)
       (p .need)) lines count entry which (c .authorizations)) (long : count ≤ length entry)
       (zero : (j : ℕ) → getD bits j 0 ≡ 0) (keeps : Keeps q lasts (length bits)) where
@@ -278,7 +282,7 @@ module _ {C : Chart} {p : Prepared} {lasts total : ℕ} {q : Query} {x : Access}
       picks = choice-picks (chosenLine tables-drawn b) lines count entry which (c .authorizations) (b
           .there) long
           chosen;
-      picked-all = sym (chosen-lines tables-drawn base (b .rules-are) (b .number) (b .numbering)
+      picked-all = sym (chosen-lines tables-drawn base (b .powers) (b .rules-are) (b .number) (b .numbering)
           (chosenLine tables-drawn b) (chosen-both C (ownOf C x) (p .need)) lines count entry which
           (c .authorizations) (b .lines-are) chosen);
       place = refl;
@@ -324,9 +328,10 @@ module _ {C : Chart} {p : Prepared} {lasts total : ℕ} {q : Query} {x : Access}
 -- the tables are made, and the authorizations that matter are chosen
 pub record Begun (lines which : List ℕ) (c : Chosen) (lasts total : ℕ) (q : Query) (C : Chart) (p : Prepared)
     (base : Base) (x : Access) : Type 0 where
-  pub tabled : Tabled (c .rules) C p (c .needed) lasts total q x
+  pub holder : Base
+  pub tabled : Tabled holder (c .rules) C p (c .needed) lasts total q x
   pub count : ℕ
-  pub bodies : Bodies lines count (p .body) (c .rules) base
+  pub bodies : Bodies holder lines count (p .body) (c .rules) base
   pub entry : List ℕ
   pub chosen : Choice (isNeeded (C .subjects) (C .objects) (ownOf C x) (C .width) (p .need)) lines count entry
       which (c .authorizations)
@@ -367,6 +372,14 @@ fresh-zeros q lasts total size some room = record {
   keeps = inr (inr (rw (length-replicate {A = ℕ} size 0) some));
 }
 
+-- where they are needed, more than one instant is asked
+pub fresh-kept : (q : Query) (lasts total size : ℕ) → eqb (q .from) (q .to) || eqb lasts 0 ≡ false →
+    0 < size → (q .from ≡ q .to) ⊎ (total ≤ 64 * size) → Fresh q lasts total (replicate size 0)
+fresh-kept q lasts total size kept some room =
+    let several = or-none (eqb (q .from) (q .to)) (eqb lasts 0) kept .0 in
+    fresh-zeros q lasts total size some
+    (⊎-elim (λ e. absurd (false-eq (q .from) (q .to) several e)) (λ h. h) room)
+
 -- a frame with fields of a width for which words of a length have room
 pub record Sized (f : Frame) (words : ℕ) (g : Frame) : Type 0 where
   pub width : ℕ
@@ -403,18 +416,19 @@ module _ {lines which : List ℕ} {c : Chosen} {lasts total : ℕ} {q : Query} {
       })
 
   -- the tables are small
-  pub begun-fields : f .fields ≤ 100880
+  pub begun-fields : f .fields ≤ 131328
   begun-fields = fields-small (b .tabled .outline) (b .tabled .mapped) (b .tabled .needs) (b .tabled
       .arranged)
 
-  pub begun-bits : total ≤ 33280
+  pub begun-bits : total ≤ 120256
   begun-bits = total-small (b .tabled .outline) (b .tabled .mapped) (b .tabled .needs) (b .tabled .arranged)
 
 -- the tables and the bodies are there, before authorizations are chosen
 pub record Ground (lines : List ℕ) (total n rules lasts bits : ℕ) (q : Query) (C : Chart) (p : Prepared)
     (base : Base) (x : Access) : Type 0 where
-  pub tabled : Tabled n C p rules lasts bits q x
-  pub bodies : Bodies lines total (p .body) n base
+  pub holder : Base
+  pub tabled : Tabled holder n C p rules lasts bits q x
+  pub bodies : Bodies holder lines total (p .body) n base
 
 -- they are chosen
 pub ground-begun : {lines : List ℕ} {total n rules lasts bits : ℕ} {q : Query} {C : Chart} {p : Prepared}
@@ -424,6 +438,7 @@ pub ground-begun : {lines : List ℕ} {total n rules lasts bits : ℕ} {q : Quer
     Choice (isNeeded (C .subjects) (C .objects) (q .own) (C .width) (p .need)) lines total entry which k →
     Begun lines which (record { authorizations = k; rules = n; needed = rules }) lasts bits q C p base x
 ground-begun {lines} {total} {n} {rules} {lasts} {bits} {q} {C} {p} g entry which k room chosen = record {
+  holder = g .holder;
   tabled = g .tabled;
   count = total;
   bodies = g .bodies;

@@ -17,15 +17,17 @@ use direct::walk_directly;
 use model::Access;
 use scan::Track;
 
-// Whether MAY says yes at t, by the bodies of the authorizations and rules.
-fn holds_in(lines: &[u8], total: usize, body: &[u8], n: usize, x: Access, t: u32) -> bool
-    requires { ⌜ ((base : Base) × Bodies (now lines) total (now body) n base) × (accessIn x ≡ true) ⌝ }
-    ensures { λ r. ⌜ ((base : Base) → Bodies (now (lines .entry)) total (now (body .entry)) n base →
+// Whether MAY says yes at t, by the bytes of a base and by the bodies of its authorizations and rules.
+fn holds_in(s: &[u8], lines: &[u8], total: usize, body: &[u8], n: usize, x: Access, t: u32) -> bool
+    requires { ⌜ ((base : Base) × Bodies (decode (now s)) (now lines) total (now body) n base)
+        × (accessIn x ≡ true) × (soundBytes (now s) ≡ true) ⌝ }
+    ensures { λ r. ⌜ ((base : Base) →
+        Bodies (decode (now (s .entry))) (now (lines .entry)) total (now (body .entry)) n base →
         r ≡ may base x t) ⌝ }
 {
-    if stands_some(body, n, x) {
+    if stands_some(s, body, n, x) {
         let mut none = [0u32; 0];
-        let r = with_outline(lines, total, body, n, x, true, t, &mut none);
+        let r = with_outline(s, lines, total, body, n, x, true, t, &mut none);
         return r.yes;
     }
     holds_directly(lines, total, x, t)
@@ -40,6 +42,7 @@ pub fn holds_at(s: &[u8], x: Access, t: u32) -> bool
     let la = encoding::authorizations_at(c);
     let ra = encoding::rules_at(c);
     holds_in(
+        s,
         &s[la..],
         c.authorizations as usize,
         &s[ra..],
@@ -51,26 +54,46 @@ pub fn holds_at(s: &[u8], x: Access, t: u32) -> bool
 
 // Writes the intervals down at which MAY says yes, as far as there is room, but for one that is open at the
 // end. Few authorizations without rules are gone through as they are: clearing the tables would take longer.
-fn track_of(lines: &[u8], total: usize, body: &[u8], n: usize, x: Access, list: &mut [u32]) -> Track
-    requires { ⌜ ((base : Base) × Bodies (now lines) total (now body) n base) × (accessIn x ≡ true) ⌝ }
-    ensures { λ r. ⌜ ((base : Base) → Bodies (now (lines .entry)) total (now (body .entry)) n base →
+fn track_of(
+    s: &[u8],
+    lines: &[u8],
+    total: usize,
+    body: &[u8],
+    n: usize,
+    x: Access,
+    list: &mut [u32],
+) -> Track
+    requires { ⌜ ((base : Base) × Bodies (decode (now s)) (now lines) total (now body) n base)
+        × (accessIn x ≡ true) × (soundBytes (now s) ≡ true) ⌝ }
+    ensures { λ r. ⌜ ((base : Base) →
+        Bodies (decode (now (s .entry))) (now (lines .entry)) total (now (body .entry)) n base →
         Reached (may base x) 4294967295 (now (list .entry)) 4294967296 r (now (list .exit))) ⌝ }
 {
     if (n == 0) & (total <= 64) {
         return walk_directly(lines, total, x, list);
     }
-    let r = with_outline(lines, total, body, n, x, false, 0, list);
+    let r = with_outline(s, lines, total, body, n, x, false, 0, list);
     r.track
 }
 
 // Counts the maximal intervals where MAY says yes, and puts them at the front of the list, as many as there
 // is room for.
-fn runs_in(lines: &[u8], total: usize, body: &[u8], n: usize, x: Access, list: &mut [u32]) -> usize
-    requires { ⌜ ((base : Base) × Bodies (now lines) total (now body) n base) × (accessIn x ≡ true) ⌝ }
-    ensures { λ r. ⌜ ((base : Base) → Bodies (now (lines .entry)) total (now (body .entry)) n base →
+fn runs_in(
+    s: &[u8],
+    lines: &[u8],
+    total: usize,
+    body: &[u8],
+    n: usize,
+    x: Access,
+    list: &mut [u32],
+) -> usize
+    requires { ⌜ ((base : Base) × Bodies (decode (now s)) (now lines) total (now body) n base)
+        × (accessIn x ≡ true) × (soundBytes (now s) ≡ true) ⌝ }
+    ensures { λ r. ⌜ ((base : Base) →
+        Bodies (decode (now (s .entry))) (now (lines .entry)) total (now (body .entry)) n base →
         Filling (when base x) r (now (list .entry)) (now (list .exit))) ⌝ }
 {
-    let w = track_of(lines, total, body, n, x, list);
+    let w = track_of(s, lines, total, body, n, x, list);
     scan::finish(list, w, 4294967295)
 }
 
@@ -78,6 +101,7 @@ fn runs_in(lines: &[u8], total: usize, body: &[u8], n: usize, x: Access, list: &
 // for all. A list that may be too short is not lent before they are counted; the list lent first has no
 // numbers.
 fn runs_if_room(
+    s: &[u8],
     lines: &[u8],
     total: usize,
     body: &[u8],
@@ -85,23 +109,26 @@ fn runs_if_room(
     x: Access,
     list: &mut [u32],
 ) -> usize
-    requires { ⌜ ((base : Base) × Bodies (now lines) total (now body) n base) × (accessIn x ≡ true) ⌝ }
-    ensures { λ r. ⌜ ((base : Base) → Bodies (now (lines .entry)) total (now (body .entry)) n base →
+    requires { ⌜ ((base : Base) × Bodies (decode (now s)) (now lines) total (now body) n base)
+        × (accessIn x ≡ true) × (soundBytes (now s) ≡ true) ⌝ }
+    ensures { λ r. ⌜ ((base : Base) →
+        Bodies (decode (now (s .entry))) (now (lines .entry)) total (now (body .entry)) n base →
         Listing (when base x) r (now (list .entry)) (now (list .exit))) ⌝ }
 {
     let pairs = list.len() / 2;
     if pairs <= total + n {
         let mut none = [0u32; 0];
-        let r = runs_in(lines, total, body, n, x, &mut none);
+        let r = runs_in(s, lines, total, body, n, x, &mut none);
         if pairs < r {
             return r;
         }
     }
-    runs_in(lines, total, body, n, x, list)
+    runs_in(s, lines, total, body, n, x, list)
 }
 
 // The same, without the rules where none stands for the access.
 fn runs_narrowed(
+    s: &[u8],
     lines: &[u8],
     total: usize,
     body: &[u8],
@@ -109,14 +136,16 @@ fn runs_narrowed(
     x: Access,
     list: &mut [u32],
 ) -> usize
-    requires { ⌜ ((base : Base) × Bodies (now lines) total (now body) n base) × (accessIn x ≡ true) ⌝ }
-    ensures { λ r. ⌜ ((base : Base) → Bodies (now (lines .entry)) total (now (body .entry)) n base →
+    requires { ⌜ ((base : Base) × Bodies (decode (now s)) (now lines) total (now body) n base)
+        × (accessIn x ≡ true) × (soundBytes (now s) ≡ true) ⌝ }
+    ensures { λ r. ⌜ ((base : Base) →
+        Bodies (decode (now (s .entry))) (now (lines .entry)) total (now (body .entry)) n base →
         Listing (when base x) r (now (list .entry)) (now (list .exit))) ⌝ }
 {
-    if stands_some(body, n, x) {
-        return runs_if_room(lines, total, body, n, x, list);
+    if stands_some(s, body, n, x) {
+        return runs_if_room(s, lines, total, body, n, x, list);
     }
-    runs_if_room(lines, total, body, 0, x, list)
+    runs_if_room(s, lines, total, body, 0, x, list)
 }
 
 // Counts the maximal intervals where MAY says yes, and puts them at the front of the list, if there is room
@@ -129,6 +158,7 @@ pub fn list_runs(s: &[u8], x: Access, list: &mut [u32]) -> usize
     let la = encoding::authorizations_at(c);
     let ra = encoding::rules_at(c);
     runs_narrowed(
+        s,
         &s[la..],
         c.authorizations as usize,
         &s[ra..],

@@ -11,10 +11,12 @@ ghost use Rattle.foundation.specs.Masks.{bit};
 ghost use Rattle.reach.specs.Net.{Formed, has};
 ghost use Rattle.selection.specs.Selection.{RulesIn};
 ghost use Rattle.model.specs.Base.{Base};
+ghost use Rattle.model.specs.Encoding.{decode};
+ghost use Rattle.model.specs.Soundness.{soundBytes};
 ghost use Rattle.outlines.specs.Coordinates.{Grounds};
 ghost use Rattle.queries.specs.Drawing.{Mapped, RulesDrawn, Blank, chartFor};
 ghost use Rattle.queries.specs.Starting.{Bodies};
-ghost use Rattle.queries.specs.Asking.{lastAsked, LooksFrom, Sketch, Answers};
+ghost use Rattle.queries.specs.Asking.{lastAsked, LooksFrom, Task, Answers};
 use crate::Extent;
 use crate::sizes::with_tables;
 use engine::Found;
@@ -22,6 +24,7 @@ use engine::Query;
 use masks::needed_rules;
 use model::Access;
 use outlines::choosy_of;
+use outlines::draw_controlled;
 use outlines::draw_feed;
 use outlines::draw_left;
 use outlines::draw_masks;
@@ -77,7 +80,7 @@ fn looks_from(one: bool, t: u32, body: &[u8], lasting: u64) -> u32
 
 // Reaches the pairs that the asked one can rest on, and numbers them.
 fn map_pairs(
-    left: &[u64; 151],
+    left: &[u64; 152],
     right: &[u8; 256],
     width: u32,
     height: u32,
@@ -87,7 +90,8 @@ fn map_pairs(
     number: &mut [u16],
     codes: &mut [u16],
 ) -> Grid
-    requires { ⌜ ((i : ℕ) → getD (now need) i 0 ≡ 0) × (length (now need) ≡ height * width) × (height ≤ 65)
+    requires { ⌜ ((i : ℕ) → (getD (now need) i 0 ≡ 0) × (getD (now number) i 0 ≡ 0))
+        × (length (now need) ≡ height * width) × (height ≤ 65)
         × (length (now number) ≡ length (now need)) × (length (now codes) ≡ length (now need))
         × (pair < length (now need)) × (mode < 8) × Formed (now right) width (length (now need)) ⌝ }
     ensures { λ r. ⌜ ((U O : List ℕ) → Mapped
@@ -115,8 +119,7 @@ fn map_pairs(
 }
 
 // Answers by the tables of pairs, `s` and `o` being the coordinates of the asked subject and object: MAY at
-// t,
-// or else WHEN.
+// t, or else WHEN.
 fn with_pairs(
     lines: &[u8],
     total: usize,
@@ -133,7 +136,7 @@ fn with_pairs(
     choosy: u64,
     subjects: &[u8; 1024],
     objects: &[u8; 130],
-    left: &[u64; 151],
+    left: &[u64; 152],
     feed: &[u64; 128],
     sides: &[u8; 256],
     right: &[u8; 256],
@@ -142,18 +145,22 @@ fn with_pairs(
     codes: &mut [u16],
     list: &mut [u32],
 ) -> Found
-    requires { ⌜ ((i : ℕ) → getD (now need) i 0 ≡ 0) × (length (now need) ≡ height * width)
+    requires { ⌜ ((i : ℕ) → (getD (now need) i 0 ≡ 0) × (getD (now number) i 0 ≡ 0))
+        × (length (now need) ≡ height * width)
         × (length (now number) ≡ length (now need)) × (length (now codes) ≡ length (now need))
-        × Sketch n (record {
+        × ((base : Base) × Task (now lines) total n (record {
           subjects = now subjects;
           objects = now objects;
           width = width;
           height = height;
-        }) x own
-        s o (now body) (now left) (now feed) (now sides) (now right) choosy
-        × ((base : Base) × Bodies (now lines) total (now body) n base) ⌝ }
-    ensures { λ r. ⌜ ((base : Base) → Bodies (now (lines .entry)) total (now (body .entry)) n base →
-        Answers one t base x r (now (list .entry)) (now (list .exit))) ⌝ }
+        }) x own s o (now body) (now left) (now feed) (now sides) (now right) choosy base) ⌝ }
+    ensures { λ r. ⌜ ((base : Base) → Task (now (lines .entry)) total n (record {
+      subjects = now (subjects .entry);
+      objects = now (objects .entry);
+      width = width;
+      height = height;
+    }) x own s o (now (body .entry)) (now (left .entry)) (now (feed .entry)) (now (sides .entry))
+        (now (right .entry)) choosy base → Answers one t base x r (now (list .entry)) (now (list .exit))) ⌝ }
 {
     let pair = (o * width + s) as usize;
     let mode = x.mode - 1;
@@ -226,7 +233,7 @@ fn with_part(
     o: u32,
     subjects: &[u8; 1024],
     objects: &[u8; 130],
-    left: &[u64; 151],
+    left: &[u64; 152],
     feed: &[u64; 128],
     sides: &[u8; 256],
     right: &[u8; 256],
@@ -235,12 +242,14 @@ fn with_part(
     codes: &mut [u16],
     list: &mut [u32],
 ) -> Found
-    requires { ⌜ Blank (now need) × (e .objects * e .subjects ≤ length (now need))
+    requires { ⌜ ((i : ℕ) → (getD (now need) i 0 ≡ 0) × (getD (now number) i 0 ≡ 0))
+        × (e .objects * e .subjects ≤ length (now need))
         × (length (now number) ≡ length (now need)) × (length (now codes) ≡ length (now need))
-        × Sketch n (chartFor (now subjects) (now objects) e) x own s o (now body) (now left) (now feed)
-        (now sides) (now right) (e .choosy)
-        × ((base : Base) × Bodies (now lines) total (now body) n base) ⌝ }
-    ensures { λ r. ⌜ ((base : Base) → Bodies (now (lines .entry)) total (now (body .entry)) n base →
+        × ((base : Base) × Task (now lines) total n (chartFor (now subjects) (now objects) e) x own s o
+        (now body) (now left) (now feed) (now sides) (now right) (e .choosy) base) ⌝ }
+    ensures { λ r. ⌜ ((base : Base) → Task (now (lines .entry)) total n
+        (chartFor (now (subjects .entry)) (now (objects .entry)) e) x own s o (now (body .entry))
+        (now (left .entry)) (now (feed .entry)) (now (sides .entry)) (now (right .entry)) (e .choosy) base →
         Answers one t base x r (now (list .entry)) (now (list .exit))) ⌝ }
 {
     let w = e.subjects;
@@ -288,16 +297,17 @@ fn with_sizes(
     o: u32,
     subjects: &[u8; 1024],
     objects: &[u8; 130],
-    left: &[u64; 151],
+    left: &[u64; 152],
     feed: &[u64; 128],
     sides: &[u8; 256],
     right: &[u8; 256],
     list: &mut [u32],
 ) -> Found
-    requires { ⌜ Sketch n (chartFor (now subjects) (now objects) e) x own s o (now body) (now left) (now feed)
-        (now sides) (now right) (e .choosy)
-        × ((base : Base) × Bodies (now lines) total (now body) n base) ⌝ }
-    ensures { λ r. ⌜ ((base : Base) → Bodies (now (lines .entry)) total (now (body .entry)) n base →
+    requires { ⌜ ((base : Base) × Task (now lines) total n (chartFor (now subjects) (now objects) e) x own s o
+        (now body) (now left) (now feed) (now sides) (now right) (e .choosy) base) ⌝ }
+    ensures { λ r. ⌜ ((base : Base) → Task (now (lines .entry)) total n
+        (chartFor (now (subjects .entry)) (now (objects .entry)) e) x own s o (now (body .entry))
+        (now (left .entry)) (now (feed .entry)) (now (sides .entry)) (now (right .entry)) (e .choosy) base →
         Answers one t base x r (now (list .entry)) (now (list .exit))) ⌝ }
 {
     let size = e.objects * e.subjects;
@@ -395,20 +405,23 @@ fn own_of(entry: u8, v: u32) -> u32
     0
 }
 
-// Draws what an answer needs of the rules and does not depend on the question.
+// Draws what an answer needs of the rules and does not depend on the question: of the rules in `body`, and of
+// the owners and administrators in the bytes of the base.
 pub fn draw(
+    bytes: &[u8],
     body: &[u8],
     n: usize,
     subjects: &mut [u8; 1024],
     objects: &mut [u8; 130],
-    left: &mut [u64; 151],
+    left: &mut [u64; 152],
     feed: &mut [u64; 128],
     sides: &mut [u8; 256],
     right: &mut [u8; 256],
 ) -> Extent
     requires { ⌜ Grounds n (now body) × Blank (now subjects) × Blank (now objects) × Blank (now left)
-        × Blank (now feed) × Blank (now right) ⌝ }
-    ensures { λ r. ⌜ RulesDrawn n (chartFor (now (subjects .exit)) (now (objects .exit)) r)
+        × Blank (now feed) × Blank (now right) × (soundBytes (now bytes) ≡ true) ⌝ }
+    ensures { λ r. ⌜ RulesDrawn (decode (now (bytes .entry))) n
+        (chartFor (now (subjects .exit)) (now (objects .exit)) r)
         (now (body .entry)) (now (left .exit)) (now (feed .exit)) (now (sides .exit)) (now (right .exit))
         (r .choosy) ⌝ }
 {
@@ -418,6 +431,7 @@ pub fn draw(
     draw_masks(sides, n, sizes.subjects as usize, left);
     let choosy = choosy_of(body, n);
     draw_feed(body, n, left, right, sides, choosy, feed);
+    draw_controlled(bytes, body, n, objects, left);
     Extent {
         subjects: sizes.subjects,
         objects: sizes.objects,
@@ -427,6 +441,7 @@ pub fn draw(
 
 // Answers by what is drawn: MAY at t, or else WHEN. What is drawn can be used again.
 pub fn with_drawn(
+    bytes: &[u8],
     lines: &[u8],
     total: usize,
     body: &[u8],
@@ -437,19 +452,22 @@ pub fn with_drawn(
     e: Extent,
     subjects: &[u8; 1024],
     objects: &[u8; 130],
-    left: &mut [u64; 151],
+    left: &mut [u64; 152],
     feed: &[u64; 128],
     sides: &[u8; 256],
     right: &[u8; 256],
     list: &mut [u32],
 ) -> Found
-    requires { ⌜ RulesDrawn n (chartFor (now subjects) (now objects) e) (now body) (now left) (now feed)
-        (now sides) (now right) (e .choosy) × (accessIn x ≡ true)
-        × ((base : Base) × Bodies (now lines) total (now body) n base) ⌝ }
-    ensures { λ r. ⌜ ((base : Base) → Bodies (now (lines .entry)) total (now (body .entry)) n base →
+    requires { ⌜ RulesDrawn (decode (now bytes)) n (chartFor (now subjects) (now objects) e) (now body)
+        (now left) (now feed) (now sides) (now right) (e .choosy) × (accessIn x ≡ true)
+        × ((base : Base) × Bodies (decode (now bytes)) (now lines) total (now body) n base)
+        × (soundBytes (now bytes) ≡ true) ⌝ }
+    ensures { λ r. ⌜ ((base : Base) →
+        Bodies (decode (now (bytes .entry))) (now (lines .entry)) total (now (body .entry)) n base →
         Answers one t base x r (now (list .entry)) (now (list .exit)))
-        × RulesDrawn n (chartFor (now (subjects .entry)) (now (objects .entry)) e) (now (body .entry))
-        (now (left .exit)) (now (feed .entry)) (now (sides .entry)) (now (right .entry)) (e .choosy) ⌝ }
+        × RulesDrawn (decode (now (bytes .entry))) n
+        (chartFor (now (subjects .entry)) (now (objects .entry)) e) (now (body .entry)) (now (left .exit))
+        (now (feed .entry)) (now (sides .entry)) (now (right .entry)) (e .choosy) ⌝ }
 {
     let s = subjects[x.subject as usize];
     let o = objects[x.object as usize];
@@ -458,7 +476,7 @@ pub fn with_drawn(
         mode: x.mode,
         object: own_of(o, x.object),
     };
-    own_masks(body, n, own, left);
+    own_masks(bytes, body, n, own, left);
     with_sizes(
         lines,
         total,
@@ -483,6 +501,7 @@ pub fn with_drawn(
 
 // Draws the rules, and answers: MAY at t, or else WHEN.
 pub fn with_outline(
+    bytes: &[u8],
     lines: &[u8],
     total: usize,
     body: &[u8],
@@ -492,17 +511,20 @@ pub fn with_outline(
     t: u32,
     list: &mut [u32],
 ) -> Found
-    requires { ⌜ ((base : Base) × Bodies (now lines) total (now body) n base) × (accessIn x ≡ true) ⌝ }
-    ensures { λ r. ⌜ ((base : Base) → Bodies (now (lines .entry)) total (now (body .entry)) n base →
+    requires { ⌜ ((base : Base) × Bodies (decode (now bytes)) (now lines) total (now body) n base)
+        × (accessIn x ≡ true) × (soundBytes (now bytes) ≡ true) ⌝ }
+    ensures { λ r. ⌜ ((base : Base) →
+        Bodies (decode (now (bytes .entry))) (now (lines .entry)) total (now (body .entry)) n base →
         Answers one t base x r (now (list .entry)) (now (list .exit))) ⌝ }
 {
     let mut subjects = [0u8; 1024];
     let mut objects = [0u8; 130];
-    let mut left = [0u64; 151];
+    let mut left = [0u64; 152];
     let mut feed = [0u64; 128];
     let mut sides = [0u8; 256];
     let mut right = [0u8; 256];
     let e = draw(
+        bytes,
         body,
         n,
         &mut subjects,
@@ -513,6 +535,7 @@ pub fn with_outline(
         &mut right,
     );
     with_drawn(
+        bytes,
         lines,
         total,
         body,

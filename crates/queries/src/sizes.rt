@@ -1,7 +1,7 @@
 // The tables of fields and of broken bits, and the list of authorizations that matter, made by size: small
 // ones where they do, as clearing large ones takes longer than most answers.
 ghost use mathlib.Core.Path.{_≡_};
-ghost use mathlib.Core.Bool.{true};
+ghost use mathlib.Core.Logic.{_⊎_};
 ghost use Prim.Native.Nat.{ℕ, _*_, _^_, _≤_, _<_};
 ghost use lib.ListN.{length};
 ghost use Rattle.model.specs.Base.{Base};
@@ -43,17 +43,8 @@ fn sized(f: Frame, one: bool, words: usize) -> Frame
     }
 }
 
-// Whether words have room for fields, and for wide ones if more than one instant is asked.
-fn has_room(fields: u32, one: bool, words: usize) -> bool
-    requires { ⌜ words < 65536 ⌝ }
-    ensures { λ r. ⌜ (r ≡ true → fields ≤ 64 * words) ⌝ }
-{
-    let n = fields as usize;
-    (n <= words) | (one & (n <= 64 * words))
-}
-
-// Walks with words that have room for all fields.
-fn with_words(
+// Walks with some words, and with fields that are as wide as these have room for.
+fn walk_in(
     lines: &[u8],
     which: &mut [u16],
     body: &[u8],
@@ -63,7 +54,7 @@ fn with_words(
     f: Frame,
     subjects: &[u8; 1024],
     objects: &[u8; 130],
-    left: &[u64; 151],
+    left: &[u64; 152],
     feed: &[u64; 128],
     sides: &[u8; 256],
     right: &[u8; 256],
@@ -72,77 +63,24 @@ fn with_words(
     number: &[u16],
     first: &[u32; 64],
     starts: &[u32; 64],
+    words: &mut [u64],
     bits: &mut [u64],
     list: &mut [u32],
 ) -> Found
-    requires { ⌜ ((base : Base) × (x : Access) × (total : ℕ) × Begun (now lines) (now which) chosen lasting
-        total q
-        (chartOf (now subjects) (now objects) f)
+    requires { ⌜ (f .fields ≤ 64 * length (now words)) × ((base : Base) × (x : Access) × (total : ℕ)
+        × Begun (now lines) (now which) chosen lasting total q (chartOf (now subjects) (now objects) f)
         (prepared (now body) (now left) (now feed) (now sides) (now right) (now need) (now codes) (now number)
         (now first) (now starts) f) base x × Fresh q lasting total (now bits)) ⌝ }
-    ensures { λ r. ⌜ ((base : Base) (x : Access) (total : ℕ) → Begun (now (lines .entry)) (now (which
-        .entry)) chosen
-        lasting total q (chartOf (now (subjects .entry)) (now (objects .entry)) f)
+    ensures { λ r. ⌜ ((base : Base) (x : Access) (total : ℕ) →
+        Begun (now (lines .entry)) (now (which .entry)) chosen lasting total q
+        (chartOf (now (subjects .entry)) (now (objects .entry)) f)
         (prepared (now (body .entry)) (now (left .entry)) (now (feed .entry)) (now (sides .entry))
-        (now (right .entry)) (now (need .entry)) (now (codes .entry)) (now (number .entry)) (now (first
-        .entry))
-        (now (starts .entry)) f) base x → Fresh q lasting total (now (bits .entry)) →
+        (now (right .entry)) (now (need .entry)) (now (codes .entry)) (now (number .entry))
+        (now (first .entry)) (now (starts .entry)) f) base x → Fresh q lasting total (now (bits .entry)) →
         Finds q base x r (now (list .entry)) (now (list .exit))) ⌝ }
 {
     let one = q.from == q.to;
-    if has_room(f.fields, one, 64) {
-        let mut words = [0u64; 64];
-        return walk(
-            lines,
-            which,
-            body,
-            chosen,
-            lasting,
-            q,
-            sized(f, one, 64),
-            subjects,
-            objects,
-            left,
-            feed,
-            sides,
-            right,
-            need,
-            codes,
-            number,
-            first,
-            starts,
-            &mut words,
-            bits,
-            list,
-        );
-    }
-    if has_room(f.fields, one, 320) {
-        let mut words = [0u64; 320];
-        return walk(
-            lines,
-            which,
-            body,
-            chosen,
-            lasting,
-            q,
-            sized(f, one, 320),
-            subjects,
-            objects,
-            left,
-            feed,
-            sides,
-            right,
-            need,
-            codes,
-            number,
-            first,
-            starts,
-            &mut words,
-            bits,
-            list,
-        );
-    }
-    let mut words = [0u64; 1577];
+    let g = sized(f, one, words.len());
     walk(
         lines,
         which,
@@ -150,7 +88,7 @@ fn with_words(
         chosen,
         lasting,
         q,
-        sized(f, one, 1577),
+        g,
         subjects,
         objects,
         left,
@@ -162,14 +100,14 @@ fn with_words(
         number,
         first,
         starts,
-        &mut words,
+        words,
         bits,
         list,
     )
 }
 
-// Walks with broken bits, where they are to be kept.
-fn with_bits(
+// Walks with few words, and few broken bits where they are to be kept.
+fn with_few_tables(
     lines: &[u8],
     which: &mut [u16],
     body: &[u8],
@@ -180,7 +118,7 @@ fn with_bits(
     f: Frame,
     subjects: &[u8; 1024],
     objects: &[u8; 130],
-    left: &[u64; 151],
+    left: &[u64; 152],
     feed: &[u64; 128],
     sides: &[u8; 256],
     right: &[u8; 256],
@@ -191,21 +129,23 @@ fn with_bits(
     starts: &[u32; 64],
     list: &mut [u32],
 ) -> Found
-    requires { ⌜ ((base : Base) × (x : Access) × Begun (now lines) (now which) chosen lasting total q
-        (chartOf (now subjects) (now objects) f)
+    requires { ⌜ (f .fields ≤ 4096) × ((q .from ≡ q .to) ⊎ (total ≤ 4096))
+        × ((base : Base) × (x : Access)
+        × Begun (now lines) (now which) chosen lasting total q (chartOf (now subjects) (now objects) f)
         (prepared (now body) (now left) (now feed) (now sides) (now right) (now need) (now codes) (now number)
         (now first) (now starts) f) base x) ⌝ }
-    ensures { λ r. ⌜ ((base : Base) (x : Access) → Begun (now (lines .entry)) (now (which .entry)) chosen
-        lasting total
-        q (chartOf (now (subjects .entry)) (now (objects .entry)) f)
+    ensures { λ r. ⌜ ((base : Base) (x : Access) →
+        Begun (now (lines .entry)) (now (which .entry)) chosen lasting total q
+        (chartOf (now (subjects .entry)) (now (objects .entry)) f)
         (prepared (now (body .entry)) (now (left .entry)) (now (feed .entry)) (now (sides .entry))
-        (now (right .entry)) (now (need .entry)) (now (codes .entry)) (now (number .entry)) (now (first
-        .entry))
-        (now (starts .entry)) f) base x → Finds q base x r (now (list .entry)) (now (list .exit))) ⌝ }
+        (now (right .entry)) (now (need .entry)) (now (codes .entry)) (now (number .entry))
+        (now (first .entry)) (now (starts .entry)) f) base x →
+        Finds q base x r (now (list .entry)) (now (list .exit))) ⌝ }
 {
+    let mut words = [0u64; 64];
     if (q.from == q.to) | (lasting == 0) {
         let mut bits = [0u64; 0];
-        return with_words(
+        return walk_in(
             lines,
             which,
             body,
@@ -224,37 +164,13 @@ fn with_bits(
             number,
             first,
             starts,
+            &mut words,
             &mut bits,
             list,
         );
     }
-    if total <= 4096 {
-        let mut bits = [0u64; 64];
-        return with_words(
-            lines,
-            which,
-            body,
-            chosen,
-            lasting,
-            q,
-            f,
-            subjects,
-            objects,
-            left,
-            feed,
-            sides,
-            right,
-            need,
-            codes,
-            number,
-            first,
-            starts,
-            &mut bits,
-            list,
-        );
-    }
-    let mut bits = [0u64; 520];
-    with_words(
+    let mut bits = [0u64; 64];
+    walk_in(
         lines,
         which,
         body,
@@ -273,7 +189,365 @@ fn with_bits(
         number,
         first,
         starts,
+        &mut words,
         &mut bits,
+        list,
+    )
+}
+
+// The same with more of them.
+fn with_more_tables(
+    lines: &[u8],
+    which: &mut [u16],
+    body: &[u8],
+    chosen: Chosen,
+    lasting: u64,
+    total: u32,
+    q: Query,
+    f: Frame,
+    subjects: &[u8; 1024],
+    objects: &[u8; 130],
+    left: &[u64; 152],
+    feed: &[u64; 128],
+    sides: &[u8; 256],
+    right: &[u8; 256],
+    need: &[u16],
+    codes: &[u16],
+    number: &[u16],
+    first: &[u32; 64],
+    starts: &[u32; 64],
+    list: &mut [u32],
+) -> Found
+    requires { ⌜ (f .fields ≤ 32768) × ((q .from ≡ q .to) ⊎ (total ≤ 33280))
+        × ((base : Base) × (x : Access)
+        × Begun (now lines) (now which) chosen lasting total q (chartOf (now subjects) (now objects) f)
+        (prepared (now body) (now left) (now feed) (now sides) (now right) (now need) (now codes) (now number)
+        (now first) (now starts) f) base x) ⌝ }
+    ensures { λ r. ⌜ ((base : Base) (x : Access) →
+        Begun (now (lines .entry)) (now (which .entry)) chosen lasting total q
+        (chartOf (now (subjects .entry)) (now (objects .entry)) f)
+        (prepared (now (body .entry)) (now (left .entry)) (now (feed .entry)) (now (sides .entry))
+        (now (right .entry)) (now (need .entry)) (now (codes .entry)) (now (number .entry))
+        (now (first .entry)) (now (starts .entry)) f) base x →
+        Finds q base x r (now (list .entry)) (now (list .exit))) ⌝ }
+{
+    let mut words = [0u64; 512];
+    if (q.from == q.to) | (lasting == 0) {
+        let mut bits = [0u64; 0];
+        return walk_in(
+            lines,
+            which,
+            body,
+            chosen,
+            lasting,
+            q,
+            f,
+            subjects,
+            objects,
+            left,
+            feed,
+            sides,
+            right,
+            need,
+            codes,
+            number,
+            first,
+            starts,
+            &mut words,
+            &mut bits,
+            list,
+        );
+    }
+    let mut bits = [0u64; 520];
+    walk_in(
+        lines,
+        which,
+        body,
+        chosen,
+        lasting,
+        q,
+        f,
+        subjects,
+        objects,
+        left,
+        feed,
+        sides,
+        right,
+        need,
+        codes,
+        number,
+        first,
+        starts,
+        &mut words,
+        &mut bits,
+        list,
+    )
+}
+
+// The same with as many broken bits as any base needs, and twice as many words: with more, windows are wider.
+fn with_all_tables(
+    lines: &[u8],
+    which: &mut [u16],
+    body: &[u8],
+    chosen: Chosen,
+    lasting: u64,
+    total: u32,
+    q: Query,
+    f: Frame,
+    subjects: &[u8; 1024],
+    objects: &[u8; 130],
+    left: &[u64; 152],
+    feed: &[u64; 128],
+    sides: &[u8; 256],
+    right: &[u8; 256],
+    need: &[u16],
+    codes: &[u16],
+    number: &[u16],
+    first: &[u32; 64],
+    starts: &[u32; 64],
+    list: &mut [u32],
+) -> Found
+    requires { ⌜ ((base : Base) × (x : Access)
+        × Begun (now lines) (now which) chosen lasting total q (chartOf (now subjects) (now objects) f)
+        (prepared (now body) (now left) (now feed) (now sides) (now right) (now need) (now codes) (now number)
+        (now first) (now starts) f) base x) ⌝ }
+    ensures { λ r. ⌜ ((base : Base) (x : Access) →
+        Begun (now (lines .entry)) (now (which .entry)) chosen lasting total q
+        (chartOf (now (subjects .entry)) (now (objects .entry)) f)
+        (prepared (now (body .entry)) (now (left .entry)) (now (feed .entry)) (now (sides .entry))
+        (now (right .entry)) (now (need .entry)) (now (codes .entry)) (now (number .entry))
+        (now (first .entry)) (now (starts .entry)) f) base x →
+        Finds q base x r (now (list .entry)) (now (list .exit))) ⌝ }
+{
+    let mut words = [0u64; 4096];
+    if (q.from == q.to) | (lasting == 0) {
+        let mut bits = [0u64; 0];
+        return walk_in(
+            lines,
+            which,
+            body,
+            chosen,
+            lasting,
+            q,
+            f,
+            subjects,
+            objects,
+            left,
+            feed,
+            sides,
+            right,
+            need,
+            codes,
+            number,
+            first,
+            starts,
+            &mut words,
+            &mut bits,
+            list,
+        );
+    }
+    let mut bits = [0u64; 1879];
+    walk_in(
+        lines,
+        which,
+        body,
+        chosen,
+        lasting,
+        q,
+        f,
+        subjects,
+        objects,
+        left,
+        feed,
+        sides,
+        right,
+        need,
+        codes,
+        number,
+        first,
+        starts,
+        &mut words,
+        &mut bits,
+        list,
+    )
+}
+
+// Walks with tables by size: a bit a field is enough where one instant is asked, else a word a field goes
+// faster. Each size is called from two places, so that the compiler gives it a frame of its own.
+fn with_fields(
+    lines: &[u8],
+    which: &mut [u16],
+    body: &[u8],
+    chosen: Chosen,
+    lasting: u64,
+    total: u32,
+    q: Query,
+    f: Frame,
+    subjects: &[u8; 1024],
+    objects: &[u8; 130],
+    left: &[u64; 152],
+    feed: &[u64; 128],
+    sides: &[u8; 256],
+    right: &[u8; 256],
+    need: &[u16],
+    codes: &[u16],
+    number: &[u16],
+    first: &[u32; 64],
+    starts: &[u32; 64],
+    list: &mut [u32],
+) -> Found
+    requires { ⌜ ((base : Base) × (x : Access)
+        × Begun (now lines) (now which) chosen lasting total q (chartOf (now subjects) (now objects) f)
+        (prepared (now body) (now left) (now feed) (now sides) (now right) (now need) (now codes) (now number)
+        (now first) (now starts) f) base x) ⌝ }
+    ensures { λ r. ⌜ ((base : Base) (x : Access) →
+        Begun (now (lines .entry)) (now (which .entry)) chosen lasting total q
+        (chartOf (now (subjects .entry)) (now (objects .entry)) f)
+        (prepared (now (body .entry)) (now (left .entry)) (now (feed .entry)) (now (sides .entry))
+        (now (right .entry)) (now (need .entry)) (now (codes .entry)) (now (number .entry))
+        (now (first .entry)) (now (starts .entry)) f) base x →
+        Finds q base x r (now (list .entry)) (now (list .exit))) ⌝ }
+{
+    if q.from == q.to {
+        if f.fields <= 4096 {
+            return with_few_tables(
+                lines,
+                which,
+                body,
+                chosen,
+                lasting,
+                total,
+                q,
+                f,
+                subjects,
+                objects,
+                left,
+                feed,
+                sides,
+                right,
+                need,
+                codes,
+                number,
+                first,
+                starts,
+                list,
+            );
+        }
+        if f.fields <= 32768 {
+            return with_more_tables(
+                lines,
+                which,
+                body,
+                chosen,
+                lasting,
+                total,
+                q,
+                f,
+                subjects,
+                objects,
+                left,
+                feed,
+                sides,
+                right,
+                need,
+                codes,
+                number,
+                first,
+                starts,
+                list,
+            );
+        }
+        return with_all_tables(
+            lines,
+            which,
+            body,
+            chosen,
+            lasting,
+            total,
+            q,
+            f,
+            subjects,
+            objects,
+            left,
+            feed,
+            sides,
+            right,
+            need,
+            codes,
+            number,
+            first,
+            starts,
+            list,
+        );
+    }
+    if (f.fields <= 64) & (total <= 4096) {
+        return with_few_tables(
+            lines,
+            which,
+            body,
+            chosen,
+            lasting,
+            total,
+            q,
+            f,
+            subjects,
+            objects,
+            left,
+            feed,
+            sides,
+            right,
+            need,
+            codes,
+            number,
+            first,
+            starts,
+            list,
+        );
+    }
+    if (f.fields <= 512) & (total <= 33280) {
+        return with_more_tables(
+            lines,
+            which,
+            body,
+            chosen,
+            lasting,
+            total,
+            q,
+            f,
+            subjects,
+            objects,
+            left,
+            feed,
+            sides,
+            right,
+            need,
+            codes,
+            number,
+            first,
+            starts,
+            list,
+        );
+    }
+    with_all_tables(
+        lines,
+        which,
+        body,
+        chosen,
+        lasting,
+        total,
+        q,
+        f,
+        subjects,
+        objects,
+        left,
+        feed,
+        sides,
+        right,
+        need,
+        codes,
+        number,
+        first,
+        starts,
         list,
     )
 }
@@ -292,7 +566,7 @@ fn with_lines(
     f: Frame,
     subjects: &[u8; 1024],
     objects: &[u8; 130],
-    left: &[u64; 151],
+    left: &[u64; 152],
     feed: &[u64; 128],
     sides: &[u8; 256],
     right: &[u8; 256],
@@ -331,7 +605,7 @@ fn with_lines(
         rules: n,
         needed: needed,
     };
-    with_bits(
+    with_fields(
         lines,
         which,
         body,
@@ -368,7 +642,7 @@ pub fn with_tables(
     f: Frame,
     subjects: &[u8; 1024],
     objects: &[u8; 130],
-    left: &[u64; 151],
+    left: &[u64; 152],
     feed: &[u64; 128],
     sides: &[u8; 256],
     right: &[u8; 256],

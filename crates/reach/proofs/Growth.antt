@@ -17,10 +17,18 @@ use Rattle.foundation.specs.Masks.{bit}
 use Rattle.words.specs.Bits.{bit-or, bit-less, less}
 use Rattle.words.specs.Sums.{sum-set}
 use Rattle.reach.specs.Net.{Net, has, standing, aimPair, aimBits, Followed, ClosedBut, Closed}
-use Rattle.reach.specs.Reach.{weight, Grown, Stepped}
+use Rattle.reach.specs.Net.{Within, Carried}
+use Rattle.reach.specs.Reach.{weight, Grown, Kept, Stepped}
 use Rattle.reach.proofs.Tables.{has-set, sum-small, set-small, past}
 
 -- ---- one more is needed
+
+-- a store where P holds
+set-within : (P : ℕ → Bool) (l : List ℕ) (p v : ℕ) → p < length l → P p ≡ true → Within P l →
+    Within P (set l p v)
+set-within P l p v h e w j k f = cases (eqb j p)
+    (λ y. ap P (true-eq j p y) ∙ e)
+    (λ y. w j k (sym (has-set l p v j k h ∙ rw y) ∙ f))
 
 module _ (need todo : List ℕ) (p bits : ℕ) (h : p < length need) (g : p < length todo)
     (small : (i : ℕ) → getD need i 0 < 65536) (word : bits < 65536) where
@@ -88,6 +96,13 @@ module _ (need todo : List ℕ) (p bits : ℕ) (h : p < length need) (g : p < le
     todos = length-set todo p (bitOr was (less bits old));
   }
 
+  -- neither table has anything new but at p
+  pub ask-kept : (P : ℕ → Bool) → P p ≡ true → Kept P need todo need′ todo′
+  ask-kept P e n t = (
+    set-within P need p (bitOr old bits) h e n,
+    set-within P todo p (bitOr was (less bits old)) g e t,
+  )
+
   pub asked : (b : ℕ) → bit b bits ≡ true → has need′ p b ≡ true
   asked b e = has-set need p (bitOr old bits) p b h ∙ cases (eqb p p)
       (λ y. rw y (bit-or old bits b ∙ or-true-right (bit b old) (bit b bits) e))
@@ -138,6 +153,14 @@ module _ (right : List ℕ) (rules subjects o s m : ℕ) where
       (λ u. let v = false-eq q r u in g .more (aimPair right subjects q o s) b (d q (omega arith) e b f)))
       (λ x. let y = false-le q r x in absurd (false≢true (sym (z q (omega arith) l) ∙ e)))
 
+-- no bit of 0 is set
+pub none-set : (k : ℕ) → bit k 0 ≡ true → ⊥
+none-set k e = false≢true (sym (rw (zero-div (2 ^ k))) ∙ e)
+
+-- where nothing is, P need hold nowhere
+pub none-within : (P : ℕ → Bool) (l : List ℕ) → ((i : ℕ) → getD l i 0 ≡ 0) → Within P l
+none-within P l z j k e = absurd (none-set k (ap (bit k) (sym (z j)) ∙ e))
+
 -- ---- what is closed
 
 pub closed-grown : (net : Net) {n t n′ t′ : List ℕ} → Grown n t n′ t′ → ClosedBut net n t →
@@ -147,10 +170,6 @@ closed-grown net {n = n} g c j k e f r l o b x =
     (λ (y : has n j k ≡ true). g .more _ b (c j k y (λ z. f (g .kept j k z)) r l o b x))
     (λ y. absurd (f y))
     (g .fresh j k e)
-
--- no bit of 0 is set
-pub none-set : (k : ℕ) → bit k 0 ≡ true → ⊥
-none-set k e = false≢true (sym (rw (zero-div (2 ^ k))) ∙ e)
 
 -- where nothing is needed, all is closed
 pub closed-start : (net : Net) (need todo : List ℕ) → ((i : ℕ) → getD need i 0 ≡ 0) → ClosedBut net need todo
@@ -173,7 +192,9 @@ module _ (net : Net) (n t n′ t′ : List ℕ) (p k y : ℕ) (g : Grown n t n�
     bit r (standing (net .left) (p / net .subjects) (p % net .subjects) k) ≡ true →
     Followed net p k r n′)
     (lower : y < getD t′ p 0)
-    (others : (i : ℕ) → bit i (getD t′ p 0) ≡ true → (i ≡ k → ⊥) → bit i y ≡ true) where
+    (others : (i : ℕ) → bit i (getD t′ p 0) ≡ true → (i ≡ k → ⊥) → bit i y ≡ true)
+    (stays : (P : ℕ → Bool) → Carried net P → Kept P n t n′ t′)
+    (fewer : (i : ℕ) → bit i y ≡ true → bit i (getD t′ p 0) ≡ true) where
   abbrev after : List ℕ
   after = set t′ p y
 
@@ -193,10 +214,21 @@ module _ (net : Net) (n t n′ t′ : List ℕ) (p k y : ℕ) (g : Grown n t n�
       (λ x. closed-grown net g c j i e (λ z. f (still j i (λ a b.
       false≢true (sym x ∙ and-intro (eqb j p) (eqb i k) (eq-true j p a) (eq-true i k b))) z)))
 
+  within : (P : ℕ → Bool) → Carried net P → Kept P n t n′ after
+  within P c a b =
+      let w = stays P c a b in (
+        w .0,
+        λ j i e. w .1 j i (cases (eqb j p)
+            (λ x. ap (λ (j : ℕ). has t′ j i) (true-eq j p x)
+            ∙ fewer i (sym (has-set t′ p y j i h ∙ rw x) ∙ e))
+            (λ x. sym (has-set t′ p y j i h ∙ rw x) ∙ e)),
+      )
+
   pub step-law : Stepped net n t n′ after
   step-law = record {
     more = g .more;
     closed = closed;
+    within = within;
     less = omega (arith, g .less, sum-set t′ p y h);
     needs = g .needs;
     todos = length-set t′ p y ∙ g .todos;

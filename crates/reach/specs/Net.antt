@@ -79,3 +79,19 @@ ClosedBut net need todo = (j k : ℕ) → has need j k ≡ true → (has todo j 
 abbrev pub Closed : Net → List ℕ → Type 0
 Closed net need = (j k : ℕ) → has need j k ≡ true → (r : ℕ) → r < 64 →
     bit r (standing (net .left) (j / net .subjects) (j % net .subjects) k) ≡ true → Followed net j k r need
+
+-- ---- no more than that
+
+-- all that is needed, or to do, is at pairs where P holds
+abbrev pub Within : (ℕ → Bool) → List ℕ → Type 0
+Within P l = (j k : ℕ) → has l j k ≡ true → P j ≡ true
+
+-- from where P holds, the rules that stand there lead to where it holds
+abbrev pub Carried : Net → (ℕ → Bool) → Type 0
+Carried net P = (j k r : ℕ) → P j ≡ true → r < 64 →
+    bit r (standing (net .left) (j / net .subjects) (j % net .subjects) k) ≡ true →
+    P (aimPair (net .right) (net .subjects) r (j / net .subjects) (j % net .subjects)) ≡ true
+
+-- what is needed is only at the pair asked about and where rules lead from there
+abbrev pub Only : Net → ℕ → List ℕ → Type 0
+Only net pair need = (P : ℕ → Bool) → P pair ≡ true → Carried net P → Within P need

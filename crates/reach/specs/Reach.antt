@@ -1,12 +1,12 @@
 -- What a step of the search does to the tables of what is needed and what is still to do.
 use mathlib.Core.Path.{_≡_}
 use mathlib.Core.Logic.{_⊎_}
-use mathlib.Core.Bool.{true}
+use mathlib.Core.Bool.{Bool, true}
 use mathlib.Core.List.{List}
 use Prim.Native.Nat.{ℕ, _+_, _*_, _-_, _≤_, _<_}
 use lib.ListN.{length}
 use Rattle.words.specs.Sums.{sum}
-use Rattle.reach.specs.Net.{Net, has, ClosedBut}
+use Rattle.reach.specs.Net.{Net, has, ClosedBut, Within, Carried}
 
 -- what is left: bits that are not needed count twice, bits to do once
 abbrev pub weight : List ℕ → List ℕ → ℕ
@@ -21,10 +21,15 @@ pub record Grown (need todo need′ todo′ : List ℕ) : Type 0 where
   pub needs : length need′ ≡ length need
   pub todos : length todo′ ≡ length todo
 
+-- if both tables were only where P holds, they still are
+abbrev pub Kept : (ℕ → Bool) → List ℕ → List ℕ → List ℕ → List ℕ → Type 0
+Kept P need todo need′ todo′ = Within P need → Within P todo → Within P need′ × Within P todo′
+
 -- one bit is no longer to do
 pub record Stepped (net : Net) (need todo need′ todo′ : List ℕ) : Type 0 where
   pub more : (j k : ℕ) → has need j k ≡ true → has need′ j k ≡ true
   pub closed : ClosedBut net need todo → ClosedBut net need′ todo′
+  pub within : (P : ℕ → Bool) → Carried net P → Kept P need todo need′ todo′
   pub less : weight need′ todo′ < weight need todo
   pub needs : length need′ ≡ length need
   pub todos : length todo′ ≡ length todo

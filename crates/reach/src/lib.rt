@@ -1,12 +1,13 @@
 // Reach: which places a question can rest on. From the place that is asked about, each rule that stands at a
 // needed place leads to the place of its right side.
 ghost use mathlib.Core.Path.{_≡_};
-ghost use mathlib.Core.Bool.{true};
+ghost use mathlib.Core.Bool.{Bool, true};
 ghost use Prim.Native.Nat.{ℕ, _+_, _*_, _/_, _%_, _≤_, _<_};
 ghost use lib.ListN.{length, getD};
 ghost use Rattle.foundation.specs.Masks.{bit};
 ghost use Rattle.reach.specs.Net.{Net, standing, turned, aimPair, aimBits, Led, Formed, has, Closed};
-ghost use Rattle.reach.specs.Reach.{Grown, Stepped};
+ghost use Rattle.reach.specs.Net.{Only};
+ghost use Rattle.reach.specs.Reach.{Grown, Kept, Stepped};
 use words::next_bit;
 
 // A place: the coordinates of its object, subject and mode, and how many subjects there are.
@@ -60,7 +61,9 @@ fn aim_bits(right: &[u8; 256], r: usize, mode: usize) -> u16
 fn ask(need: &mut [u16], todo: &mut [u16], pair: usize, bits: u16)
     requires { ⌜ (pair < length (now need)) × (pair < length (now todo)) ⌝ }
     ensures { λ _. ⌜ Grown (now (need .entry)) (now (todo .entry)) (now (need .exit)) (now (todo .exit))
-        × ((b : ℕ) → bit b bits ≡ true → has (now (need .exit)) pair b ≡ true) ⌝ }
+        × ((b : ℕ) → bit b bits ≡ true → has (now (need .exit)) pair b ≡ true)
+        × ((P : ℕ → Bool) → P pair ≡ true →
+        Kept P (now (need .entry)) (now (todo .entry)) (now (need .exit)) (now (todo .exit))) ⌝ }
 {
     let old = need[pair];
     need[pair] = old | bits;
@@ -75,7 +78,10 @@ fn follow(right: &[u8; 256], rules: u64, at: Spot, need: &mut [u16], todo: &mut 
         × ((r : ℕ) → r < 64 → bit r rules ≡ true → (b : ℕ) →
         bit b (aimBits (now (right .entry)) r (at .mode)) ≡ true →
         has (now (need .exit)) (aimPair (now (right .entry)) (at .subjects) r (at .object) (at .subject)) b
-        ≡ true) ⌝ }
+        ≡ true)
+        × ((P : ℕ → Bool) → ((r : ℕ) → r < 64 → bit r rules ≡ true →
+        P (aimPair (now (right .entry)) (at .subjects) r (at .object) (at .subject)) ≡ true) →
+        Kept P (now (need .entry)) (now (todo .entry)) (now (need .exit)) (now (todo .exit))) ⌝ }
 {
     let mut r = next_bit(rules, 0);
     while r < 64 {
@@ -88,7 +94,7 @@ fn follow(right: &[u8; 256], rules: u64, at: Spot, need: &mut [u16], todo: &mut 
 }
 
 // The rules that stand at an object and a subject with a mode and a sign.
-fn stand(left: &[u64; 151], o: usize, s: usize, k: usize) -> u64
+fn stand(left: &[u64; 152], o: usize, s: usize, k: usize) -> u64
     requires { ⌜ (o < 65) × (s < 65) × (k < 16) ⌝ }
     ensures { λ r. ⌜ r ≡ standing (now (left .entry)) o s k ⌝ }
 {
@@ -114,7 +120,7 @@ fn without(x: u16, k: usize) -> u16
 
 // Follows one bit of what is to do at a pair.
 fn step(
-    left: &[u64; 151],
+    left: &[u64; 152],
     right: &[u8; 256],
     subjects: usize,
     pair: usize,
@@ -172,9 +178,10 @@ fn next_todo(todo: &[u16], from: usize) -> usize
     first_todo(todo, 0)
 }
 
-// Puts into `need` what a question that starts with bits at a pair can rest on. `todo` is a table to work in.
+// Puts into `need` what a question that starts with bits at a pair can rest on, and no other pair. `todo` is
+// a table to work in.
 pub fn reach(
-    left: &[u64; 151],
+    left: &[u64; 152],
     right: &[u8; 256],
     subjects: usize,
     pair: usize,
@@ -183,7 +190,8 @@ pub fn reach(
     todo: &mut [u16],
 )
     requires { ⌜ Formed (now right) subjects (length (now need)) × (length (now todo) ≡ length (now need))
-        × (pair < length (now need)) × ((i : ℕ) → getD (now need) i 0 ≡ 0) ⌝ }
+        × (pair < length (now need))
+        × ((i : ℕ) → (getD (now need) i 0 ≡ 0) × (getD (now todo) i 0 ≡ 0)) ⌝ }
     ensures { λ _. ⌜ Closed (record {
       left = now (left .entry);
       right = now (right .entry);
@@ -192,7 +200,9 @@ pub fn reach(
     })
         (now (need .exit))
         × ((b : ℕ) → bit b bits ≡ true → has (now (need .exit)) pair b ≡ true)
-        × (length (now (need .exit)) ≡ length (now (need .entry))) ⌝ }
+        × (length (now (need .exit)) ≡ length (now (need .entry)))
+        × Only (record { left = now (left .entry); right = now (right .entry); subjects = subjects }) pair
+        (now (need .exit)) ⌝ }
 {
     ask(need, todo, pair, bits);
     let mut j = next_todo(todo, pair);

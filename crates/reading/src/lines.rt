@@ -55,7 +55,7 @@ fn no_side() -> SideTerms
     SideTerms {
         subject: Term::Any,
         mode: Term::Any,
-        object: 0,
+        object: Term::Any,
         negative: false,
     }
 }

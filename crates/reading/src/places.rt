@@ -231,15 +231,16 @@ pub fn side_at(s: &[u8], at: usize) -> SideAt
 {
     let subject = term_at(s, at);
     let mode = term_at(s, subject.next);
-    let object = number_at(s, mode.next);
+    let object = term_at(s, mode.next);
     let sign = sign_at(s, object.next);
     let who = subject.value;
     let how = mode.value;
+    let what = object.value;
     SideAt {
         value: SideTerms {
             subject: who,
             mode: how,
-            object: object.value,
+            object: what,
             negative: sign.value,
         },
         next: sign.next,

@@ -1,6 +1,6 @@
 -- The rows of the table by the kind of the request: each kind is asked at most one of a row's questions.
 -- Assumes nothing.
-use mathlib.Core.Path.{_≡_, refl, sym, ap, _∙_}
+use mathlib.Core.Path.{_≡_, refl, sym, ap, ap₂, _∙_}
 use Prim.Native.Nat.{ℕ, suc}
 use mathlib.Core.Bool.{Bool, true, false, not, _&&_, _||_}
 use mathlib.Core.List.{List, [], _∷_, _++_}
@@ -15,7 +15,7 @@ use Rattle.model.specs.Requests.{REVOKEADM, GRANTREF, REVOKEREF, is, newRule, r
 use Rattle.model.specs.Stratification.{stratified}
 use Rattle.model.specs.StratificationFacts.{label-free}
 use Rattle.model.specs.Step.{namesObject, noObject, noLabel, notPermitted, alreadyThere, notHeld}
-use Rattle.model.specs.Step.{notStratified}
+use Rattle.model.specs.Step.{anyObject, leftObject, rightObject, notStratified}
 use Rattle.lookup.specs.Numbers.{hasLabel, ofOther, labelled, ofOtherAuthor}
 
 abbrev oneOf : ℕ → List ℕ → Bool
@@ -35,15 +35,21 @@ module _ (b : Base) (q : Request) where
   missing = not (exists b (q .object))
 
   abbrev ruleMissing : Bool
-  ruleMissing = not (exists b (q .rule .left .object) && exists b (q .rule .right .object))
+  ruleMissing = not (anyObject (q .rule) || (exists b (leftObject q) && exists b (rightObject q)))
 
   abbrev objectRow : Bool → Bool → Bool
   objectRow named rule = (named && missing) || (rule && ruleMissing)
 
-  pub object-rule : q .kind ≡ 7 → ruleMissing ≡ noObject b q
+  object-rule : q .kind ≡ 7 → ruleMissing ≡ noObject b q
   object-rule e = sym (ap (λ (k : ℕ). objectRow
       (oneOf k (NEW ∷ GRANT ∷ DENY ∷ REVOKEP ∷ REVOKEN ∷ GRANTADM ∷ REVOKEADM ∷ GRANTREF ∷ REVOKEREF ∷ [])
       && not (oneOf k (NEW ∷ []))) (oneOf k (ADDRULE ∷ []))) e)
+
+  -- the rule's objects and whether they exist as code has found them
+  pub object-rule-found : q .kind ≡ 7 → (l r : ℕ) (x y : Bool) → l ≡ leftObject q → r ≡ rightObject q →
+      x ≡ exists b l → y ≡ exists b r → not (eqb l 0 || (x && y)) ≡ noObject b q
+  object-rule-found e l r x y f g h i =
+      (λ t. not (eqb (f t) 0 || ((h ∙ ap (exists b) f) t && (i ∙ ap (exists b) g) t))) ∙ object-rule e
 
   module _ (f : q .kind ≡ 7 → ⊥) where
     pub object-named : namesObject q && not (is q (NEW ∷ [])) ≡ true → missing ≡ noObject b q
@@ -87,7 +93,7 @@ module _ (b : Base) (q : Request) where
   notOwner = not (owns b (q .object) (q .requester))
 
   abbrev noPower : Bool
-  noPower = not (mayRule b (q .requester) (q .rule .left .object) (q .rule .right .object))
+  noPower = not (anyObject (q .rule) || mayRule b (q .requester) (leftObject q) (rightObject q))
 
   abbrev permitRow : Bool → Bool → Bool → Bool → Bool
   permitRow revoke drop privilege rule =
@@ -105,8 +111,13 @@ module _ (b : Base) (q : Request) where
   pub permit-drop : q .kind ≡ 8 → otherAuthor ≡ notPermitted b q
   permit-drop e = sym (ap permitRowAt e ∙ or-false (otherAuthor || false) ∙ or-false otherAuthor)
 
-  pub permit-rule : q .kind ≡ 7 → noPower ≡ notPermitted b q
+  permit-rule : q .kind ≡ 7 → noPower ≡ notPermitted b q
   permit-rule e = sym (ap permitRowAt e)
+
+  pub permit-rule-found : q .kind ≡ 7 → (l r : ℕ) (x : Bool) → l ≡ leftObject q → r ≡ rightObject q →
+      x ≡ mayRule b (q .requester) l r → not (eqb l 0 || x) ≡ notPermitted b q
+  permit-rule-found e l r x f g h =
+      (λ t. not (eqb (f t) 0 || (h ∙ ap₂ (mayRule b (q .requester)) f g) t)) ∙ permit-rule e
 
   module _ (f : q .kind ≡ 4 → ⊥) (g : q .kind ≡ 8 → ⊥) (h : q .kind ≡ 7 → ⊥) where
     permit-otherwise : (x : Bool) → is q privilegeKinds ≡ x → notPermitted b q ≡ permitRow false false x false

@@ -1,6 +1,6 @@
 // Row 3 of the table of refusals: fields outside their ranges. Row 5: intervals.
 ghost use mathlib.Core.Path.{_≡_};
-ghost use Rattle.model.specs.Ranges.{isSubject, isMode};
+ghost use Rattle.model.specs.Ranges.{isSubject, isObject, isMode};
 ghost use Rattle.model.specs.Step.{termIn, starsAgree, sideTermsIn, ruleTermsIn, outOfRange, badInterval};
 use lookup::instant_in;
 use lookup::is_kind;
@@ -42,6 +42,16 @@ fn mode_term_in(t: Term) -> bool
     }
 }
 
+// An object, or the star.
+fn object_term_in(t: Term) -> bool
+    ensures { λ r. ⌜ r ≡ termIn isObject t ⌝ }
+{
+    match t {
+        Term::Any => true,
+        Term::Number(n) => object_in(n),
+    }
+}
+
 // Both are stars, or neither.
 fn stars_agree(a: Term, b: Term) -> bool
     ensures { λ r. ⌜ r ≡ starsAgree a b ⌝ }
@@ -64,7 +74,8 @@ fn side_terms_in(s: SideTerms) -> bool
 {
     let subject = s.subject;
     let mode = s.mode;
-    subject_term_in(subject) & mode_term_in(mode) & object_in(s.object)
+    let object = s.object;
+    subject_term_in(subject) & mode_term_in(mode) & object_term_in(object)
 }
 
 // The fields of a rule, its stars, and the option of a denial on the right.
@@ -79,12 +90,15 @@ fn rule_terms_in(u: RuleTerms) -> bool
     let right_subject = right.subject;
     let left_mode = left.mode;
     let right_mode = right.mode;
+    let left_object = left.object;
+    let right_object = right.object;
     side_terms_in(left)
         & side_terms_in(right)
         & ((1 <= u.operator) & (u.operator <= 4))
         & subject_term_in(grantor)
         & stars_agree(left_subject, right_subject)
         & stars_agree(left_mode, right_mode)
+        & stars_agree(left_object, right_object)
         & option_fits(right.negative, option)
 }
 

@@ -5,6 +5,7 @@ ghost use mathlib.Core.Bool.{true};
 ghost use Rattle.model.specs.Encoding.{decode};
 ghost use Rattle.model.specs.Soundness.{soundBytes};
 ghost use Rattle.model.specs.Step.{behindClock, noObject, noLabel, notPermitted, alreadyThere, notHeld};
+use encoding::number_of;
 use lookup::administers;
 use lookup::controls;
 use lookup::exists;
@@ -36,16 +37,20 @@ pub fn behind_clock(s: &[u8], q: Request) -> bool
     q.now < fields::le32(s, 4)
 }
 
-// Row 6: the object, or one of a rule's objects, does not exist.
+// Row 6: the object, or one of a rule's objects, does not exist. It is not asked of starred objects.
 pub fn no_object(s: &[u8], q: Request) -> bool
     requires { ⌜ soundBytes (now s) ≡ true ⌝ }
     ensures { λ r. ⌜ r ≡ noObject (decode (now (s .entry))) q ⌝ }
 {
     if q.kind == ADDRULE {
         let u = q.rule;
-        let left = u.left;
-        let right = u.right;
-        return !(exists(s, left.object) & exists(s, right.object));
+        let left_side = u.left;
+        let right_side = u.right;
+        let on_left = left_side.object;
+        let on_right = right_side.object;
+        let left = number_of(on_left);
+        let right = number_of(on_right);
+        return !((left == 0) | (exists(s, left) & exists(s, right)));
     }
     if names_object(q) & !is_kind(q, NEW) {
         return !exists(s, q.object);
@@ -69,7 +74,7 @@ pub fn no_label(s: &[u8], q: Request) -> bool
 }
 
 // Row 8: the requester is not the grantor or author of what it withdraws, not the owner, or may not set up
-// the rule.
+// the rule, which is not asked where its objects are starred.
 pub fn not_permitted(s: &[u8], q: Request) -> bool
     requires { ⌜ soundBytes (now s) ≡ true ⌝ }
     ensures { λ r. ⌜ r ≡ notPermitted (decode (now (s .entry))) q ⌝ }
@@ -83,9 +88,13 @@ pub fn not_permitted(s: &[u8], q: Request) -> bool
     }
     if k == ADDRULE {
         let u = q.rule;
-        let left = u.left;
-        let right = u.right;
-        return !may_rule(s, q.requester, left.object, right.object);
+        let left_side = u.left;
+        let right_side = u.right;
+        let on_left = left_side.object;
+        let on_right = right_side.object;
+        let left = number_of(on_left);
+        let right = number_of(on_right);
+        return !((left == 0) | may_rule(s, q.requester, left, right));
     }
     if is_privilege(q) {
         return !owns(s, q.object, q.requester);

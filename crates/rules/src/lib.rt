@@ -53,7 +53,8 @@ pub fn fits_option(o: OptionTerm, has: bool) -> bool
 pub fn feeds(q: Rule, r: Rule) -> bool
     ensures { λ x. ⌜ x ≡ model.feeds q r ⌝ }
 {
-    if q.left.object != r.right.object {
+    let object = meets(q.left.object, r.right.object);
+    if !object {
         return false;
     }
     let sign = alike(q.left.negative, r.right.negative);
@@ -61,24 +62,20 @@ pub fn feeds(q: Rule, r: Rule) -> bool
     let mode = meets(fields::wide(q.left.mode), fields::wide(r.right.mode));
     let o = r.option;
     let option = fits_option(o, false);
-    sign
-        & (q.left.object == r.right.object)
-        & subject
-        & mode
-        & ((r.grantor == 0) | (r.grantor == q.author))
-        & option
+    sign & object & subject & mode & ((r.grantor == 0) | (r.grantor == q.author)) & option
 }
 
 // Whether q's left side is a denial of what r's positive right side looks for.
 pub fn links(q: Rule, r: Rule) -> bool
     ensures { λ x. ⌜ x ≡ model.links q r ⌝ }
 {
-    if q.left.object != r.right.object {
+    let object = meets(q.left.object, r.right.object);
+    if !object {
         return false;
     }
     let subject = meets(q.left.subject, r.right.subject);
     let mode = meets(fields::wide(q.left.mode), fields::wide(r.right.mode));
-    q.left.negative & !r.right.negative & (q.left.object == r.right.object) & subject & mode
+    q.left.negative & !r.right.negative & object & subject & mode
 }
 
 // Whether a rule says WHENEVERNOT or UNLESS.

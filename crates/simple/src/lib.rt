@@ -101,7 +101,7 @@ fn gives(s: &[u8], r: Rule, p: Pattern, t: u32) -> bool
     ensures { λ x. ⌜ x ≡ givenAt (now (s .entry)) r p t ⌝ }
 {
     let i = r.interval;
-    if !may_give(r, p) | !has_instant(i, t) {
+    if !may_give(s, r, p) | !has_instant(i, t) {
         return false;
     }
     let right = right_of(r, p.access);

@@ -1,9 +1,9 @@
 // What is sought, and what gives it: a pattern beside the fields of an authorization and the sides of a rule.
-// In a rule a subject or a mode of 0 is the star, in a pattern a grantor of 0.
+// In a rule a subject, a mode or an object of 0 is the star, in a pattern a grantor of 0.
 ghost use mathlib.Core.Path.{_≡_};
 ghost use mathlib.Core.Bool.{true};
 ghost use Rattle.foundation.specs.Tests.{pick};
-ghost use Rattle.model.specs.Base.{Base};
+ghost use Rattle.model.specs.Encoding.{decode};
 ghost use Rattle.model.specs.Soundness.{soundBytes};
 ghost use Rattle.model.specs.Stratification.{isStar};
 ghost use Rattle.model.specs.Rules as model;
@@ -64,15 +64,16 @@ pub fn is_granted(s: &[u8], p: Pattern, t: u32) -> bool
 }
 
 // Whether the left side of a rule is what is sought. The author is its grantor, and it is never transferable.
-pub fn may_give(r: Rule, p: Pattern) -> bool
-    ensures { λ x. ⌜ ((b : Base) → x ≡ model.derivesFor b p r) ⌝ }
+pub fn may_give(s: &[u8], r: Rule, p: Pattern) -> bool
+    requires { ⌜ soundBytes (now s) ≡ true ⌝ }
+    ensures { λ x. ⌜ x ≡ model.derivesFor (decode (now (s .entry))) p r ⌝ }
 {
     let left = r.left;
     let x = p.access;
     let o = p.option;
     let same = ((left.subject == 0) | (left.subject as u32 == x.subject))
         & ((left.mode == 0) | (left.mode as u32 == x.mode))
-        & (left.object as u32 == x.object)
+        & lookup::stands_on(s, r, x.object)
         & (left.negative == p.negative)
         & ((p.grantor == 0) | (p.grantor == r.author));
     same & fits_option(o, false)
@@ -98,7 +99,7 @@ pub fn right_of(r: Rule, x: Access) -> Pattern
         access: Access {
             subject: number_of(right.subject, x.subject),
             mode: number_of(fields::wide(right.mode), x.mode),
-            object: right.object as u32,
+            object: number_of(right.object, x.object),
         },
         negative: right.negative,
         grantor: r.grantor,

@@ -2,7 +2,7 @@
 -- passes. The steps to this claim stand here too: specs/ cannot lean on the proofs/ of its own crate.
 use mathlib.Core.Path.{_≡_, refl}
 use mathlib.Core.Logic.{inl, inr}
-use mathlib.Core.Bool.{Bool, true, not, _&&_, Bool·beq}
+use mathlib.Core.Bool.{Bool, true, not, _&&_, _||_}
 use mathlib.Core.List.{List, [], _∷_}
 use lib.Dec.{leb, ltb, eqb}
 use Rattle.foundation.specs.Tests.{agree, and-true, and-intro}
@@ -22,7 +22,7 @@ use Rattle.lookup.specs.Numbers.{existsIn}
 use Rattle.model.specs.SoundTests.{order-test, ranges-test, intervals-test, exist-test, owners-test}
 use Rattle.model.specs.SoundTests.{labels-test}
 use Rattle.bodies.specs.Parts.{objectsPart, privilegeTest, privilegesPart, neighbours, authorizationTest}
-use Rattle.bodies.specs.Parts.{authorizationsPart, mayRuleIn, ruleTest, rulesPart}
+use Rattle.bodies.specs.Parts.{authorizationsPart, mayRuleIn, starsMeet, ruleTest, rulesPart}
 use Rattle.bodies.proofs.Chains.{all-both, all-left, all-right, chained-two, chained-one}
 
 -- all the parts
@@ -75,13 +75,20 @@ module _ (b : Base) where
   ruleTests r =
       ruleIn r
       ∷ startsFirst (r .interval)
-      ∷ (existsIn os (r .left .object) && existsIn os (r .right .object))
+      ∷ (isStar (r .left .object) || (existsIn os (r .left .object) && existsIn os (r .right .object)))
       ∷ leb (r .label) (b .last)
-      ∷ mayRuleIn os (b .administrators) (b .referrers) (r .author) (r .left .object) (r .right .object)
-      ∷ (Bool·beq (isStar (r .left .subject)) (isStar (r .right .subject))
-      && Bool·beq (isStar (r .left .mode)) (isStar (r .right .mode)))
+      ∷ (isStar (r .left .object)
+      || mayRuleIn os (b .administrators) (b .referrers) (r .author) (r .left .object) (r .right .object))
+      ∷ starsMeet r
       ∷ optionFits (r .right .negative) (r .option)
       ∷ []
+
+  -- the objects of a rule exist and its author has the powers for it, unless they are starred
+  abbrev objectsThere : Rule → Bool
+  objectsThere r = isStar (r .left .object) || (exists b (r .left .object) && exists b (r .right .object))
+
+  abbrev authorMay : Rule → Bool
+  authorMay r = isStar (r .left .object) || mayRule b (r .author) (r .left .object) (r .right .object)
 
   module _ (s : Sound b) where
     privileges-pass : (ps : List Privilege) → chained before ps ≡ true → allb privilegeIn ps ≡ true →
@@ -115,12 +122,10 @@ module _ (b : Base) where
     rules-pass = mem-all (ruleTest os (b .administrators) (b .referrers) (b .last)) (b .rules) (λ r m. rw (
       all-mem ruleIn (b .rules) (ranges-test b s _ (inr (inr (inr (inr (inr (inr (inl refl)))))))) r m,
       all-mem (λ r. startsFirst (r .interval)) (b .rules) (intervals-test b s _ (inr (inl refl))) r m,
-      all-mem (λ r. exists b (r .left .object) && exists b (r .right .object)) (b .rules)
-          (exist-test b s _ (inr (inr (inr (inl refl))))) r m,
+      all-mem objectsThere (b .rules) (exist-test b s _ (inr (inr (inr (inl refl))))) r m,
       all-mem (λ r. leb (r .label) (b .last)) (b .rules) (labels-test b s _ (inr (inr (inl refl)))) r m,
-      all-mem (λ r. mayRule b (r .author) (r .left .object) (r .right .object)) (b .rules) (s .authors) r m,
-      all-mem (λ r. Bool·beq (isStar (r .left .subject)) (isStar (r .right .subject))
-          && Bool·beq (isStar (r .left .mode)) (isStar (r .right .mode))) (b .rules) (s .stars) r m,
+      all-mem authorMay (b .rules) (s .authors) r m,
+      all-mem starsMeet (b .rules) (s .stars) r m,
       all-mem (λ r. optionFits (r .right .negative) (r .option)) (b .rules) (s .right) r m,
     ))
 
@@ -207,8 +212,7 @@ module _ (b : Base) where
         let r1 = mem-all ruleIn (b .rules) (λ r m. rule-part r m _ (inl refl)) in
         let r2 = mem-all (λ r. startsFirst (r .interval)) (b .rules)
         (λ r m. rule-part r m _ (inr (inl refl))) in
-        let r3 = mem-all (λ r. exists b (r .left .object) && exists b (r .right .object)) (b .rules)
-        (λ r m. rule-part r m _ (inr (inr (inl refl)))) in
+        let r3 = mem-all objectsThere (b .rules) (λ r m. rule-part r m _ (inr (inr (inl refl)))) in
         let r4 = mem-all (λ r. leb (r .label) (b .last)) (b .rules)
         (λ r m. rule-part r m _ (inr (inr (inr (inl refl))))) in
         record {
@@ -226,10 +230,9 @@ module _ (b : Base) where
           labels = rw (a6, a7, r4);
           agree = au .1;
           support = part _ (inr (inr (inr (inr (inr (inr (inr (inr (inl refl)))))))));
-          authors = mem-all (λ r. mayRule b (r .author) (r .left .object) (r .right .object)) (b .rules)
+          authors = mem-all authorMay (b .rules)
               (λ r m. rule-part r m _ (inr (inr (inr (inr (inl refl))))));
-          stars = mem-all (λ r. Bool·beq (isStar (r .left .subject)) (isStar (r .right .subject))
-              && Bool·beq (isStar (r .left .mode)) (isStar (r .right .mode))) (b .rules)
+          stars = mem-all starsMeet (b .rules)
               (λ r m. rule-part r m _ (inr (inr (inr (inr (inr (inl refl)))))));
           right = mem-all (λ r. optionFits (r .right .negative) (r .option)) (b .rules)
               (λ r m. rule-part r m _ (inr (inr (inr (inr (inr (inr (inl refl))))))));

@@ -6,4 +6,5 @@ pub mod Demand3
 pub mod Served
 pub mod Orders
 pub mod Refusals
+pub mod Starred
 pub mod Cases

@@ -106,15 +106,51 @@ pub enum OptionTerm {
     Either,
 }
 
-/// One side of a rule. A star for subject or mode is on both sides or on neither.
+/// One side of a rule. A star for subject, mode or object is on both sides or on neither.
+///
+/// With starred objects a rule stands for each meter that its author owns or administers when a question is put, the
+/// same one on both sides. Whoever withdraws the administration narrows such a rule and does not delete it.
+///
+/// ```
+/// use access_base::{create, may, request, text, Access, Interval, Operator, OptionTerm, Order, Refusal, Request, Rule};
+/// use access_base::{Side, Term, BYTES};
+///
+/// let mut base = vec![0; BYTES];
+/// create(&mut base)?;
+/// // whoever reads a meter of 1 as 4 does, 3 reads it too
+/// let side = |subject| Side { subject: Term::Number(subject), mode: Term::Number(1), object: Term::Any, negative: false };
+/// let rule = Rule {
+///     left: side(3),
+///     operator: Operator::Whenever,
+///     right: side(4),
+///     grantor: Term::Any,
+///     option: OptionTerm::Either,
+///     interval: Interval { start: 0, end: 99 },
+/// };
+/// let add = |rule| Request { now: 0, requester: 1, order: Order::AddRule(rule) };
+/// assert_eq!(request(&mut base, &add(rule))?.label, Some(1)); // the meters come later
+/// for line in ["0 1 NEW 7", "0 2 NEW 8", "0 1 GRANT 1 7 4 5 9 n", "0 2 GRANT 1 8 4 5 9 n"] {
+///     text(&mut base, line, &mut [0; 16]).expect("16 bytes suffice");
+/// }
+/// assert!(may(&base, Access { subject: 3, mode: 1, object: 7 }, 6)?);
+/// assert!(!may(&base, Access { subject: 3, mode: 1, object: 8 }, 6)?);
+/// text(&mut base, "1 2 GRANTADM 8 1", &mut [0; 16]).expect("16 bytes suffice");
+/// assert!(may(&base, Access { subject: 3, mode: 1, object: 8 }, 6)?);
+/// // a star on one side only, and 0, which is no star
+/// let named = Side { object: Term::Number(7), ..rule.left };
+/// assert_eq!(request(&mut base, &add(Rule { left: named, ..rule })), Err(Refusal::OutOfRange));
+/// let zero = Side { object: Term::Number(0), ..rule.left };
+/// assert_eq!(request(&mut base, &add(Rule { left: zero, right: zero, ..rule })), Err(Refusal::OutOfRange));
+/// # Ok::<(), Refusal>(())
+/// ```
 #[derive(Clone, Copy, Debug, PartialEq, Eq)]
 pub struct Side {
     /// Who, or everyone.
     pub subject: Term,
     /// What, or everything.
     pub mode: Term,
-    /// The meter.
-    pub object: u32,
+    /// The meter, or every one that the author owns or administers.
+    pub object: Term,
     /// Whether it is a denial.
     pub negative: bool,
 }
@@ -205,8 +241,8 @@ pub enum Body {
     /// Label, grantor, subject, object, mode, negative, option, granted, start, end.
     Authorizations,
     /// Label, author; of the left side subject, mode, object, negative; operator, 1 to 4; of the right side subject, mode,
-    /// object, negative, grantor, option (0 without, 1 with, 2 either); start, end. A subject, mode or grantor of 0 is the
-    /// star.
+    /// object, negative, grantor, option (0 without, 1 with, 2 either); start, end. A subject, mode, object or grantor of 0
+    /// is the star.
     Rules,
 }
 

@@ -55,6 +55,7 @@ mod linked {
             left_subject: u32,
             left_any_mode: bool,
             left_mode: u32,
+            left_any_object: bool,
             left_object: u32,
             left_negative: bool,
             operator: u32,
@@ -62,6 +63,7 @@ mod linked {
             right_subject: u32,
             right_any_mode: bool,
             right_mode: u32,
+            right_any_object: bool,
             right_object: u32,
             right_negative: bool,
             any_grantor: bool,
@@ -154,8 +156,10 @@ pub fn is_sound(base: &[u8]) -> bool {
 pub fn request(base: &mut [u8], q: &Numbers) -> Reply {
     let (left_any_subject, left_subject) = parts(q.left.subject);
     let (left_any_mode, left_mode) = parts(q.left.mode);
+    let (left_any_object, left_object) = parts(q.left.object);
     let (right_any_subject, right_subject) = parts(q.right.subject);
     let (right_any_mode, right_mode) = parts(q.right.mode);
+    let (right_any_object, right_object) = parts(q.right.object);
     let (any_grantor, grantor) = parts(q.grantor);
     unpacked(unsafe {
         linked::access_base_request(
@@ -175,14 +179,16 @@ pub fn request(base: &mut [u8], q: &Numbers) -> Reply {
             left_subject,
             left_any_mode,
             left_mode,
-            q.left.object,
+            left_any_object,
+            left_object,
             q.left.negative,
             q.operator,
             right_any_subject,
             right_subject,
             right_any_mode,
             right_mode,
-            q.right.object,
+            right_any_object,
+            right_object,
             q.right.negative,
             any_grantor,
             grantor,
@@ -250,7 +256,7 @@ pub fn batch(base: &[u8], words: &[u32], replies: &mut [u8]) -> Reply {
     })
 }
 
-const NO_SIDE: Side = Side { subject: Term::Any, mode: Term::Any, object: 0, negative: false };
+const NO_SIDE: Side = Side { subject: Term::Any, mode: Term::Any, object: Term::Any, negative: false };
 
 impl Numbers {
     /// A request of the kind, with nothing else said.

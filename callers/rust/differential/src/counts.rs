@@ -93,7 +93,7 @@ fn cut_denial(subject: u32, start: u32, end: u32) -> Order {
 }
 
 fn side(subject: u32, object: u32, negative: bool) -> Side {
-    Side { subject: Term::Number(subject), mode: Term::Number(1), object, negative }
+    Side { subject: Term::Number(subject), mode: Term::Number(1), object: Term::Number(object), negative }
 }
 
 fn rule(left: Side, operator: Operator, right: Side, interval: Interval) -> Order {

@@ -229,6 +229,9 @@ fn rule(label: u32, roots: &[Holder], world: &World, random: &mut Random) -> Rul
     if random.percent(25) {
         (rule.left_mode, rule.right_mode) = (0, 0);
     }
+    if random.percent(world.starred) {
+        (rule.left_object, rule.right_object) = (0, 0);
+    }
     rule
 }
 

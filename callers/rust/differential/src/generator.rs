@@ -28,7 +28,12 @@ fn term(number: u32) -> Term {
 // A side about this subject, mode and object; its stars stay.
 fn about(side: Side, (subject, mode, object): (u32, u32, u32)) -> Side {
     let number = |old: Term, new: u32| if old == Term::Any { old } else { Term::Number(new) };
-    Side { subject: number(side.subject, subject), mode: number(side.mode, mode), object, ..side }
+    Side {
+        subject: number(side.subject, subject),
+        mode: number(side.mode, mode),
+        object: number(side.object, object),
+        ..side
+    }
 }
 
 impl Generator<'_> {
@@ -150,10 +155,23 @@ impl Generator<'_> {
             (0..=90, _) => q.requester = self.root(contents, object),
             _ => q.requester = self.subject(),
         }
-        if self.world.in_force && self.random.percent(if kind == 3 { 70 } else { 35 }) {
+        let meets = self.world.in_force || self.world.all_meters;
+        if meets && self.random.percent(if kind == 3 { 70 } else { 35 }) {
             self.meet(&mut q, contents);
         }
         q
+    }
+
+    // The object of a rule's side, or for a star mostly one that its author has.
+    fn meter(&mut self, contents: &Contents, object: u32, author: u32) -> u32 {
+        if object != 0 {
+            return object;
+        }
+        let has = |holder: &&Holder| holder.subject == author;
+        let all: Vec<u32> =
+            contents.owners.iter().chain(&contents.administrators).filter(has).map(|h| h.object).collect();
+        let any = self.object(contents);
+        self.random.pick_any(&all).filter(|_| self.random.percent(85)).unwrap_or(any)
     }
 
     // What a rule looks at as a right, with its subject and mode or any for a star.
@@ -162,7 +180,8 @@ impl Generator<'_> {
         let rule = self.random.pick_any(&positive)?;
         let subject = if rule.right_subject == 0 { self.subject() } else { rule.right_subject };
         let mode = if rule.right_mode == 0 { self.mode() } else { rule.right_mode };
-        Some((subject, mode, rule.right_object))
+        let object = self.meter(contents, rule.right_object, rule.author);
+        Some((subject, mode, object))
     }
 
     // Lets a grant or denial, by one who may, be about what a rule looks at.
@@ -227,12 +246,13 @@ impl Generator<'_> {
     // By one who has the powers, mostly.
     fn add_rule(&mut self, contents: &Contents, now: u32) -> Numbers {
         let (subject, mode, object, negative) = self.access(contents);
-        let right = Side { subject: term(subject), mode: term(mode), object, negative };
+        let object = if object == 0 { self.object(contents) } else { object };
+        let right = Side { subject: term(subject), mode: term(mode), object: Term::Number(object), negative };
         let left_object = self.object(contents);
         let author = self.author(contents, left_object, object);
         let (subject, mode) = (self.subject(), self.mode());
         let negative = self.random.percent(25);
-        let left = Side { subject: term(subject), mode: term(mode), object: left_object, negative };
+        let left = Side { subject: term(subject), mode: term(mode), object: Term::Number(left_object), negative };
         let (start, end) = self.span(now, LAST);
         let mut q = Numbers { start, end, left, right, ..Numbers::of_kind(7, now, author) };
         q.operator = 1 + self.random.weighted(&[32, 26, 24, 18]) as u32;
@@ -247,7 +267,7 @@ impl Generator<'_> {
             50..=64 if !right.negative || self.random.percent(15) => OptionTerm::With,
             _ => OptionTerm::Without,
         };
-        if self.world.in_force {
+        if self.world.in_force || self.world.all_meters && self.random.percent(50) {
             self.join(&mut q, contents);
         }
         q
@@ -266,11 +286,15 @@ impl Generator<'_> {
             let (subject, mode) = (self.subject(), self.mode());
             let subject = if rule.left_subject == 0 { subject } else { rule.left_subject };
             let mode = if rule.left_mode == 0 { mode } else { rule.left_mode };
-            q.right = Side { negative: false, ..about(q.right, (subject, mode, rule.left_object)) };
+            let object = self.meter(contents, rule.left_object, rule.author);
+            q.right = Side { negative: false, ..about(q.right, (subject, mode, object)) };
             q.operator = self.random.between(1, 2);
             (q.grantor, q.right_option) = (Term::Any, OptionTerm::Either);
         }
-        q.requester = self.author(contents, q.left.object, q.right.object);
+        q.requester = match (q.left.object, q.right.object) {
+            (Term::Number(left), Term::Number(right)) => self.author(contents, left, right),
+            _ => self.root(contents, seen.2),
+        };
     }
 
     // Stars on both sides or on neither, but on one side now and then.
@@ -286,11 +310,20 @@ impl Generator<'_> {
         } else if q.right.mode == Term::Any {
             q.right.mode = Term::Number(mode);
         }
+        if self.random.percent(self.world.starred) {
+            // by anybody, also by one who has no meter
+            (q.left.object, q.right.object) = (Term::Any, Term::Any);
+            if self.random.percent(15) {
+                q.requester = self.subject();
+            }
+        }
         if self.random.percent(3) {
-            match self.random.below(4) {
+            match self.random.below(6) {
                 0 => q.left.subject = Term::Any,
                 1 => q.left.mode = Term::Any,
                 2 => q.right.subject = Term::Any,
+                3 => q.left.object = Term::Any,
+                4 => q.right.object = Term::Any,
                 _ => q.right.mode = Term::Any,
             }
         }
@@ -363,8 +396,8 @@ impl Generator<'_> {
             11 => q.requester = self.subject(),
             12 => q.object = self.random.pick(&self.world.objects),
             13 => q.operator = self.random.pick(&[0, 5, u32::MAX, 257]),
-            14 => q.left.object = wild,
-            15 => q.right.object = wild,
+            14 => q.left.object = Term::Number(wild),
+            15 => q.right.object = Term::Number(wild),
             16 => q.left.subject = Term::Number(wild),
             17 => q.right.mode = Term::Number(wild),
             18 => q.grantor = Term::Number(wild),
@@ -390,6 +423,7 @@ impl Generator<'_> {
             x = Access { subject, mode, object };
             x.subject = if subject == 0 { kept.subject } else { subject };
             x.mode = if mode == 0 { kept.mode } else { mode };
+            x.object = if object == 0 { kept.object } else { object };
         }
         if self.random.percent(4) {
             let wild = self.random.pick(&WILD);

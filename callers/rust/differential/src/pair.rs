@@ -224,12 +224,14 @@ impl Pair {
         self.tally.request(q.kind, if let oracle::Reply::Refused(row) = expected { row } else { 0 });
         if let (oracle::Reply::Refused(12), Some(oracle)) = (expected, &self.oracle) {
             self.tally.closed_by_link += u64::from(oracle.closes_by_link(&asked));
+            self.tally.closed_by_star += u64::from(oracle.closes_by_star(&asked));
         }
         match (expected, &self.oracle) {
             (oracle::Reply::Done { label, lines }, Some(oracle)) => {
                 same(reply, (0, label, lines))?;
                 same_bytes(&self.base, &oracle.to_bytes())?;
                 self.tally.sizes(oracle.lines(), oracle.rules());
+                self.tally.narrowed += u64::from(q.kind == oracle::REVOKEADM && oracle.starred_by(q.subject) > 0);
                 return Ok(0);
             }
             (oracle::Reply::Refused(9), Some(oracle)) => {
@@ -253,7 +255,9 @@ impl Pair {
         self.tally.may(expected);
         if let (Ok(_), Some(oracle)) = (expected, &self.oracle) {
             self.tally.linked += u64::from(oracle.links() > 0);
-            self.tally.denied += u64::from(oracle.looks_at_denied(x.subject, x.mode));
+            self.tally.denied += u64::from(oracle.looks_at_denied(x.subject, x.mode, x.object));
+            self.tally.starred += u64::from(oracle.starred() > 0);
+            self.tally.decided += u64::from(oracle.starred_decides(x.subject, x.mode, x.object));
         }
         same(reply, expected.map_or_else(refused, |yes| (0, 0, u32::from(yes))))?;
         same_bytes(&self.base, &self.before)?;
@@ -367,10 +371,15 @@ fn term(term: Term) -> oracle::Term {
 }
 
 fn side(side: Side) -> oracle::Side {
-    oracle::Side { subject: term(side.subject), mode: term(side.mode), object: side.object, negative: side.negative }
+    oracle::Side {
+        subject: term(side.subject),
+        mode: term(side.mode),
+        object: term(side.object),
+        negative: side.negative,
+    }
 }
 
-fn in_oracle_words(q: &Numbers) -> oracle::Request {
+pub(crate) fn in_oracle_words(q: &Numbers) -> oracle::Request {
     oracle::Request {
         now: q.now,
         requester: q.requester,

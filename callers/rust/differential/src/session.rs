@@ -75,6 +75,22 @@ pub fn in_force_session(seed: u64) -> Result<Tally, Box<Failure>> {
     play_in(seed, world, count, |base, _, generator| other_base(base, generator))
 }
 
+/// One random session with rules for all meters of their authors, with a few damaged bases that come of it.
+pub fn all_meters_session(seed: u64) -> Result<Tally, Box<Failure>> {
+    meters_session(seed, World::random)
+}
+
+/// The same with few instants and requests.
+pub fn small_all_meters_session(seed: u64) -> Result<Tally, Box<Failure>> {
+    meters_session(seed, World::small)
+}
+
+fn meters_session(seed: u64, world: impl Fn(&mut Random) -> World) -> Result<Tally, Box<Failure>> {
+    let world = |random: &mut Random| world(random).all_meters(random);
+    let count = |_: &[u8], generator: &mut Generator| generator.random.below(8);
+    play_in(seed, world, count, |base, _, generator| other_base(base, generator))
+}
+
 /// A random session, and many damaged bases that come of it.
 pub fn damaged_session(seed: u64, count: usize) -> Result<Tally, Box<Failure>> {
     play(seed, |_, _| count, |base, _, generator| other_base(base, generator))
@@ -144,12 +160,16 @@ pub fn round_session(seed: u64, counts: &[usize]) -> Result<Tally, Box<Failure>>
     )
 }
 
-/// A short random session, every third with denials beside rules, and questions to the simple engine over its last
+/// A short random session, every third with denials beside rules and every third with rules for all meters, and questions to the simple engine over its last
 /// base and over damaged bases that come of it.
 pub fn simple_session(seed: u64) -> Result<Tally, Box<Failure>> {
     let mut random = Random::new(seed);
     let world = World::small(&mut random);
-    let world = if seed % 3 == 0 { world.in_force() } else { world };
+    let world = match seed % 3 {
+        0 => world.in_force(),
+        1 => world.all_meters(&mut random),
+        _ => world,
+    };
     questioned(&format!("simple session {seed}"), Generator { random: &mut random, world }, |pair, generator, _| {
         let contents = Contents::read(pair.base());
         for _ in 0..40 {
@@ -219,7 +239,12 @@ fn play_in(
 ) -> Result<Tally, Box<Failure>> {
     let mut random = Random::new(seed);
     let world = world(&mut random);
-    let name = if world.in_force { format!("session {seed} in force") } else { format!("session {seed}") };
+    let of = match (world.in_force, world.all_meters) {
+        (true, _) => " in force",
+        (_, true) => " of all meters",
+        _ => "",
+    };
+    let name = format!("session {seed}{of}");
     let mut pair = Pair::new(world.boundaries());
     let mut generator = Generator { random: &mut random, world };
     let ran = begin(&mut pair, &mut generator).and_then(|length| run(&mut pair, &mut generator, length));

@@ -36,6 +36,14 @@ pub struct Tally {
     pub denied: u64,
     /// Rules refused with 12 for a circle that is forbidden for its links alone.
     pub closed_by_link: u64,
+    /// Answers to MAY over bases with starred objects in rules.
+    pub starred: u64,
+    /// Answers to MAY about what rules with starred objects decide at some instant.
+    pub decided: u64,
+    /// Rules refused with 12 for a circle through a starred object.
+    pub closed_by_star: u64,
+    /// Withdrawals of administration from the author of a rule with starred objects.
+    pub narrowed: u64,
     most_lines: usize,
     most_rules: usize,
 }
@@ -180,6 +188,10 @@ impl Tally {
         self.linked += other.linked;
         self.denied += other.denied;
         self.closed_by_link += other.closed_by_link;
+        self.starred += other.starred;
+        self.decided += other.decided;
+        self.closed_by_star += other.closed_by_star;
+        self.narrowed += other.narrowed;
         self.judged += other.judged;
         self.sound += other.sound;
         self.sizes(other.most_lines, other.most_rules);
@@ -210,6 +222,9 @@ impl fmt::Display for Tally {
         writeln!(f, "MAY: {yes} yes, {no} no; WHEN: {} runs, at most {}", self.runs, self.most_runs)?;
         write!(f, "MAY: {} over bases with links, {} where a rule looks at", self.linked, self.denied)?;
         writeln!(f, " a right held and denied; {} rules refused for links alone", self.closed_by_link)?;
+        write!(f, "MAY: {} over bases with starred objects, {} where they decide;", self.starred, self.decided)?;
+        write!(f, " {} rules refused for a circle through one,", self.closed_by_star)?;
+        writeln!(f, " {} withdrawals from an author of some", self.narrowed)?;
         writeln!(f, "the longest sheet: {} bytes", self.longest_sheet)?;
         if self.texts + self.texts_refused > 0 {
             let (answered, unreadable, refused) = self.texts();

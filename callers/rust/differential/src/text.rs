@@ -43,7 +43,7 @@ fn term(term: Term) -> String {
 
 fn side(side: Side) -> String {
     let sign = if side.negative { '-' } else { '+' };
-    format!("{} {} {} {sign}", term(side.subject), term(side.mode), side.object)
+    format!("{} {} {} {sign}", term(side.subject), term(side.mode), term(side.object))
 }
 
 fn rule(q: &Numbers) -> String {

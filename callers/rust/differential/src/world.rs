@@ -11,7 +11,7 @@ pub const WILD: [u32; 12] = [0, 1, 8, 9, 128, 129, 1_023, 1_024, 65_535, 65_536,
 pub struct World {
     /// One to six.
     pub subjects: Vec<u32>,
-    /// One to three.
+    /// One to three, or up to five where rules have starred ones.
     pub objects: Vec<u32>,
     /// One or two.
     pub modes: Vec<u32>,
@@ -27,6 +27,10 @@ pub struct World {
     pub short: bool,
     /// Whether rules mostly look at rights, and denials mostly meet what rules look at.
     pub in_force: bool,
+    /// Whether most rules have starred objects, and administration comes and goes.
+    pub all_meters: bool,
+    /// How many rules of a hundred have starred objects.
+    pub starred: usize,
     /// How often each kind is asked for.
     pub weights: [usize; 12],
     boundaries: Vec<u32>,
@@ -48,12 +52,13 @@ fn pool(random: &mut Random, count: usize, most: u32) -> Vec<u32> {
 }
 
 //                          NEW GR DE RV RP RN AR DR GA RA GF RF
-const FLAVOURS: [[usize; 12]; 5] = [
+const FLAVOURS: [[usize; 12]; 6] = [
     [2, 34, 10, 8, 12, 6, 10, 3, 6, 4, 4, 3], // of everything
     [2, 60, 8, 8, 14, 3, 2, 1, 5, 5, 1, 1],   // chains of grants and their withdrawal
     [2, 22, 10, 3, 5, 3, 38, 6, 6, 1, 5, 1],  // rules
     [2, 24, 10, 4, 6, 4, 16, 3, 12, 9, 9, 7], // privileges
     [2, 24, 20, 2, 3, 4, 34, 5, 3, 1, 1, 1],  // denials beside rules
+    [4, 26, 9, 2, 3, 2, 26, 4, 12, 8, 3, 1],  // rules for all meters, and administration
 ];
 
 impl World {
@@ -76,6 +81,8 @@ impl World {
             rise: (75 * count / length).clamp(10, 60) as usize,
             short: dense || random.percent(30),
             in_force: false,
+            all_meters: false,
+            starred: 12,
             weights: FLAVOURS[random.weighted(&[40, 25, 25, 10])],
             boundaries: boundaries(first, count),
         }
@@ -96,6 +103,8 @@ impl World {
             rise: 20,
             short: random.percent(30),
             in_force: false,
+            all_meters: false,
+            starred: 12,
             weights: FLAVOURS[2],
             boundaries: boundaries(0, count),
         }
@@ -104,6 +113,13 @@ impl World {
     /// That world, with denials beside rules.
     pub fn in_force(self) -> World {
         World { in_force: true, weights: FLAVOURS[4], ..self }
+    }
+
+    /// That world, with rules for all meters of their authors, of several owners.
+    pub fn all_meters(self, random: &mut Random) -> World {
+        let count = random.between(2, 5) as usize;
+        let objects = pool(random, count, 128);
+        World { all_meters: true, starred: 65, weights: FLAVOURS[5], objects, ..self }
     }
 
     /// The instants at which a cell of the oracle starts.

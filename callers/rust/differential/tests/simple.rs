@@ -5,7 +5,7 @@ use differential::tally::Tally;
 #[test]
 fn simple_engine() {
     let mut tally = Tally::default();
-    for seed in 5_000_000..5_001_500 {
+    for seed in 5_000_000..5_001_700 {
         match simple_session(seed) {
             Ok(more) => tally.add(&more),
             Err(failure) => panic!("{failure:?}"),

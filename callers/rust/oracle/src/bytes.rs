@@ -15,7 +15,7 @@ fn put32(bytes: &mut [u8], at: usize, number: u32) {
     bytes[at..at + 4].copy_from_slice(&number.to_le_bytes());
 }
 
-/// "Zero is the star for subject, mode and right granter."
+/// "Zero is the star for subject, mode and right granter", and for an object: "as byte value 0" (CR 8).
 fn term_number(term: Term) -> u32 {
     match term {
         Term::Any => 0,
@@ -94,9 +94,9 @@ fn put_rule(bytes: &mut [u8], label: u32, standing: &StandingRule, start: u32, e
     put16(bytes, 0, label);
     put16(bytes, 2, standing.author);
     put16(bytes, 4, term_number(rule.left.subject));
-    put16(bytes, 6, rule.left.object);
+    put16(bytes, 6, term_number(rule.left.object));
     put16(bytes, 8, term_number(rule.right.subject));
-    put16(bytes, 10, rule.right.object);
+    put16(bytes, 10, term_number(rule.right.object));
     put16(bytes, 12, term_number(rule.grantor));
     bytes[14] = term_number(rule.left.mode) as u8;
     bytes[15] = term_number(rule.right.mode) as u8;
@@ -245,14 +245,14 @@ impl RawRule {
             left: Side {
                 subject: term(self.left_subject),
                 mode: term(self.left_mode),
-                object: self.left_object,
+                object: term(self.left_object),
                 negative: self.flags & 1 != 0,
             },
             operator: self.operator,
             right: Side {
                 subject: term(self.right_subject),
                 mode: term(self.right_mode),
-                object: self.right_object,
+                object: term(self.right_object),
                 negative: self.flags & 2 != 0,
             },
             grantor: term(self.right_grantor),
@@ -386,15 +386,15 @@ fn line_ranges_hold(raw: &Raw) -> bool {
     })
 }
 
-/// "ranges hold": rules; "Zero is the star for subject, mode and right granter."
+/// "ranges hold": rules; "Zero is the star for subject, mode and right granter", and for an object (CR 8).
 fn rule_ranges_hold(raw: &Raw) -> bool {
     raw.rules.iter().all(|rule| {
         in_range(rule.label, LABELS)
             && in_range(rule.author, SUBJECTS)
             && rule.left_subject <= SUBJECTS
-            && in_range(rule.left_object, OBJECTS)
+            && rule.left_object <= OBJECTS
             && rule.right_subject <= SUBJECTS
-            && in_range(rule.right_object, OBJECTS)
+            && rule.right_object <= OBJECTS
             && rule.right_grantor <= SUBJECTS
             && rule.left_mode <= MODES
             && rule.right_mode <= MODES
@@ -416,12 +416,13 @@ fn denials_not_transferable(raw: &Raw) -> bool {
     raw.lines.iter().all(|line| !(line.negative() && line.option()))
 }
 
-/// "objects named exist"
+/// "objects named exist": a star names none.
 fn objects_named_exist(raw: &Raw) -> bool {
     let exists = |object: u32| raw.owner_of(object).is_some();
     raw.administrators.iter().chain(&raw.referrers).all(|&(object, _)| exists(object))
         && raw.lines.iter().all(|line| exists(line.object))
-        && raw.rules.iter().all(|rule| exists(rule.left_object) && exists(rule.right_object))
+        && raw.rules.iter().all(|rule| where_named(term(rule.left_object), exists))
+        && raw.rules.iter().all(|rule| where_named(term(rule.right_object), exists))
 }
 
 /// "the owner is no administrator or referrer of that object"
@@ -463,7 +464,7 @@ fn instant_missing_between(raw: &Raw) -> bool {
     })
 }
 
-/// "a star for subject or mode is on both sides of a rule or neither"
+/// "a star for subject or mode is on both sides of a rule or neither", and one for an object (CR 8)
 fn stars_good(raw: &Raw) -> bool {
     raw.rules.iter().all(|rule| stars_agree(&rule.rule()))
 }

@@ -1,4 +1,5 @@
-//! 01, "Rules", with 02, CR 7, "Rules look at rights in force"; and the two questions.
+//! 01, "Rules", with 02, CR 7, "Rules look at rights in force", and CR 8, "One rule for all my meters"; and the two
+//! questions.
 
 use crate::*;
 
@@ -13,12 +14,13 @@ pub(crate) fn meet(one: Term, other: Term) -> bool {
 }
 
 /// "Rule q feeds rule r if q's left side can fit r's right: same sign and object, subject and mode equal
-/// or starred on either side, granter starred or q's author, option starred or not transferable."
+/// or starred on either side, granter starred or q's author, option starred or not transferable." And "A
+/// starred object fits any in feeding and in the links of CR 7" (CR 8), whoever the authors are.
 pub(crate) fn feeds(q: &StandingRule, r: &StandingRule) -> bool {
     let left = &q.rule.left;
     let right = &r.rule.right;
     left.negative == right.negative
-        && left.object == right.object
+        && meet(left.object, right.object)
         && meet(left.subject, right.subject)
         && meet(left.mode, right.mode)
         && (r.rule.grantor == Term::Any || r.rule.grantor == Term::Number(q.author))
@@ -32,7 +34,7 @@ pub(crate) fn links(q: &StandingRule, r: &StandingRule) -> bool {
     let right = &r.rule.right;
     left.negative
         && !right.negative
-        && left.object == right.object
+        && meet(left.object, right.object)
         && meet(left.subject, right.subject)
         && meet(left.mode, right.mode)
 }
@@ -101,8 +103,8 @@ pub(crate) fn strata(rules: &[&StandingRule]) -> Vec<u32> {
     }
 }
 
-/// What may be asked to be held: the right side of a rule with its subject and mode put in for the stars,
-/// or a question.
+/// What may be asked to be held: the right side of a rule with its subject, mode and object put in for the
+/// stars, or a question.
 #[derive(Clone, Copy)]
 pub(crate) struct Wanted {
     pub subject: u32,
@@ -146,7 +148,8 @@ impl Wanted {
     }
 }
 
-/// "A starred rule stands for one rule per subject or mode, the same on both sides." One of those.
+/// "A starred rule stands for one rule per subject or mode, the same on both sides", and "for each object on which
+/// its author is owner or administrator at the time of the question" (CR 8). One of those.
 struct Single {
     // the left side and its granter
     subject: u32,
@@ -167,7 +170,7 @@ struct Single {
     gives: Set,
 }
 
-/// The subject or mode of a side when the rule is read for a given left one.
+/// The subject, mode or object of a side when the rule is read for a given left one.
 pub(crate) fn put_in(term: Term, for_star: u32) -> u32 {
     match term {
         Term::Any => for_star,
@@ -175,39 +178,56 @@ pub(crate) fn put_in(term: Term, for_star: u32) -> u32 {
     }
 }
 
-/// Can a rule's left side be about this subject and mode?
-pub(crate) fn left_can_be(rule: &Rule, subject: u32, mode: u32) -> bool {
-    meet(rule.left.subject, Term::Number(subject)) && meet(rule.left.mode, Term::Number(mode))
+/// Subject, mode and object of a side without stars, or of a question.
+pub(crate) type Place = (u32, u32, u32);
+
+/// The right side's place when the rule is read for a given left one: what stands for a star is "the same on
+/// both sides".
+fn right_place(rule: &Rule, (subject, mode, object): Place) -> Place {
+    (put_in(rule.right.subject, subject), put_in(rule.right.mode, mode), put_in(rule.right.object, object))
 }
 
 impl Oracle {
-    /// The pairs of subject and mode over which stars have to be expanded to answer a question about
-    /// `subject` and `mode`: that pair itself, and with a pair also the right side's pair of every rule
-    /// whose left side can be about it. That is enough: whether something is held about a pair is decided
-    /// by lines about that pair and by rules with that pair on the left, and whether such a rule gives it
-    /// is decided by what is held about the pair on its right, denials of that pair included; no other pair
-    /// is ever asked about. (A test compares with the expansion over all pairs.)
-    fn pairs_that_matter(&self, subject: u32, mode: u32) -> Vec<(u32, u32)> {
-        let mut pairs = vec![(subject, mode)];
+    /// Does the rule stand for one with this place on the left? A starred object "stands for each object on
+    /// which its author is owner or administrator at the time of the question" (CR 8): as the base has them now,
+    /// for all instants; a referrer is neither.
+    pub(crate) fn stands_for(&self, standing: &StandingRule, (subject, mode, object): Place) -> bool {
+        let left = &standing.rule.left;
+        meet(left.subject, Term::Number(subject))
+            && meet(left.mode, Term::Number(mode))
+            && match left.object {
+                Term::Any => self.owns_or_administers(standing.author, object),
+                Term::Number(number) => number == object,
+            }
+    }
+
+    /// The places over which stars have to be expanded to answer a question about one: that place itself,
+    /// and with a place also the right side's of every rule that stands for it on the left. That is enough:
+    /// whether something is held about a place is decided by lines about that place and by rules with that
+    /// place on the left, and whether such a rule gives it is decided by what is held about the place on its
+    /// right, denials of that place included; no other place is ever asked about. (A test compares with the
+    /// expansion over all places.)
+    fn places_that_matter(&self, asked: Place) -> Vec<Place> {
+        let mut places = vec![asked];
+        let mut found = BTreeSet::from([asked]);
         let mut next = 0;
-        while next < pairs.len() {
-            let (subject, mode) = pairs[next];
+        while next < places.len() {
+            let place = places[next];
             next += 1;
             for standing in self.rules.values() {
-                let rule = &standing.rule;
-                if left_can_be(rule, subject, mode) {
-                    let pair = (put_in(rule.right.subject, subject), put_in(rule.right.mode, mode));
-                    if !pairs.contains(&pair) {
-                        pairs.push(pair);
+                if self.stands_for(standing, place) {
+                    let right = right_place(&standing.rule, place);
+                    if found.insert(right) {
+                        places.push(right);
                     }
                 }
             }
         }
-        pairs
+        places
     }
 
-    /// The single rules that the base's rules stand for, about the given pairs.
-    fn singles(&self, pairs: &[(u32, u32)]) -> Vec<Single> {
+    /// The single rules that the base's rules stand for, about the given places.
+    fn singles(&self, places: &[Place]) -> Vec<Single> {
         if self.rules.is_empty() {
             return Vec::new();
         }
@@ -216,22 +236,18 @@ impl Oracle {
         let mut singles = Vec::new();
         for (standing, stratum) in rules.into_iter().zip(strata) {
             let rule = &standing.rule;
-            for &(subject, mode) in pairs {
-                if !left_can_be(rule, subject, mode) {
+            for &place in places {
+                if !self.stands_for(standing, place) {
                     continue;
                 }
-                let wanted = Wanted {
-                    subject: put_in(rule.right.subject, subject),
-                    mode: put_in(rule.right.mode, mode),
-                    object: rule.right.object,
-                    negative: rule.right.negative,
-                    grantor: rule.grantor,
-                    option: rule.option,
-                };
+                let (subject, mode, object) = right_place(rule, place);
+                let negative = rule.right.negative;
+                let wanted = Wanted { subject, mode, object, negative, grantor: rule.grantor, option: rule.option };
+                let (subject, mode, object) = place;
                 singles.push(Single {
                     subject,
                     mode,
-                    object: rule.left.object,
+                    object,
                     negative: rule.left.negative,
                     author: standing.author,
                     operator: rule.operator,
@@ -264,8 +280,8 @@ impl Oracle {
     }
 
     /// "What is held is built rank by rank, each the smallest set closed under its rules."
-    fn build(&self, pairs: &[(u32, u32)]) -> Vec<Single> {
-        let mut singles = self.singles(pairs);
+    fn build(&self, places: &[Place]) -> Vec<Single> {
+        let mut singles = self.singles(places);
         let highest = singles.iter().map(|single| single.stratum).max().unwrap_or(0);
         for stratum in 0..=highest {
             // Add what the rules of this rank give until nothing is added any more.
@@ -286,8 +302,8 @@ impl Oracle {
 
     /// The cells where MAY says yes: "MAY is yes exactly if a positive authorization is held and no
     /// denial is." By any granter, with any option.
-    fn yes(&self, subject: u32, mode: u32, object: u32, pairs: &[(u32, u32)]) -> Set {
-        let singles = self.build(pairs);
+    fn yes(&self, (subject, mode, object): Place, places: &[Place]) -> Set {
+        let singles = self.build(places);
         let held = |negative: bool| {
             let wanted = Wanted { subject, mode, object, negative, grantor: Term::Any, option: OptionTerm::Either };
             let mut held = self.held_by_lines(&wanted);
@@ -319,8 +335,8 @@ impl Oracle {
         if let Some(row) = self.question_refused(subject, mode, object) {
             return Err(row);
         }
-        let pairs = self.pairs_that_matter(subject, mode);
-        Ok(self.yes(subject, mode, object, &pairs).has(self.cells.cell_of(instant)))
+        let place = (subject, mode, object);
+        Ok(self.yes(place, &self.places_that_matter(place)).has(self.cells.cell_of(instant)))
     }
 
     /// WHEN (subject, mode, object): "the longest runs of instants where MAY says yes, rising". `pairs` is
@@ -329,8 +345,8 @@ impl Oracle {
         if let Some(row) = self.question_refused(subject, mode, object) {
             return Err(row);
         }
-        let matter = self.pairs_that_matter(subject, mode);
-        let runs = self.yes(subject, mode, object, &matter).runs(&self.cells);
+        let place = (subject, mode, object);
+        let runs = self.yes(place, &self.places_that_matter(place)).runs(&self.cells);
         if pairs < runs.len() {
             return Err(13);
         }
@@ -345,8 +361,8 @@ impl Oracle {
 
     /// Whether some rule that matters to a question has, at an instant of its interval, a right side that is
     /// held and denied: for a test to count.
-    pub fn looks_at_denied(&self, subject: u32, mode: u32) -> bool {
-        let singles = self.build(&self.pairs_that_matter(subject, mode));
+    pub fn looks_at_denied(&self, subject: u32, mode: u32, object: u32) -> bool {
+        let singles = self.build(&self.places_that_matter((subject, mode, object)));
         let denied = |single: &Single| {
             (single.first..=single.last).any(|cell| single.right.has(cell) && single.denied.has(cell))
         };
@@ -360,17 +376,51 @@ impl Oracle {
         linked_circle(&rules) && !negated_circle(&rules)
     }
 
-    /// WHEN, with the stars expanded over every subject of a list and every mode: for the test that
-    /// `pairs_that_matter` is enough.
+    /// How many rules have starred objects: for a test to count.
+    pub fn starred(&self) -> usize {
+        self.rules.values().filter(|standing| standing.rule.left.object == Term::Any).count()
+    }
+
+    /// How many of them somebody wrote.
+    pub fn starred_by(&self, author: u32) -> usize {
+        let his = |standing: &&StandingRule| standing.author == author && standing.rule.left.object == Term::Any;
+        self.rules.values().filter(his).count()
+    }
+
+    /// Whether the rules with starred objects decide a question: without them it would be answered otherwise at
+    /// some instant. For a test to count.
+    pub fn starred_decides(&self, subject: u32, mode: u32, object: u32) -> bool {
+        if self.starred() == 0 {
+            return false;
+        }
+        let mut without = self.clone();
+        without.rules.retain(|_, standing| standing.rule.left.object != Term::Any);
+        let place = (subject, mode, object);
+        let yes = |base: &Oracle| base.yes(place, &base.places_that_matter(place)).runs(&base.cells);
+        yes(self) != yes(&without)
+    }
+
+    /// Whether the circle that a rule would close needs a starred object: with every rule that stars it left out,
+    /// and this one too if it does, there is none. For a test to count.
+    pub fn closes_by_star(&self, q: &Request) -> bool {
+        let new = self.new_rule(q);
+        let rules: Vec<&StandingRule> = self.rules.values().chain([&new]).collect();
+        let named: Vec<&StandingRule> =
+            rules.iter().copied().filter(|standing| standing.rule.left.object != Term::Any).collect();
+        forbidden_circle(&rules) && !forbidden_circle(&named)
+    }
+
+    /// WHEN, with the stars expanded over every subject of a list, every mode and every object: for the test that
+    /// `places_that_matter` is enough.
     #[doc(hidden)]
     pub fn when_over_all(&self, subject: u32, mode: u32, object: u32, subjects: &[u32]) -> Vec<(u32, u32)> {
-        let mut pairs = Vec::new();
+        let mut places = Vec::new();
         for &subject in subjects {
             for mode in 1..=MODES {
-                pairs.push((subject, mode));
+                places.extend(self.owners.keys().map(|&object| (subject, mode, object)));
             }
         }
-        self.yes(subject, mode, object, &pairs).runs(&self.cells)
+        self.yes((subject, mode, object), &places).runs(&self.cells)
     }
 }
 

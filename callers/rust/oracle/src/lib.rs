@@ -53,7 +53,7 @@ pub const ASLONGAS: u32 = 2;
 pub const WHENEVERNOT: u32 = 3;
 pub const UNLESS: u32 = 4;
 
-/// A subject, mode or granter of a rule: the star, or a number.
+/// A subject, mode, object or granter of a rule: the star, or a number.
 #[derive(Clone, Copy, Debug, PartialEq, Eq)]
 pub enum Term {
     Any,
@@ -73,7 +73,7 @@ pub enum OptionTerm {
 pub struct Side {
     pub subject: Term,
     pub mode: Term,
-    pub object: u32,
+    pub object: Term,
     pub negative: bool,
 }
 
@@ -211,10 +211,12 @@ impl Oracle {
     }
 
     /// "ADDRULE: the author needs own or administer on the left object, and own, administer or refer on
-    /// the right one."
+    /// the right one." With a starred object none: "6 and 8 are not tested for it at ADDRULE, and soundness
+    /// wants no powers of its author" (CR 8).
     pub(crate) fn has_powers_for(&self, author: u32, rule: &Rule) -> bool {
-        self.owns_or_administers(author, rule.left.object)
-            && (self.owns_or_administers(author, rule.right.object) || self.refers(author, rule.right.object))
+        let left = |object| self.owns_or_administers(author, object);
+        let right = |object| self.owns_or_administers(author, object) || self.refers(author, object);
+        where_named(rule.left.object, left) && where_named(rule.right.object, right)
     }
 }
 
@@ -222,10 +224,20 @@ pub(crate) fn count_lines(entries: &BTreeMap<u32, Entry>) -> usize {
     entries.values().map(|entry| entry.when.count_runs()).sum()
 }
 
-/// "a star for subject or mode is on both sides of a rule or neither"
+/// "a star for subject or mode is on both sides of a rule or neither"; "Object may now be starred, on both
+/// sides or neither" (CR 8).
 pub(crate) fn stars_agree(rule: &Rule) -> bool {
     (rule.left.subject == Term::Any) == (rule.right.subject == Term::Any)
         && (rule.left.mode == Term::Any) == (rule.right.mode == Term::Any)
+        && (rule.left.object == Term::Any) == (rule.right.object == Term::Any)
+}
+
+/// What is asked of an object that is named, and not of a starred one.
+pub(crate) fn where_named(object: Term, good: impl FnOnce(u32) -> bool) -> bool {
+    match object {
+        Term::Any => true,
+        Term::Number(object) => good(object),
+    }
 }
 
 /// "a denial on the right isn't marked transferable"
@@ -248,10 +260,10 @@ pub(crate) fn term_in_range(term: Term, most: u32) -> bool {
 pub(crate) fn rule_in_range(rule: &Rule) -> bool {
     term_in_range(rule.left.subject, SUBJECTS)
         && term_in_range(rule.left.mode, MODES)
-        && in_range(rule.left.object, OBJECTS)
+        && term_in_range(rule.left.object, OBJECTS)
         && in_range(rule.operator, 4)
         && term_in_range(rule.right.subject, SUBJECTS)
         && term_in_range(rule.right.mode, MODES)
-        && in_range(rule.right.object, OBJECTS)
+        && term_in_range(rule.right.object, OBJECTS)
         && term_in_range(rule.grantor, SUBJECTS)
 }

@@ -1,4 +1,5 @@
-//! 01, "Requests" and "Replies that refuse", rows 3 to 13; 02, CR 4, row 14, and CR 7 for row 12.
+//! 01, "Requests" and "Replies that refuse", rows 3 to 13; 02, CR 4, row 14, CR 7 for row 12, and CR 8 for rules
+//! with starred objects.
 
 use crate::held::forbidden_circle;
 use crate::support::restrict_to_supported;
@@ -79,11 +80,15 @@ impl Oracle {
         }
     }
 
-    /// 6: "the object (for a rule, either one) does not exist, NEW excepted"
+    /// 6: "the object (for a rule, either one) does not exist, NEW excepted"; "6 and 8 are not tested" for a
+    /// starred one (CR 8).
     fn no_such_object(&self, q: &Request) -> bool {
         match q.kind {
             GRANT | DENY | REVOKEP | REVOKEN | GRANTADM | REVOKEADM | GRANTREF | REVOKEREF => !self.exists(q.object),
-            ADDRULE => !self.exists(q.rule.left.object) || !self.exists(q.rule.right.object),
+            ADDRULE => {
+                let named_exists = |object| where_named(object, |object| self.exists(object));
+                !named_exists(q.rule.left.object) || !named_exists(q.rule.right.object)
+            }
             _ => false,
         }
     }
@@ -302,11 +307,13 @@ impl Oracle {
                     self.administrators.insert((q.object, q.subject));
                     return None;
                 }
-                // "and the subject's rules with it on the left, and on the right unless a referrer."
+                // "and the subject's rules with it on the left, and on the right unless a referrer." A rule
+                // with starred objects names none: "withdrawing administration narrows it and doesn't delete
+                // it" (CR 8).
                 let refers = self.refers(q.subject, q.object);
                 self.rules.retain(|_, standing| {
-                    let with_it_left = standing.rule.left.object == q.object;
-                    let with_it_right = standing.rule.right.object == q.object;
+                    let with_it_left = standing.rule.left.object == Term::Number(q.object);
+                    let with_it_right = standing.rule.right.object == Term::Number(q.object);
                     !(standing.author == q.subject && (with_it_left || with_it_right && !refers))
                 });
                 Some(0)
@@ -316,7 +323,7 @@ impl Oracle {
                 // "REVOKEREF removes the subject's rules with it on the right unless an administrator."
                 let administers = self.administers(q.subject, q.object);
                 self.rules.retain(|_, standing| {
-                    let with_it_right = standing.rule.right.object == q.object;
+                    let with_it_right = standing.rule.right.object == Term::Number(q.object);
                     !(standing.author == q.subject && with_it_right && !administers)
                 });
                 Some(0)

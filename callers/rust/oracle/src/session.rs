@@ -32,7 +32,7 @@ fn instant(field: &[u8]) -> Option<u32> {
     }
 }
 
-/// "star is `*`"
+/// "star is `*`", for an object too: "as byte value 0 and text `*`" (CR 8).
 fn term(field: &[u8]) -> Option<Term> {
     if field == b"*" {
         Some(Term::Any)
@@ -82,7 +82,8 @@ fn operator(field: &[u8]) -> Option<u32> {
 
 /// A request with nothing in it.
 pub fn blank() -> Request {
-    let side = Side { subject: Term::Number(0), mode: Term::Number(0), object: 0, negative: false };
+    let none = Term::Number(0);
+    let side = Side { subject: none, mode: none, object: none, negative: false };
     Request {
         now: 0,
         requester: 0,
@@ -94,7 +95,7 @@ pub fn blank() -> Request {
         start: 0,
         end: 0,
         option: false,
-        rule: Rule { left: side, operator: 0, right: side, grantor: Term::Number(0), option: OptionTerm::Without },
+        rule: Rule { left: side, operator: 0, right: side, grantor: none, option: OptionTerm::Without },
     }
 }
 
@@ -182,9 +183,9 @@ fn request(fields: &[&[u8]]) -> Option<Request> {
                 return None;
             };
             q.rule = Rule {
-                left: Side { subject: term(ls)?, mode: term(lm)?, object: number(lo)?, negative: sign(lsign)? },
+                left: Side { subject: term(ls)?, mode: term(lm)?, object: term(lo)?, negative: sign(lsign)? },
                 operator: operator(op)?,
-                right: Side { subject: term(rs)?, mode: term(rm)?, object: number(ro)?, negative: sign(rsign)? },
+                right: Side { subject: term(rs)?, mode: term(rm)?, object: term(ro)?, negative: sign(rsign)? },
                 grantor: term(grantor)?,
                 option: option_term(opt)?,
             };

@@ -1,5 +1,5 @@
 //! Document 02, change request 6: "A simple engine to compare with", to the letter.
-use crate::held::{left_can_be, meet, put_in, reaches, Wanted};
+use crate::held::{meet, put_in, reaches, Wanted};
 use crate::*;
 
 impl Oracle {
@@ -36,7 +36,7 @@ impl Oracle {
             return Some(true);
         }
         for standing in self.rules.values() {
-            if may_give(standing, wanted) && self.gives_at(standing, wanted, instant, looks)? {
+            if self.may_give(standing, wanted) && self.gives_at(standing, wanted, instant, looks)? {
                 return Some(true);
             }
         }
@@ -53,7 +53,7 @@ impl Oracle {
         let right = Wanted {
             subject: put_in(rule.right.subject, wanted.subject),
             mode: put_in(rule.right.mode, wanted.mode),
-            object: rule.right.object,
+            object: put_in(rule.right.object, wanted.object),
             negative: rule.right.negative,
             grantor: rule.grantor,
             option: rule.option,
@@ -74,14 +74,12 @@ impl Oracle {
         let held = self.held_at(right, instant, looks)?;
         Some(held && (right.negative || !self.held_at(&right.denial(), instant, looks)?))
     }
-}
 
-/// Can the rule's left side be what is wanted? "The left side is never transferable and its granter is the author."
-fn may_give(standing: &StandingRule, wanted: &Wanted) -> bool {
-    let rule = &standing.rule;
-    left_can_be(rule, wanted.subject, wanted.mode)
-        && rule.left.object == wanted.object
-        && rule.left.negative == wanted.negative
-        && meet(wanted.grantor, Term::Number(standing.author))
-        && wanted.option != OptionTerm::With
+    /// Can the rule's left side be what is wanted? "The left side is never transferable and its granter is the author."
+    fn may_give(&self, standing: &StandingRule, wanted: &Wanted) -> bool {
+        self.stands_for(standing, (wanted.subject, wanted.mode, wanted.object))
+            && standing.rule.left.negative == wanted.negative
+            && meet(wanted.grantor, Term::Number(standing.author))
+            && wanted.option != OptionTerm::With
+    }
 }

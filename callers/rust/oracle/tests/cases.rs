@@ -21,7 +21,7 @@ fn cases(text: &str) -> Vec<(String, String, String)> {
 fn stored_sessions_agree() {
     let data = PathBuf::from(env!("CARGO_MANIFEST_DIR")).join("../../../crates/vectors/data");
     let mut count = 0;
-    for name in ["scope.txt", "report.txt", "turns.txt", "table.txt", "shared.txt", "inforce.txt"] {
+    for name in ["scope.txt", "report.txt", "turns.txt", "table.txt", "shared.txt", "inforce.txt", "allmeters.txt"] {
         let text = std::fs::read_to_string(data.join(name)).expect(name);
         for (title, input, output) in cases(&text) {
             for fine in [true, false] {

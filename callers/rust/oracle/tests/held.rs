@@ -1,5 +1,5 @@
 //! What is held, a second time and without ranks: lines and rules are read from the bytes, every star is
-//! expanded over all subjects and modes of the world, and the negated rules are settled by an alternating
+//! expanded over all subjects, modes and objects of the world, and the negated rules are settled by an alternating
 //! fixed point (if nothing is on a forbidden circle, it ends in one set, which is the one built by ranks).
 
 mod common;
@@ -26,6 +26,11 @@ fn read(bytes: &[u8], world: &World) -> (BTreeSet<Fact>, Vec<Single>) {
     let four = |at: usize| two(at) + 65536 * two(at + 2);
     let subjects = world.subjects + 1;
     let modes = world.modes + 1;
+    // a meter's owner or administrator
+    let controls = |subject: u32, object: u32| {
+        let listed = |body: usize| (0..two(14 + 4 * body) as usize).map(move |i| two(12 + 4 * body) as usize + 4 * i);
+        (listed(0).chain(listed(1))).any(|at| two(at) == object && two(at + 2) == subject)
+    };
     let mut facts = BTreeSet::new();
     for i in 0..two(26) as usize {
         let at = two(24) as usize + 24 * i;
@@ -44,6 +49,8 @@ fn read(bytes: &[u8], world: &World) -> (BTreeSet<Fact>, Vec<Single>) {
         let flags = bytes[at + 17];
         let (ls, rs) = (two(at + 4), two(at + 8));
         let (lm, rm) = (u32::from(bytes[at + 14]), u32::from(bytes[at + 15]));
+        let (lo, ro, author) = (two(at + 6), two(at + 10), two(at + 2));
+        let objects: Vec<u32> = (1..=128).filter(|&o| if lo == 0 { controls(author, o) } else { lo == o }).collect();
         for s in 1..=subjects {
             for m in 1..=modes {
                 // an unstarred rule once only
@@ -51,16 +58,16 @@ fn read(bytes: &[u8], world: &World) -> (BTreeSet<Fact>, Vec<Single>) {
                     continue;
                 }
                 let put = |number: u32, star: u32| if number == 0 { star } else { number };
-                singles.push(Single {
+                singles.extend(objects.iter().map(|&o| Single {
                     operator: u32::from(bytes[at + 16]),
                     start: four(at + 20),
                     end: four(at + 24),
-                    author: two(at + 2),
-                    left: (put(ls, s), put(lm, m), two(at + 6), flags & 1 != 0),
-                    right: (put(rs, s), put(rm, m), two(at + 10), flags & 2 != 0),
+                    author,
+                    left: (put(ls, s), put(lm, m), o, flags & 1 != 0),
+                    right: (put(rs, s), put(rm, m), put(ro, o), flags & 2 != 0),
                     grantor: two(at + 12),
                     option: if flags & 8 != 0 { None } else { Some(flags & 4 != 0) },
-                });
+                }));
             }
         }
     }
@@ -122,7 +129,7 @@ fn closure(lines: &BTreeSet<Fact>, rules: &[Single], other: &BTreeSet<Fact>, wor
 /// The simple engine's MAY is the main one's, unless a circle is there.
 #[test]
 fn simple_is_main() {
-    let (mut answered, mut yes, mut circular, mut denied) = (0, 0, 0, 0);
+    let (mut answered, mut yes, mut circular, mut denied, mut starred) = (0, 0, 0, 0, 0);
     for seed in 0..1_500u64 {
         let mut world = [SMALL, MIDDLE][seed as usize % 2];
         (world.cells, world.wild) = (10, 100_000);
@@ -144,19 +151,21 @@ fn simple_is_main() {
                     assert_eq!(reply, main);
                     answered += 1;
                     yes += u32::from(main == Ok(true));
-                    denied += u32::from(base.looks_at_denied(subject, mode));
+                    starred += u32::from(base.starred_decides(subject, mode, object));
+                    denied += u32::from(base.looks_at_denied(subject, mode, object));
                 }
                 None => {}
             }
         }
     }
     println!("{answered} answered, {yes} yes, {denied} with a right held and denied; {circular} circular");
-    assert!(answered > 20_000 && yes > 2_000 && denied > 500 && circular > 2_000);
+    println!("{starred} decided by a starred object");
+    assert!(answered > 20_000 && yes > 2_000 && denied > 500 && circular > 2_000 && starred > 500);
 }
 
 #[test]
 fn held_without_strata() {
-    let (mut bases, mut questions, mut yes, mut negated) = (0, 0, 0, 0);
+    let (mut bases, mut questions, mut yes, mut negated, mut starred) = (0, 0, 0, 0, 0);
     for seed in 0..700u64 {
         let mut world = [SMALL, MIDDLE, TOP][seed as usize % 3];
         world.cells = 10;
@@ -178,6 +187,7 @@ fn held_without_strata() {
             }
             let (lines, rules) = read(&base.to_bytes(), &world);
             bases += 1;
+            starred += base.starred();
             negated += rules.iter().filter(|rule| rule.operator > 2).count();
             let mut low = lines.clone();
             let held = loop {
@@ -208,6 +218,7 @@ fn held_without_strata() {
             }
         }
     }
-    println!("{bases} bases, {negated} single negated rules, {questions} questions, {yes} yes");
-    assert!(bases > 1000 && yes > 10_000);
+    println!("{bases} bases, {negated} single negated rules, {starred} rules with starred objects");
+    println!("{questions} questions, {yes} yes");
+    assert!(bases > 1000 && yes > 10_000 && starred > 1000);
 }

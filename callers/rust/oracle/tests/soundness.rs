@@ -210,12 +210,21 @@ fn broken_one_at_a_time() {
         ("author without right power", |b| b.rules[0][1] = 5),
         ("left subject 1024", |b| b.rules[0][2] = 1024),
         ("left subject starred alone", |b| b.rules[0][2] = 0),
-        ("left object 0", |b| b.rules[1][3] = 0),
+        ("left object starred alone", |b| b.rules[1][3] = 0),
         ("left object 129", |b| b.rules[1][3] = 129),
         ("left object that does not exist", |b| b.rules[1][3] = 10),
         ("right subject 1024", |b| b.rules[0][4] = 1024),
         ("right subject starred alone", |b| b.rules[0][4] = 0),
-        ("right object 0", |b| b.rules[1][5] = 0),
+        ("right object starred alone", |b| b.rules[1][5] = 0),
+        ("right object 129", |b| b.rules[1][5] = 129),
+        ("starred objects, author 0", |b| {
+            b.rules[0][1] = 0;
+            (b.rules[0][3], b.rules[0][5]) = (0, 0)
+        }),
+        ("starred objects, author 1024", |b| {
+            b.rules[0][1] = 1024;
+            (b.rules[0][3], b.rules[0][5]) = (0, 0)
+        }),
         ("right object that does not exist", |b| b.rules[1][5] = 10),
         ("right granter 1024", |b| b.rules[0][6] = 1024),
         ("left mode 9", |b| b.rules[0][7] = 9),
@@ -253,6 +262,29 @@ fn broken_one_at_a_time() {
         }),
         ("link to itself", |b| {
             b.rules[1][3] = 7;
+            b.rules[1][9] = 1;
+            b.rules[1][10] = 5
+        }),
+        // rule 5 meets any object; rule 7 looks at those of 1, and granter and option fit
+        ("circle through a starred object", |b| {
+            (b.rules[0][3], b.rules[0][5]) = (0, 0);
+            b.rules[1][6] = 6;
+            b.rules[1][10] = 0
+        }),
+        ("circle through two starred objects, of authors without a common meter", |b| {
+            b.rules[0][1] = 1000;
+            (b.rules[0][3], b.rules[0][5]) = (0, 0);
+            (b.rules[1][3], b.rules[1][5]) = (0, 0);
+            b.rules[1][6] = 0;
+            b.rules[1][10] = 8
+        }),
+        ("circle of one with a starred object", |b| {
+            (b.rules[1][3], b.rules[1][5]) = (0, 0);
+            b.rules[1][6] = 1;
+            b.rules[1][10] = 0
+        }),
+        ("link to itself with a starred object", |b| {
+            (b.rules[1][3], b.rules[1][5]) = (0, 0);
             b.rules[1][9] = 1;
             b.rules[1][10] = 5
         }),
@@ -311,6 +343,23 @@ fn allowed() {
         ("other sign, so no circle", |b| {
             b.rules[1][6] = 0;
             b.rules[1][10] = 10
+        }),
+        ("starred objects", |b| (b.rules[1][3], b.rules[1][5]) = (0, 0)),
+        ("starred objects of an author without powers", |b| {
+            b.rules[1][1] = 1000;
+            (b.rules[1][3], b.rules[1][5]) = (0, 0)
+        }),
+        ("starred objects, both rules", |b| {
+            (b.rules[0][3], b.rules[0][5]) = (0, 0);
+            (b.rules[1][3], b.rules[1][5]) = (0, 0)
+        }),
+        ("starred objects and no objects", |b| {
+            b.objects.clear();
+            b.administrators.clear();
+            b.referrers.clear();
+            b.lines.clear();
+            b.rules[0] = [5, 1000, 3, 0, 9, 0, 0, 1, 8, 1, 8, 0, 5, 90];
+            (b.rules[1][3], b.rules[1][5]) = (0, 0)
         }),
         ("object 128 and owner 1023", |b| b.objects.push((128, 1023))),
         ("no lines, labels used up", |b| b.lines.clear()),

@@ -14,7 +14,9 @@ returns c =
     let s = c .before .before .before in
     let o = s .before .before in
     let g = o .before in
-    let t4 = g .before in
+    let t6 = g .before in
+    let t5 = t6 .before in
+    let t4 = t5 .before in
     let t3 = t4 .before in
     let t2 = t3 .before in
     let t1 = t2 .before in
@@ -34,17 +36,17 @@ returns c =
         left = record {
           subject = t1 .term .ensures k;
           mode = t2 .term2 .ensures k;
-          object = a .left-object;
+          object = t3 .term3 .ensures k;
           negative = a .left-negative;
         };
         operator = a .operator;
         right = record {
-          subject = t3 .term3 .ensures k;
-          mode = t4 .term4 .ensures k;
-          object = a .right-object;
+          subject = t4 .term4 .ensures k;
+          mode = t5 .term5 .ensures k;
+          object = t6 .term6 .ensures k;
           negative = a .right-negative;
         };
-        grantor = g .term5 .ensures k;
+        grantor = g .term7 .ensures k;
         option = o .option-term .ensures k;
       };
     } in
@@ -58,5 +60,5 @@ access-base-request-spec =
     tie.close
     (tie.spec (λ c κs. search needs) (λ c κs. search needs) (λ c κs. search needs) (λ c κs. search needs)
     (λ c κs. search needs) (λ c κs. search needs) (λ c κs. search needs) (λ c κs. search needs)
-    (λ c. search needs)
+    (λ c κs. search needs) (λ c κs. search needs) (λ c. search needs)
     returns)

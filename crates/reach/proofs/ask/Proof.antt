@@ -5,7 +5,7 @@ use Prim.Native.Nat.{ℕ, _<_}
 use denote.Ref.{now}
 use lib.ListN.{getD}
 use lib.Bits.{and-le-l}
-use Rattle.reach.proofs.Growth.{ask-grown, asked}
+use Rattle.reach.proofs.Growth.{ask-grown, ask-kept, asked}
 use Rattle.reach.proofs.ask.Statement.{statement}
 use Rattle.reach.proofs.ask.Tie as tie
 
@@ -23,6 +23,7 @@ returns c =
     ) in (
       ask-grown (now (a .need)) (now (a .todo)) (a .pair) (a .bits) (p .0) (p .1) o (omega arith),
       asked (now (a .need)) (now (a .todo)) (a .pair) (a .bits) (p .0) (p .1) o (omega arith),
+      ask-kept (now (a .need)) (now (a .todo)) (a .pair) (a .bits) (p .0) (p .1) o (omega arith),
     )
 
 pub ask-spec : {M : Type 1} → statement M

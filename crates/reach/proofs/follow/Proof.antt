@@ -2,13 +2,13 @@
 use borrow.Author.Needs.{needs}
 use native.Mathlib.Omega.{arith}
 use mathlib.Core.Path.{_≡_, sym, ap, _∙_}
-use mathlib.Core.Bool.{true}
+use mathlib.Core.Bool.{Bool, true}
 use Prim.Native.Nat.{ℕ, _-_, _≤_, _<_}
 use denote.Ref.{now}
 use lib.ListN.{length}
 use Rattle.foundation.specs.Masks.{bit}
-use Rattle.reach.specs.Net.{has}
-use Rattle.reach.specs.Reach.{Grown}
+use Rattle.reach.specs.Net.{has, aimPair}
+use Rattle.reach.specs.Reach.{Grown, Kept}
 use Rattle.reach.proofs.Growth.{grown-none, grown-then, Done, done-start, done-turn}
 use Rattle.reach.proofs.follow.Statement.{statement}
 use Rattle.reach.proofs.follow.Tie as tie
@@ -17,6 +17,9 @@ abbrev Inv-loop : tie.InvT-loop
 Inv-loop right rules at need₀ todo₀ r₀ need todo r =
     (r ≤ 64) × Grown need₀ todo₀ need todo
     × Done right rules (at .subjects) (at .object) (at .subject) (at .mode) r need
+    × (r < 64 → bit r rules ≡ true)
+    × ((P : ℕ → Bool) → ((q : ℕ) → q < 64 → bit q rules ≡ true →
+    P (aimPair right (at .subjects) q (at .object) (at .subject)) ≡ true) → Kept P need₀ todo₀ need todo)
 
 abbrev μ-loop : tie.MeasureT-loop
 μ-loop right rules at need₀ todo₀ r₀ need todo r = 64 - r
@@ -29,6 +32,8 @@ loop-holds c =
       grown-none (now (a .need)) (now (a .todo)),
       done-start (now (a .right)) (a .rules) (a .at .subjects) (a .at .object) (a .at .subject) (a .at .mode)
           (c .next-bit .result) (now (a .need)) (λ i l. e .2 i (omega arith) l),
+      e .3,
+      λ P h n t. (n, t),
     )
 
 aim-pair-requires : tie.Need-aim-pair-requires Inv-loop μ-loop
@@ -69,6 +74,10 @@ loop-again c =
           ∙ e .1 b (ap (bit b) (c .before .before .before .before .before .before .before .before .aim-bits
           .ensures) ∙ f))
           (x .2),
+      x .3,
+      λ P h n t. let w = l .inv .4 P h n t in
+          e .2 P (ap P (c .before .before .before .before .before .before .before .before .before .aim-pair
+          .ensures) ∙ h (l .r) (omega arith) (l .inv .3 (omega arith))) (w .0) (w .1),
     )
 
 same-length : tie.Need-same-length Inv-loop μ-loop
@@ -80,7 +89,7 @@ same-length-2 c = c .before .loop .inv .1 .todos
 returns : tie.Need-returns Inv-loop μ-loop
 returns c =
     let i = c .before .loop .inv in
-    (i .1, λ r h. i .2 r (omega arith))
+    (i .1, λ r h. i .2 r (omega arith), i .4)
 
 pub follow-spec : {M : Type 1} → statement M
 follow-spec =

@@ -1,15 +1,17 @@
--- What is needed is closed but for what is to do; where nothing is to do, it is closed.
+-- What is needed is closed but for what is to do; where nothing is to do, it is closed. Both are only where
+-- rules lead.
 use borrow.Author.Needs.{needs}
 use native.Mathlib.Omega.{arith}
 use mathlib.Core.Path.{_≡_, refl, sym, subst, _∙_}
-use mathlib.Core.Bool.{true}
+use mathlib.Core.Bool.{Bool, true}
+use mathlib.Core.List.{List}
 use Prim.Native.Nat.{ℕ, _≤_, _<_}
 use denote.Ref.{now}
 use lib.ListN.{length, getD}
 use Rattle.foundation.specs.Masks.{bit}
-use Rattle.reach.specs.Net.{Net, has, ClosedBut, Formed}
+use Rattle.reach.specs.Net.{Net, has, ClosedBut, Formed, Only}
 use Rattle.reach.specs.Reach.{weight}
-use Rattle.reach.proofs.Growth.{closed-grown, closed-start, closed-end}
+use Rattle.reach.proofs.Growth.{closed-grown, closed-start, closed-end, none-within}
 use Rattle.reach.proofs.reach.Statement.{statement}
 use Rattle.reach.proofs.reach.Tie as tie
 use Rattle.reach.proofs.reach.Reads as reads
@@ -25,6 +27,8 @@ Inv-loop left right subjects pair bits need₀ todo₀ j₀ need todo j =
     × (j < length todo → 0 < getD todo j 0)
     × (length todo ≤ j → (i : ℕ) → i < length todo → getD todo i 0 ≡ 0)
     × (length need ≡ length need₀) × (length todo ≡ length need₀)
+    × Only (record { left = left; right = right; subjects = subjects }) pair need
+    × Only (record { left = left; right = right; subjects = subjects }) pair todo
 
 abbrev μ-loop : tie.MeasureT-loop
 μ-loop left right subjects pair bits need₀ todo₀ j₀ need todo j = weight need todo
@@ -43,12 +47,16 @@ loop-holds c =
     let p = c .before .before .before .before .before .before .before .before .before .before .before .pre in
     let g = c .before .before .before .before .before .before .ask .ensures in
     let net : Net = record { left = now (a .left); right = now (a .right); subjects = a .subjects } in (
-      closed-grown net (g .0) (closed-start net (now (a .need)) (now (a .todo)) (p .3)),
+      closed-grown net (g .0) (closed-start net (now (a .need)) (now (a .todo)) (λ j. p .3 j .0)),
       g .1,
       c .next-todo .ensures .0,
       c .next-todo .ensures .1,
       refl,
       g .0 .todos ∙ p .1 ∙ sym (g .0 .needs),
+      (λ P h d. g .2 P h (none-within P (now (a .need)) (λ j. p .3 j .0))
+          (none-within P (now (a .todo)) (λ j. p .3 j .1)) .0),
+      (λ P h d. g .2 P h (none-within P (now (a .need)) (λ j. p .3 j .0))
+          (none-within P (now (a .todo)) (λ j. p .3 j .1)) .1),
     )
 
 step-requires : tie.Need-step-requires Inv-loop μ-loop
@@ -87,6 +95,8 @@ loop-again c =
       c .next-todo2 .ensures .1,
       o .needs ∙ i .4,
       o .todos ∙ i .5,
+      (λ P h d. o .within P d (i .6 P h d) (i .7 P h d) .0),
+      (λ P h d. o .within P d (i .6 P h d) (i .7 P h d) .1),
     )
 
 same-length : tie.Need-same-length Inv-loop μ-loop
@@ -110,6 +120,7 @@ returns c =
           (i .3 (omega arith)) (i .0),
       i .1,
       i .4 ∙ c .before .before .before .before .before .before .before .before .ask .ensures .0 .needs,
+      i .6,
     )
 
 pub reach-spec : {M : Type 1} → statement M

@@ -1,7 +1,7 @@
 -- The bit is followed, and no longer to do.
 use borrow.Author.Needs.{needs}
 use native.Mathlib.Omega.{arith}
-use mathlib.Core.Path.{_≡_, ap, _∙_}
+use mathlib.Core.Path.{_≡_, sym, ap, _∙_}
 use Prim.Native.Nat.{ℕ, _%_, _<_}
 use denote.Ref.{now}
 use lib.ListN.{length}
@@ -64,13 +64,16 @@ returns c =
     .before .before .before .pre in
     let f = c .before .before .before .before .before .before .follow in
     let g = f .ensures .0 in
+    let s = c .before .before .before .before .before .before .before .before .before .stand in
+    let k = c .before .before .before .before .before .before .before .before .before .before .lowest in
     step-law (record { left = now (a .left); right = now (a .right); subjects = a .subjects })
-    (now (a .need)) (now (a .todo)) (f .last .1 .1 .1 .0) (f .last .1 .1 .1 .1 .0) (a .pair) (c .before
-    .before .before .before .before .before .before .before .before .before .lowest .result)
+    (now (a .need)) (now (a .todo)) (f .last .1 .1 .1 .0) (f .last .1 .1 .1 .1 .0) (a .pair) (k .result)
     (c .without .result) g (omega (arith, g .todos, p .1, p .2))
-    (λ r l o. f .ensures .1 r l (ap (bit r) (c .before .before .before .before .before .before .before
-    .before .before .stand .ensures) ∙ o))
+    (λ r l o. f .ensures .1 r l (ap (bit r) (s .ensures) ∙ o))
     (c .without .ensures .0) (c .without .ensures .2)
+    (λ P d n t. f .ensures .2 P (λ r l o. d (a .pair) (k .result) r
+    (t (a .pair) (k .result) (k .ensures .1)) l (ap (bit r) (sym (s .ensures)) ∙ o)) n t)
+    (c .without .ensures .1)
 
 pub step-spec : {M : Type 1} → statement M
 step-spec =

@@ -131,6 +131,9 @@ module _ (t : ℕ) where
   abbrev strata : (s : List ℕ) → Served s → stratified (decode s .rules) ≡ true
   strata s v = base-sound s (v .sound) .strata
 
+  gives-may-give-requires : gives-lts.Need-may-give-requires (gives-claims t) (gives-at t) gives.Post
+  gives-may-give-requires c κs = c .before .before .pre .1 .0 .sound
+
   gives-returns : gives-lts.Need-returns (gives-claims t) (gives-at t) gives.Post
   gives-returns c =
       let h = c .before in
@@ -139,7 +142,7 @@ module _ (t : ℕ) where
       let a = d .args in
       let b = decode (now (a .s)) in
       steps.gives-not b (strata (now (a .s)) (d .pre .1 .0)) (a .r) (d .pre .1 .1) (a .p) (a .t)
-      (l .may-give .result) (h .has-instant .result) (l .may-give .ensures b) (h .has-instant .ensures)
+      (l .may-give .result) (h .has-instant .result) (l .may-give .ensures) (h .has-instant .ensures)
       (c .if1 .taken)
 
   -- behind the test its operator decides
@@ -157,7 +160,7 @@ module _ (t : ℕ) where
       let a = d .args in
       let b = decode (now (a .s)) in
       steps.gives-says b (strata (now (a .s)) (d .pre .1 .0)) (a .r) (d .pre .1 .1) (a .p) (a .t)
-      (l .may-give .result) (h .has-instant .result) (l .may-give .ensures b) (h .has-instant .ensures)
+      (l .may-give .result) (h .has-instant .result) (l .may-give .ensures) (h .has-instant .ensures)
       (c .if1 .left)
 
   -- and this is known: its left side is p, its interval has begun, and fewer rules are left on a feeding path
@@ -192,7 +195,7 @@ module _ (t : ℕ) where
         d .pre .0,
         ap (sight b) (c .right-of .ensures),
         sight-right b (d .pre .1 .0 .uncircular) (d .args .p) (d .args .r) (d .pre .1 .1)
-            (sym (l .ensures b) ∙ passed c .0),
+            (sym (l .ensures) ∙ passed c .0),
       )
 
   gives-in-force-requires : gives-lts.Need-in-force-requires (gives-claims t) (gives-at t) gives.Post
@@ -456,7 +459,8 @@ module _ (t : ℕ) where
 pub +gives+held+in-force+throughout-spec : {M : Type 1} → statement M
 +gives+held+in-force+throughout-spec = close μ-gives μ-held μ-in-force μ-throughout
     (λ t. gives-lts.spec (gives-claims t) (gives-at t) gives.Post
-    (λ c κs. search needs) (λ c κs. search needs) (gives-returns t) (λ c κs. search needs) (λ c. search needs)
+    (gives-may-give-requires t) (λ c κs. search needs) (gives-returns t) (λ c κs. search needs)
+    (λ c. search needs)
     (gives-in-force-requires t) (λ c. search needs) (gives-throughout-requires t) (λ c. search needs)
     (gives-in-force-requires-2 t) (λ c. search needs) (gives-throughout-requires-2 t)
     (gives-returns-2 t) (gives-returns-3 t) (gives-returns-4 t) (gives-returns-5 t))

@@ -1,6 +1,6 @@
-//! `long REQUESTS SEED`: random sessions, every fourth with denials beside rules, until so many requests were
-//! compared, and a table of what came up.
-use differential::session::{in_force_session, session};
+//! `long REQUESTS SEED`: random sessions, every fourth with denials beside rules and every fourth with rules for all
+//! meters, until so many requests were compared, and a table of what came up.
+use differential::session::{all_meters_session, in_force_session, session};
 use differential::tally::Tally;
 use std::process::ExitCode;
 use std::time::Instant;
@@ -17,7 +17,12 @@ fn main() -> ExitCode {
     let mut seed = first << 32;
     println!("sessions from seed {seed} on");
     while tally.requests() < requests {
-        match if seed % 4 == 3 { in_force_session(seed) } else { session(seed) } {
+        let compared = match seed % 4 {
+            1 => all_meters_session(seed),
+            3 => in_force_session(seed),
+            _ => session(seed),
+        };
+        match compared {
             Ok(more) => tally.add(&more),
             Err(failure) => {
                 println!("{failure:?}\n{tally}\n1 difference");

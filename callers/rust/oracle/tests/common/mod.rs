@@ -104,6 +104,7 @@ impl World {
         q.option = !dice.one_in(3);
         let star_subject = dice.one_in(3);
         let star_mode = dice.one_in(4);
+        let star_object = dice.one_in(3);
         let side = |dice: &mut Dice| Side {
             subject: if star_subject && !dice.one_in(self.wild) {
                 Term::Any
@@ -115,7 +116,11 @@ impl World {
             } else {
                 Term::Number(self.number(dice, self.modes))
             },
-            object: self.number(dice, self.objects),
+            object: if star_object && !dice.one_in(self.wild) {
+                Term::Any
+            } else {
+                Term::Number(self.number(dice, self.objects))
+            },
             negative: dice.one_in(4),
         };
         q.rule = Rule {

@@ -9,7 +9,7 @@ returns c =
     λ k. record {
       subject = c .before .before .number-of .ensures k;
       mode = c .before .number-of2 .ensures k;
-      object = t .object;
+      object = c .number-of3 .ensures k;
       negative = t .negative;
     }
 
@@ -17,4 +17,4 @@ pub side-of-spec : {M : Type 1} → statement M
 side-of-spec =
     tie.close
     (tie.spec (λ c κs. search needs) (λ c. search needs) (λ c κs. search needs) (λ c. search needs)
-    (λ c. search needs) returns)
+    (λ c κs. search needs) (λ c. search needs) returns)

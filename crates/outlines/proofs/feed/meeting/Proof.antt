@@ -5,49 +5,55 @@ use Prim.Native.Nat.{ℕ, _+_}
 use denote.Ref.{now}
 use lib.Dec.{eqb}
 use lib.ListN.{getD}
-use lib.Bits.{bitAnd}
+use lib.Bits.{bitAnd, bitOr}
 use Rattle.foundation.specs.Tests.{pick}
 use Rattle.outlines.specs.Feed.{looksWord, meetingWord}
 use Rattle.outlines.proofs.MaskWords.{looks-below}
 use Rattle.outlines.proofs.feed.meeting.Statement.{statement}
 use Rattle.outlines.proofs.feed.meeting.Tie as tie
 
+mul-meet-subject : tie.Need-mul-meet-subject
+mul-meet-subject c =
+    let b = c .before .before .before in
+    let e = c .looks-word .ensures
+    ∙ ap (λ (m : ℕ). looksWord m (b .args .sign)) (c .before .wide .ensures .0) in
+    omega (arith, looks-below (now (b .args .right)) (b .args .i) (b .pre .2) (b .args .sign) (b .pre .1))
+
+element-copy-out-meet-subject : tie.Need-element-copy-out-meet-subject
+element-copy-out-meet-subject c =
+    let b = c .before .before .before in
+    let e = c .looks-word .ensures
+    ∙ ap (λ (m : ℕ). looksWord m (b .args .sign)) (c .before .wide .ensures .0) in
+    omega (arith, looks-below (now (b .args .right)) (b .args .i) (b .pre .2) (b .args .sign) (b .pre .1))
+
 meet-subject-requires : tie.Need-meet-subject-requires
 meet-subject-requires c κs =
-    let p = c .before .before .before .before .before .pre .2 .subject in
+    let p = c .before .before .before .before .before .before .pre .2 .subject in
     rw (c .wide2 .ensures .0) p
 
-mul-result : tie.Need-mul-result
-mul-result c =
-    let b = c .before .before .before .before .before .before .before .before .before in
-    let e = c .looks-word .ensures
-    ∙ ap (λ (m : ℕ). looksWord m (b .args .sign)) (c .before .wide3 .ensures .0) in
-    omega (arith, looks-below (now (b .args .right)) (b .args .i) (b .pre .2) (b .args .sign) (b .pre .1))
-
-element-copy-out-result : tie.Need-element-copy-out-result
-element-copy-out-result c =
-    let b = c .before .before .before .before .before .before .before .before .before in
-    let e = c .looks-word .ensures
-    ∙ ap (λ (m : ℕ). looksWord m (b .args .sign)) (c .before .wide3 .ensures .0) in
-    omega (arith, looks-below (now (b .args .right)) (b .args .i) (b .pre .2) (b .args .sign) (b .pre .1))
+meet-object-requires : tie.Need-meet-object-requires
+meet-object-requires c κs =
+    let p = c .before .before .before .before .before .before .before .before .before .pre .2 .object in
+    rw (c .wide3 .ensures .0) p
 
 returns : tie.Need-returns
 unfolding meetingWord
 returns c =
     let a = c .before .before .before .before .before .before .before .before .before .before .args in
     let l = now (a .left) in
-    let e = c .before .looks-word .ensures
-    ∙ ap (λ (m : ℕ). looksWord m (a .sign)) (c .before .before .wide3 .ensures .0) in
-    ap₂ (λ (f w : ℕ). bitAnd f (getD l w 0))
-    (c .before .before .before .before .meet-subject .ensures
-    ∙ ap₂ (λ (o s : ℕ). pick (eqb s 255) (getD l o 0) (bitAnd (getD l o 0) (getD l (65 + s) 0)))
-    (c .before .before .before .before .before .before .before .before .wide .ensures .0)
-    (c .before .before .before .before .before .wide2 .ensures .0)) e
+    let k = c .before .before .before .before .before .before .before in
+    let e = k .looks-word .ensures ∙ ap (λ (m : ℕ). looksWord m (a .sign)) (k .before .wide .ensures .0) in
+    let f = c .before .before .before .meet-subject .ensures
+    ∙ ap₂ (λ (w s : ℕ). pick (eqb s 255) (getD l w 0) (bitAnd (getD l w 0) (getD l (65 + s) 0))) e
+    (c .before .before .before .before .wide2 .ensures .0) in
+    c .meet-object .ensures
+    ∙ ap₂ (λ (w o : ℕ). pick (eqb o 255) w (bitAnd w (bitOr (getD l 151 0) (getD l o 0)))) f
+    (c .before .wide3 .ensures .0)
 
 pub meeting-spec : {M : Type 1} → statement M
 meeting-spec =
     tie.close
-    (tie.spec (λ c. search needs) (λ c. search needs) (λ c κs. search needs) (λ c. search needs)
-    (λ c. search needs) (λ c. search needs) (λ c. search needs) (λ c. search needs) (λ c κs. search needs)
-    meet-subject-requires (λ c. search needs) (λ c. search needs) (λ c. search needs) (λ c κs. search needs)
-    (λ c κs. search needs) mul-result element-copy-out-result returns)
+    (tie.spec (λ c. search needs) (λ c. search needs) (λ c. search needs) (λ c κs. search needs)
+    (λ c κs. search needs) mul-meet-subject element-copy-out-meet-subject (λ c. search needs)
+    (λ c. search needs) (λ c. search needs) (λ c κs. search needs) meet-subject-requires (λ c. search needs)
+    (λ c. search needs) (λ c κs. search needs) meet-object-requires returns)

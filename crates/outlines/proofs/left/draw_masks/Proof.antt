@@ -2,7 +2,7 @@ use borrow.Author.Needs.{needs}
 use native.Mathlib.Omega.{arith}
 use mathlib.Core.Path.{_≡_, refl}
 use denote.Ref.{now}
-use Rattle.outlines.proofs.Masking.{masked}
+use Rattle.outlines.proofs.Masking.{written}
 use Rattle.outlines.proofs.left.draw_masks.Statement.{statement}
 use Rattle.outlines.proofs.left.draw_masks.Tie as tie
 
@@ -12,7 +12,7 @@ returns c =
     let g = c .before .before .before .before .before .before .before .before .before .gather in
     let k = c .before .before .before .before .before .before .spread in
     let l = c .before .before .before .spread2 in
-    masked (b .args .n) (b .args .subjects) (now (b .args .sides)) (b .pre .2) (b .pre .1) (g .last .0)
+    written (b .args .n) (b .args .subjects) (now (b .args .sides)) (b .pre .2) (b .pre .1) (g .last .0)
     (k .last .0) (l .last .0) (c .spread3 .last .0) (g .ensures) (k .ensures) (l .ensures)
     (c .spread3 .ensures)
 

@@ -7,24 +7,26 @@ use denote.Ref.{now}
 use lib.Dec.{eqb}
 use lib.ListN.{getD}
 use Rattle.foundation.specs.Masks.{bit}
-use Rattle.outlines.specs.Masks.{subjectWord, modeWord}
-use Rattle.outlines.proofs.MaskWords.{in-word, subject-below, mode-below}
+use Rattle.outlines.specs.Masks.{objectWord, subjectWord, modeWord}
+use Rattle.outlines.proofs.MaskWords.{in-word, object-below, subject-below, mode-below}
 use Rattle.outlines.proofs.left.put_masks.Statement.{statement}
 use Rattle.outlines.proofs.left.put_masks.Tie as tie
 
 put-four-requires : tie.Need-put-four-requires
 put-four-requires c κs =
-    let b = c .before .before .before .before .before .before .before .before .before .before .before in
+    let j = c .before .before .before .before in
+    let k = c .before .before .before .before .before .before .before in
+    let b = k .before .before .before .before .before in
     let s = now (b .args .sides) in
     let i = b .args .i in
     let p = b .pre .1 in
-    let e = c .before .before .before .before .subject-word .ensures ∙ ap subjectWord
-    (c .before .before .before .before .before .wide3 .ensures .0) in
+    let d = k .object-word .ensures ∙ ap objectWord (k .before .wide2 .ensures .0) in
+    let e = j .subject-word .ensures ∙ ap subjectWord (j .before .wide3 .ensures .0) in
     let f = c .before .mode-word .ensures
     ∙ ap₂ (λ (m g : ℕ). modeWord m (g % 2)) (c .before .before .wide4 .ensures .0)
-    (c .before .before .before .before .before .before .before .before .before .wide .ensures .0) in (
+    (k .before .before .before .wide .ensures .0) in (
       b .pre .0,
-      omega (arith, c .before .before .before .before .before .before .before .wide2 .ensures .0, p .object),
+      omega (arith, object-below s i p),
       omega (arith, subject-below s i p),
       omega (arith, mode-below s i p),
       omega arith,
@@ -32,30 +34,28 @@ put-four-requires c κs =
 
 returns : tie.Need-returns
 returns c =
-    let b =
-    c .before .before .before .before .before .before .before .before .before .before .before .before in
+    let j = c .before .before .before .before .before in
+    let k = c .before .before .before .before .before .before .before .before in
+    let g = k .before .before .before in
+    let b = g .before .before in
     let s = now (b .args .sides) in
     let i = b .args .i in
-    let k = c .before .before .before .before .before .before .before .before .before .before in
-    let e = c .before .before .before .before .before .subject-word .ensures ∙ ap subjectWord
-    (c .before .before .before .before .before .before .wide3 .ensures .0) in
+    let d = k .object-word .ensures ∙ ap objectWord (k .before .wide2 .ensures .0) in
+    let e = j .subject-word .ensures ∙ ap subjectWord (j .before .wide3 .ensures .0) in
     let f = c .before .before .mode-word .ensures
-    ∙ ap₂ (λ (m g : ℕ). modeWord m (g % 2)) (c .before .before .before .wide4 .ensures .0)
-    (k .wide .ensures .0) in
+    ∙ ap₂ (λ (m x : ℕ). modeWord m (x % 2)) (c .before .before .before .wide4 .ensures .0)
+    (g .wide .ensures .0) in
     λ w r. c .put-four .ensures w r
     ∙ ap (λ (x : Bool). bit r (getD (now (b .args .left)) w 0) || (eqb r i && x))
-    (in-word s i w (c .before .before .before .before .before .before .before .before .wide2 .result)
-    (c .before .before .before .before .before .subject-word .result)
-    (c .before .before .mode-word .result)
-    (146 + k .wide .result % 2)
-    (c .before .before .before .before .before .before .before .before .wide2 .ensures .0) e f
-    (ap (λ (g : ℕ). 146 + g % 2) (k .wide .ensures .0)))
+    (in-word s i w (k .object-word .result) (j .subject-word .result) (c .before .before .mode-word .result)
+    (146 + g .wide .result % 2) d e f (ap (λ (x : ℕ). 146 + x % 2) (g .wide .ensures .0)))
 
 pub put-masks-spec : {M : Type 1} → statement M
 put-masks-spec =
     tie.close
     (tie.spec (λ c. search needs) (λ c. search needs) (λ c. search needs) (λ c κs. search needs)
     (λ c. search needs) (λ c. search needs)
-    (λ c κs. search needs) (λ c. search needs) (λ c. search needs) (λ c. search needs) (λ c κs. search needs)
+    (λ c κs. search needs) (λ c κs. search needs) (λ c. search needs) (λ c. search needs) (λ c. search needs)
+    (λ c κs. search needs)
     (λ c κs. search needs) (λ c. search needs) (λ c. search needs) (λ c. search needs) (λ c κs. search needs)
     (λ c κs. search needs) (λ c. search needs) (λ c. search needs) put-four-requires returns)

@@ -46,6 +46,7 @@ holds-in-requires c κs =
         sound-bodies s (d .pre .0) (n .result) (n .ensures) (l .result) (r .result) (l .ensures) (r .ensures),
       ),
       d .pre .1,
+      d .pre .0,
     )
 
 returns : tie.Need-returns

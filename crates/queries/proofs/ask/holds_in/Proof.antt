@@ -14,19 +14,20 @@ returns c = λ base b. c .before .with-outline .ensures base b .yes refl
 
 holds-directly-requires : tie.Need-holds-directly-requires
 holds-directly-requires c κs =
-    let s = c .before .before .before .before in
+    let s = c .before .before .before .before .before in
     let r = access-ranges (s .args .x) (s .pre .1) in
     (s .pre .0 .1 .there, omega (arith, r .0), omega (arith, r .3))
 
 returns-2 : tie.Need-returns-2
 returns-2 c =
     let e = c .before in
-    let s = e .before .before .before .before in
+    let s = e .before .before .before .before .before in
     let x = s .args .x in
     let t = s .args .t in
     λ base b. c .holds-directly .ensures
     ∙ ap (λ (xs : List Authorization). heldDirectly xs x t) (sym (b .lines-are))
-    ∙ sym (direct-may base x t (sym (e .before .stands-some .ensures base (b .rules-are)) ∙ e .if1 .left))
+    ∙ sym (direct-may base x t
+    (sym (e .before .stands-some .ensures base (b .rules-are) (b .powers)) ∙ e .if1 .left))
 
 pub holds-in-spec : {M : Type 1} → statement M
 holds-in-spec =

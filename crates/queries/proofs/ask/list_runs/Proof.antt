@@ -46,6 +46,7 @@ runs-narrowed-requires c κs =
             (r .rules-at .ensures),
       ),
       d .pre .1,
+      d .pre .0,
     )
 
 returns : tie.Need-returns

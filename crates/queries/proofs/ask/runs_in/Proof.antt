@@ -9,7 +9,7 @@ use Rattle.queries.proofs.ask.runs_in.Tie as tie
 finish-requires : tie.Need-finish-requires
 finish-requires c κs =
     let w = c .before .before .before in
-    let s = w .before .before .before .before .before in
+    let s = w .before .before .before .before .before .before in
     let b = s .pre .0 in
     λ o. open-few (b .1) (s .args .x) _ _ _ (w .track-of .ensures (b .0) (b .1)) o
 
@@ -17,7 +17,7 @@ returns : tie.Need-returns
 returns c =
     let f = c .before .before in
     let w = f .before .before .before .before in
-    let s = w .before .before .before .before .before in
+    let s = w .before .before .before .before .before .before in
     let x = s .args .x in
     λ base b. filling b x (f .finish .result) (now (s .args .list)) _
     (f .finish .ensures (may base x) (now (s .args .list)) (w .track-of .ensures base b))

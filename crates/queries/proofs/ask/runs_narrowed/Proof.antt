@@ -9,16 +9,16 @@ use Rattle.queries.proofs.ask.runs_narrowed.Tie as tie
 
 runs-if-room-requires-2 : tie.Need-runs-if-room-requires-2
 runs-if-room-requires-2 c κs =
-    let p = c .before .before .before .before .before .before .pre in
-    ((withRules [] (p .0 .0), ruleless-bodies (p .0 .1)), p .1)
+    let p = c .before .before .before .before .before .before .before .pre in
+    ((withRules [] (p .0 .0), ruleless-bodies (p .0 .1)), p .1, p .2)
 
 returns-2 : tie.Need-returns-2
 returns-2 c =
     let r = c .before .before in
     let e = r .before .before in
-    let x = e .before .before .before .before .before .args .x in
+    let x = e .before .before .before .before .before .before .args .x in
     λ base b. ruleless-listing base x
-    (sym (e .before .stands-some .ensures base (b .rules-are)) ∙ e .if1 .left)
+    (sym (e .before .stands-some .ensures base (b .rules-are) (b .powers)) ∙ e .if1 .left)
     (r .runs-if-room2 .ensures (withRules [] base) (ruleless-bodies b))
 
 pub runs-narrowed-spec : {M : Type 1} → statement M

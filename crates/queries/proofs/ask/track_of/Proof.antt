@@ -21,8 +21,8 @@ use Rattle.queries.specs.Starting.{Bodies}
 use Rattle.queries.proofs.ask.track_of.Statement.{statement}
 use Rattle.queries.proofs.ask.track_of.Tie as tie
 
-ruleless : {lines : List ℕ} {total : ℕ} {body : List ℕ} {n : ℕ} {base : Base} →
-    Bodies lines total body n base → n ≡ 0 → (x : Access) →
+ruleless : {holder : Base} {lines : List ℕ} {total : ℕ} {body : List ℕ} {n : ℕ} {base : Base} →
+    Bodies holder lines total body n base → n ≡ 0 → (x : Access) →
     heldDirectly (authorizationsIn total lines) x ≡ may base x
 ruleless {body = body} {base = base} b e x = fun-ext (λ t.
     ap (λ (xs : List Authorization). heldDirectly xs x t) (sym (b .lines-are))
@@ -31,7 +31,7 @@ ruleless {body = body} {base = base} b e x = fun-ext (λ t.
 
 walk-directly-requires : tie.Need-walk-directly-requires
 walk-directly-requires c κs =
-    let s = c .before .before .before .before .before in
+    let s = c .before .before .before .before .before .before in
     let a = s .args in
     let few = and-true (eqb (a .n) 0) (leb (a .total) 64) (c .before .if1 .taken) .1 in (
       true-le (a .total) 64 few,
@@ -44,7 +44,7 @@ returns : tie.Need-returns
 returns c =
     let w = c .before .before in
     let t = w .before .before in
-    let a = t .before .before .before .before .args in
+    let a = t .before .before .before .before .before .args in
     let none = true-eq (a .n) 0 (and-true (eqb (a .n) 0) (leb (a .total) 64) (t .if1 .taken) .0) in
     λ base b. subst (λ (f : ℕ → Bool). Reached f 4294967295 (now (a .list)) 4294967296
     (w .walk-directly .result) (w .walk-directly .last .1 .1 .1 .0)) (ruleless b none (a .x))

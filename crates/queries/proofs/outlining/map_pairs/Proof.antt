@@ -57,6 +57,7 @@ returns c =
       (λ U O. record {
         closed = y .reach .ensures .0;
         size = y .reach .ensures .2 ∙ s .pre .1;
+        only = (s .args .pair, omega (arith, s .pre .5, y .reach .ensures .2), y .reach .ensures .3);
         numbers = (
           omega (
             arith,

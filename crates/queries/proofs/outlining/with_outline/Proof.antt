@@ -7,24 +7,21 @@ use Rattle.queries.proofs.outlining.with_outline.Tie as tie
 
 draw-requires : tie.Need-draw-requires
 draw-requires c κs =
-    let s = c .before .before .before .before .before .before .before .before .before in (
+    let s = c .before .before .before .before .before .before .before .before .before .before in (
       s .pre .0 .1 .grounds,
       zeros-blank 1024,
       zeros-blank 130,
-      zeros-blank 151,
+      zeros-blank 152,
       zeros-blank 128,
       zeros-blank 256,
+      s .pre .2,
     )
 
 with-drawn-requires : tie.Need-with-drawn-requires
 with-drawn-requires c κs =
-    let s = c .before .before .before .before .before .before .before .before .before .before .before .before
-    .before .before .before .before .before in (
-      c .before .before .before .before .before .before .before
-          .draw .ensures,
-      s .pre .1,
-      s .pre .0,
-    )
+    let d = c .before .before .before .before .before .before .before in
+    let s = d .before .before .before .before .before .before .before .before .before .before .before in
+    (d .draw .ensures, s .pre .1, s .pre .0, s .pre .2)
 
 returns : tie.Need-returns
 returns c = c .before .before .with-drawn .ensures .0

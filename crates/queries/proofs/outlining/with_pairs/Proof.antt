@@ -14,18 +14,24 @@ use Rattle.queries.proofs.outlining.with_pairs.Statement.{statement}
 use Rattle.queries.proofs.outlining.with_pairs.Tie as tie
 
 mul-pair : tie.Need-mul-pair
-mul-pair c = let s = c .before .before .before .before .before .before in omega (arith, pair-few (s .pre .4))
+mul-pair c =
+    let s = c .before .before .before .before .before .before in
+    omega (arith, pair-few (s .pre .4 .1 .sketch))
 
 add-pair : tie.Need-add-pair
-add-pair c = let s = c .before .before .before .before .before .before in omega (arith, pair-few (s .pre .4))
+add-pair c =
+    let s = c .before .before .before .before .before .before in
+    omega (arith, pair-few (s .pre .4 .1 .sketch))
 
 cast-pair : tie.Need-cast-pair
-cast-pair c = let s = c .before .before .before .before .before .before in omega (arith, pair-few (s .pre .4))
+cast-pair c =
+    let s = c .before .before .before .before .before .before in
+    omega (arith, pair-few (s .pre .4 .1 .sketch))
 
 map-pairs-requires : tie.Need-map-pairs-requires
 map-pairs-requires c κs =
     let s = c .before .before .before .before .before .before .before .before .before .before in
-    let k = s .pre .4 in (
+    let k = s .pre .4 .1 .sketch in (
       s .pre .0,
       s .pre .1,
       chart-small _ (k .outline .rules .grounds .few) (k .outline .rules .charted) .2,
@@ -43,7 +49,7 @@ needed-rules-requires c κs =
     let m = y .map-pairs .ensures .0 (now (s .args .subjects)) (now (s .args .objects)) in
     let need : List ℕ = y .map-pairs .last .1 .1 .1 .1 .1 .1 .0 in (
       omega (arith, m .grid .2, before-le need (length need), m .codes-are .0),
-      λ i h. code-pair (s .pre .4 .outline) m i h,
+      λ i h. code-pair (s .pre .4 .1 .sketch .outline) m i h,
     )
 
 lasting-of-requires : tie.Need-lasting-of-requires
@@ -51,15 +57,15 @@ lasting-of-requires c κs =
     let y = c .before .before .before .before .before .before .before .before .before .before in
     let s = y .before .before .before .before .before .before .before .before .before .before .before in
     let m = y .map-pairs .ensures .0 (now (s .args .subjects)) (now (s .args .objects)) in
-    needed-in (s .pre .4 .outline) m (c .needed-rules .ensures)
+    needed-in (s .pre .4 .1 .sketch .outline) m (c .needed-rules .ensures)
 
 lay-all-requires : tie.Need-lay-all-requires
 lay-all-requires c κs =
     let y = c .before .before .before .before .before .before .before .before .before .before .before
     .before in
     let s = y .before .before .before .before .before .before .before .before .before .before .before in
-    map-small (s .pre .4 .outline) (y .map-pairs .ensures .0 (now (s .args .subjects)) (now (s .args
-    .objects)))
+    map-small (s .pre .4 .1 .sketch .outline)
+    (y .map-pairs .ensures .0 (now (s .args .subjects)) (now (s .args .objects)))
 
 lay-out-requires : tie.Need-lay-out-requires
 lay-out-requires c κs =
@@ -71,13 +77,14 @@ lay-out-requires c κs =
     let m = y .map-pairs .ensures .0 (now (s .args .subjects)) (now (s .args .objects)) in
     omega (
       arith,
-      lasts-room (s .pre .4) m (r .needed-rules .ensures) (l .lasting-of .result) (l .lasting-of .ensures),
+      lasts-room (s .pre .4 .1 .sketch) m (r .needed-rules .ensures) (l .lasting-of .result)
+          (l .lasting-of .ensures),
     )
 
 mul-t49 : tie.Need-mul-t49
 mul-t49 c = let s = c .before .before .before .before .before .before .before .before .before .before
     .before .before .before .before .before .before .before .before .before .before .before .before .before
-    .before .before .before in omega (arith, pair-few (s .pre .4))
+    .before .before .before in omega (arith, pair-few (s .pre .4 .1 .sketch))
 
 slice-read-t55 : tie.Need-slice-read-t55
 slice-read-t55 c =
@@ -86,7 +93,7 @@ slice-read-t55 c =
     let s = y .before .before .before .before .before .before .before .before .before .before .before in
     let m = y .map-pairs .ensures .0 (now (s .args .subjects)) (now (s .args .objects)) in
     let need : List ℕ = y .map-pairs .last .1 .1 .1 .1 .1 .1 .0 in
-    omega (arith, pair-in (s .pre .4) need (m .size), m .numbers .0)
+    omega (arith, pair-in (s .pre .4 .1 .sketch) need (m .size), m .numbers .0)
 
 cast-t37 : tie.Need-cast-t37
 cast-t37 c =
@@ -98,9 +105,9 @@ cast-t37 c =
     let at : ℕ = s .args .o * s .args .width + s .args .s in
     omega (
       arith,
-      m .numbers .1 at (pair-in (s .pre .4) need (m .size)),
+      m .numbers .1 at (pair-in (s .pre .4 .1 .sketch) need (m .size)),
       before-le need at,
-      pair-few (s .pre .4),
+      pair-few (s .pre .4 .1 .sketch),
     )
 
 looks-from-requires : tie.Need-looks-from-requires
@@ -111,7 +118,8 @@ looks-from-requires c κs =
     .before .before .before .before .before in
     let s = y .before .before .before .before .before .before .before .before .before .before .before in
     let m = y .map-pairs .ensures .0 (now (s .args .subjects)) (now (s .args .objects)) in
-    lasts-in (s .pre .4) m (r .needed-rules .ensures) (l .lasting-of .result) (l .lasting-of .ensures)
+    lasts-in (s .pre .4 .1 .sketch) m (r .needed-rules .ensures) (l .lasting-of .result)
+    (l .lasting-of .ensures)
 
 with-tables-requires : tie.Need-with-tables-requires
 with-tables-requires c κs =
@@ -128,12 +136,12 @@ with-tables-requires c κs =
     .before in
     let s = y .before .before .before .before .before .before .before .before .before .before .before in
     let m = y .map-pairs .ensures .0 (now (s .args .subjects)) (now (s .args .objects)) in (
-      s .pre .5 .0,
+      s .pre .4 .0,
       s .args .x,
       record {
-        tabled = sketch-tabled (s .pre .4) m (r .needed-rules .ensures) (l .lasting-of .result) (h .lay-out
-            .result) _
-            (s .args .one) (s .args .t) (y .map-pairs .ensures .1) (record {
+        holder = s .pre .4 .1 .holder;
+        tabled = sketch-tabled (s .pre .4 .1 .sketch) m (r .needed-rules .ensures) (l .lasting-of .result)
+            (h .lay-out .result) _ (s .args .one) (s .args .t) (y .map-pairs .ensures .1) (record {
               chosen = refl;
               count = u .lay-all .ensures .0;
               laid = u .lay-all .ensures .1;
@@ -141,7 +149,7 @@ with-tables-requires c κs =
               total-is = omega (arith, h .lay-out .ensures .0);
               starts-laid = h .lay-out .ensures .1;
             }) refl refl (z .last-asked .ensures) refl (v .looks-from .ensures);
-        bodies = s .pre .5 .1;
+        bodies = s .pre .4 .1 .bodies;
       },
     )
 
@@ -180,7 +188,8 @@ returns c =
     λ base b.
     finds-answers (s .args .one) (s .args .t) _ base (s .args .x) _ _ _ (z .last-asked .ensures)
     (v .looks-from .ensures .all) refl (w .with-tables .ensures base (s .args .x) (record {
-      tabled = sketch-tabled (s .pre .4) m (r .needed-rules .ensures) (l .lasting-of .result) (h .lay-out
+      holder = b .holder;
+      tabled = sketch-tabled (b .sketch) m (r .needed-rules .ensures) (l .lasting-of .result) (h .lay-out
           .result) _
           (s .args .one) (s .args .t) (y .map-pairs .ensures .1) (record {
             chosen = refl;
@@ -190,7 +199,7 @@ returns c =
             total-is = omega (arith, h .lay-out .ensures .0);
             starts-laid = h .lay-out .ensures .1;
           }) refl refl (z .last-asked .ensures) refl (v .looks-from .ensures);
-      bodies = b;
+      bodies = b .bodies;
     }))
 
 pub with-pairs-spec : {M : Type 1} → statement M

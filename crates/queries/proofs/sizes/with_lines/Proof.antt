@@ -8,8 +8,8 @@ choose-requires c κs =
     let s = c .before .before .before .before .before .before .before .before .before .before in
     ground-ready (s .pre .1 .2) _ (s .pre .0)
 
-with-bits-requires : tie.Need-with-bits-requires
-with-bits-requires c κs =
+with-fields-requires : tie.Need-with-fields-requires
+with-fields-requires c κs =
     let y = c .before .before .before .before in
     let s = y .before .before .before .before .before .before .before .before .before .before .before in (
       s .pre .1 .0,
@@ -23,10 +23,10 @@ returns c =
     let w = c .before .before .before .before in
     let y = w .before .before .before .before .before in
     let s = y .before .before .before .before .before .before .before .before .before .before .before in
-    λ base x g. w .with-bits .ensures base x
+    λ base x g. w .with-fields .ensures base x
     (ground-begun g _ _ (y .choose .result) (s .pre .0) (y .choose .ensures))
 
 pub with-lines-spec : {M : Type 1} → statement M
 with-lines-spec =
     tie.close
-    (tie.spec choose-requires with-bits-requires (λ c. search needs) (λ c. search needs) returns)
+    (tie.spec choose-requires with-fields-requires (λ c. search needs) (λ c. search needs) returns)

@@ -9,7 +9,7 @@ returns : tie.Need-returns
 returns c =
     read-then _ (c .before .before .before .term-at .ensures) refl
     (read-then _ (c .before .before .term-at2 .ensures) refl
-    (read-then _ (c .before .number-at .ensures) refl
+    (read-then _ (c .before .term-at3 .ensures) refl
     (read-last _ (c .sign-at .ensures))))
 
 pub side-at-spec : {M : Type 1} → statement M

@@ -4,7 +4,7 @@ use mathlib.Core.Path.{sym, _∙_}
 use mathlib.Core.Bool.{not}
 use denote.Ref.{now}
 use Rattle.model.specs.Encoding.{decode}
-use Rattle.refusals.proofs.ByKind.{permit-revoke, permit-drop, permit-rule, permit-privilege}
+use Rattle.refusals.proofs.ByKind.{permit-revoke, permit-drop, permit-rule-found, permit-privilege}
 use Rattle.refusals.proofs.ByKind.{permit-none}
 use Rattle.refusals.proofs.rows.not_permitted.Statement.{statement}
 use Rattle.refusals.proofs.rows.not_permitted.Tie as tie
@@ -21,9 +21,12 @@ returns-2 c =
 
 returns-3 : tie.Need-returns-3
 returns-3 c =
-    let a = c .before .before .before .before .before .before .before .before .args in
-    (λ t. not (c .may-rule .ensures t)) ∙ permit-rule (decode (now (a .s))) (a .q)
-    (c .before .before .before .before .if3 .taken)
+    let n = c .before in
+    let k = n .before .before .before .before .before in
+    let a = k .before .before .before .before .args in
+    permit-rule-found (decode (now (a .s))) (a .q) (k .if3 .taken) (n .before .number-of .result)
+    (n .number-of2 .result) (c .may-rule .result)
+    (n .before .number-of .ensures) (n .number-of2 .ensures) (c .may-rule .ensures)
 
 returns-4 : tie.Need-returns-4
 returns-4 c =
@@ -47,5 +50,6 @@ returns-5 c =
 pub not-permitted-spec : {M : Type 1} → statement M
 not-permitted-spec =
     tie.close
-    (tie.spec (λ c κs. search needs) returns (λ c κs. search needs) returns-2 (λ c κs. search needs) returns-3
+    (tie.spec (λ c κs. search needs) returns (λ c κs. search needs) returns-2 (λ c κs. search needs)
+    (λ c κs. search needs) (λ c κs. search needs) returns-3
     (λ c κs. search needs) (λ c κs. search needs) returns-4 returns-5)

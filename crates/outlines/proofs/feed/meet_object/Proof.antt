@@ -1,0 +1,22 @@
+use borrow.Author.Needs.{needs}
+use native.Mathlib.Omega.{arith}
+use mathlib.Core.Path.{_≡_, refl}
+use Rattle.foundation.specs.Tests.{eq-true, ne-false}
+use Rattle.outlines.proofs.feed.meet_object.Statement.{statement}
+use Rattle.outlines.proofs.feed.meet_object.Tie as tie
+
+returns : tie.Need-returns
+returns c = rw (eq-true _ _ (c .if1 .taken))
+
+mul-result : tie.Need-mul-result
+mul-result c = omega (arith, c .before .before .pre (c .before .if1 .left))
+
+element-copy-out-result-2 : tie.Need-element-copy-out-result-2
+element-copy-out-result-2 c = omega (arith, c .before .before .pre (c .before .if1 .left))
+
+returns-2 : tie.Need-returns-2
+returns-2 c = rw (ne-false _ _ (c .before .before .if1 .left))
+
+pub meet-object-spec : {M : Type 1} → statement M
+meet-object-spec =
+    tie.close (tie.spec returns (λ c. search needs) mul-result element-copy-out-result-2 returns-2)
