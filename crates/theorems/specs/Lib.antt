@@ -8,3 +8,5 @@ pub mod Orders
 pub mod Refusals
 pub mod Starred
 pub mod Cases
+pub mod Isolation
+pub mod Neighbours

@@ -5,6 +5,7 @@ pub mod counts;
 pub mod damage;
 pub mod generator;
 pub mod image;
+pub mod neighbours;
 pub mod pair;
 pub mod random;
 pub mod session;
