@@ -123,7 +123,11 @@ module _ (base : Base) (s : stratified (base .rules) ≡ true) (r : Rule) (m : M
       not-later : r .interval .start < u → r .interval .start ≤ e
       not-later y = cases (leb (r .interval .start) e)
           (λ q. true-le (r .interval .start) e q)
-          (λ q. absurd (omega (arith, start-unmarked base r m e (u - 1) c (false-le (r .interval .start) e q))))
+          (λ q. absurd (omega (
+            arith,
+            start-unmarked base r m e (u - 1) c (false-le (r .interval .start) e
+                q),
+          )))
 
       -- once broken, it stays so
       gone : lasting (r .operator) ≡ true → inInterval (r .interval) u ≡ true → broken ≡ true → b ≡ false

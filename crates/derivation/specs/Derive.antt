@@ -63,7 +63,8 @@ module _ (r : Rule) (k : ℕ) (ms : ℕ → ℕ) (f : Framed r k ms) (right : �
     (inside : (i : ℕ) → bit i active ≡ true → i < k)
     (holds : (i : ℕ) → i < k → bit i held ≡ right i)
     (fresh : ms 0 ≤ r .interval .start → broken ≡ false)
-    (past : lasting (r .operator) ≡ true → r .interval .start < ms 0 → inInterval (r .interval) (ms 0) ≡ true →
+    (past : lasting (r .operator) ≡ true → r .interval .start < ms 0 → inInterval (r .interval) (ms 0) ≡
+    true →
     before ≡ not broken)
     (d : Derived (r .operator) held active broken v) where
   -- a rule with no instant in the window derives nothing
@@ -82,7 +83,8 @@ module _ (r : Rule) (k : ℕ) (ms : ℕ → ℕ) (f : Framed r k ms) (right : �
       let outside : (j : ℕ) → j < a → inInterval (r .interval) (ms j) ≡ false =
       λ j g. sym (acts j (omega arith)) ∙ w .none j g in
       d .word a w i ∙ cases (lasting (r .operator))
-      (λ e. word-made r k ms f right before broken held active acts holds (λ g. past e g (goes a l there g)) fresh
+      (λ e. word-made r k ms f right before broken held active acts holds (λ g. past e g (goes a l there g))
+      fresh
       a l there outside i h)
       (λ e. word-made r k ms f right (not broken) broken held active acts holds (λ g. refl) fresh
       a l there outside i h

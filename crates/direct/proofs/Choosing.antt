@@ -158,20 +158,21 @@ module _ (lines which : List ℕ) (t : ℕ) where
   found-none negative = sym (ap (anyb (signedAt t negative)) (picked-none lines which))
 
   module _ (i : ℕ) (a : Authorization) (h : i < length which)
-      (read : a ≡ authorizationAt lines (getD which i 0)) (l : Bool) (e : l ≡ inInterval (a .interval) t) where
-    more : (negative v : Bool) → v ≡ signedAt t negative a →
-        (g : Bool) → g ≡ foundIn negative i → g || v ≡ foundIn negative (i + 1)
-    more negative v q g f =
-        let next = authorizationAt lines (getD which i 0) in
-        ap₂ (λ (b c : Bool). b || c) f (q ∙ ap (signedAt t negative) read)
-        ∙ ap (λ (b : Bool). foundIn negative i || b) (sym (or-false (signedAt t negative next)))
-        ∙ sym (ap (foundIn negative) (add-one i)
-        ∙ ap (anyb (signedAt t negative)) (picked-more lines which i h)
-        ∙ any-append (signedAt t negative) (picked lines which i) (next ∷ []))
+      (read : a ≡ authorizationAt lines (getD which i 0)) (l : Bool) (e : l ≡ inInterval (a .interval) t)
+    where
+      more : (negative v : Bool) → v ≡ signedAt t negative a →
+          (g : Bool) → g ≡ foundIn negative i → g || v ≡ foundIn negative (i + 1)
+      more negative v q g f =
+          let next = authorizationAt lines (getD which i 0) in
+          ap₂ (λ (b c : Bool). b || c) f (q ∙ ap (signedAt t negative) read)
+          ∙ ap (λ (b : Bool). foundIn negative i || b) (sym (or-false (signedAt t negative next)))
+          ∙ sym (ap (foundIn negative) (add-one i)
+          ∙ ap (anyb (signedAt t negative)) (picked-more lines which i h)
+          ∙ any-append (signedAt t negative) (picked lines which i) (next ∷ []))
 
-    pub granted-more : (g : Bool) → g ≡ foundIn false i →
-        g || (l && not (a .head .negative)) ≡ foundIn false (i + 1)
-    granted-more = more false (l && not (a .head .negative)) (λ k. e k && is-positive (a .head .negative) k)
+      pub granted-more : (g : Bool) → g ≡ foundIn false i →
+          g || (l && not (a .head .negative)) ≡ foundIn false (i + 1)
+      granted-more = more false (l && not (a .head .negative)) (λ k. e k && is-positive (a .head .negative) k)
 
-    pub denied-more : (g : Bool) → g ≡ foundIn true i → g || (l && a .head .negative) ≡ foundIn true (i + 1)
-    denied-more = more true (l && a .head .negative) (λ k. e k && is-negative (a .head .negative) k)
+      pub denied-more : (g : Bool) → g ≡ foundIn true i → g || (l && a .head .negative) ≡ foundIn true (i + 1)
+      denied-more = more true (l && a .head .negative) (λ k. e k && is-negative (a .head .negative) k)

@@ -14,7 +14,9 @@ use model::AUTHORIZATION_BYTES;
 use model::Access;
 use relevance::Chosen;
 use relevance::counted;
+use relevance::near_at;
 use relevance::next_of;
+use relevance::nothing_near;
 use scan::Track;
 use scan::note;
 
@@ -84,10 +86,12 @@ fn walk_among(lines: &[u8], which: &[u16], n: usize, list: &mut [u32]) -> Track
         from: 0,
     };
     let mut t: u64 = 0;
+    let mut near = nothing_near();
     while t < 4294967296 {
         let at = t as u32;
         w = note(list, w, at, holds_among(lines, which, n, at));
-        t = next_of(lines, which, lines, c, at);
+        near = near_at(lines, which, lines, c, near, at);
+        t = next_of(near);
     }
     w
 }

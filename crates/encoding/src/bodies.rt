@@ -56,7 +56,8 @@ pub fn put_privilege(s: &mut [u8], at: usize, p: Privilege)
 // The interval at a place.
 fn interval_at(s: &[u8], at: usize) -> Interval
     requires { ⌜ at + 8 ≤ length (now s) ⌝ }
-    ensures { λ r. ⌜ r ≡ interval (le 4 (drop at (now (s .entry)))) (le 4 (drop (at + 4) (now (s .entry)))) ⌝ }
+    ensures { λ r. ⌜ r ≡ interval (le 4 (drop at (now (s .entry)))) (le 4 (drop (at + 4) (now (s .entry))))
+        ⌝ }
 {
     Interval {
         start: fields::le32(s, at),
@@ -67,7 +68,8 @@ fn interval_at(s: &[u8], at: usize) -> Interval
 // Writes an interval at a place.
 fn put_interval(s: &mut [u8], at: usize, i: Interval)
     requires { ⌜ at + 8 ≤ length (now s) ⌝ }
-    ensures { λ _. ⌜ now (s .exit) ≡ splice at (bytesOf 4 (i .start) ++ bytesOf 4 (i .end)) (now (s .entry)) ⌝ }
+    ensures { λ _. ⌜ now (s .exit) ≡ splice at (bytesOf 4 (i .start) ++ bytesOf 4 (i .end)) (now (s .entry))
+        ⌝ }
 {
     fields::put32(s, at, i.start);
     fields::put32(s, at + 4, i.end);

@@ -8,7 +8,7 @@ ghost use Rattle.derivation.specs.Derive.{Derived};
 use model::Operator;
 
 // Whether an operator looks back to the rule's start.
-fn is_lasting(o: Operator) -> bool
+pub fn is_lasting(o: Operator) -> bool
     ensures { λ r. ⌜ r ≡ lasting o ⌝ }
 {
     match o {

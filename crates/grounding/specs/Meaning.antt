@@ -1,6 +1,6 @@
 -- What the steps of a turn mean. A scene says which access a place stands for, and which pattern a table has
 -- of it (`pat`); the words of a scene are the fields of the tables (`wordsIn`). A step gives what the rule
--- derives (`turn-valued`), and once all steps are done that is in the tables (`turn-given`).
+-- derives, and once all steps are done that is in the tables (`turn-given`).
 use mathlib.Core.Path.{_≡_, refl, sym, ap, ap₂, _∙_, subst}
 use mathlib.Core.Bool.{Bool, true, false, not, _&&_, _||_, true≢false}
 use mathlib.Core.List.{List}
@@ -112,7 +112,8 @@ module _ (z : Scene) where
   module _ (placed : Placed) (x : Access) (m : z .matters x ≡ true) (taken : ℕ → Bool) (v : ℕ)
       (old new : List ℕ) (wanted : ℕ → Bool)
       (alike : (T : ℕ) → Kept T x → taken T ≡ wanted T)
-      (g : Given (tablesOf (z .frame) (z .right) (z .first)) (z .frame .width) (placeOf x .pair) (z .spot x) taken
+      (g : Given (tablesOf (z .frame) (z .right) (z .first)) (z .frame .width) (placeOf x .pair) (z .spot x)
+      taken
       v old new) where
     abbrev field : ℕ → Access → ℕ
     field T y = fieldIn (tablesOf (z .frame) (z .right) (z .first)) T (placeOf y .pair) (z .spot y)
@@ -144,9 +145,11 @@ module _ (z : Scene) where
     same-access y n e =
         let p = z .spot y in
         let q = z .spot x in
-        let w = and-three (eqb (p .subject) (q .subject)) (eqb (p .object) (q .object)) (eqb (p .mode) (q .mode)) .0
+        let w = and-three (eqb (p .subject) (q .subject)) (eqb (p .object) (q .object)) (eqb (p .mode) (q
+        .mode)) .0
         e in
-        placed .apart y x n m (true-eq (p .subject) (q .subject) (w .0)) (true-eq (p .object) (q .object) (w .1))
+        placed .apart y x n m (true-eq (p .subject) (q .subject) (w .0)) (true-eq (p .object) (q .object) (w
+        .1))
         (true-eq (p .mode) (q .mode) (w .2))
 
     pub given-joined : Joined Kept (wordsIn old) (wordsIn new) wanted x v
@@ -267,7 +270,8 @@ module _ (z : Scene) where
 
       step-right : RightWords old → PrecedersDone old → (i : ℕ) → i < count →
           bit i (step .value) ≡ truth (z .base) (ms i) r x
-      step-right a fed = turn-right (z .base) strata count ms w patterns (pat-on (z .rule)) Kept (wordsIn old) a
+      step-right a fed = turn-right (z .base) strata count ms w patterns (pat-on (z .rule)) Kept (wordsIn
+          old) a
           r (turn .mem) x (step .value) step-evaluated s fed
 
       pub step-valued : RightWords old → PrecedersDone old → RightWords new

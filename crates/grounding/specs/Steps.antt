@@ -99,7 +99,8 @@ module _ (t : Turn) (f : Frame) (number : List ℕ) where
     pub value : ℕ
     pub derived : Derived (t .operator) (forceIn t f number old (p .spot)) (t .active)
         (brokenIn t (f .grid) bits p) value
-    pub given : Given (tablesOf f right first) (f .width) (p .pair) (p .spot) (takes (t .sign) (t .takers)) value
+    pub given : Given (tablesOf f right first) (f .width) (p .pair) (p .spot) (takes (t .sign) (t .takers))
+        value
         old new
 
   -- the rule is marked as broken at a place, if it derives nothing there at the last instant
@@ -186,6 +187,8 @@ module _ (t : Turn) (f : Frame) (left need codes : List ℕ) where
   AtPair from to q = (n : ℕ) × (m : ℕ) × (from ≤ n) × (n < to) × StandsAt n m × (q ≡ placeAt n m)
 
   -- a step for each place of the range at which the rule stands
-  pub record PairsRan (Does : Place → List ℕ → List ℕ → Type 0) (from to : ℕ) (old new : List ℕ) : Type 0 where
-    pub steps : Steps Does (AtPair from to) old new
-    pub all : (n m : ℕ) → from ≤ n → n < to → StandsAt n m → Visited Does (AtPair from to) (placeAt n m) old new
+  pub record PairsRan (Does : Place → List ℕ → List ℕ → Type 0) (from to : ℕ) (old new : List ℕ) : Type 0
+    where
+      pub steps : Steps Does (AtPair from to) old new
+      pub all : (n m : ℕ) → from ≤ n → n < to → StandsAt n m → Visited Does (AtPair from to) (placeAt n m) old
+          new

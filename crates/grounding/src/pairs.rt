@@ -4,17 +4,17 @@ ghost use mathlib.Core.Bool.{true};
 ghost use Prim.Native.Nat.{ℕ, _+_, _*_, _^_, _≤_, _<_};
 ghost use lib.ListN.{length, getD};
 ghost use Rattle.foundation.specs.Masks.{bit};
+ghost use Rattle.questions.specs.Operators.{lasting};
 ghost use Rattle.words.specs.Sums.{Grown};
 ghost use Rattle.places.specs.Regions.{sizeOf};
 ghost use Rattle.tables.specs.Layout.{whole};
 ghost use Rattle.tables.specs.Giving.{Ready, Reaches};
-ghost use Rattle.questions.specs.Operators.{lasting};
 ghost use Rattle.derivation.specs.Derive.{Derived};
 ghost use Rattle.grounding.specs.Steps.{turned, turnedSpot, pairIn, rightPlace, forceAt, forceIn};
 ghost use Rattle.grounding.specs.Steps.{brokenIn, modesAt, Step, Mark, ModesReady, ModesRan};
 ghost use Rattle.grounding.specs.Steps.{PairsReady, PairsRan, Ordinary, Reads};
 use crate::Turn;
-use model::Operator;
+use evaluation::is_lasting;
 use places::Grid;
 use places::Region;
 use places::Spot;
@@ -60,18 +60,6 @@ fn right_place(t: Turn, g: Grid, number: &[u16], x: Spot) -> Place
     Place {
         pair: number[j] as u32,
         spot: y,
-    }
-}
-
-// Whether an operator looks back to the rule's start.
-fn is_lasting(o: Operator) -> bool
-    ensures { λ r. ⌜ r ≡ lasting o ⌝ }
-{
-    match o {
-        Operator::Whenever => false,
-        Operator::AsLongAs => true,
-        Operator::WheneverNot => false,
-        Operator::Unless => true,
     }
 }
 

@@ -157,7 +157,12 @@ module _ {field : Rule → ℕ} {i : ℕ} {body U U′ : List ℕ} {size size′
             (λ n. absurd (let t : _≡_ {A = Bool} true false =
             sym (rw (e′, n)) ∙ f in let y : _≡_ {A = ℕ} 0 1 = cc in omega arith))
             (λ n. let k = false-eq (getD U own 0) 0 n in omega (arith, o own))))
-            (λ q. let ne = false-eq j i q in omega (arith, o (field (ruleAt body j)), m .named j (omega arith) e));
+            (λ q. let ne = false-eq j i q in omega (
+              arith,
+              o (field (ruleAt body j)),
+              m .named j (omega
+                  arith) e,
+            ));
         onto = λ c h l. let w = m .onto c h (omega arith) in (w .0, o (w .0) ∙ w .1);
         star = o 0 ∙ m .star;
       }

@@ -1,4 +1,4 @@
--- Four codes of a side stored (`four-coded`, `four-kept`), and the codes of one rule more (`coded-turn`).
+-- Four codes of a side stored (`four-kept`), and the codes of one rule more (`coded-turn`).
 use mathlib.Core.Path.{_≡_, refl, sym, _∙_}
 use mathlib.Core.List.{List}
 use Prim.Native.Nat.{ℕ, _+_, _*_, _/_, _<_}

@@ -1,28 +1,33 @@
--- The least distance is that of the next mark, and marks can be looked at in any order.
-use mathlib.Core.Path.{_≡_, refl, sym, ap, _∙_}
-use mathlib.Core.Bool.{true, false}
-use mathlib.Core.List.{List, [], _∷_, _++_}
-use Prim.Native.Nat.{ℕ, zero, suc, _+_, _*_, _-_, _≤_, _<_}
+-- The least distance is that of the next mark; marks can be looked at in any order, and kind by kind; and the
+-- next mark of a kind stands as long as it is not reached.
+use mathlib.Core.Path.{_≡_, refl, sym, ap, _∙_, subst}
+use mathlib.Core.Bool.{Bool, true, false, _&&_, false≢true}
+use mathlib.Core.Logic.{inl, inr}
+use mathlib.Core.List.{List, [], _∷_, _++_, map}
+use Prim.Native.Nat.{ℕ, zero, suc, _+_, _*_, _-_, _/_, _^_, _≤_, _<_}
+use native.Mathlib.Nat.{zero-div}
 use native.Mathlib.Omega.{arith}
 use lib.Dec.{leb, ltb}
 use native.Mathlib.Numerals.{add-one}
 use lib.ListN.{length, drop, getD, drop-of-length-le}
 use lib.Seq.{drop-drop}
 use Rattle.foundation.specs.Tests.{pick, cases, le-true, le-false, true-le, false-le}
-use Rattle.foundation.specs.Tests.{and-false, ltb-trans}
-use Rattle.foundation.specs.Marks.{next}
+use Rattle.foundation.specs.Tests.{and-false, and-true}
+use Rattle.foundation.specs.Marks.{next, next-above}
 use Rattle.foundation.specs.Masks.{bit}
+use Rattle.marks.specs.Least.{Found, next-is, NextMark, next-mark}
 use Rattle.marks.specs.Marks.{sooner, next-append, next-nil}
 use Rattle.model.specs.declared.Authorization.{Authorization}
 use Rattle.model.specs.declared.Rule.{Rule}
 use Rattle.model.specs.Encoding.{ruleOf}
-use Rattle.model.specs.Means.{marksOf, ruleMarks}
+use Rattle.model.specs.Means.{marksOf, ruleMarks, marks}
 use Rattle.encoding.specs.Format.{rulesIn}
 use Rattle.foundation.specs.Records.{record-nth, length-records}
 use Rattle.relevance.specs.Chosen.{authorizationAt, picked, picked-none, picked-more}
-use Rattle.relevance.specs.Chosen.{selectedFrom, selected, marksFor}
-use Rattle.relevance.specs.declared.Chosen.{Chosen}
-use Rattle.relevance.specs.Distance.{reached}
+use Rattle.relevance.specs.Chosen.{selectedFrom, selected}
+use Rattle.relevance.specs.Distance.{edge, lineEdges, ruleEdges, Away, reached}
+use Rattle.relevance.specs.Ahead.{Stands, NearAt, Standing}
+use Rattle.relevance.specs.declared.ahead.Near.{Near}
 
 -- ---- sooner is a least number
 
@@ -83,18 +88,6 @@ next-first t x [] d = refl
 next-first t x (m ∷ ms) d =
     sooner-swap t x m (next t ms d) ∙ ap (sooner t m) (next-first t x ms d)
 
--- two marks, looked at first or last
-last-two : (t m n : ℕ) (ms : List ℕ) (d : ℕ) →
-    next t ms (sooner t m (sooner t n d)) ≡ sooner t m (sooner t n (next t ms d))
-unfolding next
-last-two t m n ms d =
-    sym (next-first t m ms (sooner t n d)) ∙ ap (sooner t m) (sym (next-first t n ms d))
-
-first-two : (t m n : ℕ) (ms : List ℕ) (d : ℕ) →
-    sooner t m (sooner t n (next t ms d)) ≡ next t (m ∷ n ∷ ms) d
-unfolding next
-first-two t m n ms d = refl
-
 -- ---- the rules whose bit is set
 
 -- those without a bit are passed over, whether there are so many or not
@@ -120,99 +113,121 @@ skip-to {A} m xs i j h none =
     ∙ ap (selectedFrom m (i + (j - i))) (drop-drop (j - i) i xs)
     ∙ ap (λ (k : ℕ). selectedFrom m k (drop k xs)) e
 
+-- the rules that are left: those from the r-th on, which is one of them
+pub record Rest (needed rest r : ℕ) : Type 0 where
+  pub few : r ≤ 64
+  pub here : r < 64 → bit r rest ≡ true
+  pub below : (j : ℕ) → j < r → bit j rest ≡ false
+  pub same : (j : ℕ) → r ≤ j → bit j rest ≡ bit j needed
+
+some-bit : (i m : ℕ) → bit i m ≡ true → 1 ≤ m
+some-bit i zero e =
+    let z : bit i 0 ≡ false = rw (zero-div (2 ^ i)) in
+    absurd (false≢true (sym z ∙ e))
+some-bit i (suc m) e = omega arith
+
+pub rest-some : (needed rest r : ℕ) → Rest needed rest r → r < 64 → 1 ≤ rest
+rest-some needed rest r w h = some-bit r rest (w .here h)
+
+module _ (needed rest r rest' r' : ℕ) (w : Rest needed rest r) (h : r < 64)
+    (left : (i : ℕ) → bit i rest' ≡ ltb r i && bit i rest) (few : r' ≤ 64)
+    (none : (i : ℕ) → 0 ≤ i → i < r' → bit i rest' ≡ false) (here : r' < 64 → bit r' rest' ≡ true) where
+  pub rest-up : r < r'
+  rest-up = cases (ltb r' 64)
+      (λ e. true-le (suc r) r' (and-true (ltb r r') (bit r' rest)
+      (sym (left r') ∙ here (true-le (suc r') 64 e)) .0))
+      (λ e. omega (arith, false-le (suc r') 64 e))
+
+  kept : (j : ℕ) → r < j → bit j rest' ≡ bit j needed
+  kept j l = left j ∙ rw (le-true (suc r) j l) (w .same j (omega arith))
+
+  pub rest-turn : Rest needed rest' r'
+  rest-turn = record {
+    few = few;
+    here = here;
+    below = λ j l. none j (omega arith) l;
+    same = λ j l. kept j (omega (arith, rest-up));
+  }
+
+  pub rest-between : (j : ℕ) → suc r ≤ j → j < r' → bit j needed ≡ false
+  rest-between j l g = sym (kept j l) ∙ none j (omega arith) g
+
 -- ---- authorizations, from the first to the last
 
-pub line-none : (s which : List ℕ) (t d : ℕ) → next t (marksOf (picked s which 0)) d ≡ d
-line-none s which t d = ap (λ (xs : List Authorization). next t (marksOf xs) d) (picked-none s which)
-    ∙ next-nil t d
+pub line-none : (s which : List ℕ) (ends : Bool) (t d : ℕ) → next t (lineEdges ends (picked s which 0)) d ≡ d
+line-none s which ends t d =
+    ap (λ (xs : List Authorization). next t (lineEdges ends xs) d) (picked-none s which) ∙ next-nil t d
 
-marks-more : (xs : List Authorization) (a : Authorization) →
-    marksOf (xs ++ (a ∷ [])) ≡ marksOf xs ++ (a .interval .start ∷ suc (a .interval .end) ∷ [])
-marks-more [] a = refl
-marks-more (x ∷ xs) a =
-    ap (λ (ms : List ℕ). x .interval .start ∷ suc (x .interval .end) ∷ ms) (marks-more xs a)
+edges-more : (ends : Bool) (xs : List Authorization) (a : Authorization) →
+    lineEdges ends (xs ++ (a ∷ [])) ≡ lineEdges ends xs ++ (edge ends (a .interval) ∷ [])
+edges-more ends [] a = refl
+edges-more ends (x ∷ xs) a = ap (λ (ms : List ℕ). edge ends (x .interval) ∷ ms) (edges-more ends xs a)
+
+-- a mark behind others
+next-last : (t : ℕ) (ms : List ℕ) (m d : ℕ) → next t (ms ++ (m ∷ [])) d ≡ sooner t m (next t ms d)
+unfolding next
+next-last t ms m d = next-append t ms (m ∷ []) d ∙ sym (next-first t m ms d)
 
 -- a turn
-pub line-turn : (s which : List ℕ) (t d i : ℕ) (a : Authorization) → i < length which →
+pub line-turn : (s which : List ℕ) (ends : Bool) (t d i : ℕ) (a : Authorization) → i < length which →
     a ≡ authorizationAt s (getD which i 0) →
-    next t (marksOf (picked s which (i + 1))) d
-    ≡ sooner t (a .interval .start)
-    (sooner t (suc (a .interval .end)) (next t (marksOf (picked s which i)) d))
-unfolding next
-line-turn s which t d i a h e =
-    let m : ℕ = a .interval .start in
-    let n : ℕ = suc (a .interval .end) in
-    let ms = marksOf (picked s which i) in
-    ap (λ (k : ℕ). next t (marksOf (picked s which k)) d) (add-one i)
-    ∙ ap (λ (xs : List Authorization). next t (marksOf xs) d) (picked-more s which i h
+    next t (lineEdges ends (picked s which (i + 1))) d
+    ≡ sooner t (edge ends (a .interval)) (next t (lineEdges ends (picked s which i)) d)
+line-turn s which ends t d i a h e =
+    ap (λ (k : ℕ). next t (lineEdges ends (picked s which k)) d) (add-one i)
+    ∙ ap (λ (xs : List Authorization). next t (lineEdges ends xs) d) (picked-more s which i h
     ∙ ap (λ (b : Authorization). picked s which i ++ (b ∷ [])) (sym e))
-    ∙ ap (λ (xs : List ℕ). next t xs d) (marks-more (picked s which i) a)
-    ∙ next-append t ms (m ∷ n ∷ []) d
-    ∙ last-two t m n ms d
+    ∙ ap (λ (xs : List ℕ). next t xs d) (edges-more ends (picked s which i) a)
+    ∙ next-last t (lineEdges ends (picked s which i)) (edge ends (a .interval)) d
 
 -- ---- rules, from the first to the last
 
 -- the marks of the needed rules from the r-th on, and what is found so far, lead to the mark looked for
-unfoldable pub Left : List ℕ → ℕ → ℕ → ℕ → ℕ → ℕ → ℕ → Type 0
-Left body k needed t d best r =
-    next t (ruleMarks (selectedFrom needed r (drop r (rulesIn k body)))) best
-    ≡ next t (ruleMarks (selected needed (rulesIn k body))) d
+unfoldable pub Left : List ℕ → ℕ → ℕ → Bool → ℕ → ℕ → ℕ → Type 0
+Left body k needed ends t best r =
+    next t (ruleEdges ends (selectedFrom needed r (drop r (rulesIn k body)))) best
+    ≡ next t (ruleEdges ends (selected needed (rulesIn k body))) 4294967296
 
-module _ (body : List ℕ) (k needed t d : ℕ) where
-  pub left-start : (r : ℕ) → ((j : ℕ) → j < r → bit j needed ≡ false) → Left body k needed t d d r
+module _ (body : List ℕ) (k needed : ℕ) (ends : Bool) (t : ℕ) where
+  pub left-start : (r : ℕ) → ((j : ℕ) → j < r → bit j needed ≡ false) →
+      Left body k needed ends t 4294967296 r
   unfolding Left
   left-start r h =
-      ap (λ (rs : List Rule). next t (ruleMarks rs) d)
+      ap (λ (rs : List Rule). next t (ruleEdges ends rs) 4294967296)
       (sym (skip-to needed (rulesIn k body) 0 r (omega arith) (λ j l g. h j g)))
 
   pub left-turn : (best more r r' : ℕ) (q : Rule) → r < k → bit r needed ≡ true →
       q ≡ ruleOf (drop (r * 28) body) →
-      more ≡ sooner t (q .interval .start) (sooner t (suc (q .interval .end)) best) → suc r ≤ r' →
-      ((j : ℕ) → suc r ≤ j → j < r' → bit j needed ≡ false) → Left body k needed t d best r →
-      Left body k needed t d more r'
+      more ≡ sooner t (edge ends (q .interval)) best → suc r ≤ r' →
+      ((j : ℕ) → suc r ≤ j → j < r' → bit j needed ≡ false) → Left body k needed ends t best r →
+      Left body k needed ends t more r'
   unfolding Left
   left-turn best more r r' q h b e f l none i =
       let rs = rulesIn k body in
-      let m : ℕ = q .interval .start in
-      let n : ℕ = suc (q .interval .end) in
-      let ms = ruleMarks (selectedFrom needed (suc r) (drop (suc r) rs)) in
+      let ms = ruleEdges ends (selectedFrom needed (suc r) (drop (suc r) rs)) in
       let nth : drop r rs ≡ q ∷ drop (suc r) rs =
       record-nth 28 ruleOf k body r h ∙ ap (λ (x : Rule). x ∷ drop (suc r) rs) (sym e) in
       let here : selectedFrom needed r (drop r rs) ≡ q ∷ selectedFrom needed (suc r) (drop (suc r) rs) =
       ap (selectedFrom needed r) nth ∙ rw b in
-      ap (λ (xs : List Rule). next t (ruleMarks xs) more)
+      ap (λ (xs : List Rule). next t (ruleEdges ends xs) more)
       (sym (skip-to needed rs (suc r) r' l none))
       ∙ ap (next t ms) f
-      ∙ last-two t m n ms best
-      ∙ first-two t m n ms best
-      ∙ ap (λ (xs : List Rule). next t (ruleMarks xs) best) (sym here)
+      ∙ sym (next-first t (edge ends (q .interval)) ms best)
+      ∙ ap (λ (xs : List Rule). next t (ruleEdges ends xs) best) (sym here)
       ∙ i
 
-  pub left-end : (best r : ℕ) → k ≤ r → Left body k needed t d best r →
-      best ≡ next t (ruleMarks (selected needed (rulesIn k body))) d
+  pub left-end : (best r : ℕ) → k ≤ r → Left body k needed ends t best r →
+      best ≡ next t (ruleEdges ends (selected needed (rulesIn k body))) 4294967296
   unfolding Left
   left-end best r h i =
       let rs = rulesIn k body in
       let l = length-records 28 ruleOf k body in
       let z : drop r rs ≡ [] = drop-of-length-le rs {i = r} (omega arith) in
-      sym (ap (λ (xs : List Rule). next t (ruleMarks (selectedFrom needed r xs)) best) z ∙ next-nil t best)
+      sym (ap (λ (xs : List Rule). next t (ruleEdges ends (selectedFrom needed r xs)) best) z
+      ∙ next-nil t best)
       ∙ i
 
 -- ---- distances
-
-abbrev least : ℕ → ℕ → ℕ
-least a b = pick (ltb a b) a b
-
-least-three : (a b c : ℕ) → least a (least b c) ≡ least (least a b) c
-least-three a b c = cases (ltb b c)
-    (λ e. cases (ltb a b)
-    (λ f. rw (e, f, ltb-trans a b c f e))
-    (λ f. rw (e, f, e)))
-    (λ e. cases (ltb a b)
-    (λ f. rw (e, f))
-    (λ f. let h = false-le (suc b) c e in
-    let l = false-le (suc a) b f in
-    rw (e, f, e, le-false (suc a) c (omega arith))))
 
 pub reached-none : (t d : ℕ) → 4294967295 - t ≤ d → reached t d ≡ 4294967296
 unfolding reached
@@ -223,20 +238,19 @@ unfolding reached
 reached-near t d h = rw (le-true (suc d) (4294967295 - t) h)
 
 -- the lesser distance is that of the sooner mark, a being the distance of m
-pub closer : (t best a m : ℕ) → t < 4294967296 → m ≤ 4294967296 → a < 4294967296 →
-    (t < m → a + t + 1 ≡ m) → (m ≤ t → a + t + 1 ≡ m + 4294967296) →
+pub closer : (t best a m : ℕ) → t < 4294967296 → Away t m a →
     reached t (pick (ltb best a) best a) ≡ sooner t m (reached t best)
 unfolding reached
-closer t best a m ht hm ha near far = cases (leb m t)
+closer t best a m ht w = let hm = w .bounded in cases (leb m t)
     (λ e. let h = true-le m t e in
-    let f = far h in
+    let f = w .far h in
     cases (ltb best a)
     (λ l. rw l (sym (sooner-past t m (reached t best) h)))
     (λ l. let k = false-le (suc best) a l in
     rw l (reached-none t a (omega arith)
     ∙ sym (sooner-past t m (reached t best) h ∙ reached-none t best (omega arith)))))
     (λ e. let h = false-le m t e in
-    let f = near h in
+    let f = w .near h in
     cases (ltb best a)
     (λ l. let k = true-le (suc best) a l in
     rw l (sym (sooner-high t m (reached t best) (some best m (omega arith) hm))))
@@ -267,23 +281,158 @@ closer t best a m ht hm ha near far = cases (leb m t)
         ∙ sym (ap (sooner t m) (reached-none t best (omega arith))
         ∙ sooner-high t m 4294967296 (omega arith)))
 
--- the marks of what matters: those of the rules, then those of the authorizations before them
-pub found : (lines which body : List ℕ) (c : Chosen) (t r d : ℕ) →
-    reached t r ≡ next t (ruleMarks (selected (c .needed) (rulesIn (c .rules) body))) (reached t 4294967295) →
-    reached t d ≡ next t (marksOf (picked lines which (c .authorizations))) (reached t r) →
-    reached t d ≡ next t (marksFor lines which body c) 4294967296
-unfolding marksFor
-found lines which body c t r d e f =
-    let ms = marksOf (picked lines which (c .authorizations)) in
-    let rs = ruleMarks (selected (c .needed) (rulesIn (c .rules) body)) in
-    f
-    ∙ ap (next t ms) (e ∙ ap (next t rs) (reached-none t 4294967295 (omega arith)))
-    ∙ sym (next-append t ms rs 4294967296)
+-- ---- kind by kind
 
--- the least of a distance and those of the two marks of an interval
-pub closest : (t best b s m n r x : ℕ) → x ≡ least b s → r ≡ least best x →
-    reached t (least best b) ≡ sooner t n (reached t best) →
-    reached t (least (least best b) s) ≡ sooner t m (reached t (least best b)) →
-    reached t r ≡ sooner t m (sooner t n (reached t best))
-closest t best b s m n r x e f p q =
-    ap (reached t) (f ∙ ap (least best) e ∙ least-three best b s) ∙ q ∙ ap (sooner t m) p
+-- marks of starts, then those of ends
+line-kinds : (t : ℕ) (xs : List Authorization) (d : ℕ) →
+    next t (marksOf xs) d ≡ next t (lineEdges false xs) (next t (lineEdges true xs) d)
+unfolding next
+line-kinds t [] d = refl
+line-kinds t (x ∷ xs) d =
+    let s : ℕ = x .interval .start in
+    let e : ℕ = suc (x .interval .end) in
+    let fs = lineEdges false xs in
+    ap (λ (k : ℕ). sooner t s (sooner t e k)) (line-kinds t xs d)
+    ∙ ap (sooner t s) (next-first t e fs (next t (lineEdges true xs) d))
+
+rule-kinds : (t : ℕ) (xs : List Rule) (d : ℕ) →
+    next t (ruleMarks xs) d ≡ next t (ruleEdges false xs) (next t (ruleEdges true xs) d)
+unfolding next
+rule-kinds t [] d = refl
+rule-kinds t (x ∷ xs) d =
+    let s : ℕ = x .interval .start in
+    let e : ℕ = suc (x .interval .end) in
+    let fs = ruleEdges false xs in
+    ap (λ (k : ℕ). sooner t s (sooner t e k)) (rule-kinds t xs d)
+    ∙ ap (sooner t s) (next-first t e fs (next t (ruleEdges true xs) d))
+
+abbrev pub low : ℕ → ℕ → ℕ
+low a b = pick (ltb a b) a b
+
+low-le : (a b : ℕ) → (low a b ≤ a) × (low a b ≤ b)
+low-le a b = cases (ltb a b)
+    (λ e. rw e (omega arith, omega (arith, true-le (suc a) b e)))
+    (λ e. rw e (omega (arith, false-le (suc a) b e), omega arith))
+
+low-left : (a b : ℕ) → a ≤ b → low a b ≡ a
+low-left a b h = cases (ltb a b)
+    (λ e. rw e)
+    (λ e. rw e (omega (arith, false-le (suc a) b e)))
+
+low-right : (a b : ℕ) → b ≤ a → low a b ≡ b
+low-right a b h = rw (le-false (suc a) b (omega arith))
+
+-- a mark that is sooner than the lesser of two
+sooner-least : (t m x d : ℕ) → sooner t m (low x d) ≡ low (sooner t m x) d
+sooner-least t m x d = cases (leb m t)
+    (λ e. let h = true-le m t e in
+    sooner-past t m (low x d) h ∙ sym (ap (λ (k : ℕ). low k d) (sooner-past t m x h)))
+    (λ e. let h = false-le m t e in cases (ltb m x)
+    (λ f. let l = true-le (suc m) x f in
+    let q : sooner t m x ≡ m = sooner-low t m x h l in
+    cases (ltb m d)
+    (λ g. let k = true-le (suc m) d g in
+    sooner-low t m (low x d) h (above l k) ∙ sym (ap (λ (n : ℕ). low n d) q ∙ low-left m d (omega arith)))
+    (λ g. let k = false-le (suc m) d g in
+    let p : low x d ≡ d = low-right x d (omega arith) in
+    ap (sooner t m) p ∙ sooner-high t m d (omega arith)
+    ∙ sym (ap (λ (n : ℕ). low n d) q ∙ low-right m d (omega arith))))
+    (λ f. let l = false-le (suc m) x f in
+    sooner-high t m (low x d) (omega (arith, low-le x d))
+    ∙ sym (ap (λ (n : ℕ). low n d) (sooner-high t m x (omega arith)))))
+  where
+    above : m < x → m < d → m < low x d
+    above h l = cases (ltb x d) (λ e. rw e h) (λ e. rw e l)
+
+-- marks are looked at from d on, or by themselves
+next-least-of : (t : ℕ) (ms : List ℕ) (d : ℕ) → d ≤ 4294967296 →
+    next t ms d ≡ low (next t ms 4294967296) d
+unfolding next
+next-least-of t [] d h = sym (low-right 4294967296 d h)
+next-least-of t (m ∷ ms) d h =
+    ap (sooner t m) (next-least-of t ms d h) ∙ sooner-least t m (next t ms 4294967296) d
+
+next-bounded : (t : ℕ) (ms : List ℕ) → next t ms 4294967296 ≤ 4294967296
+next-bounded t ms = go (next-is t 4294967296 ms)
+  where
+    go : {n : ℕ} → Found t 4294967296 ms n → n ≤ 4294967296
+    go (inl e) = omega arith
+    go (inr w) = omega (arith, w .2)
+
+-- the next mark is still the next at an instant before it
+next-stands : (t m : ℕ) (ms : List ℕ) → t ≤ m → m < next t ms 4294967296 →
+    next t ms 4294967296 ≡ next m ms 4294967296
+unfolding next
+next-stands t m [] h l = refl
+next-stands t m (x ∷ ms) h l =
+    let n : ℕ = next t ms 4294967296 in
+    cases (leb x t)
+    (λ e. let k = true-le x t e in
+    let p : sooner t x n ≡ n = sooner-past t x n k in
+    p ∙ next-stands t m ms h (omega arith)
+    ∙ sym (sooner-past m x (next m ms 4294967296) (omega arith)))
+    (λ e. let k = false-le x t e in cases (ltb x n)
+    (λ f. let g = true-le (suc x) n f in
+    let p : sooner t x n ≡ x = sooner-low t x n k g in
+    let i : n ≡ next m ms 4294967296 = next-stands t m ms h (omega arith) in
+    p ∙ sym (sooner-low m x (next m ms 4294967296) (omega arith) (omega arith)))
+    (λ f. let g = false-le (suc x) n f in
+    let p : sooner t x n ≡ n = sooner-high t x n (omega arith) in
+    let i : n ≡ next m ms 4294967296 = next-stands t m ms h (omega arith) in
+    p ∙ i ∙ sym (sooner-high m x (next m ms 4294967296) (omega arith))))
+
+module _ (xs : List Authorization) (rs : List Rule) (t : ℕ) (n : Near) (w : NearAt xs rs t n) where
+  abbrev least-rule : ℕ
+  least-rule = low (n .rules .starts) (n .rules .ends)
+
+  abbrev least-end : ℕ
+  least-end = low (n .lines .ends) least-rule
+
+  -- the next mark is the least of the four
+  pub least-mark : low (n .lines .starts) least-end ≡ next t (marks xs rs) 4294967296
+  least-mark =
+      let a : ℕ = next t (ruleEdges true rs) 4294967296 in
+      let b : ℕ = next t (ruleEdges false rs) a in
+      let c : ℕ = next t (lineEdges true xs) b in
+      let p : b ≡ least-rule =
+      next-least-of t (ruleEdges false rs) a (next-bounded t (ruleEdges true rs))
+      ∙ ap (λ (k : ℕ). low k a) (sym (w .rule-starts)) ∙ ap (low (n .rules .starts)) (sym (w .rule-ends)) in
+      let u : a ≤ 4294967296 = next-bounded t (ruleEdges true rs) in
+      let q : c ≡ least-end =
+      next-least-of t (lineEdges true xs) b
+      (omega (arith, low-le (n .rules .starts) (n .rules .ends), w .rule-ends))
+      ∙ ap (λ (k : ℕ). low k b) (sym (w .line-ends)) ∙ ap (low (n .lines .ends)) p in
+      let r : next t (lineEdges false xs) c ≡ low (n .lines .starts) least-end =
+      next-least-of t (lineEdges false xs) c
+      (omega (
+        arith,
+        low-le (n .lines .ends) least-rule,
+        low-le (n .rules .starts) (n .rules .ends),
+        w
+            .rule-ends,
+      ))
+      ∙ ap (λ (k : ℕ). low k c) (sym (w .line-starts)) ∙ ap (low (n .lines .starts)) q in
+      sym (next-append t (marksOf xs) (ruleMarks rs) 4294967296
+      ∙ ap (next t (marksOf xs)) (rule-kinds t rs 4294967296)
+      ∙ line-kinds t xs b
+      ∙ r)
+
+  -- what is promised of it
+  pub promised : (m : ℕ) → m ≡ low (n .lines .starts) least-end →
+      (m ≡ next t (marks xs rs) 4294967296) × NextMark xs rs t m × Standing xs rs m n
+  promised m e =
+      let f : m ≡ next t (marks xs rs) 4294967296 = e ∙ least-mark in
+      let h : t < m = subst (λ (k : ℕ). t < k) (sym f)
+      (next-above t (marks xs rs) 4294967296 (w .instant)) in (
+        f,
+        subst (NextMark xs rs t) (sym f) (next-mark xs rs t),
+        record {
+          line-starts = stands h (lineEdges false xs) (n .lines .starts) (w .line-starts);
+          line-ends = stands h (lineEdges true xs) (n .lines .ends) (w .line-ends);
+          rule-starts = stands h (ruleEdges false rs) (n .rules .starts) (w .rule-starts);
+          rule-ends = stands h (ruleEdges true rs) (n .rules .ends) (w .rule-ends);
+        },
+      )
+    where
+      stands : t < m → (ms : List ℕ) (k : ℕ) → k ≡ next t ms 4294967296 → Stands m ms k
+      stands h ms k q l = q ∙ next-stands t m ms (omega arith) (omega arith)

@@ -108,3 +108,8 @@ pub record Matters (lines which body : List ℕ) (c : Chosen) : Type 0 where
 unfoldable pub marksFor : List ℕ → List ℕ → List ℕ → Chosen → List ℕ
 marksFor lines which body c =
     marks (picked lines which (c .authorizations)) (selected (c .needed) (rulesIn (c .rules) body))
+
+pub marks-for : (lines which body : List ℕ) (c : Chosen) → marksFor lines which body c
+    ≡ marks (picked lines which (c .authorizations)) (selected (c .needed) (rulesIn (c .rules) body))
+unfolding marksFor
+marks-for lines which body c = refl

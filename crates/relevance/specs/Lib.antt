@@ -1,5 +1,6 @@
 pub mod Chosen
 pub mod Distance
+pub mod Ahead
 pub mod Filling
 pub mod Needed
 pub mod Forgotten

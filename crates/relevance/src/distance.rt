@@ -1,19 +1,16 @@
-// The next mark of the authorizations and rules that matter, by distances: how far behind the instant after t
-// a mark lies, modulo 2^32. What is not behind t is then farther than what is, so that the least distance is
-// all that is looked for.
+// The next mark of one kind, the starts or the ends of authorizations or of rules, by distances: how far
+// behind the instant after t a mark lies, modulo 2^32. What is not behind t is then farther than what is, so
+// that the least distance is all that is looked for.
 ghost use mathlib.Core.Path.{_≡_};
-ghost use Prim.Native.Nat.{suc, _*_, _≤_};
+ghost use Prim.Native.Nat.{_*_, _≤_};
 ghost use lib.Dec.{ltb};
 ghost use lib.ListN.{length};
 ghost use Rattle.foundation.specs.Tests.{pick};
 ghost use Rattle.foundation.specs.Marks.{next};
-ghost use Rattle.model.specs.Means.{marksOf, ruleMarks};
 ghost use Rattle.encoding.specs.Format.{rulesIn};
-ghost use Rattle.marks.specs.Least.{NextMark};
 ghost use Rattle.marks.specs.Marks.{sooner};
-ghost use Rattle.relevance.specs.Chosen.{Picks, picked, selected, Matters, marksFor};
-ghost use Rattle.relevance.specs.Distance.{reached};
-use crate::Chosen;
+ghost use Rattle.relevance.specs.Chosen.{Picks, picked, selected};
+ghost use Rattle.relevance.specs.Distance.{edge, lineEdges, ruleEdges, Away, reached};
 use encoding::authorization_at;
 use encoding::rule_at;
 use foundation::Interval;
@@ -21,6 +18,7 @@ use model::AUTHORIZATION_BYTES;
 use model::RULE_BYTES;
 use std::num::wrapping_sub_u32;
 use words::next_bit;
+use words::without_lowest;
 
 fn lesser(a: u32, b: u32) -> u32
     ensures { λ r. ⌜ r ≡ pick (ltb a b) a b ⌝ }
@@ -31,62 +29,66 @@ fn lesser(a: u32, b: u32) -> u32
     b
 }
 
-// The least of a distance and those of the marks of an interval.
-fn nearer(best: u32, i: Interval, t: u32) -> u32
-    ensures { λ r. ⌜ reached t r ≡ sooner t (i .start) (sooner t (suc (i .end)) (reached t best)) ⌝ }
+// The distance of an interval's start, or of the instant behind its end.
+fn distance_of(i: Interval, ends: bool, t: u32) -> u32
+    ensures { λ r. ⌜ Away t (edge ends i) r ⌝ }
 {
-    let start = wrapping_sub_u32(wrapping_sub_u32(i.start, t), 1);
-    let behind = wrapping_sub_u32(i.end, t);
-    lesser(best, lesser(behind, start))
+    if ends {
+        return wrapping_sub_u32(i.end, t);
+    }
+    wrapping_sub_u32(wrapping_sub_u32(i.start, t), 1)
 }
 
-// The least of a distance and those of the marks of n authorizations.
-fn nearest_line(lines: &[u8], which: &[u16], n: usize, t: u32, from: u32) -> u32
-    requires { ⌜ Picks (now lines) (now which) n ⌝ }
-    ensures { λ r. ⌜ reached t r
-        ≡ next t (marksOf (picked (now (lines .entry)) (now (which .entry)) n)) (reached t from) ⌝ }
+// The lesser of a distance and that of an interval's mark.
+fn nearer(best: u32, i: Interval, ends: bool, t: u32) -> u32
+    ensures { λ r. ⌜ reached t r ≡ sooner t (edge ends i) (reached t best) ⌝ }
 {
-    let mut best = from;
+    lesser(best, distance_of(i, ends, t))
+}
+
+// The mark at a distance, or 2^32 where that lies behind the last instant.
+fn mark_at(t: u32, d: u32) -> u64
+    ensures { λ r. ⌜ r ≡ reached t d ⌝ }
+{
+    if d < 4294967295 - t {
+        return t as u64 + 1 + d as u64;
+    }
+    4294967296
+}
+
+// The least start, or instant behind an end, of n authorizations above t; 2^32 where there is none.
+pub fn nearest_line(lines: &[u8], which: &[u16], n: usize, ends: bool, t: u32) -> u64
+    requires { ⌜ Picks (now lines) (now which) n ⌝ }
+    ensures { λ r. ⌜ r
+        ≡ next t (lineEdges ends (picked (now (lines .entry)) (now (which .entry)) n)) 4294967296 ⌝ }
+{
+    let mut best = 4294967295;
     let mut i = 0;
     while i < n {
         let at = which[i] as usize;
         let a = authorization_at(lines, at * AUTHORIZATION_BYTES);
         let iv = a.interval;
-        best = nearer(best, iv, t);
+        best = nearer(best, iv, ends, t);
         i += 1;
     }
-    best
+    mark_at(t, best)
 }
 
-// The least of a distance and those of the marks of the rules of k that are needed.
-fn nearest_rule(body: &[u8], k: usize, needed: u64, t: u32, from: u32) -> u32
+// The same of the rules of k that are needed.
+pub fn nearest_rule(body: &[u8], k: usize, needed: u64, ends: bool, t: u32) -> u64
     requires { ⌜ (k * 28 ≤ length (now body)) × (k ≤ 64) ⌝ }
-    ensures { λ r. ⌜ reached t r
-        ≡ next t (ruleMarks (selected needed (rulesIn k (now (body .entry))))) (reached t from) ⌝ }
+    ensures { λ r. ⌜ r
+        ≡ next t (ruleEdges ends (selected needed (rulesIn k (now (body .entry))))) 4294967296 ⌝ }
 {
-    let mut best = from;
-    let mut r = next_bit(needed, 0);
+    let mut best = 4294967295;
+    let mut rest = needed;
+    let mut r = next_bit(rest, 0);
     while (r as usize) < k {
         let q = rule_at(body, (r as usize) * RULE_BYTES);
         let iv = q.interval;
-        best = nearer(best, iv, t);
-        r = next_bit(needed, r + 1);
+        best = nearer(best, iv, ends, t);
+        rest = without_lowest(rest);
+        r = next_bit(rest, 0);
     }
-    best
-}
-
-// The least mark above t of what matters, or 2^32 where there is none.
-pub fn next_of(lines: &[u8], which: &[u16], body: &[u8], c: Chosen, t: u32) -> u64
-    requires { ⌜ Matters (now lines) (now which) (now body) c ⌝ }
-    ensures { λ r. ⌜ (r
-        ≡ next t (marksFor (now (lines .entry)) (now (which .entry)) (now (body .entry)) c) 4294967296)
-        × NextMark (picked (now (lines .entry)) (now (which .entry)) (c .authorizations))
-        (selected (c .needed) (rulesIn (c .rules) (now (body .entry)))) t r ⌝ }
-{
-    let d = nearest_rule(body, c.rules, c.needed, t, 4294967295);
-    let d = nearest_line(lines, which, c.authorizations, t, d);
-    if d < 4294967295 - t {
-        return t as u64 + 1 + d as u64;
-    }
-    4294967296
+    mark_at(t, best)
 }

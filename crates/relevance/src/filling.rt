@@ -5,7 +5,9 @@ ghost use lib.ListN.{length};
 ghost use Rattle.relevance.specs.Chosen.{Matters, marksFor};
 ghost use Rattle.relevance.specs.Filling.{Fills};
 use crate::Chosen;
-use crate::distance::next_of;
+use crate::ahead::near_at;
+use crate::ahead::next_of;
+use crate::ahead::nothing_near;
 
 // How many instants a window has, and the next behind it.
 pub struct Filled {
@@ -31,10 +33,12 @@ pub fn fill(
 {
     let mut count = 0;
     let mut t = from;
+    let mut near = nothing_near();
     while (count < width) & (t <= to as u64) {
         marks[count] = t as u32;
         count += 1;
-        t = next_of(lines, which, body, c, t as u32);
+        near = near_at(lines, which, body, c, near, t as u32);
+        t = next_of(near);
     }
     Filled {
         count: count,

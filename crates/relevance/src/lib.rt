@@ -1,15 +1,20 @@
 // The authorizations and rules that matter to a question, and a window of the instants at which they change.
+mod ahead;
 mod choice;
 mod distance;
 mod filling;
 
+pub use ahead::Edges;
+pub use ahead::Near;
+pub use ahead::near_at;
+pub use ahead::next_of;
+pub use ahead::nothing_near;
 pub use choice::Cell;
 pub use choice::cell_of;
 pub use choice::choose;
 pub use choice::counted;
 pub use choice::forget;
 pub use choice::sign_of;
-pub use distance::next_of;
 pub use filling::Filled;
 pub use filling::fill;
 

@@ -27,7 +27,8 @@ fn is_on(a: Authorization, object: u32) -> bool
 // How many of n authorizations are on the object.
 fn count_on(lines: &[u8], n: usize, object: u32) -> usize
     requires { ⌜ n * 24 ≤ length (now lines) ⌝ }
-    ensures { λ r. ⌜ (r ≡ length (keepIf (isOn object) (authorizationsIn n (now (lines .entry))))) × (r ≤ n) ⌝ }
+    ensures { λ r. ⌜ (r ≡ length (keepIf (isOn object) (authorizationsIn n (now (lines .entry))))) × (r ≤ n)
+        ⌝ }
 {
     let mut k = 0;
     let mut i = 0;

@@ -98,7 +98,8 @@ fn remaining(roots: &[u8], s: &[u8], q: Request, out: &mut [u8], sorted: &mut [u
         × Room (now out) (now sorted) ⌝ }
     requires { ⌜ (decode (now roots) .objects ≡ objectsAfter q (decode (now s) .objects))
         × (decode (now roots) .administrators ≡ administratorsAfter q (decode (now s) .administrators)) ⌝ }
-    ensures { λ r. ⌜ Built (effect plainly (decode (now (s .entry))) q .authorizations) r (now (out .exit)) ⌝ }
+    ensures { λ r. ⌜ Built (effect plainly (decode (now (s .entry))) q .authorizations) r (now (out .exit))
+        ⌝ }
 {
     let c = cut_of(q);
     let k = encoding::counts_of(roots);

@@ -1,20 +1,13 @@
-// Which rule feeds which, which links to which, and masks of rules. The tests for circles and the strata of
-// the rules: `ranks`.
+// Which rule feeds which, and which links to which. The tests for circles and the strata of the rules:
+// `ranks`.
 ghost use mathlib.Core.Path.{_≡_};
-ghost use mathlib.Core.Bool.{Bool·beq, false};
-ghost use Prim.Native.Nat.{ℕ, _*_, _≤_, _<_};
-ghost use lib.ListN.{length};
+ghost use mathlib.Core.Bool.{Bool·beq};
 ghost use Rattle.model.specs.Stratification as model;
-ghost use Rattle.model.specs.Encoding.{bit};
-ghost use Rattle.foundation.specs.Masks.{maskOf};
-ghost use Rattle.rules.specs.Strata.{feedersOf, Holds};
-ghost use Rattle.encoding.specs.Format.{rulesIn};
 
 mod ranks;
 
 use model::Operator;
 use model::OptionTerm;
-use model::RULE_BYTES;
 use model::Rule;
 pub use ranks::is_circular;
 pub use ranks::is_stratified;
@@ -89,60 +82,4 @@ pub fn negates(r: Rule) -> bool
         Operator::WheneverNot => true,
         Operator::Unless => true,
     }
-}
-
-// The rules that feed r, as a mask: bit i is the i-th rule's.
-pub fn feeders(s: &[u8], n: usize, r: Rule) -> u64
-    requires { ⌜ (n * 28 ≤ length (now s)) × (n ≤ 64) ⌝ }
-    ensures { λ x. ⌜ x ≡ feedersOf (rulesIn n (now (s .entry))) r ⌝ }
-{
-    let mut m = 0;
-    let mut q = n;
-    while 0 < q {
-        q -= 1;
-        m = 2 * m + feeds(encoding::rule_at(s, q * RULE_BYTES), r) as u64;
-    }
-    m
-}
-
-// The WHENEVERNOT and UNLESS rules, as a mask.
-pub fn negating(s: &[u8], n: usize) -> u64
-    requires { ⌜ (n * 28 ≤ length (now s)) × (n ≤ 64) ⌝ }
-    ensures { λ x. ⌜ x ≡ maskOf model.negates (rulesIn n (now (s .entry))) ⌝ }
-{
-    let mut m = 0;
-    let mut i = n;
-    while 0 < i {
-        i -= 1;
-        m = 2 * m + negates(encoding::rule_at(s, i * RULE_BYTES)) as u64;
-    }
-    m
-}
-
-// Puts the mask of each rule's feeders in its place.
-pub fn feeding(s: &[u8], n: usize, fed: &mut [u64; 64])
-    requires { ⌜ (n * 28 ≤ length (now s)) × (n ≤ 64) ⌝ }
-    ensures { λ _. ⌜ Holds n (now (s .entry)) (feedersOf (rulesIn n (now (s .entry)))) (now (fed .exit)) ⌝ }
-{
-    *fed = [0; 64];
-    let mut i = 0;
-    while i < n {
-        fed[i] = feeders(s, n, encoding::rule_at(s, i * RULE_BYTES));
-        i += 1;
-    }
-}
-
-// The number of the first bit of m that is set, from the r-th on and below the n-th; n if there is none.
-pub fn next_bit(m: u64, r: usize, n: usize) -> usize
-    requires { ⌜ (r ≤ n) × (n ≤ 64) ⌝ }
-    ensures { λ k. ⌜ (r ≤ k) × (k ≤ n) × ((i : ℕ) → r ≤ i → i < k → bit i m ≡ false) ⌝ }
-{
-    if n <= r {
-        return n;
-    }
-    let k = r + u64::trailing_zeros(m >> (r as u32)) as usize;
-    if k < n {
-        return k;
-    }
-    n
 }

@@ -9,22 +9,10 @@ ghost use Rattle.questions.specs.Operators.{lasting};
 ghost use Rattle.encoding.specs.Format.{ruleAt};
 ghost use Rattle.selection.specs.Selection.{RulesIn};
 use encoding::rule_at;
+use evaluation::is_lasting;
 use masks::with_if;
-use model::Operator;
 use model::RULE_BYTES;
 use words::next_bit;
-
-// Whether an operator looks back to the rule's start.
-fn is_lasting(o: Operator) -> bool
-    ensures { λ r. ⌜ r ≡ lasting o ⌝ }
-{
-    match o {
-        Operator::Whenever => false,
-        Operator::AsLongAs => true,
-        Operator::WheneverNot => false,
-        Operator::Unless => true,
-    }
-}
 
 // Of some rules those that look back.
 pub fn lasting_of(body: &[u8], rules: u64) -> u64

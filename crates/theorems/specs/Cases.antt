@@ -117,15 +117,17 @@ table =
     ∷ case (text ("0 1 NEW 7" ∷ []) ++ manyGrants 1024) (text ("done 0 0" ∷ []) ++ manyDone 1024 1)
     ∷ []
 
--- 02, CR 8: subject 9 has nothing and writes a rule for all meters. Who refers to a meter gains nothing by it,
--- an administrator does while it is one, and an owner; a star on one side gets 3, and one closes a circle
+-- 02, CR 8: subject 9 has nothing and writes a rule for all meters. Who refers to a meter gains nothing by
+-- it, an administrator does while it is one, and an owner; a star on one side gets 3, and one closes a circle
 abbrev pub allMeters : Case
 allMeters = case
     (text ("0 9 ADDRULE 3 1 * + WHENEVER 4 1 * + * * 0 99" ∷ "0 1 NEW 7" ∷ "0 1 GRANT 1 7 4 5 9 n"
-    ∷ "0 1 GRANTREF 7 9" ∷ "WHEN 3 1 7" ∷ "1 1 GRANTADM 7 9" ∷ "WHEN 3 1 7" ∷ "2 1 REVOKEADM 7 9" ∷ "WHEN 3 1 7"
+    ∷ "0 1 GRANTREF 7 9" ∷ "WHEN 3 1 7" ∷ "1 1 GRANTADM 7 9" ∷ "WHEN 3 1 7" ∷ "2 1 REVOKEADM 7 9" ∷
+    "WHEN 3 1 7"
     ∷ "2 9 ADDRULE 3 1 * + WHENEVER 4 1 7 + * * 2 9" ∷ "2 8 ADDRULE 4 1 * + WHENEVERNOT 3 1 * + * * 2 9"
     ∷ "3 9 NEW 8" ∷ "3 9 GRANT 1 8 4 6 7 n" ∷ "WHEN 3 1 8" ∷ []))
-    (text ("done 1 0" ∷ "done 0 0" ∷ "done 2 1" ∷ "done 0 1" ∷ "none" ∷ "done 0 1" ∷ "5-9" ∷ "done 0 1" ∷ "none"
+    (text ("done 1 0" ∷ "done 0 0" ∷ "done 2 1" ∷ "done 0 1" ∷ "none" ∷ "done 0 1" ∷ "5-9" ∷ "done 0 1" ∷
+    "none"
     ∷ "refused 3" ∷ "refused 12" ∷ "done 0 1" ∷ "done 3 2" ∷ "6-7" ∷ []))
 
 -- computed once over the whole table, by asking at marks
@@ -138,7 +140,46 @@ computed : Passes (allMeters ∷ table)
 unfolding iter reaches cyclic rankIn rank prepend next walk supports supportedIn supported coveredFor feeds
     links precedes weight stratified holds stratum derivedBelow mayWith keepAt leaveAt restrictAt gapsAt
     alwaysAt mayAtMarks whenAtMarks decimal readLine fits standsFor derivesFor rightOf takes affects
-computed = (refl, (refl, (refl, (refl, (refl, (refl, (refl, (refl, (refl, (refl, (refl, (refl, (refl, tt)))))))))))))
+computed = (
+  refl,
+  (
+    refl,
+    (
+      refl,
+      (
+        refl,
+        (
+          refl,
+          (
+            refl,
+            (
+              refl,
+              (
+                refl,
+                (
+                  refl,
+                  (
+                    refl,
+                    (
+                      refl,
+                      (
+                        refl,
+                        (
+                          refl,
+                          tt,
+                        ),
+                      ),
+                    ),
+                  ),
+                ),
+              ),
+            ),
+          ),
+        ),
+      ),
+    ),
+  ),
+)
 
 at : (cs : List Case) → Passes cs → (c : Case) → Mem c cs →
     transcript (atMarks 64) (readAtMarks 64) (lines (c .input)) emptyBase ≡ c .output

@@ -10,3 +10,4 @@ pub mod Starred
 pub mod Cases
 pub mod Isolation
 pub mod Neighbours
+pub mod Operators

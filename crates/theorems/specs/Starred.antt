@@ -1,10 +1,11 @@
 -- Rules with starred objects. 02: such a rule "stands for each object on which its author is owner or
 -- administrator at the time of the question"; "withdrawing administration narrows it and doesn't delete it".
 -- THEOREM `starred-where`: for which accesses it stands, by the records of the base; `named-where`: for which
--- another does. THEOREM `starred-refused`: what one is refused for. THEOREM `starred-kept`: no request but DROPRULE removes such a rule. THEOREM `starred-narrowed`: after an
--- accepted REVOKEADM the subject's rules with starred objects stand for no access to the object. THEOREM
--- `starred-elsewhere`: they, and those of others, stand for all other accesses as before. THEOREM
--- `starred-referring`: REVOKEREF changes nothing of it.
+-- another does. THEOREM `starred-refused`: what one is refused for. THEOREM `starred-kept`: no request but
+-- DROPRULE removes such a rule. THEOREM `starred-narrowed`: after an accepted REVOKEADM the subject's rules
+-- with starred objects stand for no access to the object. THEOREM `starred-elsewhere`: they, and those of
+-- others, stand for all other accesses as before. THEOREM `starred-referring`: REVOKEREF changes nothing of
+-- it.
 use mathlib.Core.Path.{_≡_, refl, sym, ap, ap₂, _∙_, subst}
 use mathlib.Core.Logic.{_≢_, _↔_, _⊎_, ⊎-elim, inl, inr}
 use mathlib.Core.Bool.{Bool, true, false, not, _&&_, _||_, Bool·beq, true≢false}

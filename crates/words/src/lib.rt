@@ -82,3 +82,12 @@ pub fn next_bit(m: u64, r: u32) -> u32
     }
     64
 }
+
+// m without its lowest bit, whichever that is.
+pub fn without_lowest(m: u64) -> u64
+    requires { ⌜ 1 ≤ m ⌝ }
+    ensures { λ w. ⌜ ((k : ℕ) → ((j : ℕ) → j < k → bit j m ≡ false) → bit k m ≡ true →
+        (i : ℕ) → bit i w ≡ ltb k i && bit i m) ⌝ }
+{
+    m & (m - 1)
+}

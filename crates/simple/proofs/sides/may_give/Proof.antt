@@ -6,7 +6,11 @@ use Rattle.simple.proofs.sides.may_give.Tie as tie
 
 returns : tie.Need-returns
 unfolding derivesFor standsFor
-returns c = rw (c .before .before .before .before .before .before .stands-on .ensures, c .fits-option .ensures)
+returns c = rw (
+  c .before .before .before .before .before .before .stands-on .ensures,
+  c .fits-option
+      .ensures,
+)
 
 pub may-give-spec : {M : Type 1} → statement M
 may-give-spec =
