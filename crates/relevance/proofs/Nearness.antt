@@ -3,8 +3,8 @@
 use mathlib.Core.Path.{_≡_, refl, sym, ap, _∙_, subst}
 use mathlib.Core.Bool.{Bool, true, false, _&&_, false≢true}
 use mathlib.Core.Logic.{inl, inr}
-use mathlib.Core.List.{List, [], _∷_, _++_, map}
-use Prim.Native.Nat.{ℕ, zero, suc, _+_, _*_, _-_, _/_, _^_, _≤_, _<_}
+use mathlib.Core.List.{List, [], _∷_, _++_}
+use Prim.Native.Nat.{ℕ, zero, suc, _+_, _*_, _-_, _^_, _≤_, _<_}
 use native.Mathlib.Nat.{zero-div}
 use native.Mathlib.Omega.{arith}
 use lib.Dec.{leb, ltb}
@@ -408,8 +408,7 @@ module _ (xs : List Authorization) (rs : List Rule) (t : ℕ) (n : Near) (w : Ne
         arith,
         low-le (n .lines .ends) least-rule,
         low-le (n .rules .starts) (n .rules .ends),
-        w
-            .rule-ends,
+        w .rule-ends,
       ))
       ∙ ap (λ (k : ℕ). low k c) (sym (w .line-starts)) ∙ ap (low (n .lines .starts)) q in
       sym (next-append t (marksOf xs) (ruleMarks rs) 4294967296

@@ -3,9 +3,7 @@
 ghost use mathlib.Core.Path.{_≡_};
 ghost use mathlib.Core.List.{List};
 ghost use Prim.Native.Nat.{ℕ, _*_, _≤_};
-ghost use lib.Dec.{ltb};
 ghost use lib.ListN.{length};
-ghost use Rattle.foundation.specs.Tests.{pick};
 ghost use Rattle.foundation.specs.Marks.{next};
 ghost use Rattle.model.specs.declared.Authorization.{Authorization};
 ghost use Rattle.model.specs.declared.Rule.{Rule};
@@ -16,6 +14,7 @@ ghost use Rattle.relevance.specs.Chosen.{Picks, picked, selected, Matter
 ghost use Rattle.relevance.specs.Distance.{lineEdges, ruleEdges};
 ghost use Rattle.relevance.specs.Ahead.{Stands, NearAt, Standing};
 use crate::Chosen;
+use crate::distance::lesser;
 use crate::distance::nearest_line;
 use crate::distance::nearest_rule;
 
@@ -91,15 +90,6 @@ pub fn near_at(lines: &[u8], which: &[u16], body: &[u8], c: Chosen, known: Near,
     }
 }
 
-fn least(a: u64, b: u64) -> u64
-    ensures { λ r. ⌜ r ≡ pick (ltb a b) a b ⌝ }
-{
-    if a < b {
-        return a;
-    }
-    b
-}
-
 // The least mark above the instant t at which n is near, or 2^32 where there is none. What of n lies above
 // that mark stands there too.
 pub fn next_of(n: Near) -> u64
@@ -108,5 +98,5 @@ pub fn next_of(n: Near) -> u64
 {
     let l = n.lines;
     let r = n.rules;
-    least(l.starts, least(l.ends, least(r.starts, r.ends)))
+    lesser(l.starts, lesser(l.ends, lesser(r.starts, r.ends)))
 }

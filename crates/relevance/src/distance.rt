@@ -20,7 +20,7 @@ use std::num::wrapping_sub_u32;
 use words::next_bit;
 use words::without_lowest;
 
-fn lesser(a: u32, b: u32) -> u32
+pub fn lesser(a: u64, b: u64) -> u64
     ensures { λ r. ⌜ r ≡ pick (ltb a b) a b ⌝ }
 {
     if a < b {
@@ -40,18 +40,18 @@ fn distance_of(i: Interval, ends: bool, t: u32) -> u32
 }
 
 // The lesser of a distance and that of an interval's mark.
-fn nearer(best: u32, i: Interval, ends: bool, t: u32) -> u32
+fn nearer(best: u64, i: Interval, ends: bool, t: u32) -> u64
     ensures { λ r. ⌜ reached t r ≡ sooner t (edge ends i) (reached t best) ⌝ }
 {
-    lesser(best, distance_of(i, ends, t))
+    lesser(best, distance_of(i, ends, t) as u64)
 }
 
 // The mark at a distance, or 2^32 where that lies behind the last instant.
-fn mark_at(t: u32, d: u32) -> u64
+fn mark_at(t: u32, d: u64) -> u64
     ensures { λ r. ⌜ r ≡ reached t d ⌝ }
 {
-    if d < 4294967295 - t {
-        return t as u64 + 1 + d as u64;
+    if d < (4294967295 - t) as u64 {
+        return t as u64 + 1 + d;
     }
     4294967296
 }

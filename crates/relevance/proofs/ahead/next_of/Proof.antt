@@ -1,9 +1,6 @@
 -- The least of the four is the next mark.
 use borrow.Author.Needs.{needs}
 use mathlib.Core.Path.{ap, _∙_}
-use Prim.Native.Nat.{ℕ}
-use lib.Dec.{ltb}
-use Rattle.foundation.specs.Tests.{pick}
 use Rattle.relevance.proofs.Nearness.{low, promised}
 use Rattle.relevance.proofs.ahead.next_of.Statement.{statement}
 use Rattle.relevance.proofs.ahead.next_of.Tie as tie
@@ -11,10 +8,10 @@ use Rattle.relevance.proofs.ahead.next_of.Tie as tie
 returns : tie.Need-returns
 returns c =
     let n = c .before .before .before .before .before .args .n in
-    λ xs rs t w. promised xs rs t n w (c .least3 .result)
-    (c .least3 .ensures
-    ∙ ap (low (n .lines .starts)) (c .before .least2 .ensures
-    ∙ ap (low (n .lines .ends)) (c .before .before .least .ensures)))
+    λ xs rs t w. promised xs rs t n w (c .lesser3 .result)
+    (c .lesser3 .ensures
+    ∙ ap (low (n .lines .starts)) (c .before .lesser2 .ensures
+    ∙ ap (low (n .lines .ends)) (c .before .before .lesser .ensures)))
 
 pub next-of-spec : {M : Type 1} → statement M
 next-of-spec =

@@ -1,9 +1,9 @@
 -- By the test, and by what a difference modulo 2^32 is.
 use borrow.Author.Needs.{needs}
 use native.Mathlib.Omega.{arith}
-use mathlib.Core.Path.{_≡_, sym, ap, subst}
+use mathlib.Core.Path.{_≡_, sym, subst}
 use mathlib.Core.Bool.{Bool, true, false}
-use Prim.Native.Nat.{ℕ, suc}
+use Prim.Native.Nat.{suc}
 use Rattle.relevance.specs.Distance.{edge, Away}
 use Rattle.relevance.proofs.distance.distance_of.Statement.{statement}
 use Rattle.relevance.proofs.distance.distance_of.Tie as tie

@@ -14,4 +14,6 @@ returns-2 c = let a = c .before .args in sym (reached-none (a .t) (a .d) (omega 
 
 pub mark-at-spec : {M : Type 1} → statement M
 mark-at-spec =
-    tie.close (tie.spec (λ c. search needs) (λ c. search needs) (λ c. search needs) returns returns-2)
+    tie.close
+    (tie.spec (λ c. search needs) (λ c. search needs) (λ c. search needs) (λ c. search needs) returns
+    returns-2)

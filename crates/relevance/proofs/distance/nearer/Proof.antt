@@ -15,4 +15,5 @@ returns c =
     ∙ closer (a .t) (a .best) (d .result) (edge (a .ends) (a .i)) (omega arith) (d .ensures)
 
 pub nearer-spec : {M : Type 1} → statement M
-nearer-spec = tie.close (tie.spec (λ c κs. search needs) (λ c κs. search needs) returns)
+nearer-spec =
+    tie.close (tie.spec (λ c κs. search needs) (λ c. search needs) (λ c κs. search needs) returns)

@@ -2,7 +2,7 @@
 -- the next mark.
 use borrow.Author.Needs.{needs}
 use native.Mathlib.Omega.{arith}
-use mathlib.Core.Path.{_≡_, refl, sym, _∙_, subst}
+use mathlib.Core.Path.{refl, sym, _∙_, subst}
 use Prim.Native.Nat.{ℕ, _-_, _<_}
 use denote.Ref.{now}
 use Rattle.relevance.specs.Distance.{reached}

@@ -69,8 +69,8 @@ loop-again c =
     let l = c .before .before .before .loop in
     let w = tested (c .before .before) in
     let e = c .next-of .ensures (picked (now (a .lines)) (now (a .which)) (a .c .authorizations))
-    (selected (a .c .needed) (rulesIn (a .c .rules) (now (a .body)))) (l .t) (c .before .near-at .ensures)
-    in (
+    (selected (a .c .needed) (rulesIn (a .c .rules) (now (a .body)))) (l .t)
+    (c .before .near-at .ensures) in (
       grown-turn (marksFor (now (a .lines)) (now (a .which)) (now (a .body)) (a .c)) (a .from) (a .to)
           (a .width) (b .pre .3) (l .marks) (l .count) (l .t) (l .inv .0) (w .0) (w .1)
           (c .next-of .result) (e .0
