@@ -41,7 +41,7 @@ pub fn privileges_in(s: &[u8], n: usize) -> bool
 }
 
 // A privilege is in range, of an object that exists, and not its owner's.
-pub fn privilege_test(objects: &[u8], no: usize, p: Privilege) -> bool
+fn privilege_test(objects: &[u8], no: usize, p: Privilege) -> bool
     requires { ⌜ no * 4 ≤ length (now objects) ⌝ }
     ensures { λ r. ⌜ r ≡ privilegeTest (privilegesIn no (now (objects .entry))) p ⌝ }
 {
@@ -53,7 +53,7 @@ pub fn privilege_test(objects: &[u8], no: usize, p: Privilege) -> bool
 // An authorization is in range, starts at its grant or later and ends not before, was not granted behind the
 // clock, is no denial with the option, is of an object that exists, and has a label that no rule has and that
 // was given.
-pub fn authorization_test(
+fn authorization_test(
     objects: &[u8],
     no: usize,
     rules: &[u8],
@@ -80,7 +80,7 @@ pub fn authorization_test(
 // A rule is in range, its objects exist, its label was given, its author may set it up, a star is on both
 // sides or on neither, and a denial on the right is not marked transferable. Starred objects need not exist,
 // and the author of such a rule needs no powers.
-pub fn rule_test(
+fn rule_test(
     objects: &[u8],
     no: usize,
     administrators: &[u8],

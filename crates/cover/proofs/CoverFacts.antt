@@ -1,5 +1,5 @@
--- What is wanted of an authorization is what the model asks of one that stands directly before another.
--- `supports-wanted` is the only law that looks into the model's `supports`.
+-- What is wanted of an authorization is what the model asks of one that stands directly before another:
+-- `supports-wanted`, which looks into the model's `supports`.
 use mathlib.Core.Path.{_≡_, refl, _∙_}
 use Prim.Native.Nat.{ℕ}
 use mathlib.Core.Bool.{Bool, _&&_}

@@ -13,9 +13,15 @@ use Rattle.cover.specs.First.{first}
 
 -- what is wanted of one that is to stand directly before h
 abbrev pub wantOf : Head → Want
-wantOf h = record { object = h .object; mode = h .mode; grantor = h .grantor; before = h .granted }
+wantOf h = record {
+  object = h .object;
+  mode = h .mode;
+  grantor = h .grantor;
+  option = h .option;
+  before = h .granted;
+}
 
--- a head of which that is wanted; what `supports` does not ask of it is left blank
+-- a head of which that is wanted; the rest of it, which `supports` does not ask, is left blank
 abbrev pub headFor : Want → Head
 headFor w = record {
   label = 0;
@@ -24,7 +30,7 @@ headFor w = record {
   object = w .object;
   mode = w .mode;
   negative = false;
-  option = false;
+  option = w .option;
   granted = w .before;
 }
 

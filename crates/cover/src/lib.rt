@@ -18,6 +18,9 @@ pub struct Want {
     pub object: u16,
     pub mode: u8,
     pub grantor: u16,
+    // the other's own option, false for a denial: nothing looks at it while an option is yes or no, but once
+    // options are digits a chain compares both
+    pub option: bool,
     pub before: u32,
 }
 

@@ -1,13 +1,12 @@
 -- The word of a rule: what the code for it is to give, and that it is what the rule makes of its right side
 -- over the window (`derived-made`).
 use mathlib.Core.Path.{_≡_, refl, sym, ap, _∙_}
-use mathlib.Core.Bool.{Bool, true, false, not, _&&_}
+use mathlib.Core.Bool.{Bool, true, false, not}
 use Prim.Native.Nat.{ℕ, zero, suc, _^_, _≤_, _<_}
 use native.Mathlib.Nat.{pow-succ'}
 use native.Mathlib.Omega.{arith}
 use lib.Dec.{ltb}
-use Rattle.foundation.specs.Tests.{cases, le-true, true-le, false-le, and-true}
-use Rattle.foundation.specs.declared.Interval.{Interval}
+use Rattle.foundation.specs.Tests.{cases, true-le, false-le}
 use Rattle.foundation.specs.Intervals.{inInterval, inInterval-in, inInterval-true}
 use Rattle.foundation.specs.Masks.{bit}
 use Rattle.model.specs.declared.Operator.{Operator}
@@ -45,15 +44,6 @@ first-or-none active (suc n) f g = first-or-none active n
     (λ l. z i (true-le (suc i) n l))
     (λ l. let q = false-le (suc i) n l in
     let m : i ≡ n = omega arith in rw m e))))
-
--- a word with the instants of an interval that the window has
-pub span-acts : (count : ℕ) (ms : ℕ → ℕ) (t : Interval) (active : ℕ) →
-    ((i : ℕ) → bit i active ≡ ltb i count && inInterval t (ms i)) →
-    ((i : ℕ) → i < count → bit i active ≡ inInterval t (ms i)) × ((i : ℕ) → bit i active ≡ true → i < count)
-span-acts count ms t active e = (
-  (λ i h. e i ∙ rw (le-true (suc i) count h)),
-  (λ i b. true-le (suc i) count (and-true (ltb i count) (inInterval t (ms i)) (sym (e i) ∙ b) .0)),
-)
 
 -- The word is what the rule makes of its right side at one instant after the other. What the rule derived
 -- before the window matters only to a rule that looks back and goes on in it.

@@ -54,13 +54,6 @@ module _ (base : Base) (count : ℕ) (ms : ℕ → ℕ) (pat : ℕ → Access �
   pub none-sound : (W : Tables) → ((T : ℕ) (x : Access) → Kept T x → W T x ≡ 0) → SoundWords W
   none-sound W z T x k i h e = absurd (false≢true (sym (ap (bit i) (z T x k) ∙ bit-zero i) ∙ e))
 
-  -- an authorization is in the words, if one is that fits no less and has its instants
-  pub line-within : (W : Tables) (a b : Authorization) →
-      ((p : Pattern) → fits p (a .head) ≡ true → fits p (b .head) ≡ true) →
-      ((t : ℕ) → inInterval (a .interval) t ≡ true → inInterval (b .interval) t ≡ true) →
-      LineIn W b → LineIn W a
-  line-within W a b f g l T x k e i h n = l T x k (f (pat T x) e) i h (g (ms i) n)
-
 -- ---- what holds, and by what
 
 -- a pattern holds by an authorization that fits it

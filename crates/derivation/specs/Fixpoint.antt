@@ -28,7 +28,7 @@ use Rattle.model.specs.RightFacts.{right-is}
 use Rattle.model.specs.HoldsFacts.{below-steady, below-stratum, rounds, rounds-below}
 use Rattle.model.specs.HoldsLaws.{holding, fit-precedes, StrictlyFed, strictly-fed, right-settled}
 use Rattle.model.specs.HoldsLaws.{strictly-linked, strictly-settled, settled-at}
-use Rattle.laws.specs.Looking.{Looks}
+use Rattle.laws.specs.Dependence.{Depends}
 use Rattle.questions.specs.Operators.{lasting, sense, operate-back, operate-now, sense-more}
 use Rattle.questions.specs.Table.{truth, instant-before}
 use Rattle.derivation.specs.Window.{Window, made}
@@ -69,7 +69,7 @@ module _ (base : Base) (count : ℕ) (ms : ℕ → ℕ) (pat : ℕ → Access �
 
   -- that stays so while the words that the rule looks at do not change, and no bit is lost
   pub shut-stays : (W W′ : Tables) (r : Rule) (T : ℕ) (x : Access) →
-      ((R : ℕ) → Looks r x (pat R (rightOf r x .access)) → Kept R (rightOf r x .access) →
+      ((R : ℕ) → Depends r x (pat R (rightOf r x .access)) → Kept R (rightOf r x .access) →
       W′ R (rightOf r x .access) ≡ W R (rightOf r x .access)) →
       ((i : ℕ) → bit i (W T x) ≡ true → bit i (W′ T x) ≡ true) →
       ShutAt W r T x → ShutAt W′ r T x

@@ -3,20 +3,19 @@
 -- authorization (`line-sound`, `line-in`).
 use mathlib.Core.Path.{_≡_, sym, ap, _∙_, subst}
 use Prim.Native.Nat.{ℕ, _<_}
-use mathlib.Core.Bool.{Bool, true, false, _||_, false≢true}
+use mathlib.Core.Bool.{Bool, true, _||_, false≢true}
 use lib.Dec.{eqb}
 use Rattle.foundation.specs.Tests.{cases, true-eq, eq-true, or-cases, or-intro-left, or-true-right}
 use Rattle.foundation.specs.Lists.{Mem}
 use Rattle.foundation.specs.Intervals.{inInterval}
 use Rattle.foundation.specs.Masks.{bit}
 use Rattle.model.specs.declared.Authorization.{Authorization}
-use Rattle.model.specs.declared.Head.{Head}
 use Rattle.model.specs.declared.Rule.{Rule}
 use Rattle.model.specs.declared.Access.{Access}
 use Rattle.model.specs.declared.Pattern.{Pattern}
 use Rattle.model.specs.Base.{Base}
 use Rattle.model.specs.Rules.{fits, derivesFor}
-use Rattle.model.specs.SideFacts.{fits-is}
+use Rattle.laws.specs.Narrowing.{accessOf, fits-access}
 use Rattle.questions.specs.Table.{truth}
 use Rattle.derivation.specs.Exact.{Tables, SoundWords, LineIn, Valued, GivenAt, line-holds, rule-holds}
 
@@ -33,20 +32,6 @@ same-or-not z x f g = cases (eqb (z .subject) (x .subject))
     (λ c. g (λ e. false≢true (sym c ∙ eq-true (z .object) (x .object) (ap (λ (y : Access). y .object) e)))))
     (λ b. g (λ e. false≢true (sym b ∙ eq-true (z .mode) (x .mode) (ap (λ (y : Access). y .mode) e)))))
     (λ a. g (λ e. false≢true (sym a ∙ eq-true (z .subject) (x .subject) (ap (λ (y : Access). y .subject) e))))
-
--- the access that an authorization is for
-abbrev pub headAccess : Head → Access
-headAccess h = record { subject = h .subject; mode = h .mode; object = h .object }
-
--- is that of the patterns which the authorization fits
-pub fits-access : (p : Pattern) (h : Head) → fits p h ≡ true → p .access ≡ headAccess h
-fits-access p h e t =
-    let w = fits-is p h .0 e in
-    record {
-      subject = sym (true-eq (h .subject) (p .access .subject) (w .0)) t;
-      mode = sym (true-eq (h .mode) (p .access .mode) (w .1)) t;
-      object = sym (true-eq (h .object) (p .access .object) (w .2)) t;
-    }
 
 module _ (Kept : ℕ → Access → Type 0) where
   -- v is joined to the words of x in the tables that take it, and no other word that is kept changes
@@ -123,9 +108,9 @@ module _ (base : Base) (count : ℕ) (ms : ℕ → ℕ) (pat : ℕ → Access �
         (λ q f b. line-holds base (ms i) (pat T z) a m
         (subst (λ (y : Access). fits (pat T y) (a .head) ≡ true) (sym q) f) (sym (right i h) ∙ b))
 
-    pub line-in : x ≡ headAccess (a .head) → LineIn base count ms pat Kept W′ a
+    pub line-in : x ≡ accessOf (a .head) → LineIn base count ms pat Kept W′ a
     line-in q T z k f i h n =
-        let e : x ≡ z = q ∙ sym (fits-access (pat T z) (a .head) f) ∙ on T z in
+        let e : x ≡ z = q ∙ fits-access (pat T z) (a .head) f ∙ on T z in
         let k′ : Kept T x = subst (Kept T) (sym e) k in
         let f′ : fits (pat T x) (a .head) ≡ true =
         subst (λ (y : Access). fits (pat T y) (a .head) ≡ true) (sym e) f in

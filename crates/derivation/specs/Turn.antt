@@ -18,7 +18,7 @@ use Rattle.model.specs.Rules.{asked, standsFor, derivesFor, rightOf, holds}
 use Rattle.model.specs.SideFacts.{fit-links}
 use Rattle.model.specs.RightFacts.{right-own, right-is}
 use Rattle.model.specs.HoldsLaws.{holding, fit-precedes}
-use Rattle.laws.specs.Looking.{Looks}
+use Rattle.laws.specs.Dependence.{Depends}
 use Rattle.questions.specs.Table.{truth, Before, right-truth}
 use Rattle.derivation.specs.Window.{Window, made, word-right}
 use Rattle.derivation.specs.Derive.{Derived, derived-made}
@@ -68,10 +68,10 @@ module _ (base : Base) (count : ℕ) (ms : ℕ → ℕ) (pat : ℕ → Access �
 
   -- it is so of all tables with the same words of what the rule looks at
   pub evaluated-stays : (W W′ : Tables) (r : Rule) (x : Access) (v : ℕ) →
-      ((R : ℕ) → Looks r x (pat R (rightOf r x .access)) → Kept R (rightOf r x .access) →
+      ((R : ℕ) → Depends r x (pat R (rightOf r x .access)) → Kept R (rightOf r x .access) →
       W′ R (rightOf r x .access) ≡ W R (rightOf r x .access)) →
       Evaluated W r x v → Evaluated W′ r x v
-  unfolding Looks rightOf
+  unfolding Depends rightOf
   evaluated-stays W W′ r x v same e = record {
     table = e .table;
     looks = e .looks;

@@ -7,7 +7,7 @@ use Prim.Native.Nat.{ℕ, _+_, _*_, _≤_, _<_}
 use native.Mathlib.Omega.{arith}
 use lib.Dec.{eqb}
 use lib.ListN.{drop}
-use Rattle.foundation.specs.Tests.{cases, or-assoc, or-false, true-eq, and-true}
+use Rattle.foundation.specs.Tests.{cases, or-assoc, or-false, true-eq, and-true, and-false}
 use Rattle.foundation.specs.Bytes.{le}
 use Rattle.foundation.specs.Lists.{anyb}
 use Rattle.foundation.specs.Intervals.{inInterval}
@@ -130,6 +130,14 @@ module _ (lines : List ℕ) (total : ℕ) (x : Access) (t : ℕ) where
       q ∙ ap (λ (b : Bool). g || b) (held-step negative i h
       ∙ ap (λ (b : Bool). (b && Bool·beq (lineAt i .head .negative) negative) || heldFrom negative (i + 1))
       (not-live i n))
+
+  -- a denial fits
+  pub denied-held : heldFrom true 0 ≡ true → heldDirectly (authorizationsIn total lines) x t ≡ false
+  denied-held e =
+      ap (λ (d : Bool). anyb (fits (asked x false)) (live t (authorizationsIn total lines)) && not d)
+      (ap (λ (xs : List Authorization). anyb (fits (asked x true)) (live t xs))
+      (sym (rest-all 24 authorizationOf total lines)) ∙ e)
+      ∙ and-false (anyb (fits (asked x false)) (live t (authorizationsIn total lines)))
 
   -- none is left
   pub all-held : (i : ℕ) (granted denied : Bool) → total ≤ i →

@@ -65,23 +65,25 @@ fn is_live_for(a: Authorization, x: Access, t: u32) -> bool
 }
 
 // Whether MAY says yes by the authorizations alone. Most of them are for another subject or object, and these
-// stand next to each other.
+// stand next to each other. A denial that has t decides.
 pub fn holds_directly(lines: &[u8], total: usize, x: Access, t: u32) -> bool
     requires { ⌜ (total * 24 ≤ length (now lines)) × (x .subject < 65536) × (x .object < 65536) ⌝ }
     ensures { λ r. ⌜ r ≡ heldDirectly (authorizationsIn total (now (lines .entry))) x t ⌝ }
 {
     let both = x.subject + 65536 * x.object;
     let mut granted = false;
-    let mut denied = false;
     let mut i = 0;
     while i < total {
         if fields::le32(lines, i * AUTHORIZATION_BYTES + 4) == both {
             let a = encoding::authorization_at(lines, i * AUTHORIZATION_BYTES);
-            let live = is_live_for(a, x, t);
-            granted = granted | (live & !a.head.negative);
-            denied = denied | (live & a.head.negative);
+            if is_live_for(a, x, t) {
+                if a.head.negative {
+                    return false;
+                }
+                granted = true;
+            }
         }
         i += 1;
     }
-    granted & !denied
+    granted
 }

@@ -50,14 +50,6 @@ insert-all {A} P i x xs p h y m = part (append-mem y (take i xs) (x ∷ drop i x
     part (inr (inl e)) = rw e p
     part (inr (inr b)) = h y (mem-drop i xs y b)
 
-pub remove-all : {A : Type 0} (P : A → Type 0) (i : ℕ) (xs : List A) → ((y : A) → Mem y xs → P y) →
-    (y : A) → Mem y (removeAt i xs) → P y
-remove-all P i xs h y m = part (append-mem y (take i xs) (drop (suc i) xs) m)
-  where
-    part : Mem y (take i xs) ⊎ Mem y (drop (suc i) xs) → P y
-    part (inl a) = h y (mem-take i xs y a)
-    part (inr b) = h y (mem-drop (suc i) xs y b)
-
 -- ---- the counts
 
 pub counts-privileges : (k : PrivilegeBody) (ps : List Privilege) (b : Base) → CountsFit b →

@@ -9,6 +9,9 @@ ghost use Rattle.model.specs.Encoding.{encode, decode};
 ghost use Rattle.edits.specs.Edits.{Written};
 ghost use Rattle.model.specs.Effects.{withRules};
 ghost use Rattle.effects.specs.Effects.{dropsBy};
+use model::DROPRULE;
+use model::REVOKEADM;
+use model::REVOKEREF;
 use model::RULE_BYTES;
 use model::Request;
 use model::Rule;
@@ -36,9 +39,9 @@ fn is_dropped(q: Request, refers: bool, administers: bool, r: Rule) -> bool
     let by = r.author as u32 == q.subject;
     let on = right.object as u32 == q.object;
     match kind {
-        8 => r.label as u32 == q.label,
-        10 => by & ((left.object as u32 == q.object) | (on & !refers)),
-        12 => by & on & !administers,
+        DROPRULE => r.label as u32 == q.label,
+        REVOKEADM => by & ((left.object as u32 == q.object) | (on & !refers)),
+        REVOKEREF => by & on & !administers,
         _ => false,
     }
 }

@@ -56,7 +56,7 @@ pub fn rule_flags_known(f: u8) -> bool
 }
 
 // Bits 2 and 3 of a rule's flags.
-pub fn option_flags(option: OptionTerm) -> u8
+fn option_flags(option: OptionTerm) -> u8
     ensures { λ r. ⌜ r ≡ optionFlags option ⌝ }
 {
     match option {

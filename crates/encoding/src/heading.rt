@@ -18,7 +18,7 @@ use model::RULE_BYTES;
 use model::Reply;
 
 // Whether a base begins with the mark.
-pub fn marked(s: &[u8]) -> bool
+fn marked(s: &[u8]) -> bool
     requires { ⌜ 4 ≤ length (now s) ⌝ }
     ensures { λ r. ⌜ r ≡ eqList (take 4 (now (s .entry))) mark ⌝ }
 {
@@ -26,7 +26,7 @@ pub fn marked(s: &[u8]) -> bool
 }
 
 // Writes the mark of a base.
-pub fn put_mark(s: &mut [u8])
+fn put_mark(s: &mut [u8])
     requires { ⌜ 4 ≤ length (now s) ⌝ }
     ensures { λ _. ⌜ now (s .exit) ≡ splice 0 mark (now (s .entry)) ⌝ }
 {

@@ -11,7 +11,7 @@ use lib.Dec.{leb, ltb}
 use lib.ListN.{length, getD}
 use Rattle.foundation.specs.Tests.{pick, cases, le-true, le-false, true-le, false-le, and-true}
 use Rattle.foundation.specs.Lists.{Mem, keepIf, keepIf-mem, kept}
-use Rattle.foundation.specs.Intervals.{maximal}
+use Rattle.foundation.specs.Intervals.{inInterval, inInterval-above, maximal}
 use Rattle.foundation.specs.Marks.{clear, clear-part}
 use Rattle.foundation.specs.Masks.{bit}
 use Rattle.model.specs.declared.Access.{Access}
@@ -30,7 +30,8 @@ use Rattle.relevance.specs.declared.Chosen.{Chosen}
 use Rattle.relevance.specs.declared.filling.Filled.{Filled}
 use Rattle.relevance.specs.Chosen.{picked, selected, marksFor}
 use Rattle.relevance.specs.Filling.{Fills}
-use Rattle.relevance.specs.Forgotten.{endsFrom, Forgets, forgets-picks, Ordered, clear-left}
+use Rattle.relevance.specs.Forgotten.{endsFrom, during, Forgets, forgets-picks, Ordered, ordered-kept}
+use Rattle.relevance.specs.Forgotten.{none-during, clear-during, clear-left}
 use Rattle.scan.specs.declared.Track.{Track}
 use Rattle.scan.specs.Filled.{filled}
 use Rattle.scan.specs.Runs.{Reached, Answered, instant, counted}
@@ -109,7 +110,7 @@ starts {q = q} {base = base} {x = x} w h list = record {
   picks = w .picks;
   since = 0;
   past = omega arith;
-  left = w .picked-all ∙ keep-all (base .authorizations);
+  left = w .picked-all ∙ keep-all (keepIf (during (q .from) (q .to)) (base .authorizations));
   carried = λ l. w .carried;
   listed = λ l. record {
     listed = record {
@@ -155,15 +156,22 @@ module _ {lines : List ℕ} {c : Chosen} {lasting : ℕ} {q : Query} {C : Chart}
         (upTo-behind (q .to) (s .next) h) (g .listed l);
   }
 
-  -- from the next instant on the marks of what is left are those of the base
-  marks-alike : (u v : ℕ) → s .next ≤ u →
+  -- the authorizations that have an asked instant
+  abbrev asked : List Authorization
+  asked = keepIf (during (q .from) (q .to)) (o .base .authorizations)
+
+  -- from the next instant to the last one the marks of what is left are those of the base
+  marks-alike : (u v : ℕ) → s .next ≤ u → v ≤ q .to →
       clear (marksFor lines which (p .body) here) u v ≡ clear (allMarks (o .base)) u v
   unfolding marksFor
-  marks-alike u v h =
+  marks-alike u v h k =
       ap₂ (λ (xs : List Authorization) (rs : List Rule). clear (marks xs rs) u v) (g .left)
       (sym (posed .rules))
-      ∙ clear-left (g .since) u (omega (arith, g .past)) (o .base .authorizations) ordered
+      ∙ clear-left (g .since) u (omega (arith, g .past)) asked
+      (ordered-kept (during (q .from) (q .to)) (o .base .authorizations) ordered)
       (ruleMarks (o .base .rules)) v
+      ∙ clear-during (q .from) (q .to) u v (omega (arith, g .low)) k (o .base .authorizations) ordered
+      (ruleMarks (o .base .rules))
 
   -- the rules have their turns, in tables of the same lengths
   pub turns-able : {w b : ℕ} → w ≡ length words → b ≡ length bits → (l : List ℕ) →
@@ -180,18 +188,18 @@ module _ {lines : List ℕ} {c : Chosen} {lasting : ℕ} {q : Query} {C : Chart}
   layered = ap stratified (sym (posed .rules)) ∙ posed .strata
 
   -- the rules that look back are among those that matter
-  pub looks-back : (r : ℕ) → bit r lasting ≡ true →
+  pub among-lasting : (r : ℕ) → bit r lasting ≡ true →
       (bit r (c .needed) ≡ true) × (operators.lasting (ruleAt (p .body) r .operator) ≡ true)
-  looks-back r e = and-true (bit r (c .needed)) (operators.lasting (ruleAt (p .body) r .operator))
+  among-lasting r e = and-true (bit r (c .needed)) (operators.lasting (ruleAt (p .body) r .operator))
       (sym (posed .drawn .lasts-is r) ∙ sym (g .walks .lasts r) ∙ e)
 
   -- the answers can be read
   pub readable : {w : ℕ} → w ≡ length words →
-      Ready (p .frame) (p .right) (p .first) w × Within (p .frame .grid) (q .place .pair) (q .place .spot)
+      Ready (p .frame) (p .right) (p .first) w × Within (p .frame .grid) (q .place .pair) (q .place .point)
   readable e = (
     subst (λ (n : ℕ). Ready (p .frame) (p .right) (p .first) n) (sym (e ∙ g .words-size)) (posed .drawn
         .laid),
-    subst (λ (z : Place). Within (p .frame .grid) (z .pair) (z .spot)) (sym (g .walks .place))
+    subst (λ (z : Place). Within (p .frame .grid) (z .pair) (z .point)) (sym (g .walks .place))
         (place-within (posed .drawn) (o .base) (o .access) (posed .matters)),
   )
 
@@ -232,27 +240,46 @@ module _ {lines : List ℕ} {c : Chosen} {lasting : ℕ} {q : Query} {C : Chart}
         (⊎-elim (λ n. inl n) (λ l. inr (omega (arith, g .bits-size))))
         (g .walks .kept)
 
-    behind : clear (allMarks (o .base)) last (r .next - 1) ≡ true
-    behind = sym (marks-alike last (r .next - 1) last-from) ∙ fills .behind
+    -- no mark lies behind the window, before the next instant and up to the last one that is asked
+    behind : (v : ℕ) → v ≤ q .to → v < r .next → clear (allMarks (o .base)) last v ≡ true
+    behind v h k = sym (marks-alike last v last-from h)
+        ∙ clear-part (marksFor lines which (p .body) here) last last (r .next - 1) v (omega arith)
+        (omega arith) (fills .behind)
+
+    -- a line of the base is left, or has none of the window's instants
+    missing : (a : Authorization) → Mem a (o .base .authorizations) → Mem a (picked lines which (s .left))
+        ⊎ ((i : ℕ) → i < r .count → inInterval (a .interval) (getD ms i 0) ≡ false)
+    missing a m = cases (during (q .from) (q .to) a)
+        (λ d. cases (endsFrom (g .since) a)
+        (λ e. inl (subst (λ (l : List Authorization). Mem a l) (sym (g .left))
+        (keepIf-mem (endsFrom (g .since)) asked a
+        (keepIf-mem (during (q .from) (q .to)) (o .base .authorizations) a m d) e)))
+        (λ e. inr (λ i h. inInterval-above (a .interval) (getD ms i 0) (omega (
+          arith,
+          false-le (g .since) (a .interval .end) e,
+          g .past,
+          from-next i h,
+        )))))
+        (λ d. inr (λ i h. none-during (q .from) (q .to) a d (getD ms i 0)
+        (omega (arith, g .low, from-next i h)) (fills .within i h)))
 
     pub views : Views posed (picked lines which (s .left)) ms (r .count)
     views = record {
       window = record {
         rising = λ i h. fills .rising i (suc i) (omega arith) h;
         between = λ i h.
-            sym (marks-alike (getD ms i 0) (getD ms (suc i) 0 - 1) (from-next i (omega arith)))
+            sym (marks-alike (getD ms i 0) (getD ms (suc i) 0 - 1) (from-next i (omega arith))
+            (omega (arith, fills .within (suc i) h)))
             ∙ fills .between i h;
       };
       rising = fills .rising;
       some = fills .some;
       few = omega (arith, fills .few);
       fits = omega (arith, fills .few);
-      among = λ a m. kept (endsFrom (g .since)) (o .base .authorizations) a
-          (subst (λ (l : List Authorization). Mem a l) (g .left) m) .0;
-      ended = λ a m. cases (endsFrom (g .since) a)
-          (λ e. inl (subst (λ (l : List Authorization). Mem a l) (sym (g .left))
-          (keepIf-mem (endsFrom (g .since)) (o .base .authorizations) a m e)))
-          (λ e. inr (omega (arith, false-le (g .since) (a .interval .end) e, g .past, fills .first)));
+      among = λ a m. kept (during (q .from) (q .to)) (o .base .authorizations) a
+          (kept (endsFrom (g .since)) asked a (subst (λ (l : List Authorization). Mem a l) (g .left) m) .0)
+          .0;
+      missed = missing;
     }
 
     pub given : LinesReady (settingFor posed ms (r .count)) lines which (s .left) (length words)
@@ -277,9 +304,9 @@ module _ {lines : List ℕ} {c : Chosen} {lasting : ℕ} {q : Query} {C : Chart}
         (omega arith) (views .window .between i (true-le (suc (suc i)) (r .count) e)))
         (λ e. let n : u < upTo (q .to) (r .next) = rw e at k in
         let z : r .count - 1 ≡ i = omega (arith, false-le (suc (suc i)) (r .count) e) in
-        clear-part (allMarks (o .base)) (getD ms i 0) (getD ms i 0) (r .next - 1) u (omega arith)
-        (omega (arith, upTo-most (q .to) (r .next)))
-        (subst (λ (j : ℕ). clear (allMarks (o .base)) (getD ms j 0) (r .next - 1) ≡ true) z behind)))
+        subst (λ (j : ℕ). clear (allMarks (o .base)) (getD ms j 0) u ≡ true) z
+        (behind u (omega (arith, upTo-within (q .to) (r .next)))
+        (omega (arith, upTo-most (q .to) (r .next))))))
 
     module _ {active new : List ℕ} (done : Evaluation (settingFor posed ms (r .count)) p
         (picked lines which (s .left)) (c .rules) (c .needed) active bits new) where
@@ -288,15 +315,15 @@ module _ {lines : List ℕ} {c : Chosen} {lasting : ℕ} {q : Query} {C : Chart}
 
       module _ (word : ℕ)
           (read : (i : ℕ) → bit i word ≡ bit i (fieldOf (p .frame .width) new
-          (fieldIn (tablesOf (p .frame) (p .right) (p .first)) 0 (q .place .pair) (q .place .spot)))
+          (fieldIn (tablesOf (p .frame) (p .right) (p .first)) 0 (q .place .pair) (q .place .point)))
           && not (bit i (fieldOf (p .frame .width) new
-          (fieldIn (tablesOf (p .frame) (p .right) (p .first)) 1 (q .place .pair) (q .place .spot))))) where
+          (fieldIn (tablesOf (p .frame) (p .right) (p .first)) 1 (q .place .pair) (q .place .point))))) where
         right : (i : ℕ) → i < r .count → bit i word ≡ answer (getD ms i 0)
         right i h = read i
             ∙ ap (λ (z : Place). bit i (fieldOf (p .frame .width) new
-            (fieldIn (tablesOf (p .frame) (p .right) (p .first)) 0 (z .pair) (z .spot)))
+            (fieldIn (tablesOf (p .frame) (p .right) (p .first)) 0 (z .pair) (z .point)))
             && not (bit i (fieldOf (p .frame .width) new
-            (fieldIn (tablesOf (p .frame) (p .right) (p .first)) 1 (z .pair) (z .spot))))) (g .walks .place)
+            (fieldIn (tablesOf (p .frame) (p .right) (p .first)) 1 (z .pair) (z .point))))) (g .walks .place)
             ∙ answers posed views (g .bits-size) done carried-here i h
 
         pub answered : Answered answer (q .to) (r .count) ms (upTo (q .to) (r .next)) word
@@ -313,8 +340,7 @@ module _ {lines : List ℕ} {c : Chosen} {lasting : ℕ} {q : Query} {C : Chart}
             let n : r .count - 1 < r .count = omega (arith, fills .some) in
             right (r .count - 1) n
             ∙ sym (may-steady (o .base) (o .access) last (q .to) (fills .within (r .count - 1) n)
-            (clear-part (allMarks (o .base)) last last (r .next - 1) (q .to) (omega arith) (omega arith)
-            behind))
+            (behind (q .to) (omega arith) h))
 
         module _ (sized : length new ≡ length words) (w : Track) (yes : Bool)
             (told : yes ≡ bit (r .count - 1) word) (list′ : List ℕ)
@@ -353,11 +379,10 @@ module _ {lines : List ℕ} {c : Chosen} {lasting : ℕ} {q : Query} {C : Chart}
                 since = last;
                 past = omega (arith, fills .last);
                 left = f .left ∙ ap (keepIf (endsFrom last)) (g .left)
-                    ∙ keep-twice (g .since) last (omega (arith, g .past, last-from)) (o .base
-                    .authorizations);
-                carried = λ l. carried-next posed views (g .bits-size) done carried-here (r .next) (fills
-                    .last)
-                    behind lasting (g .walks .lasts) marked (keeps h);
+                    ∙ keep-twice (g .since) last (omega (arith, g .past, last-from)) asked;
+                carried = λ l. carried-next posed views (g .bits-size) done carried-here (r .next)
+                    (fills .last) (behind (r .next - 1) (omega arith) (omega (arith, fills .last))) lasting
+                    (g .walks .lasts) marked (keeps h);
                 listed = listed;
                 last = λ l. absurd (omega arith);
                 words-size = sized ∙ g .words-size;

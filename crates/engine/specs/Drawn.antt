@@ -1,4 +1,4 @@
--- The tables of a question as they were drawn (`Drawn`), and the scene that they stand for (`sceneOf`).
+-- The tables of a question as they were drawn (`Drawn`), and the mapping that they stand for (`mappingOf`).
 use mathlib.Core.Path.{_≡_}
 use mathlib.Core.Bool.{true, _&&_, _||_}
 use mathlib.Core.List.{List}
@@ -14,13 +14,13 @@ use Rattle.places.specs.Numbering.{used, before, codeOf}
 use Rattle.tables.specs.Layout.{Laid, ruleTables}
 use Rattle.tables.specs.Giving.{Ready}
 use Rattle.masks.specs.Masks.{Needed}
-use Rattle.outlines.specs.Coordinates.{Grounds, Chart, Charted, subjectOf, objectOf, modeOf}
+use Rattle.outlines.specs.Coordinates.{WellFormed, Chart, Charted, subjectOf, objectOf, modeOf}
 use Rattle.outlines.specs.Outline.{RightSides, LeftSides}
 use Rattle.outlines.specs.Masks.{Masked, Owned}
 use Rattle.outlines.specs.Feed.{isChoosy, Fed}
 use Rattle.outlines.specs.Needed.{needed}
 use Rattle.grounding.specs.Turns.{Prepared}
-use Rattle.grounding.specs.Meaning.{Scene}
+use Rattle.grounding.specs.Meaning.{Mapping}
 
 -- every coordinate of a table is that of some number, and the star has none
 pub record Onto (U : List ℕ) (size : ℕ) : Type 0 where
@@ -37,7 +37,7 @@ SamePowers b c = (o u : ℕ) → controls b o u ≡ controls c o u
 pub record Drawn (holder : Base) (n : ℕ) (C : Chart) (asked : Access) (p : Prepared) (rules words bits : ℕ) :
     Type 0
   where
-    pub grounds : Grounds n (p .body)
+    pub well-formed : WellFormed n (p .body)
     pub charted : Charted n (p .body) C
     pub subjects : Onto (C .subjects) (C .width)
     pub objects : Onto (C .objects) (C .height)
@@ -75,13 +75,13 @@ pub record Drawn (holder : Base) (n : ℕ) (C : Chart) (asked : Access) (p : Pre
     pub starts : (0 < bits) → Laid (ruleTables (p .frame .grid) (p .sides) lasts (p .starts)) 0 total
     pub room : (0 < bits) → (total ≤ 64 * bits) × (total < 4294967296)
 
--- the scene, for a base
-abbrev pub sceneOf : Base → Chart → Access → Prepared → Scene
-sceneOf base C asked p = record {
+-- the mapping, for a base
+abbrev pub mappingOf : Base → Chart → Access → Prepared → Mapping
+mappingOf base C asked p = record {
   base = base;
   rule = ruleAt (p .body);
   matters = needed C asked (p .need);
-  spot = λ x. record { subject = subjectOf C asked x; mode = modeOf x; object = objectOf C asked x };
+  point = λ x. record { subject = subjectOf C asked x; mode = modeOf x; object = objectOf C asked x };
   number = p .number;
   frame = p .frame;
   right = p .right;

@@ -17,22 +17,23 @@ use Rattle.model.specs.declared.Head.{Head}
 use Rattle.model.specs.declared.Pattern.{Pattern}
 use Rattle.model.specs.Stratification.{fitsOption}
 use Rattle.model.specs.Rules.{fits, fitsGrantor}
+use Rattle.laws.specs.Narrowing.{accessOf}
 use Rattle.encoding.specs.Format.{ruleAt}
 use Rattle.words.specs.Fields.{fieldOf}
-use Rattle.places.specs.declared.Spot.{Spot}
+use Rattle.places.specs.declared.Point.{Point}
 use Rattle.tables.specs.Layout.{fieldIn, Laid, field-below}
 use Rattle.tables.specs.Giving.{tablesOf, Given}
 use Rattle.facts.specs.Facts.{fitsKind, fitsRule, takenBy, Setting, setting, placeIn}
 use Rattle.facts.specs.Facts.{LineStep, LineSteps, none, then}
 use Rattle.derivation.specs.Exact.{Valued, SoundWords, LineIn, none-sound}
-use Rattle.derivation.specs.Joined.{Joined, headAccess, line-stays, line-sound, line-in}
+use Rattle.derivation.specs.Joined.{Joined, line-stays, line-sound, line-in}
 use Rattle.grounding.specs.Steps.{pairIn}
-use Rattle.grounding.specs.Meaning.{pat, pat-on, Scene, placeOf, Kept, wordsIn, Placed, given-joined}
+use Rattle.grounding.specs.Meaning.{pat, pat-on, Mapping, placeOf, Kept, wordsIn, Placed, given-joined}
 
 -- ---- who takes an authorization
 
 -- a pattern of its access fits it if sign, grantor and option do
-own-fits : (p : Pattern) (h : Head) → p .access ≡ headAccess h → fits p h
+own-fits : (p : Pattern) (h : Head) → p .access ≡ accessOf h → fits p h
     ≡ Bool·beq (h .negative) (p .negative) && fitsGrantor (p .grantor) (h .grantor)
     && fitsOption (p .option) (h .option)
 unfolding fits
@@ -42,17 +43,17 @@ own-fits p h e = rw (
   eq-true (h .object) (p .access .object) (sym (ap (λ (x : Access). x .object) e)),
 )
 
-module _ (z : Scene) (body : List ℕ)
+module _ (z : Mapping) (body : List ℕ)
     (rules : (c : ℕ) → bit c (z .frame .choosy) ≡ true → z .rule c ≡ ruleAt body c) where
   -- those tables whose pattern it fits
-  takes-fits : (h : Head) (T : ℕ) → Kept z T (headAccess h) →
-      takenBy body (z .frame .choosy) h T ≡ fits (pat (z .rule) T (headAccess h)) h
-  takes-fits h zero k = positive (h .negative) ∙ sym (own-fits (pat (z .rule) 0 (headAccess h)) h refl)
+  takes-fits : (h : Head) (T : ℕ) → Kept z T (accessOf h) →
+      takenBy body (z .frame .choosy) h T ≡ fits (pat (z .rule) T (accessOf h)) h
+  takes-fits h zero k = positive (h .negative) ∙ sym (own-fits (pat (z .rule) 0 (accessOf h)) h refl)
     where
       positive : (b : Bool) → eqb 0 (asBit b) ≡ Bool·beq b false && true && true
       positive true = refl
       positive false = refl
-  takes-fits h (suc zero) k = negative (h .negative) ∙ sym (own-fits (pat (z .rule) 1 (headAccess h)) h refl)
+  takes-fits h (suc zero) k = negative (h .negative) ∙ sym (own-fits (pat (z .rule) 1 (accessOf h)) h refl)
     where
       negative : (b : Bool) → eqb 1 (asBit b) ≡ Bool·beq b true && true && true
       negative true = refl
@@ -60,21 +61,21 @@ module _ (z : Scene) (body : List ℕ)
   takes-fits h (suc (suc c)) k =
       let t : bit c (z .frame .choosy) ≡ true = k .1 .table in
       ap (λ (b : Bool). b && fitsRule body h c) t ∙ ap (fitsKind h) (sym (rules c t))
-      ∙ sym (own-fits (pat (z .rule) (suc (suc c)) (headAccess h)) h refl)
+      ∙ sym (own-fits (pat (z .rule) (suc (suc c)) (accessOf h)) h refl)
 
 -- ---- a step
 
--- what the authorizations of a scene are given by
-abbrev pub settingIn : Scene → List ℕ → Access → List ℕ → List ℕ → List ℕ → ℕ → Setting
+-- what the authorizations of a mapping are given by
+abbrev pub settingIn : Mapping → List ℕ → Access → List ℕ → List ℕ → List ℕ → ℕ → Setting
 settingIn z body asked subjects objects marks count =
     setting body asked subjects objects (z .number) marks count (z .frame) (z .right) (z .first)
 
 -- an authorization matters, and is given where its access is
-pub record LineAt (z : Scene) (e : Setting) (a : Authorization) : Type 0 where
-  pub matters : z .matters (headAccess (a .head)) ≡ true
-  pub spot : placeIn e (a .head) .spot ≡ z .spot (headAccess (a .head))
+pub record LineAt (z : Mapping) (e : Setting) (a : Authorization) : Type 0 where
+  pub matters : z .matters (accessOf (a .head)) ≡ true
+  pub point : placeIn e (a .head) .point ≡ z .point (accessOf (a .head))
 
-module _ (z : Scene) (placed : Placed z) (body : List ℕ) (asked : Access) (subjects objects marks : List ℕ)
+module _ (z : Mapping) (placed : Placed z) (body : List ℕ) (asked : Access) (subjects objects marks : List ℕ)
     (count : ℕ) (rules : (c : ℕ) → bit c (z .frame .choosy) ≡ true → z .rule c ≡ ruleAt body c) where
   abbrev by : Setting
   by = settingIn z body asked subjects objects marks count
@@ -94,7 +95,7 @@ module _ (z : Scene) (placed : Placed z) (body : List ℕ) (asked : Access) (sub
   module _ (a : Authorization) (at : LineAt z by a) (old new : List ℕ)
       (step : LineStep by a old new) where
     abbrev access : Access
-    access = headAccess (a .head)
+    access = accessOf (a .head)
 
     abbrev taken : ℕ → Bool
     taken T = fits (patterns T access) (a .head)
@@ -102,9 +103,9 @@ module _ (z : Scene) (placed : Placed z) (body : List ℕ) (asked : Access) (sub
     line-joined : Joined (Kept z) (wordsIn z old) (wordsIn z new) taken access (step .value)
     line-joined = given-joined z placed access (at .matters) (takenBy body (z .frame .choosy) (a .head))
         (step .value) old new taken (takes-fits z body rules (a .head))
-        (subst (λ (p : Spot). Given (tablesOf (z .frame) (z .right) (z .first)) (z .frame .width)
+        (subst (λ (p : Point). Given (tablesOf (z .frame) (z .right) (z .first)) (z .frame .width)
         (getD (z .number) (pairIn (z .frame .grid) p) 0) p (takenBy body (z .frame .choosy) (a .head))
-        (step .value) old new) (at .spot) (step .given))
+        (step .value) old new) (at .point) (step .given))
 
     line-instants : (i : ℕ) → i < count → bit i (step .value) ≡ inInterval (a .interval) (instant i)
     line-instants i h = step .instants i
@@ -157,8 +158,8 @@ module _ (z : Scene) (placed : Placed z) (body : List ℕ) (asked : Access) (sub
   empty-sound w laid empty =
       let t = tablesOf (z .frame) (z .right) (z .first) in
       none-sound (z .base) count instant patterns (Kept z) (wordsIn z w) (λ T x k.
-      empty (fieldIn t T (placeOf z x .pair) (z .spot x))
-      (field-below t 0 (z .frame .fields) laid T (placeOf z x .pair) (z .spot x) (k .1)))
+      empty (fieldIn t T (placeOf z x .pair) (z .point x))
+      (field-below t 0 (z .frame .fields) laid T (placeOf z x .pair) (z .point x) (k .1)))
 
   -- and, given all authorizations of the base, have all of them
   pub facts-valued : {l : List Authorization} {w₀ w : List ℕ} →

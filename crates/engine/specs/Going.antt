@@ -12,7 +12,7 @@ use Rattle.model.specs.Base.{Base}
 use Rattle.model.specs.Rules.{may}
 use Rattle.relevance.specs.declared.Chosen.{Chosen}
 use Rattle.relevance.specs.Chosen.{picked, Picks}
-use Rattle.relevance.specs.Forgotten.{endsFrom}
+use Rattle.relevance.specs.Forgotten.{endsFrom, during}
 use Rattle.scan.specs.Runs.{Reached}
 use Rattle.tables.specs.declared.Frame.{Frame}
 use Rattle.outlines.specs.Coordinates.{Chart}
@@ -53,7 +53,8 @@ pub record Going (lines : List ℕ) (c : Chosen) (lasting : ℕ) (q : Query) (C 
   -- what is left of the authorizations
   pub since : ℕ
   pub past : since ≤ s .next
-  pub left : picked lines which (s .left) ≡ keepIf (endsFrom since) (o .base .authorizations)
+  pub left : picked lines which (s .left)
+      ≡ keepIf (endsFrom since) (keepIf (during (q .from) (q .to)) (o .base .authorizations))
   pub carried : s .next ≤ q .to → CarriedAt (walks .posed) (s .next) bits
   pub listed : q .listing ≡ true →
       Reached (may (o .base) (o .access)) (q .to) (o .list) (upTo (q .to) (s .next)) (s .track) list

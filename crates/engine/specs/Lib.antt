@@ -7,6 +7,5 @@ pub mod Places
 pub mod Posed
 pub mod Reading
 pub mod Right
-pub mod Selected
 pub mod Sides
 pub mod Standing

@@ -1,36 +1,33 @@
 -- The base narrowed to what a question needs: the rules that matter, and the authorizations on accesses that
--- are needed. About these accesses it says what the whole base says (`narrowed-holds`).
+-- are needed. About these accesses it says what the whole base says (`narrowed-may`).
 use mathlib.Core.Path.{_≡_, refl, sym, ap, _∙_, subst}
 use mathlib.Core.Logic.{_↔_}
 use mathlib.Core.Bool.{Bool, true, false, not, _&&_, _||_, Bool·beq, true≢false}
-use mathlib.Core.List.{List}
+use mathlib.Core.List.{List, [], _∷_}
 use Prim.Native.Nat.{ℕ, suc, _+_, _*_, _-_, _<_}
 use native.Mathlib.Omega.{arith}
 use lib.Dec.{eqb, leb, ltb}
 use lib.ListN.{length, getD}
 use Rattle.foundation.specs.Tests.{cases, ne-false, le-true, true-le, not-true, and-true, and-intro}
-use Rattle.foundation.specs.Tests.{and-three, or-none, beq-self}
+use Rattle.foundation.specs.Tests.{or-none, beq-self}
 use Rattle.foundation.specs.Lists.{keepIf, Mem, keepIf-mem, kept}
-use Rattle.foundation.specs.Intervals.{always}
 use Rattle.foundation.specs.Masks.{asBit, bit}
 use Rattle.foundation.specs.Records.{length-records}
 use Rattle.model.specs.declared.Authorization.{Authorization}
 use Rattle.model.specs.declared.Head.{Head}
 use Rattle.model.specs.declared.Rule.{Rule}
 use Rattle.model.specs.declared.Access.{Access}
-use Rattle.model.specs.declared.Pattern.{Pattern}
 use Rattle.model.specs.Base.{Base}
 use Rattle.model.specs.Ranges.{isMode}
 use Rattle.model.specs.Encoding.{ruleOf}
 use Rattle.model.specs.Stratification.{stratified}
-use Rattle.model.specs.Rules.{standsFor, rightOf, holds, may}
+use Rattle.model.specs.Rules.{standsFor, rightOf, may}
 use Rattle.encoding.specs.Format.{rulesIn, ruleAt, authorizationsIn}
-use Rattle.laws.specs.Narrowing.{accessOf, narrowed, needed-only, needed-may}
+use Rattle.laws.specs.Narrowing.{accessOf, narrowed, needed-may}
 use Rattle.questions.specs.Numbering.{Numbering}
 use Rattle.relevance.specs.declared.choice.Cell.{Cell}
 use Rattle.relevance.specs.Chosen.{picked, selected, selected-numbers}
 use Rattle.relevance.specs.Needed.{cellOf, Choice}
-use Rattle.windows.specs.Windows.{inside}
 use Rattle.reach.specs.Net.{standing}
 use Rattle.places.specs.Numbering.{before}
 use Rattle.outlines.specs.Coordinates.{Numbered, Chart, coordinate, subjectOf, objectOf, modeOf, pairOf}
@@ -38,13 +35,19 @@ use Rattle.outlines.specs.CoordinateFacts.{known-is}
 use Rattle.outlines.specs.Outline.{Stands}
 use Rattle.outlines.specs.Standing.{stands, stands-alike}
 use Rattle.outlines.specs.Needed.{needed, needed-known, needed-bit, needed-both}
-use Rattle.grounding.specs.Meaning.{TurnOf}
-use Rattle.grounding.specs.Turns.{Prepared, turnIn}
-use Rattle.engine.specs.Drawn.{SamePowers, Drawn, sceneOf}
+use Rattle.grounding.specs.Turns.{Prepared}
+use Rattle.engine.specs.Drawn.{SamePowers, Drawn}
 use Rattle.engine.specs.Places.{number-below, pair-back}
-use Rattle.engine.specs.Standing.{rule-low}
 use Rattle.engine.specs.Reading.{right-needed}
-use Rattle.engine.specs.Sides.{turn-of}
+
+-- those that pass two tests, by one after the other
+keep-both : {A : Type 0} (p q : A → Bool) (xs : List A) → keepIf (λ x. p x && q x) xs ≡ keepIf p (keepIf q xs)
+keep-both p q [] = refl
+keep-both {A} p q (x ∷ xs) =
+    let i = keep-both p q xs in
+    cases (q x)
+    (λ e. cases (p x) (λ f. rw (e, f) (ap (λ (l : List A). x ∷ l) i)) (λ f. rw (e, f) i))
+    (λ e. cases (p x) (λ f. rw (e, f) i) (λ f. rw (e, f) i))
 
 -- ---- authorizations by coordinates
 
@@ -53,20 +56,6 @@ pub record Both (stride : ℕ) (need : List ℕ) (c : Cell) (h : Head) : Type 0 
   pub there : not (eqb (c .subject) 255 || eqb (c .object) 255) ≡ true
   pub held : bit (h .mode - 1) (getD need (c .object * stride + c .subject) 0) ≡ true
   pub denied : bit (8 + (h .mode - 1)) (getD need (c .object * stride + c .subject) 0) ≡ true
-
--- the three tests in a row
-pub both-tests : (stride : ℕ) (need : List ℕ) (c : Cell) (h : Head) →
-    (not (eqb (c .subject) 255 || eqb (c .object) 255)
-    && bit (h .mode - 1) (getD need (c .object * stride + c .subject) 0)
-    && bit (8 + (h .mode - 1)) (getD need (c .object * stride + c .subject) 0) ≡ true)
-    ↔ Both stride need c h
-both-tests stride need c h =
-    let w = and-three (not (eqb (c .subject) 255 || eqb (c .object) 255))
-    (bit (h .mode - 1) (getD need (c .object * stride + c .subject) 0))
-    (bit (8 + (h .mode - 1)) (getD need (c .object * stride + c .subject) 0)) in (
-      (λ e. let v = w .0 e in record { there = v .0; held = v .1; denied = v .2 }),
-      (λ b. w .1 (b .there, b .held, b .denied)),
-    )
 
 -- a coordinate that is there is below their count
 there-below : {field : Rule → ℕ} {n : ℕ} {body U : List ℕ} {size : ℕ} → Numbered field n body U size →
@@ -117,12 +106,12 @@ module _ {holder : Base} {n : ℕ} {C : Chart} {asked : Access} {p : Prepared} {
       let s = ne-false (subjectOf C asked x) 255 (λ z. omega (
         arith,
         d .charted .subjects .few,
-        d .grounds .few,
+        d .well-formed .few,
       )) in
       let o = ne-false (objectOf C asked x) 255 (λ z. omega (
         arith,
         d .charted .objects .few,
-        d .grounds .few,
+        d .well-formed .few,
       )) in
       let a : modeOf x + 8 * 0 ≡ modeOf x = omega arith in
       let b : modeOf x + 8 * 1 ≡ 8 + modeOf x = omega arith in
@@ -137,7 +126,7 @@ module _ {holder : Base} {n : ℕ} {C : Chart} {asked : Access} {p : Prepared} {
 
   drawn-stands : (b : Base) → SamePowers b holder → Stands b n (p .body) C asked (p .left)
   drawn-stands b powers = stands-alike holder b n (p .body) C asked (p .left) (λ o u. sym (powers o u))
-      (stands (d .grounds) C (d .charted) (p .sides) (d .lefts) holder asked (d .outlined) (p .left)
+      (stands (d .well-formed) C (d .charted) (p .sides) (d .lefts) holder asked (d .outlined) (p .left)
       (d .masks) (d .own))
 
   -- a rule that stands for a needed access matters
@@ -150,7 +139,7 @@ module _ {holder : Base} {n : ℕ} {C : Chart} {asked : Access} {p : Prepared} {
       let i : ℕ = before (p .need) (pairOf C asked x) in
       let back = pair-back d x e in
       let there : bit r (standing (p .left) (objectOf C asked x) (subjectOf C asked x) q) ≡ true =
-      drawn-stands b powers x k r (omega (arith, d .grounds .few)) sign
+      drawn-stands b powers x k r (omega (arith, d .well-formed .few)) sign
       ∙ and-intro (ltb r n) (standsFor b (ruleAt (p .body) r) x && Bool·beq sign sign) (le-true (suc r) n h)
       (and-intro (standsFor b (ruleAt (p .body) r) x) (Bool·beq sign sign) s (beq-self sign)) in
       d .needs .all i q r (number-below d x e)
@@ -199,47 +188,27 @@ module _ {holder : Base} {n : ℕ} {C : Chart} {asked : Access} {p : Prepared} {
         keepIf-mem ruleMatters (base .rules) (ruleAt (p .body) r) (w .0)
         (ap (λ (i : ℕ). bit i matter) (w .1) ∙ e)
 
-    pub kept-rule : (q : Rule) → Mem q (keepIf ruleMatters (base .rules)) →
-        (r : ℕ) × (r < n) × (bit r matter ≡ true) × (ruleAt (p .body) r ≡ q)
-    kept-rule q m =
-        let k = kept ruleMatters (base .rules) q m in
-        let w = rule-number q (k .0) in
-        (number q, w .0, k .1, w .1)
-
     -- ---- the narrowed base
 
     module _ (keepLine : Authorization → Bool)
         (lines : (a : Authorization) →
         (keepLine a ≡ true) ↔ Both (C .width) (p .need) (cellIn (a .head)) (a .head)) where
-      abbrev less : Base
-      less = narrowed base keepLine ruleMatters
+      -- those of its authorizations that pass a further test are those that were chosen by both tests
+      pub chosen-lines : (test : Authorization → Bool) (s : List ℕ) (total : ℕ) (entry exit : List ℕ)
+          (k : ℕ) → base .authorizations ≡ authorizationsIn total s →
+          Choice (λ a. test a && keepLine a) s total entry exit k →
+          picked s exit k ≡ keepIf test (narrowed base keepLine ruleMatters .authorizations)
+      chosen-lines test s total entry exit k e c =
+          c .chosen ∙ keep-both test keepLine (authorizationsIn total s)
+          ∙ ap (λ (xs : List Authorization). keepIf test (keepIf keepLine xs)) (sym e)
 
-      -- its authorizations are those that were chosen, and are on needed accesses
-      pub chosen-lines : (s : List ℕ) (total : ℕ) (entry exit : List ℕ) (k : ℕ) →
-          base .authorizations ≡ authorizationsIn total s → Choice keepLine s total entry exit k →
-          narrowed base keepLine ruleMatters .authorizations ≡ picked s exit k
-      chosen-lines s total entry exit k e c = ap (keepIf keepLine) e ∙ sym (c .chosen)
-
+      -- they are on needed accesses
       pub kept-line : (a : Authorization) → isMode (a .head .mode) ≡ true →
           Mem a (narrowed base keepLine ruleMatters .authorizations) →
           needed C asked (p .need) (accessOf (a .head)) ≡ true
       kept-line a m l = line-needed (a .head) m (lines a .0 (kept keepLine (base .authorizations) a l .1))
 
-      -- the turn of a rule that matters is that of a rule of it
-      pub narrowed-turn : (r : ℕ) → bit r matter ≡ true → (count : ℕ) (marks active : List ℕ) →
-          ((j : ℕ) → bit j (getD active r 0) ≡ inside count marks (ruleAt (p .body) r .interval) j) →
-          TurnOf (sceneOf (narrowed base keepLine ruleMatters) C asked p) count (λ i. getD marks i 0)
-          (ruleAt (p .body) r) (turnIn p active r)
-      narrowed-turn r e count marks active masks = turn-of d less powers active r e
-          (rule-kept r (rule-low d r e) e) count marks masks
-
       -- what it says about a needed access
-      pub narrowed-holds : stratified (base .rules) ≡ true → (t : ℕ) (q : Pattern) →
-          needed C asked (p .need) (q .access) ≡ true →
-          holds always base t q ≡ holds always (narrowed base keepLine ruleMatters) t q
-      narrowed-holds strata t q e = needed-only base strata (needed C asked (p .need)) keepLine ruleMatters
-          rules-inward rules-standing (λ a m l. lines a .1 (needed-line (a .head) l)) t q e
-
       pub narrowed-may : stratified (base .rules) ≡ true → (x : Access) → needed C asked (p .need) x ≡ true →
           (t : ℕ) → may base x t ≡ may (narrowed base keepLine ruleMatters) x t
       narrowed-may strata = needed-may base strata (needed C asked (p .need)) keepLine ruleMatters

@@ -1,4 +1,5 @@
--- The places of what was drawn: each access that is needed has its own (`scene-placed`), and the number of a
+-- The places of what was drawn: each access that is needed has its own (`mapping-placed`), and the number of
+-- a
 -- pair leads back to its object and its subject (`pair-at`, `pair-back`).
 use mathlib.Core.Path.{_≡_, refl, sym, ap, _∙_}
 use mathlib.Core.Logic.{⊎-elim}
@@ -25,8 +26,8 @@ use Rattle.outlines.specs.Coordinates.{known, pairOf}
 use Rattle.outlines.specs.CoordinateFacts.{known-is, known-one, listed, coordinate-cases}
 use Rattle.outlines.specs.Needed.{needed, needed-known, needed-bit}
 use Rattle.grounding.specs.Turns.{Prepared}
-use Rattle.grounding.specs.Meaning.{Scene, placeOf, Placed}
-use Rattle.engine.specs.Drawn.{Onto, Drawn, sceneOf}
+use Rattle.grounding.specs.Meaning.{Mapping, placeOf, Placed}
+use Rattle.engine.specs.Drawn.{Onto, Drawn, mappingOf}
 
 -- ---- accesses and coordinates
 
@@ -63,9 +64,9 @@ module _ {holder : Base} {n : ℕ} {C : Chart} {asked : Access} {p : Prepared} {
     (d : Drawn holder n C asked p rules words bits) where
   pub narrow : (C .width ≤ 65) × (0 < C .width) × (C .height ≤ 65)
   narrow = (
-    omega (arith, d .charted .subjects .few, d .grounds .few),
+    omega (arith, d .charted .subjects .few, d .well-formed .few),
     d .charted .subjects .some,
-    omega (arith, d .charted .objects .few, d .grounds .few),
+    omega (arith, d .charted .objects .few, d .well-formed .few),
   )
 
   pub size-few : C .height * C .width ≤ 4225
@@ -105,16 +106,16 @@ module _ {holder : Base} {n : ℕ} {C : Chart} {asked : Access} {p : Prepared} {
   -- ---- places
 
   module _ (base : Base) where
-    abbrev scene : Scene
-    scene = sceneOf base C asked p
+    abbrev mapping : Mapping
+    mapping = mappingOf base C asked p
 
     pub number-is : (x : Access) → known C asked x ≡ true →
-        placeOf scene x .pair ≡ before (p .need) (pairOf C asked x)
+        placeOf mapping x .pair ≡ before (p .need) (pairOf C asked x)
     number-is x k = rw (d .grid .0) (d .numbers .1 (pairOf C asked x) (pair-below x k))
 
-    pub scene-placed : Placed scene
-    scene-placed = record {
-      apart = λ x y m k s o e. known-one C asked (d .charted) (d .grounds .few) x y
+    pub mapping-placed : Placed mapping
+    mapping-placed = record {
+      apart = λ x y m k s o e. known-one C asked (d .charted) (d .well-formed .few) x y
           (needed-known C asked (p .need) x m) (needed-known C asked (p .need) y k) o s e;
       paired = λ x y m k. (
         (λ e. one x y m k e),
@@ -123,7 +124,7 @@ module _ {holder : Base} {n : ℕ} {C : Chart} {asked : Access} {p : Prepared} {
     }
       where
         one : (x y : Access) → needed C asked (p .need) x ≡ true → needed C asked (p .need) y ≡ true →
-            placeOf scene x .pair ≡ placeOf scene y .pair →
+            placeOf mapping x .pair ≡ placeOf mapping y .pair →
             (subjectOf C asked x ≡ subjectOf C asked y) × (objectOf C asked x ≡ objectOf C asked y)
         one x y m k e =
             let a = needed-known C asked (p .need) x m in
@@ -202,7 +203,7 @@ module _ {holder : Base} {n : ℕ} {C : Chart} {asked : Access} {p : Prepared} {
 
   -- the place of a needed access is one of the grid
   pub place-within : (base : Base) (x : Access) → needed C asked (p .need) x ≡ true →
-      Within (p .frame .grid) (placeOf (sceneOf base C asked p) x .pair) (sceneOf base C asked p .spot x)
+      Within (p .frame .grid) (placeOf (mappingOf base C asked p) x .pair) (mappingOf base C asked p .point x)
   place-within base x e =
       let k = needed-known C asked (p .need) x e in
       let w = known-is C asked x .0 k in

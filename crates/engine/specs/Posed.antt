@@ -6,7 +6,7 @@ use mathlib.Core.Bool.{true}
 use mathlib.Core.List.{List}
 use Prim.Native.Nat.{ℕ, suc, _≤_, _<_}
 use lib.ListN.{length}
-use Rattle.foundation.specs.Lists.{Mem}
+use Rattle.foundation.specs.Lists.{Mem, keepIf}
 use Rattle.foundation.specs.Intervals.{maximal}
 use Rattle.foundation.specs.Masks.{bit}
 use Rattle.model.specs.declared.Access.{Access}
@@ -15,11 +15,12 @@ use Rattle.model.specs.Base.{Base}
 use Rattle.model.specs.Stratification.{stratified}
 use Rattle.model.specs.Rules.{standsFor, may}
 use Rattle.encoding.specs.Format.{rulesIn, ruleAt}
-use Rattle.derivation.specs.Joined.{headAccess}
+use Rattle.laws.specs.Narrowing.{accessOf}
 use Rattle.derivation.specs.Carried.{Carried}
 use Rattle.relevance.specs.declared.Chosen.{Chosen}
 use Rattle.relevance.specs.Chosen.{picked, selected, Picks}
 use Rattle.relevance.specs.Needed.{Placed}
+use Rattle.relevance.specs.Forgotten.{during}
 use Rattle.scan.specs.Runs.{Reached}
 use Rattle.outlines.specs.Coordinates.{Chart}
 use Rattle.outlines.specs.Needed as outlines
@@ -28,7 +29,7 @@ use Rattle.grounding.specs.Meaning.{placeOf}
 use Rattle.grounding.specs.Turns.{Prepared, turnIn}
 use Rattle.engine.specs.declared.Query.{Query}
 use Rattle.engine.specs.declared.Found.{Found}
-use Rattle.engine.specs.Drawn.{SamePowers, Drawn, sceneOf}
+use Rattle.engine.specs.Drawn.{SamePowers, Drawn, mappingOf}
 
 -- the tables are drawn for the asked access x, and `base` has what matters to it: the rules of the mask, and
 -- authorizations at needed accesses; and all owners and administrators
@@ -41,7 +42,7 @@ pub record Posed (n : ℕ) (C : Chart) (own : Access) (p : Prepared) (needed wor
   pub rules : base .rules ≡ selected needed (rulesIn n (p .body))
   pub matters : outlines.needed C own (p .need) x ≡ true
   pub lines : (a : Authorization) → Mem a (base .authorizations) →
-      (outlines.needed C own (p .need) (headAccess (a .head)) ≡ true) × Placed (a .head)
+      (outlines.needed C own (p .need) (accessOf (a .head)) ≡ true) × Placed (a .head)
       × (a .interval .start ≤ a .interval .end)
 
 -- the walk can start
@@ -49,8 +50,10 @@ pub record Walks (lines which : List ℕ) (c : Chosen) (lasting : ℕ) (q : Quer
     (words bits : List ℕ) (base : Base) (x : Access) : Type 0 where
   pub posed : Posed (c .rules) C (q .own) p (c .needed) (length words) (length bits) base x
   pub picks : Picks lines which (c .authorizations)
-  pub picked-all : picked lines which (c .authorizations) ≡ base .authorizations
-  pub place : q .place ≡ placeOf (sceneOf base C (q .own) p) x
+  -- the authorizations that have an asked instant
+  pub picked-all : picked lines which (c .authorizations)
+      ≡ keepIf (during (q .from) (q .to)) (base .authorizations)
+  pub place : q .place ≡ placeOf (mappingOf base C (q .own) p) x
   pub forward : q .from ≤ q .to
   pub lasts : (r : ℕ) → bit r lasting ≡ bit r (posed .drawn .lasts)
   pub kept : (q .from ≡ q .to) ⊎ (((r : ℕ) → bit r lasting ≡ true → ⊥) ⊎ (0 < length bits))
@@ -58,7 +61,7 @@ pub record Walks (lines which : List ℕ) (c : Chosen) (lasting : ℕ) (q : Quer
   pub carried : (active : List ℕ) (r : ℕ) → bit r (c .needed) ≡ true → (y : Access) →
       outlines.needed C (q .own) (p .need) y ≡ true → standsFor base (ruleAt (p .body) r) y ≡ true →
       Carried base (q .from) (ruleAt (p .body) r) y
-      (brokenIn (turnIn p active r) (p .frame .grid) bits (placeOf (sceneOf base C (q .own) p) y))
+      (brokenIn (turnIn p active r) (p .frame .grid) bits (placeOf (mappingOf base C (q .own) p) y))
   pub few : length (maximal 0 (q .to) (may base x)) ≤ 1089
   -- where intervals are written down, none begins before the first instant
   pub fresh : q .listing ≡ true → maximal 0 (q .to) (may base x) ≡ maximal (q .from) (q .to) (may base x)

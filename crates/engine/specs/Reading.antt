@@ -15,7 +15,7 @@ use Rattle.model.specs.Base.{Base}
 use Rattle.model.specs.Rules.{standsFor, rightOf}
 use Rattle.encoding.specs.Format.{ruleAt}
 use Rattle.questions.specs.Operators.{lasting}
-use Rattle.places.specs.declared.Spot.{Spot}
+use Rattle.places.specs.declared.Point.{Point}
 use Rattle.places.specs.Numbering.{before-le}
 use Rattle.places.specs.Regions.{sizeOf, Within}
 use Rattle.tables.specs.declared.Place.{Place}
@@ -26,10 +26,10 @@ use Rattle.outlines.specs.CoordinateFacts.{known-is}
 use Rattle.outlines.specs.Aims.{aim-object, aim-subject, aim-mode}
 use Rattle.outlines.specs.Standing.{stands, stands-alike}
 use Rattle.outlines.specs.Needed.{needed, needed-known, needed-right}
-use Rattle.grounding.specs.Steps.{turnedSpot, pairIn, rightPlace, Ordinary, Reads}
+use Rattle.grounding.specs.Steps.{turnedPoint, pairIn, rightPlace, Ordinary, Reads}
 use Rattle.grounding.specs.Turns.{Prepared, turnIn, Able}
 use Rattle.grounding.specs.Meaning.{placeOf}
-use Rattle.engine.specs.Drawn.{SamePowers, Drawn, sceneOf}
+use Rattle.engine.specs.Drawn.{SamePowers, Drawn, mappingOf}
 use Rattle.engine.specs.Places.{size-few, pair-below, pair-code, place-within, grid-small}
 use Rattle.engine.specs.Standing.{rule-low, range-few, stands-in}
 
@@ -48,23 +48,23 @@ module _ {holder : Base} {n : ℕ} {C : Chart} {asked : Access} {p : Prepared} {
 
   module _ (base : Base) (r : ℕ) (e : bit r rules ≡ true) where
     -- the place on its right is that of the access on its right
-    pub spot-right : (x : Access) →
-        turnedSpot (regionAt (p .right) r) (sceneOf base C asked p .spot x)
-        ≡ sceneOf base C asked p .spot (rightOf (ruleAt (p .body) r) x .access)
-    spot-right x =
+    pub point-right : (x : Access) →
+        turnedPoint (regionAt (p .right) r) (mappingOf base C asked p .point x)
+        ≡ mappingOf base C asked p .point (rightOf (ruleAt (p .body) r) x .access)
+    point-right x =
         let h = rule-low d r e in
-        let s = aim-subject (d .grounds) C (d .charted) (p .right) (d .rights) asked r h x in
-        let m = aim-mode (d .grounds) C (d .charted) (p .right) (d .rights) asked r h x in
-        let o = aim-object (d .grounds) C (d .charted) (p .right) (d .rights) asked r h x in
+        let s = aim-subject (d .well-formed) C (d .charted) (p .right) (d .rights) asked r h x in
+        let m = aim-mode (d .well-formed) C (d .charted) (p .right) (d .rights) asked r h x in
+        let o = aim-object (d .well-formed) C (d .charted) (p .right) (d .rights) asked r h x in
         λ j. record { subject = s j; mode = m j; object = o j }
 
     -- which is needed
     pub right-needed : SamePowers base holder → (x : Access) → needed C asked (p .need) x ≡ true →
         standsFor base (ruleAt (p .body) r) x ≡ true →
         needed C asked (p .need) (rightOf (ruleAt (p .body) r) x .access) ≡ true
-    right-needed powers x m s = needed-right (d .grounds) C (d .charted) (p .left) (p .right) (d .rights)
+    right-needed powers x m s = needed-right (d .well-formed) C (d .charted) (p .left) (p .right) (d .rights)
         asked base (stands-alike holder base n (p .body) C asked (p .left) (λ o u. sym (powers o u))
-        (stands (d .grounds) C (d .charted) (p .sides) (d .lefts) holder asked (d .outlined) (p .left)
+        (stands (d .well-formed) C (d .charted) (p .sides) (d .lefts) holder asked (d .outlined) (p .left)
         (d .masks) (d .own))) (p .need) (d .closed) r (rule-low d r e) x s m
 
     module _ (powers : SamePowers base holder) (active : List ℕ)
@@ -82,7 +82,7 @@ module _ {holder : Base} {n : ℕ} {C : Chart} {asked : Access} {p : Prepared} {
           (λ y. rw (own, y) (laid .high 0 refl)))
 
       here : (x : Access) → needed C asked (p .need) x ≡ true →
-          Ordinary (turnIn p active r) (p .frame .grid) bits (placeOf (sceneOf base C asked p) x)
+          Ordinary (turnIn p active r) (p .frame .grid) bits (placeOf (mappingOf base C asked p) x)
       here x m =
           let w = known-is C asked x .0 (needed-known C asked (p .need) x m) in
           record {
@@ -95,15 +95,15 @@ module _ {holder : Base} {n : ℕ} {C : Chart} {asked : Access} {p : Prepared} {
 
       reads-at : (x : Access) → needed C asked (p .need) x ≡ true →
           standsFor base (ruleAt (p .body) r) x ≡ true →
-          Reads (turnIn p active r) (p .frame) (p .number) words bits (placeOf (sceneOf base C asked p) x)
+          Reads (turnIn p active r) (p .frame) (p .number) words bits (placeOf (mappingOf base C asked p) x)
       reads-at x m s =
           let y = rightOf (ruleAt (p .body) r) x .access in
           let k = right-needed powers x m s in
-          let q = spot-right x in
+          let q = point-right x in
           let g = p .frame .grid in
-          let place = rightPlace (turnIn p active r) g (p .number) (sceneOf base C asked p .spot x) in
-          let within : Within g (place .pair) (place .spot) =
-          subst (λ (z : Spot). Within g (getD (p .number) (pairIn g z) 0) z) (sym q)
+          let place = rightPlace (turnIn p active r) g (p .number) (mappingOf base C asked p .point x) in
+          let within : Within g (place .pair) (place .point) =
+          subst (λ (z : Point). Within g (getD (p .number) (pairIn g z) 0) z) (sym q)
           (place-within d base y k) in
           record {
             here = here x m;
@@ -112,7 +112,7 @@ module _ {holder : Base} {n : ℕ} {C : Chart} {asked : Access} {p : Prepared} {
             fits = fits;
             takers = λ c b. and-true (bit c (getD (p .feed) (64 + r) 0)) (bit c (p .frame .choosy))
                 (sym (bit-and (getD (p .feed) (64 + r) 0) (p .frame .choosy) c) ∙ b) .1;
-            pair = subst (λ (z : Spot). pairIn g z < length (p .number)) (sym q)
+            pair = subst (λ (z : Point). pairIn g z < length (p .number)) (sym q)
                 (rw (d .grid .0)
                 (omega (arith, pair-below d y (needed-known C asked (p .need) y k), d .numbers .0)));
             few = omega (arith, d .numbers .0, d .size, size-few d);
@@ -128,11 +128,11 @@ module _ {holder : Base} {n : ℕ} {C : Chart} {asked : Access} {p : Prepared} {
       pub rule-able : Able p active words bits r
       rule-able =
           let h = rule-low d r e in
-          let few = d .grounds .few in
+          let few = d .well-formed .few in
           let l = ruleAt (p .body) r in
           record {
             low = omega arith;
-            there = omega (arith, d .grounds .there);
+            there = omega (arith, d .well-formed .there);
             signs = omega (
               arith,
               d .lefts r h .signs,

@@ -2,14 +2,14 @@
 -- the answers (`answers`), and what is kept of it is right for the next one (`carried-next`).
 use mathlib.Core.Path.{_≡_, refl, sym, ap, _∙_, subst}
 use mathlib.Core.Logic.{_⊎_, ⊎-elim}
-use mathlib.Core.Bool.{true, not, _&&_, true≢false}
+use mathlib.Core.Bool.{true, false, not, _&&_, true≢false}
 use mathlib.Core.List.{List}
-use Prim.Native.Nat.{ℕ, zero, suc, _-_, _^_, _≤_, _<_}
+use Prim.Native.Nat.{ℕ, _-_, _^_, _≤_, _<_}
 use native.Mathlib.Omega.{arith}
 use lib.ListN.{length, getD}
 use Rattle.foundation.specs.Tests.{and-true, and-intro}
 use Rattle.foundation.specs.Lists.{Mem}
-use Rattle.foundation.specs.Intervals.{inInterval, inInterval-true}
+use Rattle.foundation.specs.Intervals.{inInterval}
 use Rattle.foundation.specs.Marks.{clear}
 use Rattle.foundation.specs.Masks.{bit}
 use Rattle.places.specs.Regions.{Within}
@@ -23,13 +23,13 @@ use Rattle.model.specs.Base.{Base}
 use Rattle.model.specs.Means.{allMarks}
 use Rattle.model.specs.Stratification.{stratum}
 use Rattle.model.specs.Rules.{standsFor, may}
+use Rattle.laws.specs.Narrowing.{accessOf}
 use Rattle.encoding.specs.Format.{ruleAt}
 use Rattle.windows.specs.Windows.{Rising}
 use Rattle.questions.specs.Operators as operators
 use Rattle.relevance.specs.Chosen.{authorizationAt, picked, Picks}
 use Rattle.derivation.specs.Window.{Window}
 use Rattle.derivation.specs.Carried.{Carried}
-use Rattle.derivation.specs.Joined.{headAccess}
 use Rattle.facts.specs.Facts.{Setting, setting, placeIn, HasPlace, LinesReady}
 use Rattle.outlines.specs.Coordinates.{Chart, coordinate}
 use Rattle.outlines.specs.Feed.{isChoosy}
@@ -41,13 +41,13 @@ use Rattle.grounding.specs.Order.{Stage, Staged, RightIn, DoneIn, turns-done, n
 use Rattle.grounding.specs.Strata.{strata-done}
 use Rattle.grounding.specs.Answers.{may-exact}
 use Rattle.grounding.specs.Broken.{brokenTables, next-carried}
-use Rattle.engine.specs.Drawn.{sceneOf}
+use Rattle.engine.specs.Drawn.{mappingOf}
 use Rattle.engine.specs.Evaluation.{Low, Evaluation}
 use Rattle.engine.specs.Facts.{LineAt, lines-sound, lines-in, empty-sound}
-use Rattle.engine.specs.Places.{size-few, pair-below, scene-placed, place-within}
+use Rattle.engine.specs.Places.{size-few, pair-below, mapping-placed, place-within}
 use Rattle.engine.specs.Posed.{Posed}
 use Rattle.engine.specs.Reading.{rule-able}
-use Rattle.engine.specs.Selected.{selected-few, rule-selected, selected-rule, picked-mem}
+use Rattle.selection.specs.Selected.{selected-few, rule-selected, selected-rule, picked-mem}
 use Rattle.engine.specs.Sides.{in-whole, feed-has, turn-of}
 use Rattle.engine.specs.Standing.{rule-low, stands-for, stands-at, left-in}
 
@@ -63,10 +63,10 @@ module _ {n : ℕ} {C : Chart} {own : Access} {p : Prepared} {needed words bits�
   CarriedAt t bits = (active : List ℕ) (r : ℕ) → bit r needed ≡ true → (y : Access) →
       outlines.needed C own (p .need) y ≡ true → standsFor base (ruleAt (p .body) r) y ≡ true →
       Carried base t (ruleAt (p .body) r) y
-      (brokenIn (turnIn p active r) (p .frame .grid) bits (placeOf (sceneOf base C own p) y))
+      (brokenIn (turnIn p active r) (p .frame .grid) bits (placeOf (mappingOf base C own p) y))
 
   -- the first `count` marks are a window that fits the fields, and `lines` are the authorizations of the base
-  -- but for some that end before it
+  -- but for some that have none of its instants
   pub record Views (lines : List Authorization) (marks : List ℕ) (count : ℕ) : Type 0 where
     pub window : Window base count (λ i. getD marks i 0)
     pub rising : Rising count marks
@@ -74,8 +74,8 @@ module _ {n : ℕ} {C : Chart} {own : Access} {p : Prepared} {needed words bits�
     pub few : count ≤ 63
     pub fits : count ≤ 2 ^ p .frame .width
     pub among : (a : Authorization) → Mem a lines → Mem a (base .authorizations)
-    pub ended : (a : Authorization) → Mem a (base .authorizations) →
-        Mem a lines ⊎ (a .interval .end < getD marks 0 0)
+    pub missed : (a : Authorization) → Mem a (base .authorizations) →
+        Mem a lines ⊎ ((i : ℕ) → i < count → inInterval (a .interval) (getD marks i 0) ≡ false)
 
   -- ---- what a window needs
 
@@ -85,11 +85,11 @@ module _ {n : ℕ} {C : Chart} {own : Access} {p : Prepared} {needed words bits�
   able l low r e = rule-able (posed .drawn) base r e (posed .powers) l (low r e .0) (low r e .1)
 
   rule-few : (r : ℕ) → bit r needed ≡ true → (r < n) × (n ≤ 64)
-  rule-few r e = (rule-low (posed .drawn) r e, posed .drawn .grounds .few)
+  rule-few r e = (rule-low (posed .drawn) r e, posed .drawn .well-formed .few)
 
   -- an authorization is given at the place of its access
   place-line : (marks : List ℕ) (count : ℕ) (h : Head) →
-      placeIn (settingFor marks count) h ≡ placeOf (sceneOf base C own p) (headAccess h)
+      placeIn (settingFor marks count) h ≡ placeOf (mappingOf base C own p) (accessOf h)
   unfolding coordinate
   place-line marks count h = refl
 
@@ -99,12 +99,12 @@ module _ {n : ℕ} {C : Chart} {own : Access} {p : Prepared} {needed words bits�
   line-place marks count a m =
       let d = posed .drawn in
       let w = posed .lines a m in
-      let y = headAccess (a .head) in
+      let y = accessOf (a .head) in
       let k = outlines.needed-known C own (p .need) y (w .0) in
       record {
         placed = w .1;
         pair = rw (d .grid .0) (omega (arith, pair-below d y k, d .numbers .0));
-        within = subst (λ (q : Place). Within (p .frame .grid) (q .pair) (q .spot))
+        within = subst (λ (q : Place). Within (p .frame .grid) (q .pair) (q .point))
             (sym (place-line marks count (a .head))) (place-within d base y (w .0));
       }
 
@@ -120,7 +120,7 @@ module _ {n : ℕ} {C : Chart} {own : Access} {p : Prepared} {needed words bits�
           rules = λ c e.
               let h = rule-few c (and-true (bit c needed) (isChoosy (ruleAt (p .body) c))
               (sym (d .choosy c) ∙ e) .0) in
-              (omega (arith, h .0, h .1), omega (arith, h .0, d .grounds .there));
+              (omega (arith, h .0, h .1), omega (arith, h .0, d .well-formed .there));
           few = omega (arith, d .numbers .0, d .size, size-few d);
           short = views .few;
           rising = views .rising;
@@ -142,7 +142,7 @@ module _ {n : ℕ} {C : Chart} {own : Access} {p : Prepared} {needed words bits�
       prepared = p;
       base = base;
       matters = outlines.needed C own (p .need);
-      spot = sceneOf base C own p .spot;
+      point = mappingOf base C own p .point;
       needed = needed;
       count = count;
       ms = λ i. getD marks i 0;
@@ -157,7 +157,7 @@ module _ {n : ℕ} {C : Chart} {own : Access} {p : Prepared} {needed words bits�
     staged =
         let d = posed .drawn in
         record {
-          placed = scene-placed d base;
+          placed = mapping-placed d base;
           strata = posed .strata;
           window = views .window;
           low = λ r e. let h = rule-few r e in omega (arith, h .0, h .1);
@@ -170,35 +170,25 @@ module _ {n : ℕ} {C : Chart} {own : Access} {p : Prepared} {needed words bits�
           all = λ q m. selected-rule needed n (p .body) q (rw (posed .rules) at m);
         }
 
-    -- an authorization that ended before the window has no instant in it
-    over : (a : Authorization) → a .interval .end < getD marks 0 0 → (i : ℕ) → i < count →
-        inInterval (a .interval) (getD marks i 0) ≡ true → ⊥
-    over a e zero h t = omega (arith, inInterval-true (a .interval) (getD marks 0 0) t .1)
-    over a e (suc i) h t = omega (
-      arith,
-      views .rising 0 (suc i) (omega arith) h,
-      inInterval-true (a .interval) (getD marks (suc i) 0) t .1,
-    )
-
     -- the words have the authorizations in them
     lines-right : RightIn stage (done .given)
     unfolding coordinate
     lines-right =
         let d = posed .drawn in
-        let z = sceneOf base C own p in
+        let z = mappingOf base C own p in
         let all : (a : Authorization) → Mem a lines →
         Mem a (base .authorizations) × LineAt z (settingFor marks count) a = λ a m.
-        let k = views .among a m in (k, record { matters = posed .lines a k .0; spot = refl }) in
+        let k = views .among a m in (k, record { matters = posed .lines a k .0; point = refl }) in
         record {
-          sound = lines-sound z (scene-placed d base) (p .body) own (C .subjects) (C .objects) marks count
+          sound = lines-sound z (mapping-placed d base) (p .body) own (C .subjects) (C .objects) marks count
               (λ c e. refl) (done .lines) all
-              (empty-sound z (scene-placed d base) (p .body) own (C .subjects) (C .objects) marks count
+              (empty-sound z (mapping-placed d base) (p .body) own (C .subjects) (C .objects) marks count
               (λ c e. refl) (done .cleared) (d .laid .laid) (done .zero));
           lines = λ a m. ⊎-elim
-              (λ k. lines-in z (scene-placed d base) (p .body) own (C .subjects) (C .objects) marks count
+              (λ k. lines-in z (mapping-placed d base) (p .body) own (C .subjects) (C .objects) marks count
               (λ c e. refl) (done .lines) all a k)
-              (λ e T y k f i h t. absurd (over a e i h t))
-              (views .ended a m);
+              (λ e T y k f i h t. absurd (true≢false (sym t ∙ e i h)))
+              (views .missed a m);
         }
 
     -- and what all rules derive
@@ -214,17 +204,24 @@ module _ {n : ℕ} {C : Chart} {own : Access} {p : Prepared} {needed words bits�
         (f .right, none-left stage staged (ran .rest) (ran .turned) (w .0) (f .done)))
         (λ w. let g = strata-done stage staged (ran .strata)
         (λ r e. w .0 r e ∙ ap (λ (l : List Rule). stratum l (ruleAt (p .body) r)) (sym (posed .rules)))
-        (omega (arith, selected-few needed n (p .body), ap length (posed .rules), posed .drawn .grounds .few))
+        (omega (
+          arith,
+          selected-few needed n (p .body),
+          ap length (posed .rules),
+          posed .drawn .well-formed
+              .few,
+        ))
         (w .1) (f .fewer) (f .right) (f .done) in (g .right, g .done))
         (ran .closed)
 
     -- the words of the asked access say what it may
     pub answers : (i : ℕ) → i < count →
-        bit i (wordsIn (sceneOf base C own p) new 0 x) && not (bit i (wordsIn (sceneOf base C own p) new 1 x))
+        bit i (wordsIn (mappingOf base C own p) new 0 x) && not (bit i (wordsIn (mappingOf base C own p) new 1
+        x))
         ≡ may base x (getD marks i 0)
     answers =
         let w = place-within (posed .drawn) base x (posed .matters) in
-        let s = sceneOf base C own p .spot x in
+        let s = mappingOf base C own p .point x in
         may-exact stage new (all-right .0) (all-right .1) x
         (posed .matters, record { table = refl; within = w; inside = in-whole s })
         (posed .matters, record { table = refl; within = w; inside = in-whole s })

@@ -12,11 +12,11 @@ use Rattle.foundation.specs.Tests.{pick, cases, agree, true-eq, le-true, true-l
 use Rattle.foundation.specs.Tests.{and-intro}
 use Rattle.foundation.specs.Lists.{Mem}
 use Rattle.foundation.specs.Intervals.{inInterval}
-use Rattle.foundation.specs.Masks.{asBit, bit, bit-le}
+use Rattle.foundation.specs.Masks.{asBit, bit, bit-le, bit-true}
 use Rattle.words.specs.Bits.{bit-and}
 use Rattle.windows.specs.Windows.{inside}
 use Rattle.places.specs.declared.Region.{Region}
-use Rattle.places.specs.declared.Spot.{Spot}
+use Rattle.places.specs.declared.Point.{Point}
 use Rattle.places.specs.Regions.{sizeOf, In}
 use Rattle.tables.specs.Layout.{regionAt, whole, isThere, offsetOf, regionOf}
 use Rattle.tables.specs.Giving.{takes}
@@ -37,13 +37,13 @@ use Rattle.outlines.specs.Aims.{aim-known}
 use Rattle.outlines.specs.Needed.{needed, needed-known}
 use Rattle.outlines.specs.Standing.{rule-bit}
 use Rattle.outlines.specs.Feed.{isEither, isChoosy}
-use Rattle.grounding.specs.Steps.{turned, turnedSpot}
+use Rattle.grounding.specs.Steps.{turned, turnedPoint}
 use Rattle.grounding.specs.Meaning.{pat, Kept, TurnOf}
 use Rattle.grounding.specs.Turns.{Prepared, lookedBy, turnIn}
-use Rattle.engine.specs.Drawn.{SamePowers, Drawn, sceneOf}
+use Rattle.engine.specs.Drawn.{SamePowers, Drawn, mappingOf}
 use Rattle.engine.specs.Places.{place-within}
 use Rattle.engine.specs.Standing.{rule-low}
-use Rattle.engine.specs.Reading.{spot-right, right-needed}
+use Rattle.engine.specs.Reading.{point-right, right-needed}
 
 -- ---- small laws
 
@@ -52,7 +52,7 @@ sign-there : (choosy : ℕ) (g : Bool) → isThere choosy (asBit g) ≡ true
 sign-there choosy true = refl
 sign-there choosy false = refl
 
-pub in-whole : (x : Spot) → In whole x
+pub in-whole : (x : Point) → In whole x
 in-whole x = record {
   subject = λ e. absurd (true≢false e);
   object = λ e. absurd (true≢false e);
@@ -104,7 +104,7 @@ any-pattern r x c =
     }
 
 -- a region leads from its places to themselves, and from any place to one of its own
-in-turned : (b : Region) (x : Spot) → In b x → turnedSpot b x ≡ x
+in-turned : (b : Region) (x : Point) → In b x → turnedPoint b x ≡ x
 in-turned b x i = λ k. record {
   subject = side (b .subject) (x .subject) (i .subject) k;
   mode = side (b .mode) (x .mode) (i .mode) k;
@@ -114,11 +114,11 @@ in-turned b x i = λ k. record {
     side : (code own : ℕ) → (eqb code 255 ≡ false → own ≡ code) → turned code own ≡ own
     side code own f = cases (eqb code 255) (λ e. rw e) (λ e. rw e (sym (f e)))
 
-turned-in : (b : Region) (x y : Spot) → y ≡ turnedSpot b x → In b y
+turned-in : (b : Region) (x y : Point) → y ≡ turnedPoint b x → In b y
 turned-in b x y e = record {
-  subject = λ f. ap (λ (s : Spot). s .subject) e ∙ rw f;
-  mode = λ f. ap (λ (s : Spot). s .mode) e ∙ rw f;
-  object = λ f. ap (λ (s : Spot). s .object) e ∙ rw f;
+  subject = λ f. ap (λ (s : Point). s .subject) e ∙ rw f;
+  mode = λ f. ap (λ (s : Point). s .mode) e ∙ rw f;
+  object = λ f. ap (λ (s : Point). s .object) e ∙ rw f;
 }
 
 module _ {holder : Base} {n : ℕ} {C : Chart} {asked : Access} {p : Prepared} {matter words bits : ℕ}
@@ -126,20 +126,20 @@ module _ {holder : Base} {n : ℕ} {C : Chart} {asked : Access} {p : Prepared} {
   -- ---- right sides
 
   -- the place of an access
-  abbrev spotOf : Access → Spot
-  spotOf x = record { subject = subjectOf C asked x; mode = modeOf x; object = objectOf C asked x }
+  abbrev pointOf : Access → Point
+  pointOf x = record { subject = subjectOf C asked x; mode = modeOf x; object = objectOf C asked x }
 
   -- an access at a place of a right side is on it
   pub aim-same : (base : Base) (r : ℕ) → bit r matter ≡ true → (x : Access) → known C asked x ≡ true →
-      In (regionAt (p .right) r) (spotOf x) → rightOf (ruleAt (p .body) r) x .access ≡ x
+      In (regionAt (p .right) r) (pointOf x) → rightOf (ruleAt (p .body) r) x .access ≡ x
   aim-same base r b x k i =
       let y = rightOf (ruleAt (p .body) r) x .access in
       let h = rule-low d r b in
-      let e : spotOf y ≡ spotOf x =
-      sym (spot-right d base r b x) ∙ in-turned (regionAt (p .right) r) (spotOf x) i in
-      known-one C asked (d .charted) (d .grounds .few) y x
-      (aim-known (d .grounds) C (d .charted) (p .right) (d .rights) asked r h x k) k
-      (ap (λ (s : Spot). s .object) e) (ap (λ (s : Spot). s .subject) e) (ap (λ (s : Spot). s .mode) e)
+      let e : pointOf y ≡ pointOf x =
+      sym (point-right d base r b x) ∙ in-turned (regionAt (p .right) r) (pointOf x) i in
+      known-one C asked (d .charted) (d .well-formed .few) y x
+      (aim-known (d .well-formed) C (d .charted) (p .right) (d .rights) asked r h x k) k
+      (ap (λ (s : Point). s .object) e) (ap (λ (s : Point). s .subject) e) (ap (λ (s : Point). s .mode) e)
 
   -- ---- signs, and which rule precedes which
 
@@ -199,25 +199,21 @@ module _ {holder : Base} {n : ℕ} {C : Chart} {asked : Access} {p : Prepared} {
         start false = refl
 
     right-denied : turnIn p active r .denied ≡ one .right .negative
-    right-denied = ap (λ (m : ℕ). eqb m 1) (right-sign r (rule-low d r e)) ∙ sign (one .right .negative)
-      where
-        sign : (g : Bool) → eqb (asBit g) 1 ≡ g
-        sign true = refl
-        sign false = refl
+    right-denied = ap (λ (m : ℕ). eqb m 1) (right-sign r (rule-low d r e)) ∙ bit-true (one .right .negative)
 
     -- it has the rule's right side
-    right-in : (x : Access) → In (regionOf (p .right) table) (spotOf (rightOf one x .access))
+    right-in : (x : Access) → In (regionOf (p .right) table) (pointOf (rightOf one x .access))
     right-in x =
-        let y = spotOf (rightOf one x .access) in
+        let y = pointOf (rightOf one x .access) in
         cases (bit r (p .frame .choosy))
         (λ c. subst (λ (T : ℕ). In (regionOf (p .right) T) y) (sym (own-table c))
-        (turned-in (regionAt (p .right) r) (spotOf x) y (sym (spot-right d base r e x))))
+        (turned-in (regionAt (p .right) r) (pointOf x) y (sym (point-right d base r e x))))
         (λ c. subst (λ (b : Region). In b y)
         (sym (ap (regionOf (p .right)) (sign-table c) ∙ sign-region (p .right) (one .right .negative)))
         (in-whole y))
 
     right-kept : (x : Access) → needed C asked (p .need) x ≡ true → standsFor base one x ≡ true →
-        Kept (sceneOf base C asked p) table (rightOf one x .access)
+        Kept (mappingOf base C asked p) table (rightOf one x .access)
     right-kept x m s =
         let y = rightOf one x .access in
         let w = right-needed d base r e powers x m s in
@@ -252,7 +248,7 @@ module _ {holder : Base} {n : ℕ} {C : Chart} {asked : Access} {p : Prepared} {
 
     -- the table of a choosy rule c
     rule-given : (x : Access) → needed C asked (p .need) x ≡ true → standsFor base one x ≡ true → (c : ℕ) →
-        bit c (p .frame .choosy) ≡ true → In (regionAt (p .right) c) (spotOf x) →
+        bit c (p .frame .choosy) ≡ true → In (regionAt (p .right) c) (pointOf x) →
         bit c (bitAnd (getD (p .feed) (64 + r) 0) (p .frame .choosy))
         ≡ derivesFor base (pat (ruleAt (p .body)) (suc (suc c)) x) one
     rule-given x m s c t i =
@@ -279,7 +275,7 @@ module _ {holder : Base} {n : ℕ} {C : Chart} {asked : Access} {p : Prepared} {
         and-last false = refl
 
     turn-gives : (x : Access) → needed C asked (p .need) x ≡ true → standsFor base one x ≡ true → (T : ℕ) →
-        Kept (sceneOf base C asked p) T x →
+        Kept (mappingOf base C asked p) T x →
         takes (getD (p .sides) (4 * r + 3) 0 % 2) (bitAnd (getD (p .feed) (64 + r) 0) (p .frame .choosy)) T
         ≡ derivesFor base (pat (ruleAt (p .body)) T x) one
     turn-gives x m s zero k = sign-given x s false
@@ -289,7 +285,7 @@ module _ {holder : Base} {n : ℕ} {C : Chart} {asked : Access} {p : Prepared} {
     -- `active` has the instants of a window that the rule's interval has
     pub turn-of : Mem one (base .rules) → (count : ℕ) (marks : List ℕ) →
         ((j : ℕ) → bit j (getD active r 0) ≡ inside count marks (one .interval) j) →
-        TurnOf (sceneOf base C asked p) count (λ i. getD marks i 0) one (turnIn p active r)
+        TurnOf (mappingOf base C asked p) count (λ i. getD marks i 0) one (turnIn p active r)
     turn-of mem count marks masks = record {
       mem = mem;
       operator = refl;
@@ -302,7 +298,7 @@ module _ {holder : Base} {n : ℕ} {C : Chart} {asked : Access} {p : Prepared} {
       offset = table-offset;
       region = table-region;
       side = right-kept;
-      spot = λ x m s. sym (spot-right d base r e x);
+      point = λ x m s. sym (point-right d base r e x);
       pattern = right-pattern;
       gives = turn-gives;
     }

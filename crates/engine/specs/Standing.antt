@@ -30,7 +30,7 @@ use Rattle.outlines.specs.Needed.{needed, needed-known, needed-bit, needed-both
 use Rattle.grounding.specs.Steps.{StandsAt, placeAt, AtPair}
 use Rattle.grounding.specs.Turns.{Prepared, numberAt, turnIn, rangeFor}
 use Rattle.grounding.specs.Meaning.{placeOf, StandsIn}
-use Rattle.engine.specs.Drawn.{SamePowers, Drawn, sceneOf}
+use Rattle.engine.specs.Drawn.{SamePowers, Drawn, mappingOf}
 use Rattle.engine.specs.Places.{objectIn, subjectIn, coordinate-entry, narrow, access-at}
 use Rattle.engine.specs.Places.{pair-used, number-is, number-below, pair-at, pair-back}
 
@@ -91,7 +91,7 @@ module _ {holder : Base} {n : ℕ} {C : Chart} {asked : Access} {p : Prepared} {
       let x = access-at d (objectIn (p .codes) (w .0)) (subjectIn (p .codes) (w .0)) 0 (a .object)
       (a .subject) in
       let b : bit r (getD (p .left) (objectOf C asked (x .access)) 0) ≡ true = rw (x .object) (w .2) in
-      let q = sym (object-bit (d .grounds) C (d .charted) (p .sides) (d .lefts) holder asked (d .outlined)
+      let q = sym (object-bit (d .well-formed) C (d .charted) (p .sides) (d .lefts) holder asked (d .outlined)
       (p .left) (d .masks) (d .own) (x .access) (omega (arith, x .object, a .object)) r) ∙ b in
       true-le (suc r) n (and-true (ltb r n) (standsOn holder (ruleAt (p .body) r) (x .access .object)) q .0)
 
@@ -102,14 +102,14 @@ module _ {holder : Base} {n : ℕ} {C : Chart} {asked : Access} {p : Prepared} {
         bit r (getD (p .left) (objectOf C asked x) 0) ≡ standsOn holder (ruleAt (p .body) r) (x .object)
     object-mask x k =
         let t : ltb r n ≡ true = le-true (suc r) n h in
-        object-bit (d .grounds) C (d .charted) (p .sides) (d .lefts) holder asked (d .outlined) (p .left)
+        object-bit (d .well-formed) C (d .charted) (p .sides) (d .lefts) holder asked (d .outlined) (p .left)
         (d .masks) (d .own) x k r ∙ rw t
 
     subject-mask : (x : Access) → subjectOf C asked x < C .width →
         bit r (getD (p .left) (65 + subjectOf C asked x) 0) ≡ onSubject (x .subject) (ruleAt (p .body) r)
     subject-mask x k =
         let t : ltb r n ≡ true = le-true (suc r) n h in
-        subject-bit (d .grounds) C (d .charted) (p .sides) (d .lefts) holder asked (d .outlined) (p .left)
+        subject-bit (d .well-formed) C (d .charted) (p .sides) (d .lefts) holder asked (d .outlined) (p .left)
         (d .masks) (d .own) x k r ∙ rw t
 
     mode-mask : (x : Access) → 1 ≤ x .mode → x .mode ≤ 8 →
@@ -117,7 +117,7 @@ module _ {holder : Base} {n : ℕ} {C : Chart} {asked : Access} {p : Prepared} {
         ≡ isStar (ruleAt (p .body) r .left .mode) || eqb (ruleAt (p .body) r .left .mode) (x .mode)
     mode-mask x a b =
         ap (λ (k : ℕ). eqb k 255 || eqb k (modeOf x)) (d .lefts r h .mode)
-        ∙ mode-is (ruleAt (p .body) r .left .mode) (x .mode) (d .grounds .left r h .mode) a b
+        ∙ mode-is (ruleAt (p .body) r .left .mode) (x .mode) (d .well-formed .left r h .mode) a b
 
     pub stands-is : (base : Base) → SamePowers base holder → (x : Access) → known C asked x ≡ true →
         standsFor base (ruleAt (p .body) r) x
@@ -141,7 +141,7 @@ module _ {holder : Base} {n : ℕ} {C : Chart} {asked : Access} {p : Prepared} {
 
       -- where it stands there is an access that it stands for
       pub stands-in : (i m : ℕ) → i < p .frame .grid .pairs → StandsHere i m →
-          StandsIn (sceneOf base C asked p) (ruleAt (p .body) r) (placeHere i m)
+          StandsIn (mappingOf base C asked p) (ruleAt (p .body) r) (placeHere i m)
       stands-in i m l s =
           let a = pair-at d i l in
           let y = access-at d (objectIn (p .codes) i) (subjectIn (p .codes) i) m (a .object) (a .subject) in
@@ -163,7 +163,7 @@ module _ {holder : Base} {n : ℕ} {C : Chart} {asked : Access} {p : Prepared} {
             omega (arith, y .mode),
             omega (arith, y .mode),
           ) in
-          let number : i ≡ placeOf (sceneOf base C asked p) x .pair =
+          let number : i ≡ placeOf (mappingOf base C asked p) x .pair =
           sym (number-is d base x k ∙ ap (before (p .need)) (pair ∙ a .pair) ∙ a .number) in
           record {
             access = x;
@@ -175,13 +175,13 @@ module _ {holder : Base} {n : ℕ} {C : Chart} {asked : Access} {p : Prepared} {
                 (rw (y .subject) (s .subject), rw mode (w .2), rw (y .object) (s .object));
             place = λ j. record {
               pair = number j;
-              spot = record { subject = sym (y .subject) j; mode = sym mode j; object = sym (y .object) j };
+              point = record { subject = sym (y .subject) j; mode = sym mode j; object = sym (y .object) j };
             };
           }
 
       pub stands-for : (q : Place) → AtPair (turnIn p active r) (p .frame) (p .left) (p .need) (p .codes)
           (rangeFor p active r .from) (rangeFor p active r .to) q →
-          StandsIn (sceneOf base C asked p) (ruleAt (p .body) r) q
+          StandsIn (mappingOf base C asked p) (ruleAt (p .body) r) q
       stands-for q w =
           let s = stands-in (w .0) (w .1) (omega (arith, w .3, range-few active r)) (w .4) in
           record { access = s .access; matters = s .matters; stands = s .stands; place = w .5 ∙ s .place }
@@ -225,7 +225,7 @@ module _ {holder : Base} {n : ℕ} {C : Chart} {asked : Access} {p : Prepared} {
             (ap (λ (k : ℕ). getD (C .subjects) k 0) (true-eq v (x .subject) (rw y at (side .0))) ∙ sym c))
 
         -- the place lies in the region of its left side
-        pub left-in : In (regionAt (p .sides) r) (sceneOf base C asked p .spot x)
+        pub left-in : In (regionAt (p .sides) r) (mappingOf base C asked p .point x)
         left-in =
             let m : ℕ = modeOf x in
             let code : ℕ = getD (p .sides) (4 * r + 2) 0 in
@@ -260,7 +260,7 @@ module _ {holder : Base} {n : ℕ} {C : Chart} {asked : Access} {p : Prepared} {
             (omega arith) (omega (arith, w .1, d .size)) u)))
 
         pub stands-at : AtPair (turnIn p active r) (p .frame) (p .left) (p .need) (p .codes)
-            (rangeFor p active r .from) (rangeFor p active r .to) (placeOf (sceneOf base C asked p) x)
+            (rangeFor p active r .from) (rangeFor p active r .to) (placeOf (mappingOf base C asked p) x)
         stands-at =
             let k = needed-known C asked (p .need) x e in
             let i : ℕ = before (p .need) (pairOf C asked x) in
@@ -292,6 +292,6 @@ module _ {holder : Base} {n : ℕ} {C : Chart} {asked : Access} {p : Prepared} {
               },
               λ j. record {
                 pair = number j;
-                spot = record { subject = sym (b .1) j; mode = m; object = sym (b .0) j };
+                point = record { subject = sym (b .1) j; mode = m; object = sym (b .0) j };
               },
             )

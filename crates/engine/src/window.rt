@@ -187,11 +187,11 @@ pub fn evaluate(
 // The answers at the instants of a window, once it is evaluated.
 pub fn answers_in(f: Frame, p: Place, words: &[u64], right: &[u8; 256], first: &[u32; 64]) -> u64
     requires { ⌜ Ready f (now right) (now first) (length (now words))
-        × Within (f .grid) (p .pair) (p .spot) ⌝ }
+        × Within (f .grid) (p .pair) (p .point) ⌝ }
     ensures { λ r. ⌜ ((i : ℕ) → bit i r ≡ bit i (fieldOf (f .width) (now (words .entry))
-        (fieldIn (tablesOf f (now (right .entry)) (now (first .entry))) 0 (p .pair) (p .spot)))
+        (fieldIn (tablesOf f (now (right .entry)) (now (first .entry))) 0 (p .pair) (p .point)))
         && not (bit i (fieldOf (f .width) (now (words .entry))
-        (fieldIn (tablesOf f (now (right .entry)) (now (first .entry))) 1 (p .pair) (p .spot))))) ⌝ }
+        (fieldIn (tablesOf f (now (right .entry)) (now (first .entry))) 1 (p .pair) (p .point))))) ⌝ }
 {
     let b = all_places();
     let g = f.grid;

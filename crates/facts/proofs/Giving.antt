@@ -1,28 +1,23 @@
--- What an authorization gives: its instants as a word fit a field; nothing is given by a word without bits;
--- and the tables that take it, by a mask.
-use mathlib.Core.Path.{_≡_, refl, sym, ap, _∙_, subst}
+-- What an authorization gives: its instants as a word fit a field; and the tables that take it, by a mask.
+use mathlib.Core.Path.{_≡_, sym, ap, _∙_, subst}
 use mathlib.Core.Bool.{Bool, false, _&&_}
 use mathlib.Core.List.{List, [], _∷_, _++_}
 use Prim.Native.Nat.{ℕ, zero, suc, _+_, _/_, _^_, _≤_, _<_}
 use native.Mathlib.Nat.{div-div-eq-div-mul, div-lt-iff-lt-mul, div-le-self, lt-of-lt-of-le}
 use native.Mathlib.Numerals.{add-one}
 use native.Mathlib.Omega.{arith}
-use lib.Bits.{bitOr, or-zero-r}
 use lib.ListN.{length, getD}
 use lib.Pow.{pow-pos, pow-add, pow-mono}
 use Rattle.foundation.specs.declared.Interval.{Interval}
 use Rattle.foundation.specs.Intervals.{inInterval}
-use Rattle.foundation.specs.Tests.{cases, le-false}
+use Rattle.foundation.specs.Tests.{le-false}
 use Rattle.foundation.specs.Masks.{asBit, bit}
 use Rattle.model.specs.declared.Authorization.{Authorization}
 use Rattle.model.specs.declared.Head.{Head}
 use Rattle.words.specs.Bits.{no-bits}
-use Rattle.words.specs.Fields.{fieldOf}
 use Rattle.windows.specs.Windows.{inside}
-use Rattle.places.specs.declared.Spot.{Spot}
 use Rattle.relevance.specs.Chosen.{authorizationAt, picked, picked-none, picked-more}
-use Rattle.tables.specs.Layout.{Tables, fieldIn}
-use Rattle.tables.specs.Giving.{takes, same, Given}
+use Rattle.tables.specs.Giving.{takes}
 use Rattle.facts.specs.Facts.{Setting, fitsRule, takenBy, LineStep, LineSteps, none, then}
 
 -- ---- the instants
@@ -39,20 +34,9 @@ pub span-fits : (n k v : ℕ) (ms : List ℕ) (i : Interval) → v < 18446744073
 span-fits n k v ms i h l e = lt-of-lt-of-le (below-power n v h (λ j m.
     e j ∙ ap (λ (b : Bool). b && inInterval i (getD ms j 0)) (le-false (suc j) n (omega arith)))) (pow-mono l)
 
--- ---- what is given
+-- ---- who takes it
 
--- a word without bits gives nothing
-pub given-zero : (t : Tables) (k n : ℕ) (x : Spot) (taken : ℕ → Bool) (v : ℕ) (l : List ℕ) → v ≡ 0 →
-    Given t k n x taken v l l
-given-zero t k n x taken v l z = record {
-  lengths = refl;
-  fields = λ c m y h p.
-      let w = fieldOf k l (fieldIn t c m y) in
-      let e : bitOr w v ≡ w = rw z (or-zero-r w) in
-      cases (taken c && same y x) (λ q. rw (q, e)) (λ q. rw q);
-}
-
--- who takes it, by a mask
+-- the tables, by a mask
 pub takes-mask : (body : List ℕ) (choosy : ℕ) (h : Head) (sign takers : ℕ) → sign ≡ asBit (h .negative) →
     ((c : ℕ) → bit c takers ≡ bit c choosy && fitsRule body h c) →
     takes sign takers ≡ takenBy body choosy h

@@ -1,7 +1,7 @@
 -- The authorizations given to the tables over a window: each at its place, in the tables of its sign and of
 -- the rules that take it (`LineStep`), one behind the other (`LineSteps`). What that means is no matter here.
 use mathlib.Core.Path.{_≡_}
-use mathlib.Core.Bool.{Bool, true, _&&_, Bool·beq}
+use mathlib.Core.Bool.{Bool, _&&_, Bool·beq}
 use mathlib.Core.List.{List, [], _∷_}
 use Prim.Native.Nat.{ℕ, zero, suc, _+_, _*_, _-_, _^_, _≤_, _<_}
 use lib.Dec.{eqb}
@@ -17,6 +17,7 @@ use Rattle.encoding.specs.Format.{ruleAt}
 use Rattle.windows.specs.Windows.{Rising, inside}
 use Rattle.places.specs.declared.Grid.{Grid}
 use Rattle.places.specs.Regions.{Within}
+use Rattle.masks.specs.Masks.{RulesIn}
 use Rattle.tables.specs.declared.Frame.{Frame}
 use Rattle.tables.specs.declared.Place.{Place}
 use Rattle.tables.specs.Giving.{tablesOf, Ready, Given}
@@ -35,10 +36,6 @@ fitsKind h r =
 -- of the rule with that number
 abbrev pub fitsRule : List ℕ → Head → ℕ → Bool
 fitsRule body h c = fitsKind h (ruleAt body c)
-
--- the bytes hold each rule of a mask
-abbrev pub RulesIn : ℕ → List ℕ → Type 0
-RulesIn rules body = (c : ℕ) → bit c rules ≡ true → (c < 64) × (c * 28 + 28 ≤ length body)
 
 -- the table of its sign takes it, and those of the rules of a mask that it fits
 abbrev pub takenBy : List ℕ → ℕ → Head → ℕ → Bool
@@ -85,7 +82,7 @@ module _ (subjects objects : List ℕ) (x : Access) (g : Grid) where
   abbrev pub placeFor : List ℕ → Head → Place
   placeFor number h = record {
     pair = getD number (pairFor h) 0;
-    spot = record {
+    point = record {
       subject = cellOf subjects objects x h .subject;
       mode = h .mode - 1;
       object = cellOf subjects objects x h .object;
@@ -109,7 +106,7 @@ module _ (e : Setting) where
   pub record HasPlace (h : Head) : Type 0 where
     pub placed : Placed h
     pub pair : pairFor (e .subjects) (e .objects) (e .asked) (e .frame .grid) h < length (e .number)
-    pub within : Within (e .frame .grid) (placeIn h .pair) (placeIn h .spot)
+    pub within : Within (e .frame .grid) (placeIn h .pair) (placeIn h .point)
 
   -- all that is needed to give n authorizations
   pub record LinesReady (lines which : List ℕ) (n words : ℕ) : Type 0 where
@@ -124,7 +121,7 @@ module _ (e : Setting) where
     pub value : ℕ
     pub instants : (j : ℕ) → bit j value ≡ inside (e .count) (e .marks) (a .interval) j
     pub given : Given (tablesOf (e .frame) (e .right) (e .first)) (e .frame .width) (placeIn (a .head) .pair)
-        (placeIn (a .head) .spot) (takenBy (e .body) (e .frame .choosy) (a .head)) value old new
+        (placeIn (a .head) .point) (takenBy (e .body) (e .frame .choosy) (a .head)) value old new
 
   -- those of a list, one after the other
   pub data LineSteps : List Authorization → List ℕ → List ℕ → Type 0 where

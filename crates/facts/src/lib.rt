@@ -5,9 +5,10 @@ ghost use mathlib.Core.Bool.{_&&_};
 ghost use Prim.Native.Nat.{ℕ, _≤_, _<_};
 ghost use lib.ListN.{length};
 ghost use Rattle.foundation.specs.Masks.{bit};
+ghost use Rattle.masks.specs.Masks.{RulesIn};
 ghost use Rattle.relevance.specs.Chosen.{picked};
 ghost use Rattle.relevance.specs.Needed.{Placed};
-ghost use Rattle.facts.specs.Facts.{fitsKind, fitsRule, RulesIn, setting, pairFor, placeFor};
+ghost use Rattle.facts.specs.Facts.{fitsKind, fitsRule, setting, pairFor, placeFor};
 ghost use Rattle.facts.specs.Facts.{Usable, HasPlace, LinesReady, LineStep, LineSteps};
 use encoding::authorization_at;
 use encoding::rule_at;
@@ -19,7 +20,7 @@ use model::Head;
 use model::RULE_BYTES;
 use model::Rule;
 use places::Grid;
-use places::Spot;
+use places::Point;
 use relevance::cell_of;
 use relevance::sign_of;
 use rules::alike;
@@ -74,7 +75,7 @@ fn place_of(
     let j = (c.object * g.subjects + c.subject) as usize;
     Place {
         pair: number[j] as u32,
-        spot: Spot {
+        point: Point {
             subject: c.subject,
             mode: h.mode as u32 - 1,
             object: c.object,

@@ -16,7 +16,7 @@ use model::BASE_BYTES;
 use model::RULE_BYTES;
 
 // In each of n authorizations, the bits and bytes without a meaning are clear.
-pub fn authorizations_clean(s: &[u8], n: usize) -> bool
+fn authorizations_clean(s: &[u8], n: usize) -> bool
     requires { ⌜ n * 24 ≤ length (now s) ⌝ }
     ensures { λ r. ⌜ r ≡ eachRecord 24 authorizationClean n (now (s .entry)) ⌝ }
 {
@@ -31,7 +31,7 @@ pub fn authorizations_clean(s: &[u8], n: usize) -> bool
 }
 
 // In each of n rules, the operator is known, and the bits and bytes without a meaning are clear.
-pub fn rules_clean(s: &[u8], n: usize) -> bool
+fn rules_clean(s: &[u8], n: usize) -> bool
     requires { ⌜ n * 28 ≤ length (now s) ⌝ }
     ensures { λ r. ⌜ r ≡ eachRecord 28 ruleClean n (now (s .entry)) ⌝ }
 {

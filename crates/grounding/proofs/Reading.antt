@@ -1,5 +1,4 @@
--- What a step reads: the bit that says whether the rule is broken. What it gives where it derives nothing,
--- and what it marks.
+-- What a step reads: the bit that says whether the rule is broken. What it marks.
 use mathlib.Core.Path.{_≡_, refl, sym, ap, _∙_}
 use mathlib.Core.Bool.{Bool, true, false, not, _&&_, _||_, true≢false, false≢true}
 use mathlib.Core.List.{List}
@@ -11,12 +10,9 @@ use Rattle.foundation.specs.Tests.{cases, eq-true, true-eq, ne-false}
 use Rattle.foundation.specs.Masks.{bit}
 use Rattle.foundation.specs.Totals.{count}
 use Rattle.places.specs.declared.Grid.{Grid}
-use Rattle.places.specs.declared.Spot.{Spot}
 use Rattle.places.specs.Regions.{index-below}
 use Rattle.words.specs.Fields.{starts, fieldOf, joined}
 use Rattle.tables.specs.declared.Place.{Place}
-use Rattle.tables.specs.Layout.{Tables, fieldIn}
-use Rattle.tables.specs.Giving.{same, Given}
 use Rattle.questions.specs.Operators.{lasting}
 use Rattle.grounding.specs.declared.Turn.{Turn}
 use Rattle.grounding.specs.Steps.{brokenAt, Ordinary}
@@ -38,23 +34,11 @@ by-bit false z b e = absurd (true≢false e)
 module _ (t : Turn) (g : Grid) (bits : ℕ) (p : Place) (o : Ordinary t g bits p) where
   -- the place of the bit of a rule that looks back is a number
   pub bit-number : lasting (t .operator) ≡ true → 0 < bits → brokenAt t g p < 4294967296
-  bit-number l h = omega (arith, o .number l h, index-below g (t .left) (p .pair) (p .spot) (o .within))
+  bit-number l h = omega (arith, o .number l h, index-below g (t .left) (p .pair) (p .point) (o .within))
 
   -- and lies in the words, if there are any
   pub bit-room : lasting (t .operator) ≡ true → 0 < bits → starts 0 (brokenAt t g p) < 64 * bits
-  bit-room l h = omega (arith, o .room l h, index-below g (t .left) (p .pair) (p .spot) (o .within))
-
--- ---- what is given
-
--- nothing, where nothing is derived
-pub given-empty : (t : Tables) (k n : ℕ) (x : Spot) (taken : ℕ → Bool) (v : ℕ) (l : List ℕ) → v ≡ 0 →
-    Given t k n x taken v l l
-given-empty t k n x taken v l z = record {
-  lengths = refl;
-  fields = λ c m y h p. cases (taken c && same y x)
-      (λ e. rw (e, z) (sym (or-zero-r (fieldOf k l (fieldIn t c m y)))))
-      (λ e. rw e);
-}
+  bit-room l h = omega (arith, o .room l h, index-below g (t .left) (p .pair) (p .point) (o .within))
 
 -- ---- what is marked
 

@@ -2,7 +2,7 @@
 -- to an end, as each adds bits (`lighter`) or takes a rule out (`less-to-do`).
 use mathlib.Core.Path.{_≡_, sym, ap, _∙_}
 use mathlib.Core.Bool.{Bool, true, false, not, _&&_, false≢true}
-use mathlib.Core.List.{List, [], _∷_}
+use mathlib.Core.List.{List}
 use Prim.Native.Nat.{ℕ, suc, _+_, _*_, _-_, _≤_, _<_}
 use native.Mathlib.Nat.{mul-le-mul-right, suc-mul}
 use native.Mathlib.Omega.{arith}
@@ -11,7 +11,7 @@ use lib.ListN.{length, getD}
 use Rattle.foundation.specs.Tests.{cases, and-true, and-intro, ne-false, le-true, true-le, false-le}
 use Rattle.foundation.specs.Masks.{bit}
 use Rattle.words.specs.Bits.{bit-less, less}
-use Rattle.words.specs.Sums.{sum}
+use Rattle.words.specs.Sums.{sum, sum-words}
 use Rattle.tables.specs.declared.Frame.{Frame}
 use Rattle.tables.specs.declared.Place.{Place}
 use Rattle.grounding.specs.declared.Turn.{Turn}
@@ -65,14 +65,9 @@ less-in a b q e = and-true (bit q a) (not (bit q b)) (sym (bit-less q a b) ∙ e
 
 -- ---- the end
 
-sum-bound : (l : List ℕ) → ((i : ℕ) → getD l i 0 < 18446744073709551616) →
-    sum l ≤ 18446744073709551615 * length l
-sum-bound [] h = omega arith
-sum-bound (x ∷ l) h = let i = sum-bound l (λ i. h (suc i)) in let f = h 0 in omega arith
-
 -- the bits that words lack, and then the rules that are to do
-unfoldable pub weight : List ℕ → ℕ → ℕ
-weight words dirty = (18446744073709551615 * length words - sum words) * 18446744073709551616 + dirty
+unfoldable pub measure : List ℕ → ℕ → ℕ
+measure words dirty = (18446744073709551615 * length words - sum words) * 18446744073709551616 + dirty
 
 rest-less : (m a b : ℕ) → a < b → b ≤ m → m - b < m - a
 rest-less m a b h l = omega arith
@@ -82,19 +77,19 @@ first-less a b k d e h l = omega (arith, mul-le-mul-right {m = suc a} {n = b} k 
 
 -- where words have more bits
 pub lighter : (u v : List ℕ) (d e : ℕ) → length v ≡ length u → sum u < sum v →
-    ((i : ℕ) → getD v i 0 < 18446744073709551616) → e < 18446744073709551616 → weight v e < weight u d
-unfolding weight
+    ((i : ℕ) → getD v i 0 < 18446744073709551616) → e < 18446744073709551616 → measure v e < measure u d
+unfolding measure
 lighter u v d e n g h l =
     let m : ℕ = 18446744073709551615 * length u in
     first-less (18446744073709551615 * length v - sum v) (m - sum u) 18446744073709551616 d e
-    (rw n (rest-less m (sum u) (sum v) g (rw n at (sum-bound v h)))) l
+    (rw n (rest-less m (sum u) (sum v) g (rw n at (sum-words v h)))) l
 
 -- or are the same, and there is less to do
 second-less : (a d e : ℕ) → e < d → a + e < a + d
 second-less a d e h = omega arith
 
-pub less-to-do : (u : List ℕ) (d e : ℕ) → e < d → weight u e < weight u d
-unfolding weight
+pub less-to-do : (u : List ℕ) (d e : ℕ) → e < d → measure u e < measure u d
+unfolding measure
 less-to-do u d e h = second-less ((18446744073709551615 * length u - sum u) * 18446744073709551616) d e h
 
 -- ---- marks

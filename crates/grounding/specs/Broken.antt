@@ -31,7 +31,8 @@ use Rattle.grounding.specs.Steps.{forceIn, brokenAt, brokenIn, Mark, Ste
 use Rattle.grounding.specs.Meaning.{StandsIn, Kept, placeOf, pat-on, evaluated-at}
 use Rattle.grounding.specs.Turns as turns
 use Rattle.grounding.specs.Turns.{turnIn, RuleMarked, Marked}
-use Rattle.grounding.specs.Order.{Stage, Staged, sceneOf, ruleOf, patternOf, turnOf, W, RightIn, DoneIn}
+use Rattle.grounding.specs.Order.{Stage, Staged, mappingOf, ruleOf}
+use Rattle.grounding.specs.Order.{patternOf, turnOf, W, RightIn, DoneIn}
 use Rattle.grounding.specs.Order.{steps-along, steps-within, visited-within}
 
 -- ---- fields of one bit
@@ -55,7 +56,7 @@ module _ (o : Stage) where
 
   -- rule r is kept as broken at x
   abbrev pub brokenOf : List ℕ → ℕ → Access → Bool
-  brokenOf bits r x = brokenIn (turnOf o r) (o .prepared .frame .grid) bits (placeOf (sceneOf o) x)
+  brokenOf bits r x = brokenIn (turnOf o r) (o .prepared .frame .grid) bits (placeOf (mappingOf o) x)
 
   -- a rule that does not look back is never broken
   pub plain-carried : (r : ℕ) → lasting (ruleOf o r .operator) ≡ false → (x : Access) (t : ℕ)
@@ -73,13 +74,13 @@ module _ (o : Stage) where
       (from to : ℕ) (laid : Laid (brokenTables rules) from to)
       (has : (r : ℕ) → bit r rules ≡ true → (x : Access) → o .matters x ≡ true →
       standsFor (o .base) (ruleOf o r) x ≡ true →
-      Has (brokenTables rules) r (placeOf (sceneOf o) x .pair) (o .spot x)) where
+      Has (brokenTables rules) r (placeOf (mappingOf o) x .pair) (o .point x)) where
     abbrev mark : ℕ
     mark = o .ms last
 
     -- where the bit of rule r at x is
     abbrev bitOf : ℕ → Access → ℕ
-    bitOf r x = brokenAt (turnOf o r) (o .prepared .frame .grid) (placeOf (sceneOf o) x)
+    bitOf r x = brokenAt (turnOf o r) (o .prepared .frame .grid) (placeOf (mappingOf o) x)
 
     -- what is kept before the window, and what is to be kept behind it
     abbrev was : ℕ → Access → Bool
@@ -110,7 +111,7 @@ module _ (o : Stage) where
         (r ≡ q) × (x ≡ y)
     instance-same r q x y i j e =
         let a = field-apart (brokenTables rules) from to laid r q
-        (placeOf (sceneOf o) x .pair) (placeOf (sceneOf o) y .pair) (o .spot x) (o .spot y)
+        (placeOf (mappingOf o) x .pair) (placeOf (mappingOf o) y .pair) (o .point x) (o .point y)
         (has r (i .rule) x (i .matters) (i .stands)) (has q (j .rule) y (j .matters) (j .stands))
         (staged .placed .paired x y (i .matters) (j .matters) .0) e in
         (a .0, staged .placed .apart x y (i .matters) (j .matters) (a .1) (a .2) (a .3))
@@ -121,7 +122,7 @@ module _ (o : Stage) where
     Marks q = Mark (turnOf o q) (o .prepared .frame) (o .prepared .number) words last
 
     module _ (q : ℕ) (y : Access) (j : Instance q y) (started : ruleOf o q .interval .start ≤ mark)
-        (old new : List ℕ) (d : Marks q (placeOf (sceneOf o) y) old new) (m : Marking old) where
+        (old new : List ℕ) (d : Marks q (placeOf (mappingOf o) y) old new) (m : Marking old) where
       size : 0 < length new
       size = omega (arith, d .lengths, m .some)
 
@@ -139,13 +140,13 @@ module _ (o : Stage) where
       value-right e =
           let n = within q (j .rule) .0 in
           let t = staged .turn q n in
-          let held : ℕ = forceIn (turnOf o q) (o .prepared .frame) (o .prepared .number) words (o .spot y) in
+          let held : ℕ = forceIn (turnOf o q) (o .prepared .frame) (o .prepared .number) words (o .point y) in
           let f : Derived (turnOf o q .operator) held (turnOf o q .active) (was q y) (d .value) =
           subst (λ (b : Bool). Derived (turnOf o q .operator) held (turnOf o q .active) b (d .value)) e
           (d .derived) in
           turn-right (o .base) (staged .strata) (o .count) (o .ms) (staged .window) (patternOf o)
-          (pat-on (ruleOf o)) (Kept (sceneOf o)) (W o words) right (ruleOf o q) (t .mem) y (d .value)
-          (evaluated-at (sceneOf o) (staged .placed) (staged .strata) (o .count) (o .ms) (staged .window)
+          (pat-on (ruleOf o)) (Kept (mappingOf o)) (W o words) right (ruleOf o q) (t .mem) y (d .value)
+          (evaluated-at (mappingOf o) (staged .placed) (staged .strata) (o .count) (o .ms) (staged .window)
           (ruleOf o q) (turnOf o q) t (o .bits) (staged .carried q n) words y (j .matters) (j .stands)
           (d .value) f)
           (j .stands) (λ r m f. done r m) last (omega arith)
@@ -195,16 +196,16 @@ module _ (o : Stage) where
 
     module _ (q : ℕ) (e : bit q rules ≡ true) where
       module _ (started : ruleOf o q .interval .start ≤ mark) where
-        one-marking : (a b : List ℕ) (p : Place) → StandsIn (sceneOf o) (ruleOf o q) p → Marks q p a b →
+        one-marking : (a b : List ℕ) (p : Place) → StandsIn (mappingOf o) (ruleOf o q) p → Marks q p a b →
             Marking a → Marking b × Finals a b
         one-marking a b p s d m =
             let y = s .access in
             let j : Instance q y = record { rule = e; matters = s .matters; stands = s .stands } in
-            let there : Marks q (placeOf (sceneOf o) y) a b =
+            let there : Marks q (placeOf (mappingOf o) y) a b =
             subst (λ (p : Place). Marks q p a b) (s .place) d in
             (step-marking q y j started a b there m, step-final q y j started a b there m)
 
-        row-marking : {u v : List ℕ} → Steps (Marks q) (StandsIn (sceneOf o) (ruleOf o q)) u v → Marking u →
+        row-marking : {u v : List ℕ} → Steps (Marks q) (StandsIn (mappingOf o) (ruleOf o q)) u v → Marking u →
             Marking v × Finals u v
         row-marking {u} row m = steps-along (λ v. Marking v × Finals u v)
             (λ a b p s d g.
@@ -212,7 +213,8 @@ module _ (o : Stage) where
             row (m, λ r x i f. f)
 
         seen-final : {u v : List ℕ} (x : Access) → Instance q x →
-            Visited (Marks q) (StandsIn (sceneOf o) (ruleOf o q)) (placeOf (sceneOf o) x) u v → Marking u →
+            Visited (Marks q) (StandsIn (mappingOf o) (ruleOf o q)) (placeOf (mappingOf o) x) u v → Marking u
+            →
             brokenOf v q x ≡ final q x
         seen-final x i seen m =
             let a = row-marking (seen .to) m .0 in
@@ -247,7 +249,7 @@ module _ (o : Stage) where
             own = λ x i.
                 let a = staged .reached q n x (i .matters) (i .stands) in
                 seen-final started x i
-                (subst (λ (p : Place). Visited (Marks q) (StandsIn (sceneOf o) (ruleOf o q)) p u v)
+                (subst (λ (p : Place). Visited (Marks q) (StandsIn (mappingOf o) (ruleOf o q)) p u v)
                 (sym (a .5))
                 (visited-within (staged .stands q n) (ran .all (a .0) (a .1) (a .2) (a .3) (a .4)))) m;
           }
@@ -278,7 +280,7 @@ module _ (o : Stage) where
         standsFor (o .base) (ruleOf o r) x ≡ true →
         (u : ℕ) → mark < u → clear (allMarks (o .base)) mark (u - 1) ≡ true → (active : List ℕ) →
         Carried (o .base) u (ruleOf o r) x
-        (brokenIn (turnIn (o .prepared) active r) (o .prepared .frame .grid) bits (placeOf (sceneOf o) x))
+        (brokenIn (turnIn (o .prepared) active r) (o .prepared .frame .grid) bits (placeOf (mappingOf o) x))
     marked-carried {bits} marked kept r e x m s u h c active =
         let n = within r e .0 in
         let t = staged .turn r n in
@@ -305,7 +307,7 @@ module _ (o : Stage) where
         (u : ℕ) → mark < u → clear (allMarks (o .base)) mark (u - 1) ≡ true → (active : List ℕ) →
         (r : ℕ) → bit r (o .needed) ≡ true → (x : Access) → o .matters x ≡ true →
         standsFor (o .base) (ruleOf o r) x ≡ true → Carried (o .base) u (ruleOf o r) x
-        (brokenIn (turnIn (o .prepared) active r) (o .prepared .frame .grid) bits (placeOf (sceneOf o) x))
+        (brokenIn (turnIn (o .prepared) active r) (o .prepared .frame .grid) bits (placeOf (mappingOf o) x))
     next-carried {bits} marked kept lasts u h c active r n x m s = cases (lasting (ruleOf o r .operator))
         (λ l. marked-carried marked kept r (lasts r n l) x m s u h c active)
         (λ l. plain-carried r l x u bits)

@@ -1,5 +1,6 @@
--- What the steps of a turn mean. A scene says which access a place stands for, and which pattern a table has
--- of it (`pat`); the words of a scene are the fields of the tables (`wordsIn`). A step gives what the rule
+-- What the steps of a turn mean. A mapping says which access a place stands for, and which pattern a table
+-- has
+-- of it (`pat`); the words of a mapping are the fields of the tables (`wordsIn`). A step gives what the rule
 -- derives, and once all steps are done that is in the tables (`turn-given`).
 use mathlib.Core.Path.{_≡_, refl, sym, ap, ap₂, _∙_, subst}
 use mathlib.Core.Bool.{Bool, true, false, not, _&&_, _||_, true≢false}
@@ -16,7 +17,7 @@ use Rattle.foundation.specs.Masks.{bit}
 use Rattle.words.specs.Bits.{less, bit-or, bit-less}
 use Rattle.words.specs.Fields.{fieldOf}
 use Rattle.places.specs.declared.Region.{Region}
-use Rattle.places.specs.declared.Spot.{Spot}
+use Rattle.places.specs.declared.Point.{Point}
 use Rattle.places.specs.Regions.{sizeOf, indexIn}
 use Rattle.tables.specs.declared.Frame.{Frame}
 use Rattle.tables.specs.declared.Place.{Place}
@@ -37,7 +38,7 @@ use Rattle.derivation.specs.Exact.{Tables, Valued, GivenAt, Done}
 use Rattle.derivation.specs.Joined.{Joined, given-stays, rule-valued, rule-given}
 use Rattle.derivation.specs.Turn.{Evaluated, turn-right}
 use Rattle.grounding.specs.declared.Turn.{Turn}
-use Rattle.grounding.specs.Steps.{turnedSpot, pairIn, forceAt, forceIn, brokenIn, Step, Steps}
+use Rattle.grounding.specs.Steps.{turnedPoint, pairIn, forceAt, forceIn, brokenIn, Step, Steps}
 use Rattle.grounding.specs.Steps.{none, then, Visited}
 
 -- ---- patterns
@@ -58,31 +59,31 @@ pat-on rule zero x = refl
 pat-on rule (suc zero) x = refl
 pat-on rule (suc (suc c)) x = refl
 
--- ---- the scene
+-- ---- the mapping
 
 -- The base, its rules by number, the accesses that matter and their places; and the tables
-pub record Scene : Type 0 where
+pub record Mapping : Type 0 where
   pub base : Base
   pub rule : ℕ → Rule
   pub matters : Access → Bool
-  pub spot : Access → Spot
+  pub point : Access → Point
   pub number : List ℕ
   pub frame : Frame
   pub right : List ℕ
   pub first : List ℕ
 
-module _ (z : Scene) where
+module _ (z : Mapping) where
   abbrev pub placeOf : Access → Place
-  placeOf x = record { pair = getD (z .number) (pairIn (z .frame .grid) (z .spot x)) 0; spot = z .spot x }
+  placeOf x = record { pair = getD (z .number) (pairIn (z .frame .grid) (z .point x)) 0; point = z .point x }
 
   abbrev pub Kept : ℕ → Access → Type 0
   Kept T x = (z .matters x ≡ true)
-      × Has (tablesOf (z .frame) (z .right) (z .first)) T (placeOf x .pair) (z .spot x)
+      × Has (tablesOf (z .frame) (z .right) (z .first)) T (placeOf x .pair) (z .point x)
 
   -- the word of an access in a table
   abbrev pub wordsIn : List ℕ → Tables
   wordsIn words T x = fieldOf (z .frame .width) words
-      (fieldIn (tablesOf (z .frame) (z .right) (z .first)) T (placeOf x .pair) (z .spot x))
+      (fieldIn (tablesOf (z .frame) (z .right) (z .first)) T (placeOf x .pair) (z .point x))
 
   -- the table of denials keeps what any table keeps
   kept-denials : (T : ℕ) (x : Access) → Kept T x → Kept 1 x
@@ -102,49 +103,49 @@ module _ (z : Scene) where
   -- different accesses have different places, and pairs of one number are one pair
   pub record Placed : Type 0 where
     pub apart : (x y : Access) → z .matters x ≡ true → z .matters y ≡ true →
-        z .spot x .subject ≡ z .spot y .subject → z .spot x .object ≡ z .spot y .object →
-        z .spot x .mode ≡ z .spot y .mode → x ≡ y
+        z .point x .subject ≡ z .point y .subject → z .point x .object ≡ z .point y .object →
+        z .point x .mode ≡ z .point y .mode → x ≡ y
     pub paired : (x y : Access) → z .matters x ≡ true → z .matters y ≡ true →
-        Paired (placeOf x .pair) (z .spot x) (placeOf y .pair) (z .spot y)
+        Paired (placeOf x .pair) (z .point x) (placeOf y .pair) (z .point y)
 
   -- ---- a step joins words
 
   module _ (placed : Placed) (x : Access) (m : z .matters x ≡ true) (taken : ℕ → Bool) (v : ℕ)
       (old new : List ℕ) (wanted : ℕ → Bool)
       (alike : (T : ℕ) → Kept T x → taken T ≡ wanted T)
-      (g : Given (tablesOf (z .frame) (z .right) (z .first)) (z .frame .width) (placeOf x .pair) (z .spot x)
+      (g : Given (tablesOf (z .frame) (z .right) (z .first)) (z .frame .width) (placeOf x .pair) (z .point x)
       taken
       v old new) where
     abbrev field : ℕ → Access → ℕ
-    field T y = fieldIn (tablesOf (z .frame) (z .right) (z .first)) T (placeOf y .pair) (z .spot y)
+    field T y = fieldIn (tablesOf (z .frame) (z .right) (z .first)) T (placeOf y .pair) (z .point y)
 
     given-at : (T : ℕ) (y : Access) → Kept T y → wordsIn new T y
-        ≡ pick (taken T && same (z .spot y) (z .spot x)) (bitOr (wordsIn old T y) v) (wordsIn old T y)
-    given-at T y k = g .fields T (placeOf y .pair) (z .spot y) (k .1) (placed .paired y x (k .0) m)
+        ≡ pick (taken T && same (z .point y) (z .point x)) (bitOr (wordsIn old T y) v) (wordsIn old T y)
+    given-at T y k = g .fields T (placeOf y .pair) (z .point y) (k .1) (placed .paired y x (k .0) m)
 
     -- no word becomes less
     pub given-grows : (T : ℕ) (y : Access) → Kept T y → wordsIn old T y ≤ wordsIn new T y
     given-grows T y k =
         let a : ℕ = wordsIn old T y in
         let n : ℕ = wordsIn new T y in
-        let e : n ≡ pick (taken T && same (z .spot y) (z .spot x)) (bitOr a v) a = given-at T y k in
-        cases (taken T && same (z .spot y) (z .spot x))
+        let e : n ≡ pick (taken T && same (z .point y) (z .point x)) (bitOr a v) a = given-at T y k in
+        cases (taken T && same (z .point y) (z .point x))
         (λ c. let q : n ≡ bitOr a v = e ∙ rw c in omega (arith, or-add-and a v, and-le-r a v))
         (λ c. let q : n ≡ a = e ∙ rw c in omega arith)
 
-    same-refl : same (z .spot x) (z .spot x) ≡ true
+    same-refl : same (z .point x) (z .point x) ≡ true
     same-refl =
-        let p = z .spot x in
+        let p = z .point x in
         and-three (eqb (p .subject) (p .subject)) (eqb (p .object) (p .object)) (eqb (p .mode) (p .mode)) .1 (
           eq-true (p .subject) (p .subject) refl,
           eq-true (p .object) (p .object) refl,
           eq-true (p .mode) (p .mode) refl,
         )
 
-    same-access : (y : Access) → z .matters y ≡ true → same (z .spot y) (z .spot x) ≡ true → y ≡ x
+    same-access : (y : Access) → z .matters y ≡ true → same (z .point y) (z .point x) ≡ true → y ≡ x
     same-access y n e =
-        let p = z .spot y in
-        let q = z .spot x in
+        let p = z .point y in
+        let q = z .point x in
         let w = and-three (eqb (p .subject) (q .subject)) (eqb (p .object) (q .object)) (eqb (p .mode) (q
         .mode)) .0
         e in
@@ -157,8 +158,8 @@ module _ (z : Scene) where
       there = λ T k t i.
           ap (bit i) (given-at T x k ∙ rw (alike T k ∙ t, same-refl)) ∙ bit-or (wordsIn old T x) v i;
       else-kept = λ T y k n.
-          given-at T y k ∙ cases (taken T && same (z .spot y) (z .spot x))
-          (λ e. let w = and-true (taken T) (same (z .spot y) (z .spot x)) e in
+          given-at T y k ∙ cases (taken T && same (z .point y) (z .point x))
+          (λ e. let w = and-true (taken T) (same (z .point y) (z .point x)) e in
           let q = same-access y (k .0) (w .1) in
           absurd (n q (sym (alike T (subst (Kept T) q k)) ∙ w .0)))
           (λ e. rw e);
@@ -179,8 +180,8 @@ module _ (z : Scene) where
     pub region : t .table ≡ tablesOf (z .frame) (z .right) (z .first) .region looked
     pub side : (x : Access) → z .matters x ≡ true → standsFor (z .base) r x ≡ true →
         Kept looked (rightOf r x .access)
-    pub spot : (x : Access) → z .matters x ≡ true → standsFor (z .base) r x ≡ true →
-        z .spot (rightOf r x .access) ≡ turnedSpot (t .right) (z .spot x)
+    pub point : (x : Access) → z .matters x ≡ true → standsFor (z .base) r x ≡ true →
+        z .point (rightOf r x .access) ≡ turnedPoint (t .right) (z .point x)
     pub pattern : (x : Access) → pat (z .rule) looked (rightOf r x .access) ≡ rightOf r x
     -- and those that it gives to
     pub gives : (x : Access) → z .matters x ≡ true → standsFor (z .base) r x ≡ true → (T : ℕ) → Kept T x →
@@ -213,16 +214,17 @@ module _ (z : Scene) where
 
     -- what is in force, from x, by the words of the right side's access
     force-words : (u : List ℕ) (x : Access) → z .matters x ≡ true → standsFor (z .base) r x ≡ true →
-        forceIn t (z .frame) (z .number) u (z .spot x)
+        forceIn t (z .frame) (z .number) u (z .point x)
         ≡ pick (r .right .negative) (wordsIn u (turn .looked) (rightOf r x .access))
         (less (wordsIn u (turn .looked) (rightOf r x .access)) (wordsIn u 1 (rightOf r x .access)))
     force-words u x m s =
         let y = rightOf r x .access in
         let field : ℕ → Region → ℕ = λ from b. fieldOf (z .frame .width) u
-        (from + indexIn (z .frame .grid) b (placeOf y .pair) (z .spot y)) in
+        (from + indexIn (z .frame .grid) b (placeOf y .pair) (z .point y)) in
         let denials = field (sizeOf (z .frame .grid) whole) whole in
-        ap (λ (q : Spot). forceAt t (z .frame) u
-        (record { pair = getD (z .number) (pairIn (z .frame .grid) q) 0; spot = q })) (sym (turn .spot x m s))
+        ap (λ (q : Point). forceAt t (z .frame) u
+        (record { pair = getD (z .number) (pairIn (z .frame .grid) q) 0; point = q })) (sym (turn .point x m
+        s))
         ∙ ap₂ (λ (o : ℕ) (b : Region). pick (t .denied) (field o b) (less (field o b) denials))
         (turn .offset) (turn .region)
         ∙ ap (λ (n : Bool). pick n (wordsIn u (turn .looked) y) (less (wordsIn u (turn .looked) y) denials))
@@ -234,13 +236,13 @@ module _ (z : Scene) where
 
     -- what it derives of what is in force
     pub evaluated-at : (u : List ℕ) (x : Access) → z .matters x ≡ true → standsFor (z .base) r x ≡ true →
-        (v : ℕ) → Derived (t .operator) (forceIn t (z .frame) (z .number) u (z .spot x)) (t .active)
+        (v : ℕ) → Derived (t .operator) (forceIn t (z .frame) (z .number) u (z .point x)) (t .active)
         (brokenIn t (z .frame .grid) bits (placeOf x)) v →
         Evaluated (z .base) count ms patterns Kept (wordsIn u) r x v
     evaluated-at u x m s v d =
         let b = brokenIn t (z .frame .grid) bits (placeOf x) in
         let y = rightOf r x .access in
-        let seen = forceIn t (z .frame) (z .number) u (z .spot x) in
+        let seen = forceIn t (z .frame) (z .number) u (z .point x) in
         record {
           table = turn .looked;
           looks = turn .pattern x;

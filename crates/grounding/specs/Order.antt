@@ -12,7 +12,7 @@ use Rattle.foundation.specs.Tests.{cases, true-eq, false-eq, and-true}
 use Rattle.foundation.specs.Lists.{Mem}
 use Rattle.foundation.specs.Intervals.{inInterval, always}
 use Rattle.foundation.specs.Masks.{bit}
-use Rattle.places.specs.declared.Spot.{Spot}
+use Rattle.places.specs.declared.Point.{Point}
 use Rattle.tables.specs.declared.Place.{Place}
 use Rattle.tables.specs.Giving.{takes}
 use Rattle.model.specs.declared.Rule.{Rule}
@@ -31,7 +31,7 @@ use Rattle.derivation.specs.Exact.{Tables, Valued, Done}
 use Rattle.derivation.specs.Joined.{Joined, joined-more}
 use Rattle.grounding.specs.declared.Turn.{Turn}
 use Rattle.grounding.specs.Steps.{brokenIn, Step, Steps, none, then, Visited, AtPair, PairsRan}
-use Rattle.grounding.specs.Meaning.{Scene, Placed, TurnOf, StandsIn, Kept, placeOf, wordsIn, pat}
+use Rattle.grounding.specs.Meaning.{Mapping, Placed, TurnOf, StandsIn, Kept, placeOf, wordsIn, pat}
 use Rattle.grounding.specs.Meaning.{pat-on, given-grows, step-joined, steps-keep, turn-given}
 use Rattle.grounding.specs.Turns as turns
 use Rattle.grounding.specs.Turns.{Prepared, turnIn, rangeFor, RuleRan, Turns}
@@ -68,7 +68,7 @@ pub record Stage : Type 0 where
   pub prepared : Prepared
   pub base : Base
   pub matters : Access → Bool
-  pub spot : Access → Spot
+  pub point : Access → Point
   pub needed : ℕ
   pub count : ℕ
   pub ms : ℕ → ℕ
@@ -100,12 +100,12 @@ module _ (o : Stage) where
   abbrev bits : List ℕ
   bits = o .bits
 
-  abbrev pub sceneOf : Scene
-  sceneOf = record {
+  abbrev pub mappingOf : Mapping
+  mappingOf = record {
     base = o .base;
     rule = ruleAt (o .prepared .body);
     matters = o .matters;
-    spot = o .spot;
+    point = o .point;
     number = o .prepared .number;
     frame = o .prepared .frame;
     right = o .prepared .right;
@@ -122,7 +122,7 @@ module _ (o : Stage) where
   turnOf = turnIn p active
 
   abbrev pub W : List ℕ → Tables
-  W = wordsIn sceneOf
+  W = wordsIn mappingOf
 
   -- the places at which rule r has a step
   abbrev pub PlaceFor : ℕ → Place → Type 0
@@ -131,15 +131,15 @@ module _ (o : Stage) where
 
   -- the words of the tables say nothing wrong and have the authorizations in them
   abbrev pub RightIn : List ℕ → Type 0
-  RightIn u = Valued base count ms patternOf (Kept sceneOf) (W u)
+  RightIn u = Valued base count ms patternOf (Kept mappingOf) (W u)
 
   -- they have in them what a rule derives
   abbrev pub DoneIn : List ℕ → Rule → Type 0
-  DoneIn u = Done base count ms patternOf (Kept sceneOf) (W u)
+  DoneIn u = Done base count ms patternOf (Kept mappingOf) (W u)
 
   -- no bit is lost
   abbrev pub Gained : List ℕ → List ℕ → Type 0
-  Gained u v = (T : ℕ) (y : Access) → Kept sceneOf T y → (i : ℕ) → bit i (W u T y) ≡ true →
+  Gained u v = (T : ℕ) (y : Access) → Kept mappingOf T y → (i : ℕ) → bit i (W u T y) ≡ true →
       bit i (W v T y) ≡ true
 
   pub done-gained : (u v : List ℕ) → Gained u v → (q : Rule) → DoneIn u q → DoneIn v q
@@ -148,17 +148,17 @@ module _ (o : Stage) where
   -- The needed rules stand ready for their turns: they are all rules of the base, and each has a step exactly
   -- where it stands; what is kept of the windows before is right.
   pub record Staged : Type 0 where
-    pub placed : Placed sceneOf
+    pub placed : Placed mappingOf
     pub strata : stratified (base .rules) ≡ true
     pub window : Window base count ms
     pub low : (r : ℕ) → bit r needed ≡ true → r < 64
-    pub turn : (r : ℕ) → bit r needed ≡ true → TurnOf sceneOf count ms (ruleOf r) (turnOf r)
-    pub stands : (r : ℕ) → bit r needed ≡ true → (q : Place) → PlaceFor r q → StandsIn sceneOf (ruleOf r) q
+    pub turn : (r : ℕ) → bit r needed ≡ true → TurnOf mappingOf count ms (ruleOf r) (turnOf r)
+    pub stands : (r : ℕ) → bit r needed ≡ true → (q : Place) → PlaceFor r q → StandsIn mappingOf (ruleOf r) q
     pub reached : (r : ℕ) → bit r needed ≡ true → (x : Access) → matters x ≡ true →
-        standsFor base (ruleOf r) x ≡ true → PlaceFor r (placeOf sceneOf x)
+        standsFor base (ruleOf r) x ≡ true → PlaceFor r (placeOf mappingOf x)
     pub carried : (r : ℕ) → bit r needed ≡ true → (x : Access) → matters x ≡ true →
         standsFor base (ruleOf r) x ≡ true →
-        Carried base (ms 0) (ruleOf r) x (brokenIn (turnOf r) (p .frame .grid) bits (placeOf sceneOf x))
+        Carried base (ms 0) (ruleOf r) x (brokenIn (turnOf r) (p .frame .grid) bits (placeOf mappingOf x))
     pub feed : (q r : ℕ) → bit q needed ≡ true → bit r needed ≡ true →
         precedes (ruleOf q) (ruleOf r) ≡ true →
         bit q (getD (p .feed) r 0) ≡ true
@@ -176,17 +176,17 @@ module _ (o : Stage) where
           (rangeFor p active r .from) (rangeFor p active r .to)
 
       abbrev pub Row : List ℕ → List ℕ → Type 0
-      Row = Steps Does (StandsIn sceneOf (ruleOf r))
+      Row = Steps Does (StandsIn mappingOf (ruleOf r))
 
       pub row-of : {u v : List ℕ} → Ran u v → Row u v
       row-of ran = steps-within (staged .stands r n) (ran .steps)
 
       pub visited-of : {u v : List ℕ} → Ran u v → (x : Access) → matters x ≡ true →
           standsFor base (ruleOf r) x ≡ true →
-          Visited Does (StandsIn sceneOf (ruleOf r)) (placeOf sceneOf x) u v
+          Visited Does (StandsIn mappingOf (ruleOf r)) (placeOf mappingOf x) u v
       visited-of {u} {v} ran x m s =
           let a = staged .reached r n x m s in
-          subst (λ (q : Place). Visited Does (StandsIn sceneOf (ruleOf r)) q u v) (sym (a .5))
+          subst (λ (q : Place). Visited Does (StandsIn mappingOf (ruleOf r)) q u v) (sym (a .5))
           (visited-within (staged .stands r n) (ran .all (a .0) (a .1) (a .2) (a .3) (a .4)))
 
       -- a rule derives for a pattern where it stands
@@ -195,37 +195,38 @@ module _ (o : Stage) where
       stands-there T x d = subst (λ (y : Access). standsFor base (ruleOf r) y ≡ true) (pat-on ruleOf T x)
           (derives-stands base (patternOf T x) (ruleOf r) d)
 
-      module _ (a b : List ℕ) (q : Place) (s : StandsIn sceneOf (ruleOf r) q) (d : Does q a b) where
-        pub there : Does (placeOf sceneOf (s .access)) a b
+      module _ (a b : List ℕ) (q : Place) (s : StandsIn mappingOf (ruleOf r) q) (d : Does q a b) where
+        pub there : Does (placeOf mappingOf (s .access)) a b
         there = subst (λ (q : Place). Does q a b) (s .place) d
 
-        pub row-joined : Joined (Kept sceneOf) (W a) (W b)
+        pub row-joined : Joined (Kept mappingOf) (W a) (W b)
             (λ T. derivesFor base (patternOf T (s .access)) (ruleOf r)) (s .access) (there .value)
-        row-joined = step-joined sceneOf (staged .placed) (staged .strata) count ms (staged .window)
+        row-joined = step-joined mappingOf (staged .placed) (staged .strata) count ms (staged .window)
             (ruleOf r) (turnOf r) (staged .turn r n) bits (staged .carried r n) (s .access) (s .matters)
             (s .stands) a b there
 
-        row-grows : (T : ℕ) (y : Access) → Kept sceneOf T y → W a T y ≤ W b T y
-        row-grows = given-grows sceneOf (staged .placed) (s .access) (s .matters)
+        row-grows : (T : ℕ) (y : Access) → Kept mappingOf T y → W a T y ≤ W b T y
+        row-grows = given-grows mappingOf (staged .placed) (s .access) (s .matters)
             (takes (turnOf r .sign) (turnOf r .takers)) (there .value) a b
             (λ T. derivesFor base (patternOf T (s .access)) (ruleOf r))
             (staged .turn r n .gives (s .access) (s .matters) (s .stands)) (there .given)
 
       pub steps-gained : {u v : List ℕ} → Row u v → Gained u v
       steps-gained {u} row = steps-along (Gained u)
-          (λ a b q s d g T y k i e. joined-more (Kept sceneOf) (W a) (W b)
+          (λ a b q s d g T y k i e. joined-more (Kept mappingOf) (W a) (W b)
           (λ T. derivesFor base (patternOf T (s .access)) (ruleOf r)) (s .access) (there a b q s d .value)
           (row-joined a b q s d) T y k i (g T y k i e))
           row (λ T y k i e. e)
 
-      pub steps-grow : {u v : List ℕ} → Row u v → (T : ℕ) (y : Access) → Kept sceneOf T y → W u T y ≤ W v T y
-      steps-grow {u} row = steps-along (λ v. (T : ℕ) (y : Access) → Kept sceneOf T y → W u T y ≤ W v T y)
+      pub steps-grow : {u v : List ℕ} → Row u v → (T : ℕ) (y : Access) → Kept mappingOf T y → W u T y ≤ W v T
+          y
+      steps-grow {u} row = steps-along (λ v. (T : ℕ) (y : Access) → Kept mappingOf T y → W u T y ≤ W v T y)
           (λ a b q s d g T y k. omega (arith, g T y k, row-grows a b q s d T y k))
           row (λ T y k. omega arith)
 
       -- only words change that the rule derives for
       abbrev pub Untouched : List ℕ → List ℕ → Type 0
-      Untouched u v = (T : ℕ) (y : Access) → Kept sceneOf T y →
+      Untouched u v = (T : ℕ) (y : Access) → Kept mappingOf T y →
           (derivesFor base (patternOf T y) (ruleOf r) ≡ true → ⊥) → W v T y ≡ W u T y
 
       pub steps-untouched : {u v : List ℕ} → Row u v → Untouched u v
@@ -264,9 +265,9 @@ module _ (o : Stage) where
           RightIn v × DoneIn v (ruleOf r)
       turn-done {u} {v} (inl e) a fed = (subst RightIn (sym (e .1)) a, idle-done (e .0) v)
       turn-done {u} {v} (inr ran) a fed = (
-        steps-keep sceneOf (staged .placed) (staged .strata) count ms (staged .window) (ruleOf r) (turnOf r)
+        steps-keep mappingOf (staged .placed) (staged .strata) count ms (staged .window) (ruleOf r) (turnOf r)
             (staged .turn r n) bits (staged .carried r n) (row-of ran) a fed .valued,
-        λ x T k d. turn-given sceneOf (staged .placed) (staged .strata) count ms (staged .window) (ruleOf r)
+        λ x T k d. turn-given mappingOf (staged .placed) (staged .strata) count ms (staged .window) (ruleOf r)
             (turnOf r) (staged .turn r n) bits (staged .carried r n) x (k .0) (stands-there T x d)
             (visited-of ran x (k .0) (stands-there T x d)) a fed T k d,
       )

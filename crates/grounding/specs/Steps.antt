@@ -14,7 +14,7 @@ use Rattle.words.specs.Bits.{less}
 use Rattle.words.specs.Fields.{fieldOf, joined}
 use Rattle.places.specs.declared.Grid.{Grid}
 use Rattle.places.specs.declared.Region.{Region}
-use Rattle.places.specs.declared.Spot.{Spot}
+use Rattle.places.specs.declared.Point.{Point}
 use Rattle.places.specs.Regions.{free, sizeOf, indexIn, Within}
 use Rattle.tables.specs.declared.Frame.{Frame}
 use Rattle.tables.specs.declared.Place.{Place}
@@ -30,21 +30,21 @@ use Rattle.grounding.specs.declared.Turn.{Turn}
 abbrev pub turned : ℕ → ℕ → ℕ
 turned code own = pick (free code) own code
 
-abbrev pub turnedSpot : Region → Spot → Spot
-turnedSpot b x = record {
+abbrev pub turnedPoint : Region → Point → Point
+turnedPoint b x = record {
   subject = turned (b .subject) (x .subject);
   mode = turned (b .mode) (x .mode);
   object = turned (b .object) (x .object);
 }
 
 -- the code of a pair: pairs lie object by object
-abbrev pub pairIn : Grid → Spot → ℕ
+abbrev pub pairIn : Grid → Point → ℕ
 pairIn g x = x .object * g .subjects + x .subject
 
-abbrev pub rightPlace : Turn → Grid → List ℕ → Spot → Place
+abbrev pub rightPlace : Turn → Grid → List ℕ → Point → Place
 rightPlace t g number x =
-    let y = turnedSpot (t .right) x in
-    record { pair = getD number (pairIn g y) 0; spot = y }
+    let y = turnedPoint (t .right) x in
+    record { pair = getD number (pairIn g y) 0; point = y }
 
 -- ---- what is read
 
@@ -53,17 +53,17 @@ rightPlace t g number x =
 abbrev pub forceAt : Turn → Frame → List ℕ → Place → ℕ
 forceAt t f words y =
     let field : ℕ → Region → ℕ = λ from b.
-    fieldOf (f .width) words (from + indexIn (f .grid) b (y .pair) (y .spot)) in
+    fieldOf (f .width) words (from + indexIn (f .grid) b (y .pair) (y .point)) in
     let held = field (t .first) (t .table) in
     pick (t .denied) held (less held (field (sizeOf (f .grid) whole) whole))
 
 -- the same, seen from the place on the left
-abbrev pub forceIn : Turn → Frame → List ℕ → List ℕ → Spot → ℕ
+abbrev pub forceIn : Turn → Frame → List ℕ → List ℕ → Point → ℕ
 forceIn t f number words x = forceAt t f words (rightPlace t (f .grid) number x)
 
 -- where its broken bit is
 abbrev pub brokenAt : Turn → Grid → Place → ℕ
-brokenAt t g p = t .bits + indexIn g (t .left) (p .pair) (p .spot)
+brokenAt t g p = t .bits + indexIn g (t .left) (p .pair) (p .point)
 
 -- it looks back and is broken; where no bits are kept none is
 abbrev pub brokenIn : Turn → Grid → List ℕ → Place → Bool
@@ -73,8 +73,8 @@ brokenIn t g bits p =
 -- a place at which a rule can be broken: `bits` is how many words of bits are kept, if any, for rules that
 -- look back
 pub record Ordinary (t : Turn) (g : Grid) (bits : ℕ) (p : Place) : Type 0 where
-  pub within : Within g (p .pair) (p .spot)
-  pub low : p .spot .mode < 32
+  pub within : Within g (p .pair) (p .point)
+  pub low : p .point .mode < 32
   pub size : sizeOf g (t .left) < 4294967296
   pub room : lasting (t .operator) ≡ true → 0 < bits → t .bits + sizeOf g (t .left) ≤ 64 * bits
   pub number : lasting (t .operator) ≡ true → 0 < bits → t .bits + sizeOf g (t .left) < 4294967296
@@ -86,10 +86,10 @@ pub record Reads (t : Turn) (f : Frame) (number : List ℕ) (words bits : ℕ) (
   pub active : t .active < 9223372036854775808
   pub fits : t .active < 2 ^ (2 ^ f .width)
   pub takers : (c : ℕ) → bit c (t .takers) ≡ true → bit c (f .choosy) ≡ true
-  pub pair : pairIn (f .grid) (turnedSpot (t .right) (p .spot)) < length number
+  pub pair : pairIn (f .grid) (turnedPoint (t .right) (p .point)) < length number
   pub few : length number ≤ 4225
-  pub looked : Reaches f (t .first) (t .table) (rightPlace t (f .grid) number (p .spot)) words
-  pub denials : Reaches f (sizeOf (f .grid) whole) whole (rightPlace t (f .grid) number (p .spot)) words
+  pub looked : Reaches f (t .first) (t .table) (rightPlace t (f .grid) number (p .point)) words
+  pub denials : Reaches f (sizeOf (f .grid) whole) whole (rightPlace t (f .grid) number (p .point)) words
 
 -- ---- steps
 
@@ -97,16 +97,16 @@ module _ (t : Turn) (f : Frame) (number : List ℕ) where
   -- what the rule derives at a place is given to the tables
   pub record Step (bits right first : List ℕ) (p : Place) (old new : List ℕ) : Type 0 where
     pub value : ℕ
-    pub derived : Derived (t .operator) (forceIn t f number old (p .spot)) (t .active)
+    pub derived : Derived (t .operator) (forceIn t f number old (p .point)) (t .active)
         (brokenIn t (f .grid) bits p) value
-    pub given : Given (tablesOf f right first) (f .width) (p .pair) (p .spot) (takes (t .sign) (t .takers))
+    pub given : Given (tablesOf f right first) (f .width) (p .pair) (p .point) (takes (t .sign) (t .takers))
         value
         old new
 
   -- the rule is marked as broken at a place, if it derives nothing there at the last instant
   pub record Mark (words : List ℕ) (last : ℕ) (p : Place) (old new : List ℕ) : Type 0 where
     pub value : ℕ
-    pub derived : Derived (t .operator) (forceIn t f number words (p .spot)) (t .active)
+    pub derived : Derived (t .operator) (forceIn t f number words (p .point)) (t .active)
         (brokenIn t (f .grid) old p) value
     pub marked : (j : ℕ) → fieldOf 0 new j
         ≡ joined 0 old (brokenAt t (f .grid) p) (count (not (bit last value))) j
@@ -139,7 +139,7 @@ modesAt t need m =
 abbrev pub withMode : Place → ℕ → Place
 withMode p m = record {
   pair = p .pair;
-  spot = record { subject = p .spot .subject; mode = m; object = p .spot .object };
+  point = record { subject = p .point .subject; mode = m; object = p .point .object };
 }
 
 -- the modes of a mask can be read at a pair
@@ -173,7 +173,7 @@ module _ (t : Turn) (f : Frame) (left need codes : List ℕ) where
     pub mode : modesAt t (getD need (objectAt n * f .grid .subjects + subjectAt n) 0) m ≡ true
 
   abbrev pub placeAt : ℕ → ℕ → Place
-  placeAt n m = record { pair = n; spot = record { subject = subjectAt n; mode = m; object = objectAt n } }
+  placeAt n m = record { pair = n; point = record { subject = subjectAt n; mode = m; object = objectAt n } }
 
   pub record PairsReady (number : List ℕ) (words bits from to : ℕ) : Type 0 where
     pub rule : t .rule < 64

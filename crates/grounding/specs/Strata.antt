@@ -19,7 +19,7 @@ use Rattle.model.specs.declared.Access.{Access}
 use Rattle.model.specs.Stratification.{precedes, stratum}
 use Rattle.model.specs.StratificationFacts.{stratum-few}
 use Rattle.model.specs.Rules.{standsFor, rightOf}
-use Rattle.laws.specs.Looking.{Looks, looks-fed}
+use Rattle.laws.specs.Dependence.{Depends, depends-fed}
 use Rattle.derivation.specs.Joined.{rule-valued}
 use Rattle.derivation.specs.Turn.{Evaluated, evaluated-stays}
 use Rattle.derivation.specs.Fixpoint.{Shut, shut-stays, sound-stratum, shut-done}
@@ -27,7 +27,8 @@ use Rattle.grounding.specs.Steps.{Steps, then}
 use Rattle.grounding.specs.Meaning.{StandsIn, Kept, placeOf, pat-on, step-joined, step-evaluated}
 use Rattle.grounding.specs.Turns as turns
 use Rattle.grounding.specs.Turns.{RuleRan, Turns, Rounds, Strata}
-use Rattle.grounding.specs.Order.{Stage, Staged, sceneOf, ruleOf, patternOf, turnOf, W, RightIn, DoneIn}
+use Rattle.grounding.specs.Order.{Stage, Staged, mappingOf, ruleOf}
+use Rattle.grounding.specs.Order.{patternOf, turnOf, W, RightIn, DoneIn}
 use Rattle.grounding.specs.Order.{Gained, done-gained, steps-along, Does, Ran, Row, row-of, visited-of}
 use Rattle.grounding.specs.Order.{stands-there, there, row-joined, steps-gained, steps-grow}
 use Rattle.grounding.specs.Order.{steps-untouched, turn-gained, turn-untouched, idle-done, DoneBut}
@@ -42,7 +43,7 @@ module _ (o : Stage) (staged : Staged o) where
   Below k u = (q : Rule) → Mem q (o .base .rules) → rank q < k → DoneIn o u q
 
   abbrev pub ShutIn : List ℕ → Rule → Type 0
-  ShutIn u = Shut (o .base) (o .count) (o .ms) (patternOf o) (Kept (sceneOf o)) (W o u)
+  ShutIn u = Shut (o .base) (o .count) (o .ms) (patternOf o) (Kept (mappingOf o)) (W o u)
 
   below-gained : (k : ℕ) (u v : List ℕ) → Gained o u v → Below k u → Below k v
   below-gained k u v g b q m h = done-gained o u v g q (b q m h)
@@ -51,24 +52,24 @@ module _ (o : Stage) (staged : Staged o) where
 
   module _ (r : ℕ) (n : bit r (o .needed) ≡ true) where
     evaluated-of : (x : Access) → o .matters x ≡ true → standsFor (o .base) (ruleOf o r) x ≡ true →
-        (a b : List ℕ) (d : Does o staged r n (placeOf (sceneOf o) x) a b) →
-        Evaluated (o .base) (o .count) (o .ms) (patternOf o) (Kept (sceneOf o)) (W o a) (ruleOf o r) x
+        (a b : List ℕ) (d : Does o staged r n (placeOf (mappingOf o) x) a b) →
+        Evaluated (o .base) (o .count) (o .ms) (patternOf o) (Kept (mappingOf o)) (W o a) (ruleOf o r) x
         (d .value)
-    evaluated-of = step-evaluated (sceneOf o) (staged .placed) (staged .strata) (o .count) (o .ms)
+    evaluated-of = step-evaluated (mappingOf o) (staged .placed) (staged .strata) (o .count) (o .ms)
         (staged .window) (ruleOf o r) (turnOf o r) (staged .turn r n) (o .bits) (staged .carried r n)
 
     module _ (k : ℕ) (h : rank (ruleOf o r) ≡ k) where
-      row-sound : (a b : List ℕ) (q : Place) → StandsIn (sceneOf o) (ruleOf o r) q →
+      row-sound : (a b : List ℕ) (q : Place) → StandsIn (mappingOf o) (ruleOf o r) q →
           Does o staged r n q a b → RightIn o a × Below k a → RightIn o b × Below k b
       row-sound a b q s d g =
           let m = staged .turn r n .mem in
           let e = there o staged r n a b q s d in
           let v = evaluated-of (s .access) (s .matters) (s .stands) a b e in
           let one : Row o staged r n a b = then q s d Steps.none in (
-            rule-valued (o .base) (o .count) (o .ms) (patternOf o) (pat-on (ruleOf o)) (Kept (sceneOf o))
+            rule-valued (o .base) (o .count) (o .ms) (patternOf o) (pat-on (ruleOf o)) (Kept (mappingOf o))
                 (W o a) (W o b) (ruleOf o r) (s .access) (e .value) (row-joined o staged r n a b q s d) m
                 (sound-stratum (o .base) (staged .strata) (o .count) (o .ms) (staged .window) (patternOf o)
-                (pat-on (ruleOf o)) (Kept (sceneOf o)) (W o a) (g .0) k (g .1) (ruleOf o r) m h (s .access)
+                (pat-on (ruleOf o)) (Kept (mappingOf o)) (W o a) (g .0) k (g .1) (ruleOf o r) m h (s .access)
                 (e .value) v (s .stands)) (g .0),
             below-gained k a b (steps-gained o staged r n one) (g .1),
           )
@@ -85,12 +86,13 @@ module _ (o : Stage) (staged : Staged o) where
     module _ (u v : List ℕ) (still : (precedes (ruleOf o r) (ruleOf o r) ≡ false) ⊎ (v ≡ u)) where
       -- what it looked at did not change behind it
       same-behind : (b : List ℕ) → Row o staged r n u b → Row o staged r n b v → (x : Access) (R : ℕ) →
-          Looks (ruleOf o r) x (patternOf o R (rightOf (ruleOf o r) x .access)) →
-          Kept (sceneOf o) R (rightOf (ruleOf o r) x .access) →
+          Depends (ruleOf o r) x (patternOf o R (rightOf (ruleOf o r) x .access)) →
+          Kept (mappingOf o) R (rightOf (ruleOf o r) x .access) →
           W o v R (rightOf (ruleOf o r) x .access) ≡ W o b R (rightOf (ruleOf o r) x .access)
       same-behind b to from x R e k = ⊎-elim
           (λ f. steps-untouched o staged r n from R (rightOf (ruleOf o r) x .access) k
-          (λ d. false≢true (sym f ∙ looks-fed (ruleOf o r) x (patternOf o R (rightOf (ruleOf o r) x .access))
+          (λ d. false≢true (sym f ∙ depends-fed (ruleOf o r) x (patternOf o R (rightOf (ruleOf o r) x
+          .access))
           (o .base) e (ruleOf o r) d)))
           (λ e.
           let y = rightOf (ruleOf o r) x .access in
@@ -102,16 +104,17 @@ module _ (o : Stage) (staged : Staged o) where
       ran-shut ran T x k d =
           let s = stands-there o staged r n T x d in
           let seen = visited-of o staged r n ran x (k .0) s in
-          let here : StandsIn (sceneOf o) (ruleOf o r) (placeOf (sceneOf o) x) =
+          let here : StandsIn (mappingOf o) (ruleOf o r) (placeOf (mappingOf o) x) =
           record { access = x; matters = k .0; stands = s; place = refl } in
           let e = seen .step in
-          let j = step-joined (sceneOf o) (staged .placed) (staged .strata) (o .count) (o .ms)
+          let j = step-joined (mappingOf o) (staged .placed) (staged .strata) (o .count) (o .ms)
           (staged .window) (ruleOf o r) (turnOf o r) (staged .turn r n) (o .bits) (staged .carried r n) x
           (k .0) s (seen .before) (seen .after) e in (
             e .value,
-            evaluated-stays (o .base) (o .count) (o .ms) (patternOf o) (Kept (sceneOf o)) (W o (seen .before))
+            evaluated-stays (o .base) (o .count) (o .ms) (patternOf o) (Kept (mappingOf o)) (W o (seen
+                .before))
                 (W o v) (ruleOf o r) x (e .value)
-                (same-behind (seen .before) (seen .to) (then (placeOf (sceneOf o) x) here e (seen .from)) x)
+                (same-behind (seen .before) (seen .to) (then (placeOf (mappingOf o) x) here e (seen .from)) x)
                 (evaluated-of x (k .0) s (seen .before) (seen .after) e),
             λ i l b. steps-gained o staged r n (seen .from) T x k i
                 (j .there T k d i ∙ or-true-right (bit i (W o (seen .before) T x)) (bit i (e .value)) b),
@@ -126,9 +129,9 @@ module _ (o : Stage) (staged : Staged o) where
     shut-kept : {u v : List ℕ} → RuleRan (o .prepared) (o .active) (o .bits) r u v → (q : Rule) →
         precedes (ruleOf o r) q ≡ false → ShutIn u q → ShutIn v q
     shut-kept {u} {v} ran q f shut T x k d =
-        shut-stays (o .base) (o .count) (o .ms) (patternOf o) (Kept (sceneOf o)) (W o u) (W o v) q T x
+        shut-stays (o .base) (o .count) (o .ms) (patternOf o) (Kept (mappingOf o)) (W o u) (W o v) q T x
         (λ R e c. turn-untouched o staged r n ran R (rightOf q x .access) c
-        (λ d. false≢true (sym f ∙ looks-fed q x (patternOf o R (rightOf q x .access)) (o .base) e
+        (λ d. false≢true (sym f ∙ depends-fed q x (patternOf o R (rightOf q x .access)) (o .base) e
         (ruleOf o r) d)))
         (turn-gained o staged r n ran T x k) (shut T x k d)
 
@@ -196,7 +199,7 @@ module _ (o : Stage) (staged : Staged o) where
           (λ c. let l = false-le (suc (rank q)) k c in
           let e : rank q ≡ k = omega arith in
           shut-done (o .base) (staged .strata) (o .count) (o .ms) (staged .window) (patternOf o)
-          (pat-on (ruleOf o)) (Kept (sceneOf o)) (W o u) a k below (λ q m e. end q m e) q m e);
+          (pat-on (ruleOf o)) (Kept (mappingOf o)) (W o u) a k below (λ q m e. end q m e) q m e);
     }
       where
         end : (q : Rule) → Mem q (o .base .rules) → rank q ≡ k → DoneIn o u q ⊎ ShutIn u q

@@ -3,7 +3,6 @@ mod pairs;
 mod turns;
 
 use model::Operator;
-pub use pairs::value_at;
 use places::Region;
 pub use turns::derive_rules;
 pub use turns::derive_strata;

@@ -10,14 +10,14 @@ ghost use Rattle.places.specs.Regions.{sizeOf};
 ghost use Rattle.tables.specs.Layout.{whole};
 ghost use Rattle.tables.specs.Giving.{Ready, Reaches};
 ghost use Rattle.derivation.specs.Derive.{Derived};
-ghost use Rattle.grounding.specs.Steps.{turned, turnedSpot, pairIn, rightPlace, forceAt, forceIn};
+ghost use Rattle.grounding.specs.Steps.{turned, turnedPoint, pairIn, rightPlace, forceAt, forceIn};
 ghost use Rattle.grounding.specs.Steps.{brokenIn, modesAt, Step, Mark, ModesReady, ModesRan};
 ghost use Rattle.grounding.specs.Steps.{PairsReady, PairsRan, Ordinary, Reads};
 use crate::Turn;
 use evaluation::is_lasting;
 use places::Grid;
+use places::Point;
 use places::Region;
-use places::Spot;
 use tables::Frame;
 use tables::Place;
 use tables::all_places;
@@ -38,10 +38,10 @@ fn turn(code: u8, own: u32) -> u32
 }
 
 // The place on the right of a rule, seen from that on its left.
-fn right_spot(b: Region, x: Spot) -> Spot
-    ensures { λ r. ⌜ r ≡ turnedSpot b x ⌝ }
+fn right_point(b: Region, x: Point) -> Point
+    ensures { λ r. ⌜ r ≡ turnedPoint b x ⌝ }
 {
-    Spot {
+    Point {
         subject: turn(b.subject, x.subject),
         mode: turn(b.mode, x.mode),
         object: turn(b.object, x.object),
@@ -49,17 +49,17 @@ fn right_spot(b: Region, x: Spot) -> Spot
 }
 
 // The same with the number of its pair.
-fn right_place(t: Turn, g: Grid, number: &[u16], x: Spot) -> Place
-    requires { ⌜ (pairIn g (turnedSpot (t .right) x) < length (now number))
-        × (pairIn g (turnedSpot (t .right) x) < 4294967296) ⌝ }
+fn right_place(t: Turn, g: Grid, number: &[u16], x: Point) -> Place
+    requires { ⌜ (pairIn g (turnedPoint (t .right) x) < length (now number))
+        × (pairIn g (turnedPoint (t .right) x) < 4294967296) ⌝ }
     ensures { λ r. ⌜ r ≡ rightPlace t g (now (number .entry)) x ⌝ }
 {
     let b = t.right;
-    let y = right_spot(b, x);
+    let y = right_point(b, x);
     let j = (y.object * g.subjects + y.subject) as usize;
     Place {
         pair: number[j] as u32,
-        spot: y,
+        point: y,
     }
 }
 
@@ -73,7 +73,7 @@ fn is_broken(t: Turn, g: Grid, bits: &[u64], p: Place) -> bool
         return false;
     }
     let b = t.left;
-    let x = p.spot;
+    let x = p.point;
     field_at(bits, 0, t.bits + places::index_in(g, b, p.pair, x)) == 1
 }
 
@@ -94,26 +94,25 @@ fn in_force(t: Turn, f: Frame, words: &[u64], y: Place) -> u64
     held - (held & field_in(words, f, from, every, y))
 }
 
-// What the rule derives over the window at a place of its left side.
-pub fn value_at(t: Turn, f: Frame, number: &[u16], words: &[u64], bits: &[u64], p: Place) -> u64
+// What the rule derives over the window at a place of its left side: where it is broken nothing, and then
+// nothing else is looked at.
+fn value_at(t: Turn, f: Frame, number: &[u16], words: &[u64], bits: &[u64], p: Place) -> u64
     requires { ⌜ Reads t f (now number) (length (now words)) (length (now bits)) p ⌝ }
-    ensures { λ r. ⌜ Derived (t .operator) (forceIn t f (now (number .entry)) (now (words .entry)) (p .spot))
+    ensures { λ r. ⌜ Derived (t .operator) (forceIn t f (now (number .entry)) (now (words .entry)) (p .point))
         (t .active) (brokenIn t (f .grid) (now (bits .entry)) p) r ⌝ }
 {
     let g = f.grid;
-    let x = p.spot;
+    if is_broken(t, g, bits, p) {
+        return 0;
+    }
+    let x = p.point;
     let y = right_place(t, g, number, x);
     let o = t.operator;
-    evaluation::derive(
-        o,
-        in_force(t, f, words, y),
-        t.active,
-        is_broken(t, g, bits, p),
-    )
+    evaluation::derive(o, in_force(t, f, words, y), t.active, false)
 }
 
 // Gives what the rule derives at a place; whether something is new.
-pub fn derive_at(
+fn derive_at(
     t: Turn,
     f: Frame,
     number: &[u16],
@@ -169,13 +168,13 @@ fn derive_modes(
         (now (first .entry))) pair modes (now (words .entry)) (now (words .exit))
         × Grown r (now (words .entry)) (now (words .exit)) ⌝ }
 {
-    let x = pair.spot;
+    let x = pair.point;
     let mut fresh = false;
     let mut m = next_bit(modes, 0);
     while m < 64 {
         let p = Place {
             pair: pair.pair,
-            spot: Spot {
+            point: Point {
                 subject: x.subject,
                 mode: m,
                 object: x.object,
@@ -248,7 +247,7 @@ pub fn derive_pairs(
         let s = c % 256;
         let pair = Place {
             pair: n,
-            spot: Spot {
+            point: Point {
                 subject: s as u32,
                 mode: 0,
                 object: o as u32,
@@ -271,7 +270,7 @@ fn mark_at(t: Turn, f: Frame, number: &[u16], words: &[u64], bits: &mut [u64], l
     let v = value_at(t, f, number, words, bits, p);
     let g = f.grid;
     let b = t.left;
-    let x = p.spot;
+    let x = p.point;
     if (v >> last) % 2 == 0 {
         join_at(bits, 0, t.bits + places::index_in(g, b, p.pair, x), 1);
     }
@@ -293,12 +292,12 @@ fn mark_modes(
     ensures { λ _. ⌜ ModesRan (Mark t f (now (number .entry)) (now (words .entry)) last) pair modes
         (now (bits .entry)) (now (bits .exit)) × (length (now (bits .exit)) ≡ length (now (bits .entry))) ⌝ }
 {
-    let x = pair.spot;
+    let x = pair.point;
     let mut m = next_bit(modes, 0);
     while m < 64 {
         let p = Place {
             pair: pair.pair,
-            spot: Spot {
+            point: Point {
                 subject: x.subject,
                 mode: m,
                 object: x.object,
@@ -338,7 +337,7 @@ pub fn mark_pairs(
         let s = c % 256;
         let pair = Place {
             pair: n,
-            spot: Spot {
+            point: Point {
                 subject: s as u32,
                 mode: 0,
                 object: o as u32,

@@ -20,11 +20,11 @@ use crate::pairs::derive_pairs;
 use crate::pairs::mark_pairs;
 use encoding::rule_at;
 use masks::Next;
-use masks::fed_by;
 use masks::has_bit;
 use masks::next_dirty;
 use masks::next_ready;
 use masks::of_stratum;
+use masks::transpose;
 use masks::without;
 use model::RULE_BYTES;
 use places::Grid;
@@ -216,8 +216,9 @@ pub fn derive_rules(
         × ((r : ℕ) → bit r rest ≡ true → bit r needed ≡ true) ⌝ }
 {
     let mut rest = needed;
-    let mut r = next_ready(feed, rest);
-    while r < 64 {
+    let mut at = next_ready(feed, rest, 0, true);
+    while at.rule < 64 {
+        let r = at.rule;
         derive_rule(
             body,
             r,
@@ -236,7 +237,7 @@ pub fn derive_rules(
             bits,
         );
         rest = without(rest, r);
-        r = next_ready(feed, rest);
+        at = next_ready(feed, rest, r, at.up);
     }
     rest
 }
@@ -268,6 +269,8 @@ fn close(
         (now (active .entry)) (now (bits .entry)) rules rules (now (words .entry)) (now (words .exit))
         × (length (now (words .exit)) ≡ length (now (words .entry))) ⌝ }
 {
+    let mut fed = [0u64; 64];
+    transpose(feed, rules, &mut fed);
     let mut dirty = rules;
     let mut at = Next { rule: 63, up: true };
     while dirty != 0 {
@@ -291,7 +294,7 @@ fn close(
             words,
             bits,
         ) {
-            dirty = dirty | fed_by(feed, rules, r);
+            dirty = dirty | fed[r as usize];
         }
     }
 }

@@ -17,7 +17,8 @@ pub mod RequestFacts
 pub mod LedgerFacts
 pub mod SessionFacts
 pub mod Created
-pub mod Looking
+pub mod Dependence
+pub mod Plain
 pub mod Matching
 pub mod Transfer
 pub mod Narrowing

@@ -18,8 +18,8 @@ use Rattle.model.specs.Rules.{Fact, fact, fits, fitsGrantor, standsFor, derives
 use Rattle.model.specs.Rules.{rightBy, derives, holds}
 use Rattle.model.specs.SideFacts.{derives-is}
 use Rattle.model.specs.HoldsLaws.{derived, holding, holds-law, derived-law}
-use Rattle.laws.specs.Looking.{Twins, right-twin, Looks, LooksBelow, looks-twin, right-carry}
-use Rattle.laws.specs.Looking.{right-alike, operate-carry}
+use Rattle.laws.specs.Dependence.{Twins, right-twin, Depends, DependsBelow, depends-twin, right-carry}
+use Rattle.laws.specs.Dependence.{right-alike, operate-carry}
 
 -- an authorization fits p at t
 abbrev pub direct : Base → ℕ → Pattern → Bool
@@ -91,7 +91,7 @@ module _ (D : Access → Bool) (h : ℕ) where
   -- does not look back behind h
   pub record Alike (A B : Base) : Type 0 where
     pub inward : (r : Rule) (x : Access) → Bears A r x → D (rightOf r x .access) ≡ true
-    pub lines : (r : Rule) (x : Access) → Bears A r x → (p : Pattern) → Looks r x p →
+    pub lines : (r : Rule) (x : Access) → Bears A r x → (p : Pattern) → Depends r x p →
         (t : ℕ) → h ≤ t → direct A t p ≡ direct B t p
     pub fresh : (r : Rule) (x : Access) → Bears A r x → lasting (r .operator) ≡ true →
         h ≤ r .interval .start
@@ -111,7 +111,7 @@ module _ (D : Access → Bool) (h : ℕ) where
     inward = λ s x w. let v = back s x w in
         ap (λ (p : Pattern). D (p .access)) (right-twin s (v .0) (v .2) x) ∙ g .inward (v .0) x (twin s x w);
     lines = λ s x w p k t l. let v = back s x w in
-        sym (g .lines (v .0) x (twin s x w) p (looks-twin s x p (v .0) (v .2) k) t l);
+        sym (g .lines (v .0) x (twin s x w) p (depends-twin s x p (v .0) (v .2) k) t l);
     fresh = λ s x w o. let v = back s x w in
         subst (λ (z : Rule). h ≤ z .interval .start) (sym (v .2))
         (g .fresh (v .0) x (twin s x w) (ap (λ (z : Rule). lasting (z .operator)) (sym (v .2)) ∙ o));
@@ -176,9 +176,9 @@ module _ (D : Access → Bool) (h : ℕ) where
   module _ (A B : Base) (sB : stratified (B .rules) ≡ true) (lower S : Fact → Bool)
       (r s : Rule) (x : Access) (w : Paired D A B r s x) (t : ℕ) (l : h ≤ t) where
     pub carried : (lasting (r .operator) ≡ true → h ≤ r .interval .start) →
-        ((p : Pattern) → Looks r x p → (u : ℕ) → h ≤ u →
+        ((p : Pattern) → Depends r x p → (u : ℕ) → h ≤ u →
         holdsBy always A S u p ≡ true → holds always B u p ≡ true) →
-        ((p : Pattern) → LooksBelow r x p → (u : ℕ) → h ≤ u →
+        ((p : Pattern) → DependsBelow r x p → (u : ℕ) → h ≤ u →
         holdsBy always A lower u p ≡ holds always B u p) →
         derives always A lower S (fact r x t) ≡ true → derived B (fact s x t) ≡ true
     carried fresh more exact e =

@@ -21,7 +21,7 @@ use Rattle.model.specs.Rules.{fits, standsFor, rightOf, holds, asked, mayWith, 
 use Rattle.model.specs.SideFacts.{fits-is}
 use Rattle.model.specs.Effects.{withAuthorizations, withRules}
 use Rattle.laws.specs.RulesAfter.{stratified-less}
-use Rattle.laws.specs.Looking.{looks-access}
+use Rattle.laws.specs.Dependence.{depends-access}
 use Rattle.laws.specs.Matching.{direct, Matched, Alike}
 use Rattle.laws.specs.Transfer.{holds-alike}
 
@@ -106,7 +106,7 @@ module _ (base : Base) (s : stratified (base .rules) ≡ true) (D : Access → B
   alike = record {
     inward = λ r x w. inward r x (w .listed) (w .inside) (w .stands);
     lines = λ r x w p e t l. direct-same t p
-        (ap D (looks-access r x p e) ∙ inward r x (w .listed) (w .inside) (w .stands));
+        (ap D (depends-access r x p e) ∙ inward r x (w .listed) (w .inside) (w .stands));
     fresh = λ r x w e. omega arith;
   }
 

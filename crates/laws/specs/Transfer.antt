@@ -1,6 +1,6 @@
 -- Two bases that agree on some accesses, from some instant on: their rules derive the same for these accesses
 -- from then on, and the same holds of them, whatever else the bases have and whatever strata their rules are
--- of (`derived-alike`, `holds-alike`).
+-- of (`holds-alike`).
 use mathlib.Core.Path.{_≡_, sym, ap, _∙_, subst}
 use Prim.Native.Nat.{ℕ, zero, suc, _*_, _≤_, _<_}
 use native.Mathlib.Omega.{arith}
@@ -20,8 +20,9 @@ use Rattle.model.specs.StratificationFacts.{feeder-not-above, feeder-below, str
 use Rattle.model.specs.Rules.{fact, derivesFor, holdsBy, derives, enough, derivedBelow, holds}
 use Rattle.model.specs.HoldsFacts.{below-stratum, rounds, rounds-below}
 use Rattle.model.specs.HoldsLaws.{derived, holds-law, settled-at, strictly-settled}
-use Rattle.laws.specs.Looking.{LooksBelow, looks-access, below-looks, looks-fed, looks-strictly}
-use Rattle.laws.specs.Looking.{looks-twin, below-twin}
+use Rattle.laws.specs.Dependence.{DependsBelow, depends-access}
+use Rattle.laws.specs.Dependence.{below-depends, depends-fed, depends-strictly}
+use Rattle.laws.specs.Dependence.{depends-twin, below-twin}
 use Rattle.laws.specs.Matching.{direct, Bears, Matched, Alike, Paired, swap, pair-bears, late-twin}
 use Rattle.laws.specs.Matching.{alike-swap, ongoing, held-more, carried}
 
@@ -60,11 +61,11 @@ module _ (D : Access → Bool) (h : ℕ) (A B : Base)
 
     -- so does what a rule of A's stratum k looks at below it
     below-same : (r : Rule) (x : Access) → Bears D h A r x → stratum (A .rules) r ≡ k →
-        (p : Pattern) → LooksBelow r x p → (u : ℕ) → h ≤ u → holds always A u p ≡ holds always B u p
+        (p : Pattern) → DependsBelow r x p → (u : ℕ) → h ≤ u → holds always A u p ≡ holds always B u p
     below-same r x w level p e u i =
-        let n = below-looks r x p e in
-        settled-same p (ap D (looks-access r x p n) ∙ alike .inward r x w)
-        (λ q m f. let z = looks-strictly r x p A e q f in
+        let n = below-depends r x p e in
+        settled-same p (ap D (depends-access r x p n) ∙ alike .inward r x w)
+        (λ q m f. let z = depends-strictly r x p A e q f in
         omega (arith, feeder-below (A .rules) sA q r m (w .listed) (z .0) (z .1)))
         u i (alike .lines r x w p n u i)
 
@@ -93,13 +94,13 @@ module _ (D : Access → Bool) (h : ℕ) (A B : Base)
           let z = pair-bears D h A B r s x w (ongoing A sA r (w .first) x h t l d) in
           carried D h A B sB L S r s x w t l (alike .fresh r x z)
           (λ p n u c.
-          let d = ap D (looks-access r x p n) ∙ alike .inward r x z in
+          let d = ap D (depends-access r x p n) ∙ alike .inward r x z in
           held-more D h A B forth p d S u (alike .lines r x z p n u c)
           (λ r′ s′ w′ a b. found i (omega arith) r′ s′ (p .access) w′ u c)
           (λ r′ m′ a. ongoing A sA r′ m′ (p .access) h u c
           (round-derived A k few i (omega arith) r′ m′ (p .access) u a)))
           (λ p n u c. subst (λ (i : ℕ). holdsBy always A (derivedBelow always A i) u p ≡ holds always A u p)
-          level (strictly-settled A sA r (w .first) u p (looks-strictly r x p A n))
+          level (strictly-settled A sA r (w .first) u p (depends-strictly r x p A n))
           ∙ below-same r x z level p n u c)
           (f .1))
 
@@ -143,18 +144,18 @@ module _ (D : Access → Bool) (h : ℕ) (A B : Base)
           let other = alike-swap D h A B back alike in
           carried D h B A sA L S s r x back-pair t l (other .fresh s x bs)
           (λ p n u q.
-          let d = ap D (looks-access s x p n) ∙ other .inward s x bs in
+          let d = ap D (depends-access s x p n) ∙ other .inward s x bs in
           held-more D h B A back p d S u (other .lines s x bs p n u q)
           (λ s′ r′ w′ a b. returns i (omega arith) r′ s′ (p .access) (swap D B A s′ r′ (p .access) w′)
           (omega (
             arith,
             feeder-not-above (A .rules) sA r′ r (w′ .second) (w .first)
-                (looks-fed r x p A (looks-twin s x p r (sym (w .twins)) n) r′ b),
+                (depends-fed r x p A (depends-twin s x p r (sym (w .twins)) n) r′ b),
           )) u q)
           (λ s′ m′ a. ongoing B sB s′ m′ (p .access) h u q
           (round-derived B j few i (omega arith) s′ m′ (p .access) u a)))
           (λ p n u q. subst (λ (i : ℕ). holdsBy always B (derivedBelow always B i) u p ≡ holds always B u p)
-          here (strictly-settled B sB s (w .second) u p (looks-strictly s x p B n))
+          here (strictly-settled B sB s (w .second) u p (depends-strictly s x p B n))
           ∙ sym (below-same r x br level p (below-twin s x p r (sym (w .twins)) n) u q))
           (f .1)))
 
@@ -178,12 +179,6 @@ module _ (D : Access → Bool) (h : ℕ) (A B : Base)
   same : (k : ℕ) → k ≤ suc (2 * length (A .rules)) → Same k
   same zero c = λ r s x w v t l. absurd (omega arith)
   same (suc k) c = same-on k (same k (omega arith)) (omega arith)
-
-  -- twins derive the same, from h on
-  pub derived-alike : (r s : Rule) (x : Access) → Paired D A B r s x → (t : ℕ) → h ≤ t →
-      derived A (fact r x t) ≡ derived B (fact s x t)
-  derived-alike r s x w = same (suc (2 * length (A .rules))) (omega arith) r s x w
-      (omega (arith, stratum-few (A .rules) sA r (w .first)))
 
   -- the same holds of an access of D, from h on, where A and B have alike authorizations for what is asked
   pub holds-alike : (t : ℕ) → h ≤ t → (p : Pattern) → D (p .access) ≡ true → direct A t p ≡ direct B t p →

@@ -1,24 +1,20 @@
--- Single bits of words: that of a power of two, some bit, the first, the last below a place, and one that two
--- words have in common.
+-- Single bits of words: that of a power of two, the first, the last below a place, and those that two words
+-- have in common.
 use mathlib.Core.Path.{_≡_, sym, ap, _∙_}
 use mathlib.Core.Bool.{true, false, false≢true}
-use Prim.Native.Nat.{ℕ, zero, suc, _+_, _*_, _-_, _/_, _%_, _^_, _≤_, _<_}
-use native.Mathlib.Nat.{pow-succ', div-one, div-self, div-eq-of-lt, lt-of-lt-of-le, zero-div, one-mul}
-use native.Mathlib.Nat.{mod-eq-of-lt, mod-lt}
+use Prim.Native.Nat.{ℕ, suc, _+_, _*_, _-_, _/_, _%_, _^_, _≤_, _<_}
+use native.Mathlib.Nat.{pow-succ', div-self, zero-div, mod-lt}
 use native.Mathlib.Omega.{arith}
-use lib.Bits.{bitAnd, and-le-r}
+use lib.Bits.{bitAnd}
 use lib.Count.{leadingZeros, leading-top}
 use lib.Dec.{eqb, leb, ltb}
-use lib.Pow.{pow-pos, pow-lt, pow-mono, high}
-use Rattle.foundation.specs.Tests.{cases, agree, eq-true, true-eq, false-eq, true-le, false-le, and-true}
+use lib.Pow.{pow-pos, high}
+use Rattle.foundation.specs.Tests.{cases, agree, eq-true, true-eq, true-le, false-le, and-true}
 use Rattle.foundation.specs.Tests.{and-intro}
 use Rattle.foundation.specs.Masks.{bit}
-use Rattle.words.specs.Ones.{bit-half, bit-shl}
+use Rattle.words.specs.Ones.{bit-shl}
 use Rattle.words.specs.Bits.{power-only, bit-and, no-bits}
 use Rattle.places.specs.Numbering.{bit-rest}
-
-pub shifted : (r : ℕ) → r < 64 → 1 * 2 ^ r % 18446744073709551616 ≡ 2 ^ r
-shifted r h = rw (one-mul (2 ^ r)) (mod-eq-of-lt (pow-lt h))
 
 -- 0 has no bit
 pub no-bit : (i : ℕ) → bit i 0 ≡ false
@@ -31,23 +27,6 @@ one-bit r i = agree (bit i (2 ^ r)) (eqb i r)
     (λ e. ap (λ (n : ℕ). bit n (2 ^ r)) (true-eq i r e)
     ∙ ap (λ (n : ℕ). eqb (n % 2) 1) (div-self (pow-pos r)))
 
--- a number that is not 0 has a bit
-pub some-bit : (n x : ℕ) → x < 2 ^ n → 0 < x → (j : ℕ) × (j < n) × (bit j x ≡ true)
-some-bit zero x h l = absurd (omega arith)
-some-bit (suc n) x h l = cases (eqb (x % 2) 1)
-    (λ e. (0, omega arith, ap (λ (y : ℕ). eqb (y % 2) 1) (div-one x) ∙ e))
-    (λ e. let d = false-eq (x % 2) 1 e in
-    let b : x < 2 * 2 ^ n = rw (pow-succ' 2 n) at h in
-    let q = some-bit n (x / 2) (omega arith) (omega arith) in
-    (suc (q .0), omega (arith, q .1), bit-half (q .0) x ∙ q .2))
-
--- and none behind its last
-pub bit-inside : (n x i : ℕ) → x < 2 ^ n → bit i x ≡ true → i < n
-bit-inside n x i h e = cases (ltb i n) (λ y. true-le (suc i) n y) (λ y.
-    let g : n ≤ i = omega (arith, false-le (suc i) n y) in
-    let z : x / 2 ^ i ≡ 0 = div-eq-of-lt (lt-of-lt-of-le h (pow-mono g)) in
-    absurd (omega (arith, true-eq (x / 2 ^ i % 2) 1 e)))
-
 -- ---- what two words have in common
 
 pub in-both : (x y i : ℕ) → bit i (bitAnd x y) ≡ true → (bit i x ≡ true) × (bit i y ≡ true)
@@ -55,13 +34,6 @@ in-both x y i e = and-true (bit i x) (bit i y) (sym (bit-and x y i) ∙ e)
 
 pub both-in : (x y i : ℕ) → bit i x ≡ true → bit i y ≡ true → bit i (bitAnd x y) ≡ true
 both-in x y i e f = bit-and x y i ∙ and-intro (bit i x) (bit i y) e f
-
-pub common : (x y : ℕ) → y < 18446744073709551616 → (bitAnd x y ≡ 0 → ⊥) →
-    (j : ℕ) × (j < 64) × (bit j x ≡ true) × (bit j y ≡ true)
-common x y h n =
-    let q = some-bit 64 (bitAnd x y) (omega (arith, and-le-r x y)) (omega (arith, n)) in
-    let w = in-both x y (q .0) (q .2) in
-    (q .0, q .1, w .0, w .1)
 
 pub apart : (x y i : ℕ) → bitAnd x y ≡ 0 → bit i x ≡ true → bit i y ≡ true → ⊥
 apart x y i z e f = false≢true (sym (no-bit i) ∙ ap (bit i) (sym z) ∙ both-in x y i e f)

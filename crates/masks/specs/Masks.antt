@@ -5,22 +5,25 @@ use mathlib.Core.List.{List}
 use Prim.Native.Nat.{ℕ, _+_, _*_, _/_, _%_, _^_, _≤_, _<_}
 use native.Mathlib.Nat.{zero-div, mod-eq-of-lt}
 use native.Mathlib.Omega.{arith}
-use lib.ListN.{getD}
+use lib.ListN.{length, getD}
 use lib.Pow.{pow-pos}
 use Rattle.foundation.specs.Masks.{bit}
 use Rattle.words.specs.Fields.{starts, fieldOf}
 use Rattle.reach.specs.Net.{standing}
 
--- rule i looks at a rule of the mask
-abbrev pub Waits : List ℕ → ℕ → ℕ → Type 0
-Waits feed rest i = (j : ℕ) × (j < 64) × (bit j (getD feed i 0) ≡ true) × (bit j rest ≡ true)
+-- the bytes hold each rule of a mask
+abbrev pub RulesIn : ℕ → List ℕ → Type 0
+RulesIn rules body = (r : ℕ) → bit r rules ≡ true → (r < 64) × (r * 28 + 28 ≤ length body)
 
--- r is a rule of the mask that looks at none of it, or is 64, and every rule of the mask looks at one
+-- rule r looks at none of the mask
+abbrev pub Alone : List ℕ → ℕ → ℕ → Type 0
+Alone feed rest r = (i : ℕ) → i < 64 → bit i (getD feed r 0) ≡ true → bit i rest ≡ true → ⊥
+
+-- r is a rule of the mask that looks at none of it, or is 64
 pub record Ready (feed : List ℕ) (rest r : ℕ) : Type 0 where
   pub low : r ≤ 64
   pub own : r < 64 → bit r rest ≡ true
-  pub alone : r < 64 → (i : ℕ) → i < 64 → bit i (getD feed r 0) ≡ true → bit i rest ≡ true → ⊥
-  pub none : r ≡ 64 → (i : ℕ) → i < 64 → bit i rest ≡ true → Waits feed rest i
+  pub alone : r < 64 → Alone feed rest r
 
 -- m has the rules that stand at an object and a subject with a bit that is needed, and none that does not
 -- stand on the object

@@ -3,12 +3,13 @@
 ghost use mathlib.Core.Path.{_≡_};
 ghost use mathlib.Core.Bool.{true, not, _&&_, _||_};
 ghost use Prim.Native.Nat.{ℕ, _+_, _*_, _/_, _%_, _^_, _≤_, _<_};
+ghost use lib.Bits.{bitAnd};
 ghost use lib.Dec.{eqb, ltb};
 ghost use lib.ListN.{length, getD};
 ghost use Rattle.foundation.specs.Masks.{bit};
 ghost use Rattle.encoding.specs.Format.{ruleAt};
 ghost use Rattle.windows.specs.Windows.{Rising, inside};
-ghost use Rattle.masks.specs.Masks.{Ready, StandsAt, PairCode, Needed};
+ghost use Rattle.masks.specs.Masks.{Alone, Ready, StandsAt, PairCode, Needed};
 use encoding::rule_at;
 use model::RULE_BYTES;
 use words::next_bit;
@@ -28,7 +29,7 @@ pub fn has_bit(m: u64, r: u32) -> bool
 }
 
 // The mask with bit r.
-pub fn with_bit(m: u64, r: u32) -> u64
+fn with_bit(m: u64, r: u32) -> u64
     requires { ⌜ r < 64 ⌝ }
     ensures { λ x. ⌜ ((i : ℕ) → bit i x ≡ bit i m || eqb i r) ⌝ }
 {
@@ -54,33 +55,111 @@ pub fn with_if(m: u64, r: u32, b: bool) -> u64
     m
 }
 
-// The first rule of the mask that looks at none of it, or 64. `feed` has for each rule those it looks at.
-pub fn next_ready(feed: &[u64; 128], rest: u64) -> u32
-    ensures { λ r. ⌜ Ready (now (feed .entry)) rest r ⌝ }
+// Puts bit r into the words of those of a mask, counted from a place on.
+pub fn hand_on(words: &mut [u64], from: usize, m: u64, r: u32)
+    requires { ⌜ (r < 64) × (from + 64 ≤ length (now words)) ⌝ }
+    ensures { λ _. ⌜ ((w : ℕ) → w < from → getD (now (words .exit)) w 0 ≡ getD (now (words .entry)) w 0)
+        × ((i q : ℕ) → bit q (getD (now (words .exit)) (from + i) 0)
+        ≡ bit q (getD (now (words .entry)) (from + i) 0) || (eqb q r && bit i m)) ⌝ }
 {
-    let mut r = next_bit(rest, 0);
-    while r < 64 {
-        if feed[r as usize] & rest == 0 {
-            return r;
+    let mut i = next_bit(m, 0);
+    while i < 64 {
+        let at = from + i as usize;
+        words[at] = words[at] | (1 << r);
+        i = next_bit(m, i + 1);
+    }
+}
+
+// For each rule of a mask those of the mask that look at it. `feed` has for each rule those it looks at.
+pub fn transpose(feed: &[u64; 128], rules: u64, fed: &mut [u64; 64])
+    requires { ⌜ ((r : ℕ) → r < 64 → getD (now fed) r 0 ≡ 0) ⌝ }
+    ensures { λ _. ⌜ ((r q : ℕ) → r < 64 → bit q (getD (now (fed .exit)) r 0)
+        ≡ bit q rules && (bit r (getD (now (feed .entry)) q 0) && bit r rules)) ⌝ }
+{
+    let mut q = next_bit(rules, 0);
+    while q < 64 {
+        hand_on(fed, 0, feed[q as usize] & rules, q);
+        q = next_bit(rules, q + 1);
+    }
+}
+
+// The last bit below the r-th that is set, or 64.
+fn last_bit(m: u64, r: u32) -> u32
+    requires { ⌜ r ≤ 64 ⌝ }
+    ensures { λ k. ⌜ (k ≤ 64) × (k < 64 → bit k m ≡ true) × (k < 64 → k < r) ⌝ }
+{
+    if r == 0 {
+        return 64;
+    }
+    let x = m << (64 - r);
+    if x == 0 {
+        return 64;
+    }
+    r - 1 - u64::leading_zeros(x)
+}
+
+// Whether rule k looks at none of the rest. `feed` has for each rule those it looks at.
+fn is_ready(feed: &[u64; 128], rest: u64, k: u32) -> bool
+    requires { ⌜ k < 64 ⌝ }
+    ensures { λ b. ⌜ (b ≡ true → Alone (now (feed .entry)) rest k) ⌝ }
+{
+    feed[k as usize] & rest == 0
+}
+
+// The first rule of the rest, from r on, that looks at none of it, or 64.
+fn ready_from(feed: &[u64; 128], rest: u64, r: u32) -> u32
+    requires { ⌜ r ≤ 64 ⌝ }
+    ensures { λ k. ⌜ Ready (now (feed .entry)) rest k ⌝ }
+{
+    let mut k = next_bit(rest, r);
+    while k < 64 {
+        if is_ready(feed, rest, k) {
+            return k;
         }
-        r = next_bit(rest, r + 1);
+        k = next_bit(rest, k + 1);
     }
     64
 }
 
-// Those of a mask that look at rule r.
-pub fn fed_by(feed: &[u64; 128], rules: u64, r: u32) -> u64
-    requires { ⌜ r < 64 ⌝ }
-    ensures { λ m. ⌜ ((q : ℕ) → bit q m
-        ≡ ltb q 64 && bit q rules && bit r (getD (now (feed .entry)) q 0)) ⌝ }
+// The last one below r, or 64.
+fn ready_below(feed: &[u64; 128], rest: u64, r: u32) -> u32
+    requires { ⌜ r ≤ 64 ⌝ }
+    ensures { λ k. ⌜ Ready (now (feed .entry)) rest k ⌝ }
 {
-    let mut m = 0;
-    let mut q = next_bit(rules, 0);
-    while q < 64 {
-        m = with_if(m, q, has_bit(feed[q as usize], r));
-        q = next_bit(rules, q + 1);
+    let mut k = last_bit(rest, r);
+    while k < 64 {
+        if is_ready(feed, rest, k) {
+            return k;
+        }
+        k = last_bit(rest, k);
     }
-    m
+    64
+}
+
+// A rule of the rest that looks at none of it, or 64: going on from the last one as long as there is one,
+// then back, so that a chain of rules is gone through once, whichever way it is numbered.
+pub fn next_ready(feed: &[u64; 128], rest: u64, r: u32, up: bool) -> Next
+    requires { ⌜ r ≤ 64 ⌝ }
+    ensures { λ n. ⌜ Ready (now (feed .entry)) rest (n .rule) ⌝ }
+{
+    if up {
+        let k = ready_from(feed, rest, r);
+        if k < 64 {
+            return Next { rule: k, up: true };
+        }
+        return Next {
+            rule: ready_below(feed, rest, r),
+            up: false,
+        };
+    }
+    let k = ready_below(feed, rest, r);
+    if k < 64 {
+        return Next { rule: k, up: false };
+    }
+    Next {
+        rule: ready_from(feed, rest, r),
+        up: true,
+    }
 }
 
 // Those of a mask that are in stratum k.
@@ -95,21 +174,6 @@ pub fn of_stratum(strata: &[u16; 65], rest: u64, k: u16) -> u64
         r = next_bit(rest, r + 1);
     }
     m
-}
-
-// The last bit below the r-th that is set, or 64.
-fn last_bit(m: u64, r: u32) -> u32
-    requires { ⌜ r ≤ 64 ⌝ }
-    ensures { λ k. ⌜ (k ≤ 64) × (k < 64 → bit k m ≡ true) ⌝ }
-{
-    if r == 0 {
-        return 64;
-    }
-    let x = m << (64 - r);
-    if x == 0 {
-        return 64;
-    }
-    r - 1 - u64::leading_zeros(x)
 }
 
 // A rule of a mask that has one. Which it is costs turns alone: going upwards from r the next, at the end

@@ -23,7 +23,7 @@ sameObjectAndMode h k = eqb (h .object) (k .object) && eqb (h .mode) (k .mode)
 
 -- 01: "every line but the last is positive and transferable; each one's subject is the next one's granter;
 -- granted-at rises strictly": `earlier` may stand directly before `later` in a chain. Its laws are
--- `supports-rises`, `supports-object` and `supports-mode`; nothing else looks into it.
+-- `supports-rises`, `supports-object` and `supports-mode`, and `supports-is` for all its tests.
 unfoldable pub supports : Head → Head → Bool
 supports earlier later =
     sameObjectAndMode earlier later

@@ -14,7 +14,8 @@ use Rattle.foundation.specs.Masks.{bit}
 use Rattle.words.specs.Bits.{bit-or}
 use Rattle.outlines.specs.Coordinates.{Apart}
 use Rattle.outlines.specs.Masks.{controlledBy, Controlled}
-use Rattle.outlines.proofs.MaskWords.{no-bit, gather-turn}
+use Rattle.masks.proofs.Bits.{no-bit}
+use Rattle.outlines.proofs.MaskWords.{gather-turn}
 
 -- ---- one word
 

@@ -24,9 +24,9 @@ use Rattle.outlines.specs.Coordinates.{Numbered, Chart}
 use Rattle.outlines.specs.Outline.{codeIn}
 use Rattle.outlines.specs.Masks.{objectCode, subjectCode, modeCodeOf, signCode, Placed}
 use Rattle.outlines.specs.Standing.{star-is, code-small, subject-is, mode-is, sign-is, under, rule-bit}
-use Rattle.outlines.specs.Feed.{Outlined, looksWord, meetingWord, linkersWord, precedersOf}
-use Rattle.outlines.proofs.MaskWords.{no-bit}
-use Rattle.outlines.proofs.BitWalk.{and-last, same-bits}
+use Rattle.outlines.specs.Feed.{Outlined, rightModeWord, meetingWord, linkersWord, precedersOf}
+use Rattle.masks.proofs.Bits.{no-bit}
+use Rattle.masks.proofs.BitWalk.{and-last, same-bits}
 
 -- q's left side has the sign g, and its object, subject and mode meet r's right side
 abbrev pub meetsRight : Bool → Rule → Rule → Bool
@@ -141,22 +141,28 @@ module _ {n : ℕ} {body left right sides : List ℕ} (o : Outlined n body left 
     mode-star : isStar (rule i .right .mode) ≡ true → mode ≡ 255
     mode-star e = o .rights i h .mode ∙ rw e
 
-    looks-star : (k : ℕ) → isStar (rule i .right .mode) ≡ true → looksWord mode k ≡ 146 + k
-    looks-star k e = rw (mode-star e)
+    right-mode-star : (k : ℕ) → isStar (rule i .right .mode) ≡ true → rightModeWord mode k ≡ 146 + k
+    right-mode-star k e = rw (mode-star e)
 
-    looks-named : (k : ℕ) → isStar (rule i .right .mode) ≡ false → looksWord mode k ≡ 130 + (mode + 8 * k)
-    looks-named k e = rw (ne-false mode 255 (λ z. omega (arith, mode-code e, o .grounds .right i h .mode)))
+    right-mode-named : (k : ℕ) → isStar (rule i .right .mode) ≡ false → rightModeWord mode k ≡ 130 + (mode + 8
+        * k)
+    right-mode-named k e = rw (ne-false mode 255 (λ z. omega (
+      arith,
+      mode-code e,
+      o .well-formed .right i h
+          .mode,
+    )))
 
     pub right-placed : Placed right i
     right-placed = record {
-      object = code-small (o .charted .objects) (o .grounds .few) (rule i .right .object)
+      object = code-small (o .charted .objects) (o .well-formed .few) (rule i .right .object)
           (o .rights i h .object);
-      subject = code-small (o .charted .subjects) (o .grounds .few) (rule i .right .subject)
+      subject = code-small (o .charted .subjects) (o .well-formed .few) (rule i .right .subject)
           (o .rights i h .subject);
       mode = λ ne. cases (isStar (rule i .right .mode))
           (λ e. absurd (ne (mode-star e)))
           (λ e. let z = false-eq (rule i .right .mode) 0 e in
-          omega (arith, mode-code e, o .grounds .right i h .mode));
+          omega (arith, mode-code e, o .well-formed .right i h .mode));
     }
 
     -- a rule on the left
@@ -166,7 +172,7 @@ module _ {n : ℕ} {body left right sides : List ℕ} (o : Outlined n body left 
     object-meets w q a =
         let u = rule q .left .object in
         let v = rule i .right .object in
-        let few = o .grounds .few in
+        let few = o .well-formed .few in
         narrow-meets (o .charted .objects) few u v w (bitOr (getD left 151 0) (getD left object 0)) q object a
         (o .rights i h .object)
         (λ e. let c = o .charted .objects .named i h e in
@@ -188,7 +194,7 @@ module _ {n : ℕ} {body left right sides : List ℕ} (o : Outlined n body left 
     subject-meets w q a =
         let u = rule q .left .subject in
         let v = rule i .right .subject in
-        let few = o .grounds .few in
+        let few = o .well-formed .few in
         narrow-meets (o .charted .subjects) few u v w (getD left (65 + subject) 0) q subject a
         (o .rights i h .subject)
         (λ e. let c = o .charted .subjects .named i h e in
@@ -205,7 +211,7 @@ module _ {n : ℕ} {body left right sides : List ℕ} (o : Outlined n body left 
     sign-meets g q l =
         ap (λ (k : ℕ). eqb (k % 2) (asBit g)) (o .lefts q l .signs) ∙ sign-is (rule q) g
 
-    mode-meets : (g : Bool) (q : ℕ) → bit q (getD left (looksWord mode (asBit g)) 0)
+    mode-meets : (g : Bool) (q : ℕ) → bit q (getD left (rightModeWord mode (asBit g)) 0)
         ≡ ltb q n && (Bool·beq (rule q .left .negative) g
         && meets (rule q .left .mode) (rule i .right .mode))
     mode-meets g q =
@@ -215,15 +221,15 @@ module _ {n : ℕ} {body left right sides : List ℕ} (o : Outlined n body left 
         let s : ℕ = asBit g in
         let b = bit-le g in
         cases (isStar v)
-        (λ e. ap (λ (k : ℕ). bit q (getD left k 0)) (looks-star s e)
+        (λ e. ap (λ (k : ℕ). bit q (getD left k 0)) (right-mode-star s e)
         ∙ o .masks .sided .sign s q (omega arith)
         ∙ under (ltb q n) (eqb (signCode sides q) s) (t && meets u v)
         (λ y. sign-meets g q (true-le (suc q) n y) ∙ and-last t
         ∙ ap (λ (x : Bool). t && x) (sym (meets-star u v e))))
         (λ e. let d = mode-code e in
         let z = false-eq v 0 e in
-        let r = o .grounds .right i h .mode in
-        ap (λ (k : ℕ). bit q (getD left k 0)) (looks-named s e)
+        let r = o .well-formed .right i h .mode in
+        ap (λ (k : ℕ). bit q (getD left k 0)) (right-mode-named s e)
         ∙ o .masks .sided .mode mode s q (omega arith) (omega arith)
         ∙ under (ltb q n)
         (eqb (signCode sides q) s && (eqb (modeCodeOf sides q) 255 || eqb (modeCodeOf sides q) mode))
@@ -231,13 +237,13 @@ module _ {n : ℕ} {body left right sides : List ℕ} (o : Outlined n body left 
         (λ y. let l = true-le (suc q) n y in
         ap₂ (λ (x w : Bool). x && w) (sign-meets g q l)
         (ap₂ (λ (k j : ℕ). eqb k 255 || eqb k j) (o .lefts q l .mode) d
-        ∙ mode-is u v (o .grounds .left q l .mode) (omega arith) r ∙ meets-named u v e)))
+        ∙ mode-is u v (o .well-formed .left q l .mode) (omega arith) r ∙ meets-named u v e)))
 
     pub meeting-bit : (g : Bool) (q : ℕ) →
         bit q (meetingWord left right i (asBit g)) ≡ ltb q n && meetsRight g (rule q) (rule i)
     unfolding meetingWord
     meeting-bit g q =
-        let w = getD left (looksWord mode (asBit g)) 0 in
+        let w = getD left (rightModeWord mode (asBit g)) 0 in
         let t = Bool·beq (rule q .left .negative) g in
         let a = meets (rule q .left .object) (rule i .right .object) in
         let u = meets (rule q .left .subject) (rule i .right .subject) in

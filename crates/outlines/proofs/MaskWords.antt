@@ -1,70 +1,19 @@
--- Bits put into words: one bit (`put-bit`), the bits of one rule more (`gather-turn`), and bits joined to a
--- range of words (`spread-turn`) or to each of the first (`join-turn`).
+-- Bits put into words: the bits of one rule more (`gather-turn`), and bits joined to a range of words
+-- (`spread-turn`) or to each of the first (`join-turn`).
 use mathlib.Core.Path.{_≡_, refl, sym, ap, _∙_}
 use mathlib.Core.Logic.{_⊎_, inl, inr, ⊎-elim}
 use mathlib.Core.Bool.{Bool, true, false, _&&_, _||_}
 use mathlib.Core.List.{List}
-use Prim.Native.Nat.{ℕ, zero, suc, _+_, _*_, _-_, _%_, _^_, _≤_, _<_}
-use native.Mathlib.Nat.{mod-eq-of-lt, zero-div, one-mul, pow-le-pow-right}
+use Prim.Native.Nat.{ℕ, suc, _+_, _*_, _≤_, _<_}
 use native.Mathlib.Omega.{arith}
-use lib.Bits.{bitOr}
 use lib.Dec.{eqb, leb, ltb}
-use lib.ListN.{length, getD, set}
-use lib.Seq.{getD-set-same, getD-set-other}
-use Rattle.foundation.specs.Tests.{pick, cases, agree, true-eq, false-eq, eq-true, le-true}
-use Rattle.foundation.specs.Tests.{le-false}
-use Rattle.foundation.specs.Tests.{true-le, or-false}
+use Rattle.foundation.specs.Tests.{pick, cases, agree, true-eq, false-eq, le-true, le-false, true-le}
+use Rattle.foundation.specs.Tests.{or-false}
 use Rattle.foundation.specs.Masks.{bit}
 use Rattle.outlines.specs.Masks.{objectCode, subjectCode, modeCodeOf, signCode}
 use Rattle.outlines.specs.Masks.{objectWord, subjectWord, modeWord, inWord, Placed}
-use Rattle.outlines.specs.Feed.{looksWord}
-use Rattle.words.specs.Ones.{bit-shl}
-use Rattle.words.specs.Bits.{bit-or, power-only}
-
-pub set-at : (l : List ℕ) (at v w : ℕ) → at < length l → getD (set l at v) w 0 ≡ pick (eqb w at) v
-    (getD l w 0)
-set-at l at v w h = cases (eqb w at)
-    (λ q. rw (q, true-eq w at q) (getD-set-same l at v 0 h))
-    (λ q. rw q (getD-set-other l at w v 0 (false-eq w at q)))
-
--- a word with one bit
-pub power-is : (k i : ℕ) → bit i (2 ^ k) ≡ eqb i k
-power-is k i = agree (bit i (2 ^ k)) (eqb i k)
-    (λ e. eq-true i k (power-only k i e))
-    (λ e. let z : k - k ≡ 0 = omega arith in
-    rw (true-eq i k e)
-    (ap (bit k) (sym (one-mul (2 ^ k))) ∙ bit-shl 1 k k ∙ rw (le-true k k (omega arith), z)))
-
-pub no-bit : (r : ℕ) → bit r 0 ≡ false
-no-bit r = rw (zero-div (2 ^ r))
-
--- joining a word to another
-pub join-word : (l : List ℕ) (at v w r : ℕ) → at < length l →
-    bit r (getD (set l at (bitOr (getD l at 0) v)) w 0) ≡ bit r (getD l w 0) || (eqb w at && bit r v)
-join-word l at v w r h = ap (bit r) (set-at l at (bitOr (getD l at 0) v) w h) ∙ cases (eqb w at)
-    (λ q. rw (q, true-eq w at q) (bit-or (getD l at 0) v r))
-    (λ q. rw q (sym (or-false (bit r (getD l w 0)))))
-
-and-swap : (a b : Bool) → a && b ≡ b && a
-and-swap true true = refl
-and-swap true false = refl
-and-swap false true = refl
-and-swap false false = refl
-
-pub shift-one : (i : ℕ) → i < 64 → 1 * 2 ^ i % 18446744073709551616 ≡ 2 ^ i
-shift-one i h =
-    let l : 2 ^ i ≤ 9223372036854775808 = pow-le-pow-right {n = 2} (omega arith) {i = i} {j = 63}
-    (omega arith) in
-    ap (λ (n : ℕ). n % 18446744073709551616) (one-mul (2 ^ i)) ∙ mod-eq-of-lt (omega arith)
-
-pub put-bit : (l : List ℕ) (at i w r : ℕ) → at < length l → i < 64 →
-    bit r (getD (set l at (bitOr (getD l at 0) (1 * 2 ^ i % 18446744073709551616))) w 0)
-    ≡ bit r (getD l w 0) || (eqb r i && eqb w at)
-put-bit l at i w r h k =
-    join-word l at (1 * 2 ^ i % 18446744073709551616) w r h
-    ∙ ap (λ (b : Bool). bit r (getD l w 0) || b)
-    (ap (λ (n : ℕ). eqb w at && bit r n) (shift-one i k) ∙ ap (λ (b : Bool). eqb w at && b) (power-is i r)
-    ∙ and-swap (eqb w at) (eqb r i))
+use Rattle.outlines.specs.Feed.{rightModeWord}
+use Rattle.masks.proofs.Bits.{no-bit}
 
 -- four tests one after the other
 pub four-joined : (x t a b d e : Bool) →
@@ -156,7 +105,7 @@ module _ (sides : List ℕ) (r : ℕ) (p : Placed sides r) where
   pub mode-below : modeWord (modeCodeOf sides r) (signCode sides r) < 152
   mode-below = ⊎-elim (λ w. omega arith) (λ w. omega arith) mode-cases
 
-  pub looks-below : (g : ℕ) → g < 2 → looksWord (modeCodeOf sides r) g < 152
-  looks-below g h = cases (eqb (modeCodeOf sides r) 255)
+  pub depends-below : (g : ℕ) → g < 2 → rightModeWord (modeCodeOf sides r) g < 152
+  depends-below g h = cases (eqb (modeCodeOf sides r) 255)
       (λ e. rw e (omega arith))
       (λ e. let z = p .mode (false-eq (modeCodeOf sides r) 255 e) in rw e (omega arith))

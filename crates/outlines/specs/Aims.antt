@@ -18,7 +18,7 @@ use Rattle.model.specs.Rules.{rightOf}
 use Rattle.encoding.specs.Format.{ruleAt}
 use Rattle.reach.specs.Net as net
 use Rattle.reach.specs.Net.{turned, aimPair, aimBits, Formed}
-use Rattle.outlines.specs.Coordinates.{Grounds, Numbered, Chart, Charted, subjectOf}
+use Rattle.outlines.specs.Coordinates.{WellFormed, Numbered, Chart, Charted, subjectOf}
 use Rattle.outlines.specs.Coordinates.{objectOf}
 use Rattle.outlines.specs.Coordinates.{known, modeOf, pairOf}
 use Rattle.outlines.specs.CoordinateFacts.{known-is, turned-coordinate, coordinate-below}
@@ -36,7 +36,7 @@ both-bits m =
           (rw f),
     )
 
-module _ {n : ℕ} {body : List ℕ} (g : Grounds n body) (C : Chart) (t : Charted n body C) (right : List ℕ)
+module _ {n : ℕ} {body : List ℕ} (g : WellFormed n body) (C : Chart) (t : Charted n body C) (right : List ℕ)
     (codes : RightSides (C .subjects) (C .objects) n body right) where
   module _ (asked : Access) (r : ℕ) (h : r < n) where
     -- the access on the right of rule r, seen from x

@@ -1,5 +1,5 @@
 -- Accesses by coordinates: one that has a place is known by its coordinates and its mode (`known-one`).
-use mathlib.Core.Path.{_≡_, refl, sym, _∙_}
+use mathlib.Core.Path.{_≡_, sym, _∙_}
 use mathlib.Core.Logic.{_⊎_, inl, inr, _↔_}
 use mathlib.Core.Bool.{true, false}
 use mathlib.Core.List.{List}
@@ -8,7 +8,7 @@ use native.Mathlib.Nat.{mul-le-mul-right, suc-mul}
 use native.Mathlib.Omega.{arith}
 use lib.Dec.{eqb, leb, ltb}
 use lib.ListN.{getD}
-use Rattle.foundation.specs.Tests.{pick, cases, true-eq, false-eq, eq-true, ne-false, true-le, le-true}
+use Rattle.foundation.specs.Tests.{pick, cases, true-eq, false-eq, ne-false, true-le, le-true}
 use Rattle.foundation.specs.Tests.{and-true, and-intro, and-three}
 use Rattle.model.specs.declared.Rule.{Rule}
 use Rattle.model.specs.declared.Access.{Access}
@@ -75,14 +75,6 @@ module _ {field : Rule → ℕ} {n : ℕ} {body U : List ℕ} {size : ℕ} (m : 
       (λ e. rw e h)
       (λ e. let c = named e in rw e (rw (listed U own v c) (m .below v)))
 
-  -- the own one has a coordinate
-  pub own-below : coordinate U own own < size
-  unfolding coordinate
-  own-below = let o = m .some in
-      cases (eqb (getD U own 0) 0)
-      (λ e. rw (e, eq-true own own refl) o)
-      (λ e. rw e (m .below own))
-
 pub turned-mode : (u m : ℕ) → m ≤ 8 → turned (modeCode m) (u - 1) ≡ pick (isStar m) u m - 1
 turned-mode u m h = cases (isStar m)
     (λ e. rw e)
@@ -125,15 +117,6 @@ module _ (C : Chart) (asked : Access) where
       (coordinate-one (t .subjects) few (asked .subject) (x .subject) (y .subject) (p .1) s)
       (omega arith)
       (coordinate-one (t .objects) few (asked .object) (x .object) (y .object) (p .0) o)
-
-  pub asked-known : {n : ℕ} {body : List ℕ} → Charted n body C → n ≤ 64 → 1 ≤ asked .mode → asked .mode ≤ 8 →
-      known C asked asked ≡ true
-  asked-known t few l h = known-is asked .1 (
-    own-below (t .objects) few (asked .object),
-    own-below (t .subjects) few (asked .subject),
-    l,
-    h,
-  )
 
   -- its pair is one of the net's
   pub pair-below : (x : Access) → known C asked x ≡ true → pairOf C asked x < C .height * C .width

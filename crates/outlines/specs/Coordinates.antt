@@ -22,7 +22,7 @@ pub record Ranged (s : Side) : Type 0 where
   pub object : s .object ≤ 128
   pub mode : s .mode ≤ 8
 
-pub record Grounds (n : ℕ) (body : List ℕ) : Type 0 where
+pub record WellFormed (n : ℕ) (body : List ℕ) : Type 0 where
   pub few : n ≤ 64
   pub there : n * 28 ≤ length body
   pub left : (i : ℕ) → i < n → Ranged (ruleAt body i .left)

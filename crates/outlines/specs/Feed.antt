@@ -15,7 +15,7 @@ use Rattle.model.specs.declared.OptionTerm.the-variants.{With, Without, Either}
 use Rattle.model.specs.Stratification.{isStar, feeds, precedes}
 use Rattle.encoding.specs.Format.{rulesIn, ruleAt}
 use Rattle.rules.specs.Strata.{Holds}
-use Rattle.outlines.specs.Coordinates.{Grounds, Chart, Charted}
+use Rattle.outlines.specs.Coordinates.{WellFormed, Chart, Charted}
 use Rattle.outlines.specs.Outline.{RightSides, LeftSides}
 use Rattle.outlines.specs.Masks.{Written}
 
@@ -31,7 +31,7 @@ isChoosy r = not (isStar (r .grantor) && isEither (r .option))
 
 -- what was drawn of n rules
 pub record Outlined (n : ℕ) (body left right sides : List ℕ) : Type 0 where
-  pub grounds : Grounds n body
+  pub well-formed : WellFormed n body
   pub chart : Chart
   pub charted : Charted n body chart
   pub rights : RightSides (chart .subjects) (chart .objects) n body right
@@ -39,14 +39,14 @@ pub record Outlined (n : ℕ) (body left right sides : List ℕ) : Type 0 where
   pub masks : Written n (chart .width) sides left
 
 -- the word of what a right side's mode meets, with a sign: of the sign alone for a star
-abbrev pub looksWord : ℕ → ℕ → ℕ
-looksWord code sign = pick (eqb code 255) (146 + sign) (130 + (code + 8 * sign))
+abbrev pub rightModeWord : ℕ → ℕ → ℕ
+rightModeWord code sign = pick (eqb code 255) (146 + sign) (130 + (code + 8 * sign))
 
 -- the rules with a sign on the left that rule i meets in mode, subject and object: a starred object meets
 -- all, a named one the rules that name it and the starred ones
 unfoldable pub meetingWord : List ℕ → List ℕ → ℕ → ℕ → ℕ
 meetingWord left right i sign =
-    let m = getD left (looksWord (getD right (4 * i + 2) 0) sign) 0 in
+    let m = getD left (rightModeWord (getD right (4 * i + 2) 0) sign) 0 in
     let s = getD right (4 * i + 1) 0 in
     let o = getD right (4 * i) 0 in
     let f = pick (eqb s 255) m (bitAnd m (getD left (65 + s) 0)) in

@@ -1,9 +1,9 @@
--- What a question can rest on, as accesses: the asked one (`needed-asked`), and with an access those on the
--- right of the rules that stand for it (`needed-right`).
-use mathlib.Core.Path.{_≡_, refl, sym, ap, _∙_}
+-- What a question can rest on, as accesses: with an access those on the right of the rules that stand for it
+-- (`needed-right`).
+use mathlib.Core.Path.{_≡_, sym, ap, _∙_}
 use mathlib.Core.Bool.{Bool, true, _&&_, Bool·beq}
 use mathlib.Core.List.{List}
-use Prim.Native.Nat.{ℕ, suc, _+_, _*_, _/_, _%_, _^_, _<_}
+use Prim.Native.Nat.{ℕ, suc, _+_, _*_, _/_, _%_, _<_}
 use native.Mathlib.Nat.{mul-add-div-right, mul-add-mod-self-right, div-eq-of-lt, mod-eq-of-lt}
 use native.Mathlib.Omega.{arith}
 use lib.Dec.{ltb}
@@ -14,11 +14,11 @@ use Rattle.model.specs.Base.{Base}
 use Rattle.model.specs.Rules.{standsFor, rightOf}
 use Rattle.encoding.specs.Format.{ruleAt}
 use Rattle.reach.specs.Net.{aimBits, has, Closed}
-use Rattle.outlines.specs.Coordinates.{Grounds, Chart, Charted, subjectOf, objectOf, known, modeOf}
+use Rattle.outlines.specs.Coordinates.{WellFormed, Chart, Charted, subjectOf, objectOf, known, modeOf}
 use Rattle.outlines.specs.Coordinates.{pairOf}
 use Rattle.outlines.specs.CoordinateFacts.{known-is}
 use Rattle.outlines.specs.Outline.{RightSides, Stands}
-use Rattle.outlines.specs.Aims.{both-bits, aim-pair, aim-known, aim-bits}
+use Rattle.outlines.specs.Aims.{aim-pair, aim-known, aim-bits}
 
 -- an access is needed: it has a place, with both signs
 unfoldable pub needed : Chart → Access → List ℕ → Access → Bool
@@ -48,14 +48,6 @@ module _ (C : Chart) (asked : Access) (need : List ℕ) where
   needed-both x k p q = and-three (known C asked x) (has need (pairOf C asked x) (modeOf x))
       (has need (pairOf C asked x) (8 + modeOf x)) .1 (k, p, q)
 
-  -- where a question starts
-  pub needed-asked : known C asked asked ≡ true →
-      ((b : ℕ) → bit b (257 * 2 ^ modeOf asked) ≡ true → has need (pairOf C asked asked) b ≡ true) →
-      needed C asked need asked ≡ true
-  needed-asked k s =
-      let m = modeOf asked in
-      needed-both asked k (s m (both-bits m .0)) (s (8 + m) (both-bits m .1))
-
 -- a pair leads back to its object and its subject
 pair-object : (o w s : ℕ) → s < w → (o * w + s) / w ≡ o
 pair-object o w s h =
@@ -64,7 +56,8 @@ pair-object o w s h =
 pair-subject : (o w s : ℕ) → s < w → (o * w + s) % w ≡ s
 pair-subject o w s h = mul-add-mod-self-right o w s ∙ mod-eq-of-lt h
 
-module _ {n : ℕ} {body : List ℕ} (g : Grounds n body) (C : Chart) (t : Charted n body C) (left right : List ℕ)
+module _ {n : ℕ} {body : List ℕ} (g : WellFormed n body) (C : Chart) (t : Charted n body C) (left right : List
+    ℕ)
     (codes : RightSides (C .subjects) (C .objects) n body right) (asked : Access) (b : Base)
     (stands : Stands b n body C asked left) (need : List ℕ)
     (closed : Closed (record { left = left; right = right; subjects = C .width }) need) where

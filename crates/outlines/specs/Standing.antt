@@ -23,7 +23,7 @@ use Rattle.model.specs.Rules.{standsOn, standsFor}
 use Rattle.model.specs.SideFacts.{stands-same}
 use Rattle.encoding.specs.Format.{rulesIn, ruleAt}
 use Rattle.reach.specs.Net.{standing}
-use Rattle.outlines.specs.Coordinates.{Grounds, Numbered, Chart, Charted, subjectOf, objectOf}
+use Rattle.outlines.specs.Coordinates.{WellFormed, Numbered, Chart, Charted, subjectOf, objectOf}
 use Rattle.outlines.specs.Coordinates.{modeOf}
 use Rattle.outlines.specs.CoordinateFacts.{known-is, coordinate-cases}
 use Rattle.outlines.specs.Outline.{codeIn, modeCode, signsOf, LeftSides, Stands}
@@ -125,7 +125,7 @@ three-tests true true true true false = refl
 three-tests true true true false true = refl
 three-tests true true true false false = refl
 
-module _ {n : ℕ} {body : List ℕ} (g : Grounds n body) (C : Chart) (t : Charted n body C) (sides : List ℕ)
+module _ {n : ℕ} {body : List ℕ} (g : WellFormed n body) (C : Chart) (t : Charted n body C) (sides : List ℕ)
     (codes : LeftSides (C .subjects) (C .objects) n body sides) where
   -- the codes of left sides name words
   pub left-placed : (r : ℕ) → r < n → Placed sides r

@@ -1,6 +1,6 @@
 // Which rule feeds which, and which precedes which.
 ghost use mathlib.Core.Path.{_≡_};
-ghost use mathlib.Core.Bool.{true, false, _&&_, _||_};
+ghost use mathlib.Core.Bool.{true, false, _&&_};
 ghost use Prim.Native.Nat.{ℕ, _+_, _*_, _≤_, _<_};
 ghost use lib.Bits.{bitAnd, bitOr};
 ghost use lib.Dec.{eqb, ltb};
@@ -12,10 +12,11 @@ ghost use Rattle.model.specs.Stratification.{fitsOption};
 ghost use Rattle.encoding.specs.Format.{rulesIn, ruleAt};
 ghost use Rattle.rules.specs.Strata.{feedersOf, Holds};
 ghost use Rattle.outlines.specs.Masks.{Placed};
-ghost use Rattle.outlines.specs.Feed.{looksWord, meetingWord, linkersWord, isChoosy, Outlined, Fed};
+ghost use Rattle.outlines.specs.Feed.{rightModeWord, meetingWord, linkersWord, isChoosy, Outlined, Fed};
 use crate::left::put_word;
 use crate::left::wide;
 use encoding::rule_at;
+use masks::hand_on;
 use model::OptionTerm;
 use model::RULE_BYTES;
 use model::Rule;
@@ -92,9 +93,9 @@ fn narrowed(body: &[u8], n: usize, f: u64, r: Rule) -> u64
 }
 
 // The word of what a right side's mode, or its star, meets with a sign.
-fn looks_word(code: usize, sign: usize) -> usize
+fn right_mode_word(code: usize, sign: usize) -> usize
     requires { ⌜ (code < 256) × (sign < 128) ⌝ }
-    ensures { λ r. ⌜ r ≡ looksWord code sign ⌝ }
+    ensures { λ r. ⌜ r ≡ rightModeWord code sign ⌝ }
 {
     if code == 255 {
         return 146 + sign;
@@ -130,7 +131,7 @@ fn meeting(left: &[u64; 152], right: &[u8; 256], i: usize, sign: usize) -> u64
     requires { ⌜ (i < 64) × (sign < 2) × Placed (now right) i ⌝ }
     ensures { λ x. ⌜ x ≡ meetingWord (now (left .entry)) (now (right .entry)) i sign ⌝ }
 {
-    let w = looks_word(wide(right[4 * i + 2]), sign);
+    let w = right_mode_word(wide(right[4 * i + 2]), sign);
     let f = meet_subject(left, left[w], wide(right[4 * i + 1]));
     meet_object(left, f, wide(right[4 * i]))
 }
@@ -173,21 +174,6 @@ fn draw_feeders(
     }
 }
 
-// Hands rule c on to the rules of f, which feed it.
-fn hand_on(feed: &mut [u64], c: u32, f: u64)
-    requires { ⌜ (c < 64) × (length (now feed) ≡ 128) ⌝ }
-    ensures { λ _. ⌜ ((w : ℕ) → w < 64 → getD (now (feed .exit)) w 0 ≡ getD (now (feed .entry)) w 0)
-        × ((i r : ℕ) → i < 64 → bit r (getD (now (feed .exit)) (64 + i) 0)
-        ≡ bit r (getD (now (feed .entry)) (64 + i) 0) || (eqb r c && bit i f)) ⌝ }
-{
-    let mut q = next_bit(f, 0);
-    while q < 64 {
-        let at = 64 + q as usize;
-        feed[at] = feed[at] | (1 << c);
-        q = next_bit(f, q + 1);
-    }
-}
-
 // Hands the choosy rules on to those that feed them.
 fn draw_fed(choosy: u64, feed: &mut [u64; 128])
     requires { ⌜ ((k : ℕ) → 64 ≤ k → getD (now feed) k 0 ≡ 0) ⌝ }
@@ -198,7 +184,7 @@ fn draw_fed(choosy: u64, feed: &mut [u64; 128])
     let mut c = next_bit(choosy, 0);
     while c < 64 {
         let f = feed[c as usize];
-        hand_on(feed, c, f);
+        hand_on(feed, 64, f, c);
         c = next_bit(choosy, c + 1);
     }
 }

@@ -2,7 +2,7 @@
 ghost use mathlib.Core.Path.{_≡_};
 ghost use Prim.Native.Nat.{ℕ, _<_};
 ghost use lib.ListN.{length, getD};
-ghost use Rattle.outlines.specs.Coordinates.{Grounds, Added, Numbered, rightSubject, rightObject};
+ghost use Rattle.outlines.specs.Coordinates.{WellFormed, Added, Numbered, rightSubject, rightObject};
 use crate::Sizes;
 use encoding::rule_at;
 use model::RULE_BYTES;
@@ -26,7 +26,7 @@ pub fn number_sides(
     subjects: &mut [u8; 1024],
     objects: &mut [u8; 130],
 ) -> Sizes
-    requires { ⌜ Grounds n (now body) × ((v : ℕ) → getD (now subjects) v 0 ≡ 0)
+    requires { ⌜ WellFormed n (now body) × ((v : ℕ) → getD (now subjects) v 0 ≡ 0)
         × ((v : ℕ) → getD (now objects) v 0 ≡ 0) ⌝ }
     ensures { λ r. ⌜ Numbered rightSubject n (now (body .entry)) (now (subjects .exit)) (r .subjects)
         × Numbered rightObject n (now (body .entry)) (now (objects .exit)) (r .objects) ⌝ }

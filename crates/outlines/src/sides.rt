@@ -5,7 +5,7 @@ ghost use lib.Dec.{eqb};
 ghost use lib.ListN.{length, getD};
 ghost use Rattle.foundation.specs.Masks.{asBit};
 ghost use Rattle.foundation.specs.Tests.{pick};
-ghost use Rattle.outlines.specs.Coordinates.{Grounds, Ranged};
+ghost use Rattle.outlines.specs.Coordinates.{WellFormed, Ranged};
 ghost use Rattle.outlines.specs.Outline.{modeCode, Coded, RightSides, LeftSides};
 use encoding::rule_at;
 use model::RULE_BYTES;
@@ -70,7 +70,7 @@ pub fn draw_right(
     objects: &[u8; 130],
     right: &mut [u8; 256],
 )
-    requires { ⌜ Grounds n (now body) ⌝ }
+    requires { ⌜ WellFormed n (now body) ⌝ }
     ensures { λ _. ⌜ RightSides (now (subjects .entry)) (now (objects .entry)) n (now (body .entry))
         (now (right .exit))
         × ((k : ℕ) → n ≤ k / 4 → getD (now (right .exit)) k 0 ≡ getD (now (right .entry)) k 0) ⌝ }
@@ -92,7 +92,7 @@ pub fn draw_left(
     objects: &[u8; 130],
     sides: &mut [u8; 256],
 )
-    requires { ⌜ Grounds n (now body) ⌝ }
+    requires { ⌜ WellFormed n (now body) ⌝ }
     ensures { λ _. ⌜ LeftSides (now (subjects .entry)) (now (objects .entry)) n (now (body .entry))
         (now (sides .exit)) ⌝ }
 {

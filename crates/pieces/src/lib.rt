@@ -91,6 +91,7 @@ fn put_part(
         object: h.object,
         mode: h.mode,
         grantor: h.grantor,
+        option: h.option,
         before: h.granted,
     };
     let mut k = m;

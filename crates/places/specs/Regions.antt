@@ -13,7 +13,7 @@ use Rattle.foundation.specs.Tests.{pick, cases, eq-true, true-eq, false-eq}
 use Rattle.foundation.specs.Masks.{bit}
 use Rattle.places.specs.declared.Grid.{Grid}
 use Rattle.places.specs.declared.Region.{Region}
-use Rattle.places.specs.declared.Spot.{Spot}
+use Rattle.places.specs.declared.Point.{Point}
 use Rattle.places.specs.Numbering.{rank, rank-below, rank-same, parted}
 
 -- a code that names nothing
@@ -31,46 +31,46 @@ abbrev pub modeSize : Grid → Region → ℕ
 modeSize g b = pick (free (b .mode)) (ones (g .modes)) 1
 
 -- the number of a place, n being that of its pair
-abbrev pub outerIndex : Region → ℕ → Spot → ℕ
+abbrev pub outerIndex : Region → ℕ → Point → ℕ
 outerIndex b n x = pick (free (b .subject)) (pick (free (b .object)) n (x .subject))
     (pick (free (b .object)) (x .object) 0)
 
-abbrev pub modeIndex : Grid → Region → Spot → ℕ
+abbrev pub modeIndex : Grid → Region → Point → ℕ
 modeIndex g b x = pick (free (b .mode)) (rank (g .modes) (x .mode)) 0
 
 unfoldable pub sizeOf : Grid → Region → ℕ
 sizeOf g b = outerSize g b * modeSize g b
 
-unfoldable pub indexIn : Grid → Region → ℕ → Spot → ℕ
+unfoldable pub indexIn : Grid → Region → ℕ → Point → ℕ
 indexIn g b n x = outerIndex b n x * modeSize g b + modeIndex g b x
 
 -- ---- its laws
 
 -- a place of the grid, n being the number of its pair
-pub record Within (g : Grid) (n : ℕ) (x : Spot) : Type 0 where
+pub record Within (g : Grid) (n : ℕ) (x : Point) : Type 0 where
   pub pair : n < g .pairs
   pub subject : x .subject < g .subjects
   pub object : x .object < g .objects
   pub mode : bit (x .mode) (g .modes) ≡ true
 
 -- that lies in the region
-pub record In (b : Region) (x : Spot) : Type 0 where
+pub record In (b : Region) (x : Point) : Type 0 where
   pub subject : free (b .subject) ≡ false → x .subject ≡ b .subject
   pub object : free (b .object) ≡ false → x .object ≡ b .object
   pub mode : free (b .mode) ≡ false → x .mode ≡ b .mode
 
 module _ (g : Grid) (b : Region) where
-  outer-below : (n : ℕ) (x : Spot) → Within g n x → outerIndex b n x < outerSize g b
+  outer-below : (n : ℕ) (x : Point) → Within g n x → outerIndex b n x < outerSize g b
   outer-below n x w = cases (free (b .subject))
       (λ s. cases (free (b .object)) (λ o. rw (s, o) (w .pair)) (λ o. rw (s, o) (w .subject)))
       (λ s. cases (free (b .object)) (λ o. rw (s, o) (w .object)) (λ o. rw (s, o) (omega arith)))
 
-  mode-below : (n : ℕ) (x : Spot) → Within g n x → modeIndex g b x < modeSize g b
+  mode-below : (n : ℕ) (x : Point) → Within g n x → modeIndex g b x < modeSize g b
   mode-below n x w = cases (free (b .mode))
       (λ m. rw m (rank-below (g .modes) (x .mode) (w .mode)))
       (λ m. rw m (omega arith))
 
-  pub index-below : (n : ℕ) (x : Spot) → Within g n x → indexIn g b n x < sizeOf g b
+  pub index-below : (n : ℕ) (x : Point) → Within g n x → indexIn g b n x < sizeOf g b
   unfolding indexIn sizeOf
   index-below n x w =
       let q : suc (outerIndex b n x) * modeSize g b ≤ outerSize g b * modeSize g b =
@@ -78,7 +78,7 @@ module _ (g : Grid) (b : Region) where
       omega (arith, mode-below n x w)
 
   -- two places of the region with one number are one place, if pairs of one number are one pair
-  module _ (n k : ℕ) (x y : Spot) (v : Within g n x) (w : Within g k y) (i : In b x) (j : In b y)
+  module _ (n k : ℕ) (x y : Point) (v : Within g n x) (w : Within g k y) (i : In b x) (j : In b y)
       (one : n ≡ k → (x .subject ≡ y .subject) × (x .object ≡ y .object)) where
     outer-apart : outerIndex b n x ≡ outerIndex b k y → (x .subject ≡ y .subject) × (x .object ≡ y .object)
     outer-apart e = cases (free (b .subject))

@@ -26,7 +26,7 @@ pub struct Region {
 }
 
 // A place.
-pub struct Spot {
+pub struct Point {
     pub subject: u32,
     pub mode: u32,
     pub object: u32,
@@ -122,12 +122,16 @@ pub fn modes_of(need: &[u16]) -> u32
     both_signs(all)
 }
 
-// How many modes below m are reached.
+// How many modes below m are reached. Mostly all are, and counting bits takes longer than to see that.
 pub fn rank_of(modes: u32, m: u32) -> u32
     requires { ⌜ m < 32 ⌝ }
     ensures { λ r. ⌜ r ≡ rank modes m ⌝ }
 {
-    u32::count_ones(modes & ((1 << m) - 1))
+    let below: u32 = (1 << m) - 1;
+    if modes & below == below {
+        return m;
+    }
+    u32::count_ones(modes & below)
 }
 
 // The first number where a code is free, else the second.
@@ -158,7 +162,7 @@ pub fn size_of(g: Grid, b: Region) -> u32
 }
 
 // The number of a place of a region, n being that of its pair.
-pub fn index_in(g: Grid, b: Region, n: u32, x: Spot) -> u32
+pub fn index_in(g: Grid, b: Region, n: u32, x: Point) -> u32
     requires { ⌜ (sizeOf g b < 4294967296) × Within g n x × (x .mode < 32) ⌝ }
     ensures { λ r. ⌜ r ≡ indexIn g b n x ⌝ }
 {

@@ -21,13 +21,12 @@ use Rattle.model.specs.Answers.{accessIn}
 use Rattle.model.specs.Rules.{may}
 use Rattle.encoding.specs.Format.{ruleAt}
 use Rattle.questions.specs.Operators.{lasting}
-use Rattle.selection.specs.Selection.{RulesIn}
 use Rattle.reach.specs.Net.{Formed, has}
 use Rattle.places.specs.declared.Grid.{Grid}
 use Rattle.tables.specs.declared.Frame.{Frame}
 use Rattle.tables.specs.declared.Place.{Place}
 use Rattle.tables.specs.Layout.{roomOf}
-use Rattle.masks.specs.Masks.{Needed}
+use Rattle.masks.specs.Masks.{RulesIn, Needed}
 use Rattle.scan.specs.Runs.{Reached}
 use Rattle.outlines.specs.Coordinates.{Chart, modeOf, pairOf}
 use Rattle.outlines.specs.CoordinateFacts.{pair-below}
@@ -56,7 +55,7 @@ pub record Answers (one : Bool) (t : ℕ) (base : Base) (x : Access) (r : Found)
     pub listed : one ≡ false → Reached (may base x) 4294967295 old 4294967296 (r .track) new
 
 -- where it is looked from: for WHEN from the first instant on
-pub record LooksFrom (one : Bool) (t : ℕ) (body : List ℕ) (lasts from : ℕ) : Type 0 where
+pub record WalkStart (one : Bool) (t : ℕ) (body : List ℕ) (lasts from : ℕ) : Type 0 where
   pub forward : from ≤ lastAsked one t
   pub first : (r : ℕ) → bit r lasts ≡ true →
       (from ≤ ruleAt body r .interval .start) ⊎ (inInterval (ruleAt body r .interval) from ≡ false)
@@ -113,7 +112,7 @@ module _ {holder : Base} {n : ℕ} {C : Chart} {x own : Access} {s o : ℕ} {bod
     arith,
     sketch-pair,
     pair-below C (ownOf C x) x (own-known (k .outline) (k .some) (k .few)),
-    chart-small C (k .outline .rules .grounds .few) (k .outline .rules .charted) .3,
+    chart-small C (k .outline .rules .well-formed .few) (k .outline .rules .charted) .3,
   )
 
   pub sketch-formed : (need : List ℕ) → length need ≡ C .height * C .width →
@@ -139,7 +138,7 @@ module _ {holder : Base} {n : ℕ} {C : Chart} {x own : Access} {s o : ℕ} {bod
 
       -- the broken bits have room
       pub lasts-room : roomOf g sides lasts 64 ≤ 120256
-      lasts-room = bits-few C (k .outline .rules .grounds) (k .outline .rules .charted)
+      lasts-room = bits-few C (k .outline .rules .well-formed) (k .outline .rules .charted)
           (map-gridded (k .outline) m) lasts (λ r e. needed-low (k .outline) m needs r (lasts-needed r e))
           sides (k .outline .rules .lefts)
 
@@ -199,7 +198,7 @@ part-blank n table b i = cases (ltb i n)
 pub pairs-few : {holder : Base} {n : ℕ} {C : Chart} {x own : Access} {s o : ℕ}
     {body left feed sides right : List ℕ} {choosy : ℕ} →
     Sketch holder n C x own s o body left feed sides right choosy → C .height * C .width ≤ 4225
-pairs-few {C = C} k = chart-small C (k .outline .rules .grounds .few) (k .outline .rules .charted) .3
+pairs-few {C = C} k = chart-small C (k .outline .rules .well-formed .few) (k .outline .rules .charted) .3
 
 -- ---- the tables
 
@@ -218,9 +217,9 @@ module _ {holder : Base} {n : ℕ} {subjects objects : List ℕ} {width height :
       q .own ≡ own →
       q .place ≡ record {
         pair = getD number (o * width + s) 0;
-        spot = record { subject = s; mode = x .mode - 1; object = o };
+        point = record { subject = s; mode = x .mode - 1; object = o };
       } →
-      q .to ≡ lastAsked one t → q .listing ≡ not one → LooksFrom one t body lasts (q .from) →
+      q .to ≡ lastAsked one t → q .listing ≡ not one → WalkStart one t body lasts (q .from) →
       Tabled holder n (chartOf subjects objects f)
       (prepared body left feed sides right need codes number first starts f) rules lasts bits q x
   sketch-tabled q one t there a own-is place to listing looks =
@@ -253,5 +252,5 @@ module _ {holder : Base} {n : ℕ} {subjects objects : List ℕ} {width height :
       placed : ℕ → ℕ → Place
       placed u v = record {
         pair = getD number (v * width + u) 0;
-        spot = record { subject = u; mode = x .mode - 1; object = v };
+        point = record { subject = u; mode = x .mode - 1; object = v };
       }

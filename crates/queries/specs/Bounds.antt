@@ -20,7 +20,7 @@ use Rattle.places.specs.declared.Grid.{Grid}
 use Rattle.places.specs.declared.Region.{Region}
 use Rattle.places.specs.Regions.{free, outerSize, sizeOf}
 use Rattle.tables.specs.Layout.{regionAt, roomOf, whole}
-use Rattle.outlines.specs.Coordinates.{Grounds, Chart, Charted, namedIn, rightSubject, rightObject}
+use Rattle.outlines.specs.Coordinates.{WellFormed, Chart, Charted, namedIn, rightSubject, rightObject}
 use Rattle.outlines.specs.Outline.{RightSides, LeftSides}
 use Rattle.outlines.specs.Standing.{star-is}
 use Rattle.queries.specs.Reached.{below, in-below, many, subjectOnly, objectOnly, named, starred}
@@ -194,15 +194,15 @@ module _ (body : List ℕ) where
     pub pairs : g .pairs ≤ pairsMost (subjectsOnly n) (objectsOnly n) (bothNamed n)
     pub modes : ones (g .modes) ≤ 8
 
-module _ {n : ℕ} {body : List ℕ} (C : Chart) (grounds : Grounds n body) (t : Charted n body C) where
+module _ {n : ℕ} {body : List ℕ} (C : Chart) (well-formed : WellFormed n body) (t : Charted n body C) where
   -- the codes of right sides
   pub right-codes : (right : List ℕ) → RightSides (C .subjects) (C .objects) n body right →
       Codes n (C .width) (C .height) (subjectStar body) (objectStar body) right
   right-codes right codes = record {
     subject = λ c h. ap (λ (k : ℕ). eqb k 255) (codes c h .subject)
-        ∙ star-is (t .subjects) (grounds .few) (ruleAt body c .right .subject);
+        ∙ star-is (t .subjects) (well-formed .few) (ruleAt body c .right .subject);
     object = λ c h. ap (λ (k : ℕ). eqb k 255) (codes c h .object)
-        ∙ star-is (t .objects) (grounds .few) (ruleAt body c .right .object);
+        ∙ star-is (t .objects) (well-formed .few) (ruleAt body c .right .object);
     subject-low = λ c h e. let q : getD right (4 * c + 1) 0 ≡ getD (C .subjects) (ruleAt body c .right
         .subject) 0 = codes c h .subject ∙ rw e in
         omega (arith, t .subjects .below (ruleAt body c .right .subject));
@@ -212,7 +212,7 @@ module _ {n : ℕ} {body : List ℕ} (C : Chart) (grounds : Grounds n body) (t :
   }
 
   few-kinds : subjectsOnly body n + objectsOnly body n + bothNamed body n + noneNamed body n ≤ 64
-  few-kinds = omega (arith, kinds-all (subjectStar body) (objectStar body) n, grounds .few)
+  few-kinds = omega (arith, kinds-all (subjectStar body) (objectStar body) n, well-formed .few)
 
   module _ {g : Grid} (w : Gridded body n g C) where
     -- the pairs
@@ -247,7 +247,8 @@ module _ {n : ℕ} {body : List ℕ} (C : Chart) (grounds : Grounds n body) (t :
           let u : ℕ = noneNamed body n in
           joined k u (g .pairs) (a * g .objects + b * g .subjects + c) (sizeOf g whole)
           (roomOf g codes rules 64) (roomBy k (a + b + c)) (whole-size g (w .modes))
-          (room-few g (w .modes) (subjectStar body) (objectStar body) n codes rules s o low (grounds .few))
+          (room-few g (w .modes) (subjectStar body) (objectStar body) n codes rules s o low (well-formed
+          .few))
           (room-by k a b c u (g .pairs) (g .objects) (g .subjects) few-kinds (w .pairs) high wide)
         where
           joined : (k u p r x y z : ℕ) → x ≤ p * 8 → y ≤ (u * p + r) * 8 → 12 * ((k + u) * p + r) ≤ z →
@@ -275,8 +276,10 @@ module _ {n : ℕ} {body : List ℕ} (C : Chart) (grounds : Grounds n body) (t :
             arith,
             all-room 0 sides
                 (λ c h. ap (λ (k : ℕ). eqb k 255) (codes c h .subject)
-                ∙ star-is (t .subjects) (grounds .few) (ruleAt body c .left .subject) ∙ grounds .stars c h .0)
+                ∙ star-is (t .subjects) (well-formed .few) (ruleAt body c .left .subject) ∙ well-formed .stars
+                c h .0)
                 (λ c h. ap (λ (k : ℕ). eqb k 255) (codes c h .object)
-                ∙ star-is (t .objects) (grounds .few) (ruleAt body c .left .object) ∙ grounds .stars c h .1),
+                ∙ star-is (t .objects) (well-formed .few) (ruleAt body c .left .object) ∙ well-formed .stars c
+                h .1),
             bits-top m (omega (arith, few-kinds)),
           )

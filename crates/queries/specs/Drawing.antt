@@ -13,6 +13,7 @@ use lib.Count.{ones-le}
 use lib.Dec.{eqb, ltb}
 use lib.ListN.{length, getD}
 use Rattle.foundation.specs.Tests.{pick, cases, true-eq, eq-true, false-eq, le-true, true-le, and-true}
+use Rattle.foundation.specs.Tests.{and-false}
 use Rattle.foundation.specs.Masks.{bit, maskOf}
 use Rattle.model.specs.declared.Access.{Access}
 use Rattle.model.specs.Base.{Base}
@@ -27,8 +28,8 @@ use Rattle.places.specs.Numbering.{used, before, before-le, before-onto, codeOf
 use Rattle.places.specs.Regions.{sizeOf}
 use Rattle.tables.specs.declared.Frame.{Frame}
 use Rattle.tables.specs.Layout.{Laid, Small, ruleTables, allTables, roomOf, whole}
-use Rattle.masks.specs.Masks.{PairCode, Needed}
-use Rattle.outlines.specs.Coordinates.{Grounds, Chart, Charted, coordinate}
+use Rattle.masks.specs.Masks.{PairCode, RulesIn, Needed}
+use Rattle.outlines.specs.Coordinates.{WellFormed, Chart, Charted, coordinate}
 use Rattle.outlines.specs.Coordinates.{known, modeOf, pairOf}
 use Rattle.outlines.specs.CoordinateFacts.{known-is}
 use Rattle.outlines.specs.Outline.{RightSides, LeftSides}
@@ -37,12 +38,11 @@ use Rattle.outlines.specs.Standing.{rule-bit}
 use Rattle.outlines.specs.Aims.{formed, both-bits}
 use Rattle.outlines.specs.Feed.{isChoosy, Fed}
 use Rattle.outlines.specs.Needed.{needed, needed-both}
-use Rattle.selection.specs.Selection.{RulesIn}
 use Rattle.grounding.specs.Turns.{prepared}
 use Rattle.queries.specs.declared.Extent.{Extent}
 use Rattle.engine.specs.Drawn.{Drawn}
 use Rattle.queries.specs.Reached.{pairs-within}
-use Rattle.queries.specs.Bounds.{subjectStar, objectStar, Gridded, right-codes, pairs-few, fields-few}
+use Rattle.queries.specs.Bounds.{subjectStar, objectStar, Gridded, right-codes, fields-few}
 use Rattle.queries.specs.Bounds.{bits-few}
 
 -- ---- the asked access
@@ -77,7 +77,7 @@ own-coordinate U v = cases (eqb (getD U v 0) 0)
 pub record RulesDrawn (holder : Base) (n : ℕ) (C : Chart) (body left feed sides right : List ℕ) (choosy : ℕ) :
     Type 0
   where
-    pub grounds : Grounds n body
+    pub well-formed : WellFormed n body
     pub charted : Charted n body C
     pub rights : RightSides (C .subjects) (C .objects) n body right
     pub behind : (k : ℕ) → n ≤ k / 4 → getD right k 0 ≡ 0
@@ -112,7 +112,7 @@ pub still-drawn : {holder : Base} {n : ℕ} {C : Chart} {body left left′ feed 
     (own : Access) → RulesDrawn holder n C body left feed sides right choosy →
     Owned holder n body own left left′ → RulesDrawn holder n C body left′ feed sides right choosy
 still-drawn {holder} {n} {C} {body} {left} {left′} {feed} {sides} {right} {choosy} own d w = record {
-  grounds = d .grounds;
+  well-formed = d .well-formed;
   charted = d .charted;
   rights = d .rights;
   behind = d .behind;
@@ -129,7 +129,7 @@ still-drawn {holder} {n} {C} {body} {left} {left′} {feed} {sides} {right} {cho
     object = λ v r some.
         let below = d .charted .objects .below v in
         let few = d .charted .objects .few in
-        let n64 = d .grounds .few in
+        let n64 = d .well-formed .few in
         ap (bit r) (w .other (getD (C .objects) v 0) (λ e. omega arith) (λ e. omega arith))
         ∙ d .masks .object v r some;
   };
@@ -149,7 +149,8 @@ module _ {holder : Base} {n : ℕ} {C : Chart} {x : Access} {body left feed side
     (o : Outline holder n C x body left feed sides right choosy) where
   -- the net is well formed
   pub net-formed : Formed right (C .width) (C .height * C .width)
-  net-formed = formed (o .rules .grounds) C (o .rules .charted) right (o .rules .rights) (o .rules .behind)
+  net-formed = formed (o .rules .well-formed) C (o .rules .charted) right (o .rules .rights) (o .rules
+      .behind)
 
   -- the asked access has its place
   pub own-known : 1 ≤ x .mode → x .mode ≤ 8 → known C (ownOf C x) x ≡ true
@@ -173,7 +174,7 @@ module _ {holder : Base} {n : ℕ} {C : Chart} {x : Access} {body left feed side
       let w : ltb r n && standsOn holder (ruleAt body r) own ≡ true =
       sym (rule-bit n body (λ z. standsOn holder z own) r) ∙ ap (bit r) (sym (o .owned .object)) ∙ q in
       true-le (suc r) n (and-true (ltb r n) (standsOn holder (ruleAt body r) own) w .0))
-      (λ z. let s = chart-small C (o .rules .grounds .few) (o .rules .charted) in
+      (λ z. let s = chart-small C (o .rules .well-formed .few) (o .rules .charted) in
       let nz = false-eq c 0 z in
       let v = o .rules .charted .objects .onto c (omega arith) h in
       let w : ltb r n && standsOn holder (ruleAt body r) (v .0) ≡ true =
@@ -216,7 +217,7 @@ module _ {holder : Base} {n : ℕ} {C : Chart} {x : Access} {body left feed side
     (m : Mapped C left right need number codes g) where
   pub map-small : Small g
   map-small =
-      let s = chart-small C (o .rules .grounds .few) (o .rules .charted) in
+      let s = chart-small C (o .rules .well-formed .few) (o .rules .charted) in
       record {
         subjects = omega (arith, s .0, m .grid .0);
         objects = omega (arith, s .2, m .grid .1);
@@ -239,21 +240,19 @@ module _ {holder : Base} {n : ℕ} {C : Chart} {x : Access} {body left feed side
           arith,
           m .grid .2,
           pairs-within n w (C .height) (subjectStar body) (objectStar body) right
-              (right-codes C (o .rules .grounds) (o .rules .charted) right (o .rules .rights)) (p / w) (p % w)
+              (right-codes C (o .rules .well-formed) (o .rules .charted) right (o .rules .rights)) (p / w) (p
+              % w)
               h (mod-lt p some) left (standing-low o) need asked,
         );
     modes = ones-le 8 (g .modes) (omega (arith, m .modes .0));
   }
-
-  pub map-few : g .pairs ≤ 1452
-  map-few = pairs-few C (o .rules .grounds) (o .rules .charted) map-gridded
 
   -- the codes of the pairs
   object-below : (i : ℕ) → i < g .pairs →
       (getD codes i 0 / 256 < C .height) × PairCode (C .width) (length need) (getD codes i 0)
   unfolding codeOf
   object-below i h =
-      let s = chart-small C (o .rules .grounds .few) (o .rules .charted) in
+      let s = chart-small C (o .rules .well-formed .few) (o .rules .charted) in
       let w = before-onto need i (omega (arith, m .grid .2)) in
       let j = w .at in
       let l = mod-lt j (s .1) in
@@ -284,7 +283,7 @@ module _ {holder : Base} {n : ℕ} {C : Chart} {x : Access} {body left feed side
     pub needed-in : RulesIn rules body
     needed-in r e =
         let l = needed-low r e in
-        (omega (arith, o .rules .grounds .few), omega (arith, o .rules .grounds .there))
+        (omega (arith, o .rules .well-formed .few), omega (arith, o .rules .well-formed .there))
 
   -- the asked access matters
   pub asked-needed : 1 ≤ x .mode → x .mode ≤ 8 →
@@ -325,22 +324,18 @@ module _ {holder : Base} {n : ℕ} {C : Chart} {x : Access} {body left feed side
       cases (bit c rules)
       (λ y. let l : ltb c n ≡ true = le-true (suc c) n (needed-low o m needs c y) in
       e ∙ rw (y, l) (swap (isChoosy (ruleAt body c))))
-      (λ y. e ∙ rw y (none (ltb c n && isChoosy (ruleAt body c))))
+      (λ y. e ∙ rw y (and-false (ltb c n && isChoosy (ruleAt body c))))
     where
       swap : (b : Bool) → b && true ≡ b
       swap true = refl
       swap false = refl
-
-      none : (b : Bool) → b && false ≡ false
-      none true = refl
-      none false = refl
 
   -- they are small
   pub fields-small : f .fields ≤ 131328
   fields-small = omega (
     arith,
     a .count,
-    fields-few C (o .rules .grounds) (o .rules .charted) (map-gridded o m) (f .choosy)
+    fields-few C (o .rules .well-formed) (o .rules .charted) (map-gridded o m) (f .choosy)
         (λ r e. needed-low o m needs r (and-true (bit r rules) (isChoosy (ruleAt body r))
         (sym (choosy-bits r) ∙ e) .0)) right (o .rules .rights),
   )
@@ -349,20 +344,17 @@ module _ {holder : Base} {n : ℕ} {C : Chart} {x : Access} {body left feed side
   total-small = omega (
     arith,
     a .total-is,
-    bits-few C (o .rules .grounds) (o .rules .charted) (map-gridded o m) lasts
+    bits-few C (o .rules .well-formed) (o .rules .charted) (map-gridded o m) lasts
         (λ r e. needed-low o m needs r (and-true (bit r rules) (lasting (ruleAt body r .operator))
         (sym (a .lasts-is r) ∙ e) .0)) sides (o .rules .lefts),
   )
-
-  pub pairs-small : f .grid .pairs ≤ 1452
-  pairs-small = map-few o m
 
   -- so they are drawn
   pub drawn : (k words bits : ℕ) → k ≤ 6 → f .fields * 2 ^ k ≤ 64 * words → (0 < bits → total ≤ 64 * bits) →
       Drawn holder n C (ownOf C x)
       (prepared body left feed sides right need codes number first starts (sized f k)) rules words bits
   drawn k words bits narrow fits room = record {
-    grounds = o .rules .grounds;
+    well-formed = o .rules .well-formed;
     charted = o .rules .charted;
     subjects = record { all = o .rules .charted .subjects .onto; star = o .rules .charted .subjects .star };
     objects = record { all = o .rules .charted .objects .onto; star = o .rules .charted .objects .star };

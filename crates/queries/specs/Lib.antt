@@ -2,5 +2,4 @@ pub mod Asking
 pub mod Bounds
 pub mod Drawing
 pub mod Reached
-pub mod SoundBodies
 pub mod Starting

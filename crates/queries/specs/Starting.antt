@@ -9,9 +9,9 @@ use native.Mathlib.Nat.{zero-div, mul-le-mul-right}
 use native.Mathlib.Omega.{arith}
 use lib.Dec.{eqb, leb}
 use lib.ListN.{length, getD, replicate, length-replicate}
-use Rattle.foundation.specs.Tests.{cases, true-eq, false-eq, le-true, and-true, and-intro, or-none}
+use Rattle.foundation.specs.Tests.{cases, true-eq, false-eq, le-true, and-true, and-intro, and-false, or-none}
 use Rattle.foundation.specs.Lists.{Mem, kept}
-use Rattle.foundation.specs.Intervals.{inInterval, maximal}
+use Rattle.foundation.specs.Intervals.{interval, inInterval, maximal}
 use Rattle.foundation.specs.Masks.{bit}
 use Rattle.foundation.specs.Records.{length-records, record-mem}
 use Rattle.foundation.specs.Counting.{maximal-count}
@@ -34,18 +34,19 @@ use Rattle.masks.specs.Masks.{Needed, clear-fields}
 use Rattle.relevance.specs.declared.Chosen.{Chosen}
 use Rattle.relevance.specs.Chosen.{authorizationAt}
 use Rattle.relevance.specs.Needed as choice
-use Rattle.relevance.specs.Needed.{Placed, Choice, choice-picks, cellOf, isNeeded}
+use Rattle.relevance.specs.Needed.{Placed, Choice, choice-picks, cellOf, isNeeded, isChosen}
+use Rattle.relevance.specs.Forgotten.{during}
 use Rattle.tables.specs.declared.Frame.{Frame}
 use Rattle.tables.specs.declared.Place.{Place}
 use Rattle.scan.specs.Runs.{Reached}
-use Rattle.outlines.specs.Coordinates.{Grounds, Chart}
+use Rattle.outlines.specs.Coordinates.{WellFormed, Chart}
 use Rattle.outlines.specs.Needed.{needed}
 use Rattle.grounding.specs.Steps.{brokenIn, brokenAt}
 use Rattle.grounding.specs.Meaning.{placeOf}
 use Rattle.grounding.specs.Turns.{Prepared, prepared, turnIn}
 use Rattle.engine.specs.declared.Query.{Query}
 use Rattle.engine.specs.declared.Found.{Found}
-use Rattle.engine.specs.Drawn.{SamePowers, Drawn, sceneOf}
+use Rattle.engine.specs.Drawn.{SamePowers, Drawn, mappingOf}
 use Rattle.queries.specs.Drawing.{ownOf, own-coordinate, Outline, chart-small, Mapped, Arranged, sized}
 use Rattle.queries.specs.Drawing.{fields-small, total-small, drawn}
 use Rattle.engine.specs.Narrowed.{
@@ -69,7 +70,7 @@ pub record Bodies (holder : Base) (lines : List ℕ) (total : ℕ) (body : List 
     pub rules-are : base .rules ≡ rulesIn n body
     pub few : total ≤ 1024
     pub there : total * 24 ≤ length lines
-    pub grounds : Grounds n body
+    pub well-formed : WellFormed n body
     pub strata : stratified (base .rules) ≡ true
     pub number : Rule → ℕ
     pub numbering : Numbering (base .rules) number (ruleAt body)
@@ -90,7 +91,7 @@ few-intervals {holder} {lines} {total} {body} {n} {base} b x to = omega (
   length-records 24 authorizationOf total lines,
   length-records 28 ruleOf n body,
   b .few,
-  b .grounds .few,
+  b .well-formed .few,
 )
 
 -- ---- the authorizations that are chosen
@@ -102,7 +103,7 @@ module _ {holder : Base} {n : ℕ} {C : Chart} {x : Access} {body left feed side
       (need which : List ℕ) → length need ≡ C .height * C .width → total ≤ length which →
       choice.Ready lines total (C .subjects) (C .objects) (C .width) need which
   choice-ready {lines} {total} {base} b need which size room =
-      let s = chart-small C (o .rules .grounds .few) (o .rules .charted) in
+      let s = chart-small C (o .rules .well-formed .few) (o .rules .charted) in
       record {
         bytes = b .there;
         placed = λ i h. b .lines-in (authorizationAt lines i)
@@ -117,11 +118,11 @@ module _ {holder : Base} {n : ℕ} {C : Chart} {x : Access} {body left feed side
         room = room;
       }
 
--- an authorization is chosen exactly if both signs are needed at its coordinates
-chosen-both : (C : Chart) (own : Access) (need : List ℕ) (a : Authorization) →
+-- an authorization is needed exactly if both signs are needed at its coordinates
+needed-both : (C : Chart) (own : Access) (need : List ℕ) (a : Authorization) →
     (isNeeded (C .subjects) (C .objects) own (C .width) need a ≡ true)
     ↔ Both (C .width) need (cellOf (C .subjects) (C .objects) own (a .head)) (a .head)
-chosen-both C own need a =
+needed-both C own need a =
     let c = cellOf (C .subjects) (C .objects) own (a .head) in
     let h = a .head in
     let p : Bool = not (eqb (c .subject) 255 || eqb (c .object) 255) in
@@ -138,26 +139,26 @@ chosen-both C own need a =
 module _ {holder : Base} {n : ℕ} {C : Chart} {own : Access} {p : Prepared} {rules words bits : ℕ}
     (d : Drawn holder n C own p rules words bits) {lines : List ℕ} {total : ℕ} {base : Base}
     (b : Bodies holder lines total (p .body) n base) where
-  abbrev pub chosenLine : Authorization → Bool
-  chosenLine = isNeeded (C .subjects) (C .objects) own (C .width) (p .need)
+  abbrev pub neededLine : Authorization → Bool
+  neededLine = isNeeded (C .subjects) (C .objects) own (C .width) (p .need)
 
   -- the base with what matters alone
   abbrev pub less : Base
-  less = narrowed base chosenLine (ruleMatters d base (b .powers) (b .rules-are) (b .number) (b .numbering))
+  less = narrowed base neededLine (ruleMatters d base (b .powers) (b .rules-are) (b .number) (b .numbering))
 
   pub posed : (x : Access) → needed C own (p .need) x ≡ true → Posed n C own p rules words bits less x
   posed x m = record {
     holder = holder;
     drawn = d;
     powers = b .powers;
-    strata = narrowed-stratified base (b .strata) chosenLine
+    strata = narrowed-stratified base (b .strata) neededLine
         (ruleMatters d base (b .powers) (b .rules-are) (b .number) (b .numbering));
     rules = selected-rules d base (b .powers) (b .rules-are) (b .number) (b .numbering);
     matters = m;
     lines = λ a e.
-        let w = b .lines-in a (kept chosenLine (base .authorizations) a e .0) in (
-          kept-line d base (b .powers) (b .rules-are) (b .number) (b .numbering) chosenLine
-              (chosen-both C own (p .need)) a
+        let w = b .lines-in a (kept neededLine (base .authorizations) a e .0) in (
+          kept-line d base (b .powers) (b .rules-are) (b .number) (b .numbering) neededLine
+              (needed-both C own (p .need)) a
               (and-intro (leb 1 (a .head .mode)) (leb (a .head .mode) 8)
               (le-true 1 (a .head .mode) (w .0 .some)) (le-true (a .head .mode) 8 (w .0 .mode))) e,
           w .0,
@@ -167,8 +168,8 @@ module _ {holder : Base} {n : ℕ} {C : Chart} {own : Access} {p : Prepared} {ru
 
   -- it says of the asked access what the whole base says
   pub less-may : (x : Access) → needed C own (p .need) x ≡ true → (t : ℕ) → may base x t ≡ may less x t
-  less-may = narrowed-may d base (b .powers) (b .rules-are) (b .number) (b .numbering) chosenLine
-      (chosen-both C own (p .need)) (b .strata)
+  less-may = narrowed-may d base (b .powers) (b .rules-are) (b .number) (b .numbering) neededLine
+      (needed-both C own (p .need)) (b .strata)
 
 -- ---- the tables, and what is asked of them
 
@@ -179,7 +180,7 @@ placeIn C x number =
     let o : ℕ = getD (C .objects) (x .object) 0 in
     record {
       pair = getD number (o * C .width + s) 0;
-      spot = record { subject = s; mode = x .mode - 1; object = o };
+      point = record { subject = s; mode = x .mode - 1; object = o };
     }
 
 -- what is asked: no rule that looks back has to look behind the first instant
@@ -191,6 +192,11 @@ pub record Asked (C : Chart) (x : Access) (body number : List ℕ) (lasts : ℕ)
       (q .from ≤ ruleAt body r .interval .start) ⊎ (inInterval (ruleAt body r .interval) (q .from) ≡ false)
   -- intervals are written down from the first instant of all on
   pub whole : q .listing ≡ true → q .from ≡ 0
+
+-- the authorizations that are chosen: they have an instant that is asked, and are needed
+abbrev pub chosenFor : Chart → Access → Prepared → Query → Authorization → Bool
+chosenFor C own p q =
+    isChosen (interval (q .from) (q .to)) (C .subjects) (C .objects) own (C .width) (p .need)
 
 -- all tables, for fields of whichever width
 pub record Tabled (holder : Base) (n : ℕ) (C : Chart) (p : Prepared) (rules lasts total : ℕ) (q : Query)
@@ -230,13 +236,13 @@ module _ {holder : Base} {C : Chart} {p : Prepared} {lasts total : ℕ} {q : Que
 
   module _ {lines : List ℕ} {count : ℕ} {base : Base}
       (b : Bodies holder lines count (p .body) (c .rules) base)
-      (entry which : List ℕ) (chosen : Choice (isNeeded (C .subjects) (C .objects) (ownOf C x) (C .width)
-      (p .need)) lines count entry which (c .authorizations)) (long : count ≤ length entry)
+      (entry which : List ℕ) (chosen : Choice (chosenFor C (ownOf C x) p q) lines count entry which
+      (c .authorizations)) (long : count ≤ length entry)
       (zero : (j : ℕ) → getD bits j 0 ≡ 0) (keeps : Keeps q lasts (length bits)) where
     abbrev few : Base
     few = less tables-drawn b
 
-    place-is : placeIn C x (p .number) ≡ placeOf (sceneOf few C (ownOf C x) (withWidth p k)) x
+    place-is : placeIn C x (p .number) ≡ placeOf (mappingOf few C (ownOf C x) (withWidth p k)) x
     place-is = rw (
       own-coordinate (C .subjects) (x .subject),
       own-coordinate (C .objects) (x .object),
@@ -246,7 +252,7 @@ module _ {holder : Base} {C : Chart} {p : Prepared} {lasts total : ℕ} {q : Que
     abbrev asking : Query
     asking = record {
       own = ownOf C x;
-      place = placeOf (sceneOf few C (ownOf C x) (withWidth p k)) x;
+      place = placeOf (mappingOf few C (ownOf C x) (withWidth p k)) x;
       from = q .from;
       to = q .to;
       listing = q .listing;
@@ -254,15 +260,15 @@ module _ {holder : Base} {C : Chart} {p : Prepared} {lasts total : ℕ} {q : Que
 
     carried-none : (active : List ℕ) (r : ℕ) → bit r (c .needed) ≡ true → (y : Access) →
         Carried few (q .from) (ruleAt (p .body) r) y (brokenIn (turnIn (withWidth p k) active r)
-        (p .frame .grid) bits (placeOf (sceneOf few C (ownOf C x) (withWidth p k)) y))
+        (p .frame .grid) bits (placeOf (mappingOf few C (ownOf C x) (withWidth p k)) y))
     carried-none active r e y =
         let rule = ruleAt (p .body) r in
         let turn = turnIn (withWidth p k) active r in
-        let at = placeOf (sceneOf few C (ownOf C x) (withWidth p k)) y in
+        let at = placeOf (mappingOf few C (ownOf C x) (withWidth p k)) y in
         let none : brokenIn turn (p .frame .grid) bits at ≡ false =
         ap (λ (v : Bool). lasting (rule .operator) && not (eqb (length bits) 0) && v)
         (unbroken bits zero (brokenAt turn (p .frame .grid) at))
-        ∙ last-false (lasting (rule .operator) && not (eqb (length bits) 0)) in
+        ∙ and-false (lasting (rule .operator) && not (eqb (length bits) 0)) in
         subst (λ (v : Bool). Carried few (q .from) rule y v) (sym none) (record {
           fresh = λ h. refl;
           past = λ l h i. absurd (⊎-elim
@@ -271,20 +277,15 @@ module _ {holder : Base} {C : Chart} {p : Prepared} {lasts total : ℕ} {q : Que
               (t .asked .first r (t .arranged .lasts-is r
               ∙ and-intro (bit r (c .needed)) (lasting (rule .operator)) e l)));
         })
-      where
-        last-false : (v : Bool) → v && false ≡ false
-        last-false true = refl
-        last-false false = refl
 
     asking-walks : Walks lines which c lasts asking C (withWidth p k) words bits few x
     asking-walks = record {
       posed = posed tables-drawn b x (t .matters);
-      picks = choice-picks (chosenLine tables-drawn b) lines count entry which (c .authorizations) (b
-          .there) long
-          chosen;
-      picked-all = sym (chosen-lines tables-drawn base (b .powers) (b .rules-are) (b .number) (b .numbering)
-          (chosenLine tables-drawn b) (chosen-both C (ownOf C x) (p .need)) lines count entry which
-          (c .authorizations) (b .lines-are) chosen);
+      picks = choice-picks (chosenFor C (ownOf C x) p q) lines count entry which (c .authorizations)
+          (b .there) long chosen;
+      picked-all = chosen-lines tables-drawn base (b .powers) (b .rules-are) (b .number) (b .numbering)
+          (neededLine tables-drawn b) (needed-both C (ownOf C x) (p .need)) (during (q .from) (q .to)) lines
+          count entry which (c .authorizations) (b .lines-are) chosen;
       place = refl;
       forward = t .asked .forward;
       lasts = λ r. t .arranged .lasts-is r
@@ -333,8 +334,7 @@ pub record Begun (lines which : List ℕ) (c : Chosen) (lasts total : ℕ) (q : 
   pub count : ℕ
   pub bodies : Bodies holder lines count (p .body) (c .rules) base
   pub entry : List ℕ
-  pub chosen : Choice (isNeeded (C .subjects) (C .objects) (ownOf C x) (C .width) (p .need)) lines count entry
-      which (c .authorizations)
+  pub chosen : Choice (chosenFor C (ownOf C x) p q) lines count entry which (c .authorizations)
   pub long : count ≤ length entry
 
 -- bits, as they are at the start
@@ -435,7 +435,7 @@ pub ground-begun : {lines : List ℕ} {total n rules lasts bits : ℕ} {q : Quer
     {base : Base} {x : Access} → Ground lines total n rules lasts bits q C p base x → (entry which : List ℕ)
     (k : ℕ) →
     total ≤ length entry →
-    Choice (isNeeded (C .subjects) (C .objects) (q .own) (C .width) (p .need)) lines total entry which k →
+    Choice (chosenFor C (q .own) p q) lines total entry which k →
     Begun lines which (record { authorizations = k; rules = n; needed = rules }) lasts bits q C p base x
 ground-begun {lines} {total} {n} {rules} {lasts} {bits} {q} {C} {p} g entry which k room chosen = record {
   holder = g .holder;
@@ -443,9 +443,8 @@ ground-begun {lines} {total} {n} {rules} {lasts} {bits} {q} {C} {p} g entry whic
   count = total;
   bodies = g .bodies;
   entry = entry;
-  chosen = subst (λ (own : Access). Choice (isNeeded (C .subjects) (C .objects) own (C .width) (p .need))
-      lines
-      total entry which k) (g .tabled .asked .own) chosen;
+  chosen = subst (λ (own : Access). Choice (chosenFor C own p q) lines total entry which k)
+      (g .tabled .asked .own) chosen;
   long = room;
 }
 

@@ -9,14 +9,14 @@ ghost use Prim.Native.Nat.{ℕ, _+_, _*_, _^_, _≤_, _<_};
 ghost use lib.ListN.{length, getD};
 ghost use Rattle.foundation.specs.Masks.{bit};
 ghost use Rattle.reach.specs.Net.{Formed, has};
-ghost use Rattle.selection.specs.Selection.{RulesIn};
+ghost use Rattle.masks.specs.Masks.{RulesIn};
 ghost use Rattle.model.specs.Base.{Base};
 ghost use Rattle.model.specs.Encoding.{decode};
 ghost use Rattle.model.specs.Soundness.{soundBytes};
-ghost use Rattle.outlines.specs.Coordinates.{Grounds};
+ghost use Rattle.outlines.specs.Coordinates.{WellFormed};
 ghost use Rattle.queries.specs.Drawing.{Mapped, RulesDrawn, Blank, chartFor};
 ghost use Rattle.queries.specs.Starting.{Bodies};
-ghost use Rattle.queries.specs.Asking.{lastAsked, LooksFrom, Task, Answers};
+ghost use Rattle.queries.specs.Asking.{lastAsked, WalkStart, Task, Answers};
 use crate::Extent;
 use crate::sizes::with_tables;
 use engine::Found;
@@ -32,8 +32,8 @@ use outlines::draw_right;
 use outlines::number_sides;
 use outlines::own_masks;
 use places::Grid;
-use places::Spot;
-use selection::first_look;
+use places::Point;
+use selection::history_start;
 use selection::lasting_of;
 use tables::Frame;
 use tables::Place;
@@ -68,12 +68,12 @@ fn last_asked(one: bool, t: u32) -> u32
 }
 
 // The instant from which on the engine looks.
-fn looks_from(one: bool, t: u32, body: &[u8], lasting: u64) -> u32
+fn walk_start(one: bool, t: u32, body: &[u8], lasting: u64) -> u32
     requires { ⌜ RulesIn lasting (now body) ⌝ }
-    ensures { λ r. ⌜ LooksFrom one t (now (body .entry)) lasting r ⌝ }
+    ensures { λ r. ⌜ WalkStart one t (now (body .entry)) lasting r ⌝ }
 {
     if one {
-        return first_look(body, lasting, t);
+        return history_start(body, lasting, t);
     }
     0
 }
@@ -177,19 +177,19 @@ fn with_pairs(
         fields: fields,
         choosy: choosy & needed,
     };
-    let spot = Spot {
+    let point = Point {
         subject: s,
         mode: mode,
         object: o,
     };
     let place = Place {
         pair: number[pair] as u32,
-        spot: spot,
+        point: point,
     };
     let q = Query {
         own: own,
         place: place,
-        from: looks_from(one, t, body, lasting),
+        from: walk_start(one, t, body, lasting),
         to: last_asked(one, t),
         listing: !one,
     };
@@ -418,7 +418,7 @@ pub fn draw(
     sides: &mut [u8; 256],
     right: &mut [u8; 256],
 ) -> Extent
-    requires { ⌜ Grounds n (now body) × Blank (now subjects) × Blank (now objects) × Blank (now left)
+    requires { ⌜ WellFormed n (now body) × Blank (now subjects) × Blank (now objects) × Blank (now left)
         × Blank (now feed) × Blank (now right) × (soundBytes (now bytes) ≡ true) ⌝ }
     ensures { λ r. ⌜ RulesDrawn (decode (now (bytes .entry))) n
         (chartFor (now (subjects .exit)) (now (objects .exit)) r)

@@ -13,6 +13,7 @@ ghost use Rattle.queries.specs.Starting.{Begun, Fresh, Sized, Ground};
 use engine::Found;
 use engine::Query;
 use engine::walk;
+use foundation::Interval;
 use masks::width_for;
 use relevance::Chosen;
 use relevance::choose;
@@ -552,7 +553,7 @@ fn with_fields(
     )
 }
 
-// Chooses the authorizations that matter, and walks.
+// Chooses the authorizations that matter, and walks. Those with none of the asked instants do not matter.
 fn with_lines(
     lines: &[u8],
     total: usize,
@@ -589,11 +590,16 @@ fn with_lines(
         (now (starts .entry)) f) base x → Finds q base x r (now (list .entry)) (now (list .exit))) ⌝ }
 {
     let own = q.own;
+    let asked = Interval {
+        start: q.from,
+        end: q.to,
+    };
     let g = f.grid;
     let k = choose(
         lines,
         total,
         own,
+        asked,
         subjects,
         objects,
         g.subjects,

@@ -18,7 +18,7 @@ use Rattle.words.specs.Bits.{bit-or, bit-less, less}
 use Rattle.words.specs.Sums.{sum-set}
 use Rattle.reach.specs.Net.{Net, has, standing, aimPair, aimBits, Followed, ClosedBut, Closed}
 use Rattle.reach.specs.Net.{Within, Carried}
-use Rattle.reach.specs.Reach.{weight, Grown, Kept, Stepped}
+use Rattle.reach.specs.Reach.{remaining, Grown, Kept, Stepped}
 use Rattle.reach.proofs.Tables.{has-set, sum-small, set-small, past}
 
 -- ---- one more is needed
@@ -73,7 +73,7 @@ module _ (need todo : List ℕ) (p bits : ℕ) (h : p < length need) (g : p < le
       (λ x. inr (ap (λ (i : ℕ). has todo′ i k) q ∙ newly k (rw x at c) x)))
       (λ y. inl (sym (has-set need p (bitOr old bits) j k h ∙ rw y) ∙ e))
 
-  lighter : weight need′ todo′ ≤ weight need todo
+  lighter : remaining need′ todo′ ≤ remaining need todo
   lighter =
       let a = or-add-and old bits in
       let b = and-comm old bits in

@@ -9,15 +9,15 @@ use Rattle.words.specs.Sums.{sum}
 use Rattle.reach.specs.Net.{Net, has, ClosedBut, Within, Carried}
 
 -- what is left: bits that are not needed count twice, bits to do once
-abbrev pub weight : List ℕ → List ℕ → ℕ
-weight need todo = 2 * (65535 * length need - sum need) + sum todo
+abbrev pub remaining : List ℕ → List ℕ → ℕ
+remaining need todo = 2 * (65535 * length need - sum need) + sum todo
 
 -- more is needed, and what is new is to do
 pub record Grown (need todo need′ todo′ : List ℕ) : Type 0 where
   pub more : (j k : ℕ) → has need j k ≡ true → has need′ j k ≡ true
   pub kept : (j k : ℕ) → has todo j k ≡ true → has todo′ j k ≡ true
   pub fresh : (j k : ℕ) → has need′ j k ≡ true → (has need j k ≡ true) ⊎ (has todo′ j k ≡ true)
-  pub less : weight need′ todo′ ≤ weight need todo
+  pub less : remaining need′ todo′ ≤ remaining need todo
   pub needs : length need′ ≡ length need
   pub todos : length todo′ ≡ length todo
 
@@ -30,6 +30,6 @@ pub record Stepped (net : Net) (need todo need′ todo′ : List ℕ) : Type 0 w
   pub more : (j k : ℕ) → has need j k ≡ true → has need′ j k ≡ true
   pub closed : ClosedBut net need todo → ClosedBut net need′ todo′
   pub within : (P : ℕ → Bool) → Carried net P → Kept P need todo need′ todo′
-  pub less : weight need′ todo′ < weight need todo
+  pub less : remaining need′ todo′ < remaining need todo
   pub needs : length need′ ≡ length need
   pub todos : length todo′ ≡ length todo

@@ -11,7 +11,7 @@ ghost use Rattle.reach.specs.Reach.{Grown, Kept, Stepped};
 use words::next_bit;
 
 // A place: the coordinates of its object, subject and mode, and how many subjects there are.
-pub struct Spot {
+pub struct Origin {
     pub object: usize,
     pub subject: usize,
     pub mode: usize,
@@ -29,7 +29,7 @@ fn turn(code: u8, own: usize) -> usize
 }
 
 // The pair on the right of rule r.
-fn aim_pair(right: &[u8; 256], r: usize, at: Spot) -> usize
+fn aim_pair(right: &[u8; 256], r: usize, at: Origin) -> usize
     requires { ⌜ (r < 64) × (aimPair (now right) (at .subjects) r (at .object) (at .subject)
         < 18446744073709551616) ⌝ }
     ensures { λ p. ⌜ p ≡ aimPair (now (right .entry)) (at .subjects) r (at .object) (at .subject) ⌝ }
@@ -71,7 +71,7 @@ fn ask(need: &mut [u16], todo: &mut [u16], pair: usize, bits: u16)
 }
 
 // Needs what rules look at that stand at a place.
-fn follow(right: &[u8; 256], rules: u64, at: Spot, need: &mut [u16], todo: &mut [u16])
+fn follow(right: &[u8; 256], rules: u64, at: Origin, need: &mut [u16], todo: &mut [u16])
     requires { ⌜ (length (now todo) ≡ length (now need)) × ((r : ℕ) → r < 64 →
         Led (now right) (at .subjects) (length (now need)) (at .object) (at .subject) (at .mode) r) ⌝ }
     ensures { λ _. ⌜ Grown (now (need .entry)) (now (todo .entry)) (now (need .exit)) (now (todo .exit))
@@ -136,7 +136,7 @@ fn step(
     let k = lowest(todo[pair]);
     let o = pair / subjects;
     let s = pair % subjects;
-    let at = Spot {
+    let at = Origin {
         object: o,
         subject: s,
         mode: k % 8,

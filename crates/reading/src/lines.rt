@@ -188,7 +188,7 @@ fn grant_line(s: &[u8], at: usize, time: u32, who: u32) -> Parsed
         end: end.value,
     };
     let q = request(
-        2,
+        GRANT,
         time,
         who,
         0,
@@ -201,7 +201,7 @@ fn grant_line(s: &[u8], at: usize, time: u32, who: u32) -> Parsed
     finished(s, option.next, Asked::Order(q))
 }
 
-// ADDRULE: the left side, the operator, the right side with its granter and option, start and end.
+// ADDRULE: the left side, the operator, the right side with its grantor and option, start and end.
 fn rule_line(s: &[u8], at: usize, time: u32, who: u32) -> Parsed
     requires { ⌜ length (now s) ≤ 96 ⌝ }
     ensures { λ r. ⌜ lineOf r ≡ orUnreadable (whole (ruleLine time who (fieldsLeft (now (s .entry)) at))) ⌝ }

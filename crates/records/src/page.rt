@@ -13,6 +13,9 @@ use crate::Body;
 use crate::Place;
 use crate::numbers::numbers_at;
 use encoding::Counts;
+use model::AUTHORIZATION_BYTES;
+use model::PRIVILEGE_BYTES;
+use model::RULE_BYTES;
 use model::Reply;
 
 // Where the records of a body stand.
@@ -29,31 +32,31 @@ fn place_of(c: Counts, body: Body) -> Place
         Body::Objects => Place {
             count: c.objects as usize,
             at: 32,
-            bytes: 4,
+            bytes: PRIVILEGE_BYTES,
             width: 2,
         },
         Body::Administrators => Place {
             count: c.administrators as usize,
             at: encoding::administrators_at(c),
-            bytes: 4,
+            bytes: PRIVILEGE_BYTES,
             width: 2,
         },
         Body::Referrers => Place {
             count: c.referrers as usize,
             at: encoding::referrers_at(c),
-            bytes: 4,
+            bytes: PRIVILEGE_BYTES,
             width: 2,
         },
         Body::Authorizations => Place {
             count: c.authorizations as usize,
             at: encoding::authorizations_at(c),
-            bytes: 24,
+            bytes: AUTHORIZATION_BYTES,
             width: 10,
         },
         Body::Rules => Place {
             count: c.rules as usize,
             at: encoding::rules_at(c),
-            bytes: 28,
+            bytes: RULE_BYTES,
             width: 15,
         },
     }

@@ -11,6 +11,7 @@ use cover::Want;
 use lookup::controls;
 use lookup::is_denied;
 use lookup::is_grant;
+use model::GRANT;
 use model::Request;
 
 // Row 14: the requester of a grant or denial is denied the object and mode at some instant of the interval,
@@ -45,11 +46,13 @@ pub fn uncovered(s: &[u8], q: Request) -> Gap
     let object = q.object as u16;
     let mode = q.mode as u8;
     let grantor = q.requester as u16;
+    let option = (q.kind == GRANT) & q.option;
     let before = q.now;
     let w = Want {
         object,
         mode,
         grantor,
+        option,
         before,
     };
     let i = q.interval;

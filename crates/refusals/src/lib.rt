@@ -16,7 +16,6 @@ pub use rows::no_label;
 pub use rows::no_object;
 pub use rows::not_held;
 pub use rows::not_permitted;
-pub use table::before_strata;
 pub use table::early_refusal;
 
 // The first of the rows before 13 that applies: none; its number; or row 9, with the earliest uncovered

@@ -59,7 +59,7 @@ fn behind_cover(s: &[u8], q: Request) -> u32
 
 // The first of rows 3 to 11 that applies, 14 between 8 and 9. Row 9, a dear test, is asked only where none
 // before it applies.
-pub fn before_strata(s: &[u8], q: Request) -> Early
+fn before_strata(s: &[u8], q: Request) -> Early
     requires { ⌜ soundBytes (now s) ≡ true ⌝ }
     ensures { λ r. ⌜ saysOf (decode (now (s .entry))) q
         (firstNumber (rowsBeforeStrata (decode (now (s .entry))) q)) r ⌝ }

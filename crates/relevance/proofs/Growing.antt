@@ -49,6 +49,27 @@ module _ (ms : List ℕ) (from to width : ℕ) where
     bounded = omega arith;
   }
 
+  -- the only instant is a window, and the next one comes right behind it
+  pub only-one : (marks : List ℕ) → length marks ≡ 63 → from ≡ to → to < 4294967296 → 1 ≤ width →
+      Fills ms from to width (set marks 0 to) (record { count = 1; next = from + 1 })
+  only-one marks l e b w =
+      let at : getD (set marks 0 to) 0 0 ≡ to = getD-set-same marks 0 to 0 (omega arith) in
+      record {
+        full = length-set marks 0 to ∙ l;
+        some = omega arith;
+        few = w;
+        first = at ∙ sym e;
+        rising = λ i j h k. absurd (omega arith);
+        between = λ i h. absurd (omega arith);
+        within = λ i h. let z : i ≡ 0 = omega arith in
+            omega (arith, ap (λ (n : ℕ). getD (set marks 0 to) n 0) z, at);
+        last = omega (arith, at);
+        behind = next-clear (getD (set marks 0 to) 0 0) ms 4294967296 (from + 1 - 1)
+            (omega (arith, at, next-above (getD (set marks 0 to) 0 0) ms 4294967296 (omega (arith, at))));
+        bounded = omega arith;
+        whole = λ h. omega arith;
+      }
+
   module _ (room : width ≤ 63) (marks : List ℕ) (count t : ℕ) (g : Grown marks count t) (h : count < width)
       (l : t ≤ to) where
     here : getD (set marks count t) count 0 ≡ t

@@ -1,19 +1,21 @@
 -- Numbers that are kept: each is put behind those kept so far, and counted if it passes.
-use mathlib.Core.Path.{_≡_, refl, sym, ap, ap₂, _∙_}
-use mathlib.Core.Bool.{Bool, true, false}
+use mathlib.Core.Path.{_≡_, refl, sym, ap, ap₂, _∙_, subst}
+use mathlib.Core.Bool.{Bool, true, false, _&&_}
 use mathlib.Core.List.{List, [], _∷_, _++_, map, append-nil}
 use Prim.Native.Nat.{ℕ, suc, _+_, _*_, _-_, _/_, _%_, _^_, _≤_, _<_}
 use native.Mathlib.Nat.{mul-le-mul, div-one, add-mul}
 use native.Mathlib.Numerals.{add-one}
 use native.Mathlib.Omega.{arith}
 use lib.Bits.{bitAnd}
-use lib.Dec.{eqb, ltb}
+use lib.Dec.{eqb, leb, ltb}
 use lib.ListN.{length, getD, set, length-set}
 use lib.Seq.{take-set-le, getD-set-same, getD-set-other}
-use Rattle.foundation.specs.Tests.{pick, cases, true-le, false-le, or-none, true-eq, false-eq}
+use Rattle.foundation.specs.Tests.{pick, cases, le-true, true-le, false-le, and-intro, or-none, true-eq}
+use Rattle.foundation.specs.Tests.{false-eq}
 use Rattle.foundation.specs.Lists.{keepIf, keepIf-append}
 use Rattle.foundation.specs.Masks.{bit, mask-test}
 use Rattle.foundation.specs.Records.{records-split}
+use Rattle.foundation.specs.declared.Interval.{Interval}
 use Rattle.model.specs.declared.Access.{Access}
 use Rattle.model.specs.declared.Authorization.{Authorization}
 use Rattle.model.specs.declared.Head.{Head}
@@ -21,8 +23,9 @@ use Rattle.model.specs.Encoding.{authorizationOf}
 use Rattle.encoding.specs.Format.{authorizationsIn}
 use Rattle.relevance.specs.declared.choice.Cell.{Cell}
 use Rattle.relevance.specs.Chosen.{authorizationAt, picked, picked-none, picked-more, Picks}
-use Rattle.relevance.specs.Needed.{coordinate, cellOf, Charted, Ready, Choice}
-use Rattle.relevance.specs.Forgotten.{endsFrom, Forgets}
+use Rattle.relevance.specs.Needed.{coordinate, cellOf, neededIn, isNeeded, isChosen}
+use Rattle.relevance.specs.Needed.{Placed, Charted, Ready, Choice}
+use Rattle.relevance.specs.Forgotten.{during, endsFrom, Forgets}
 
 -- ---- a number put behind n others
 
@@ -94,6 +97,19 @@ module _ (test : Authorization → Bool) (s : List ℕ) (total : ℕ) (entry : L
             omega (arith, ap (λ (m : ℕ). getD (set which n i) m 0) q, getD-set-same which n i 0 l));
         same-length = length-set which n i ∙ c .same-length;
       }
+
+  -- one that does not pass is not written down
+  pub chose-skip : (which : List ℕ) (n i : ℕ) → Chose which n i → i < total →
+      test (authorizationAt s i) ≡ false → Chose which n (i + 1)
+  chose-skip which n i c h t = record {
+    chosen = c .chosen ∙ sym (ap (keepIf test) (records-split 24 authorizationOf i 1 s)
+        ∙ keep-more test (authorizationsIn i s) (authorizationAt s i) false (sym t)
+        ∙ append-nil (keepIf test (authorizationsIn i s)));
+    few = omega (arith, c .few);
+    rest = omega arith;
+    below = c .below;
+    same-length = c .same-length;
+  }
 
   pub chose-end : (which : List ℕ) (n i : ℕ) → Chose which n i → total ≤ i → Choice test s total entry which n
   chose-end which n i c h =
@@ -195,21 +211,48 @@ entered U own v c e f = cases (eqb (getD U v 0) 0)
     (λ z. let q : coordinate U own v ≡ 255 = rw (y, z) in absurd (false-eq c 255 f (e ∙ q))))
     (λ y. let q : coordinate U own v ≡ getD U v 0 = rw y in e ∙ q)
 
--- coordinates that are there have their place in the table
-pub charted : (s : List ℕ) (total : ℕ) (subjects objects : List ℕ) (stride : ℕ) (need which : List ℕ) →
-    Ready s total subjects objects stride need which → (x : Access) (h : Head) (c : Cell) →
-    c ≡ cellOf subjects objects x h → c .subject ≤ 255 → c .object ≤ 255 → Charted c stride need
-charted s total subjects objects stride need which r x h c e l k = record {
-  narrow = r .narrow;
-  object = k;
-  subject = l;
-  inside = λ z.
-      let w = or-none (eqb (c .subject) 255) (eqb (c .object) 255) z in
-      let p = entered subjects (x .subject) (h .subject) (c .subject) (ap (λ (d : Cell). d .subject) e)
-      (w .0) in
-      let q = entered objects (x .object) (h .object) (c .object) (ap (λ (d : Cell). d .object) e) (w .1) in
-      let g : ℕ = getD objects (h .object) 0 in
-      let u : c .object * stride ≡ g * stride = ap (λ (n : ℕ). n * stride) q in
-      let d : (g + 1) * stride ≡ g * stride + stride = add-mul g 1 stride ∙ omega arith in
-      omega (arith, r .rows (h .object), r .columns (h .subject));
-}
+-- ---- those that have an asked instant and are needed
+
+module _ {s : List ℕ} {total : ℕ} {subjects objects : List ℕ} {stride : ℕ} {need entry : List ℕ}
+    (ready : Ready s total subjects objects stride need entry) where
+  -- coordinates that are there have their place in the table
+  pub charted : (x : Access) (h : Head) (c : Cell) → c ≡ cellOf subjects objects x h → c .subject ≤ 255 →
+      c .object ≤ 255 → Charted c stride need
+  charted x h c e l k = record {
+    narrow = ready .narrow;
+    object = k;
+    subject = l;
+    inside = λ z.
+        let w = or-none (eqb (c .subject) 255) (eqb (c .object) 255) z in
+        let p = entered subjects (x .subject) (h .subject) (c .subject) (ap (λ (d : Cell). d .subject) e)
+        (w .0) in
+        let q = entered objects (x .object) (h .object) (c .object) (ap (λ (d : Cell). d .object) e)
+        (w .1) in
+        let g : ℕ = getD objects (h .object) 0 in
+        let u : c .object * stride ≡ g * stride = ap (λ (n : ℕ). n * stride) q in
+        let d : (g + 1) * stride ≡ g * stride + stride = add-mul g 1 stride ∙ omega arith in
+        omega (arith, ready .rows (h .object), ready .columns (h .subject));
+  }
+
+  module _ (i : ℕ) (here : i < total) {a : Authorization} (e : a ≡ authorizationAt s i) where
+    -- what is known of the authorization at i is known of the one read
+    pub placed-at : Placed (a .head)
+    placed-at = subst (λ (b : Authorization). Placed (b .head)) (sym e) (ready .placed i here)
+
+    -- one that has an asked instant is chosen if it is needed
+    pub chose-during : (asked : Interval) (x : Access) (which : List ℕ) (n k : ℕ) (c : Cell) (b : Bool) →
+        Chose (isChosen asked subjects objects x stride need) s total entry which n i →
+        during (asked .start) (asked .end) a ≡ true → c ≡ cellOf subjects objects x (a .head) →
+        b ≡ neededIn stride need c (a .head) → k ≡ pick b (n + 1) n →
+        Chose (isChosen asked subjects objects x stride need) s total entry (set which n i) k (i + 1)
+    chose-during asked x which n k c b v d t u =
+        chose-turn (isChosen asked subjects objects x stride need) s total entry which n i k b v here
+        (ready .room)
+        (u ∙ ap (λ (g : Cell). neededIn stride need g (a .head)) t
+        ∙ ap (λ (f : Bool). f && isNeeded subjects objects x stride need a) (sym d)
+        ∙ ap (isChosen asked subjects objects x stride need) e)
+
+-- where all of time is asked, each has an instant of it
+pub during-all : (a : Authorization) → a .interval .start ≤ 4294967295 → during 0 4294967295 a ≡ true
+during-all a h = and-intro (leb 0 (a .interval .end)) (leb (a .interval .start) 4294967295)
+    (le-true 0 (a .interval .end) (omega arith)) (le-true (a .interval .start) 4294967295 h)

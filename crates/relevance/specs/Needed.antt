@@ -10,6 +10,7 @@ use lib.ListN.{length, getD}
 use Rattle.foundation.specs.Tests.{pick, and-true, true-le}
 use Rattle.foundation.specs.Lists.{keepIf, conjunct}
 use Rattle.foundation.specs.Masks.{bit}
+use Rattle.foundation.specs.declared.Interval.{Interval}
 use Rattle.model.specs.declared.Access.{Access}
 use Rattle.model.specs.declared.Authorization.{Authorization}
 use Rattle.model.specs.declared.Head.{Head}
@@ -19,6 +20,7 @@ use Rattle.encoding.specs.Format.{authorizationsIn}
 use Rattle.relevance.specs.declared.choice.Cell.{Cell}
 use native.Mathlib.Omega.{arith}
 use Rattle.relevance.specs.Chosen.{authorizationAt, picked, Picks, number-inside}
+use Rattle.relevance.specs.Forgotten.{during}
 
 -- the coordinate of v by a table U, 0 for the one that is asked about and 255 for one that has none
 abbrev pub coordinate : List ℕ → ℕ → ℕ → ℕ
@@ -43,6 +45,11 @@ neededIn stride need c h =
 abbrev pub isNeeded : List ℕ → List ℕ → Access → ℕ → List ℕ → Authorization → Bool
 isNeeded subjects objects x stride need a =
     neededIn stride need (cellOf subjects objects x (a .head)) (a .head)
+
+-- an authorization has one of the asked instants, and is needed
+abbrev pub isChosen : Interval → List ℕ → List ℕ → Access → ℕ → List ℕ → Authorization → Bool
+isChosen asked subjects objects x stride need a =
+    during (asked .start) (asked .end) a && isNeeded subjects objects x stride need a
 
 -- what a sound base says of an authorization, as far as the tables need it
 pub record Placed (h : Head) : Type 0 where

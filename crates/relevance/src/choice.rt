@@ -1,15 +1,17 @@
-// The authorizations that matter: those whose mode is needed at their place, with both signs, and of these,
-// as time goes on, those that have not ended.
+// The authorizations that matter: those that have an asked instant and whose mode is needed at their place,
+// with both signs, and of these, as time goes on, those that have not ended.
 ghost use mathlib.Core.Path.{_≡_};
 ghost use Prim.Native.Nat.{_+_, _≤_, _<_};
 ghost use lib.Dec.{eqb};
 ghost use Rattle.foundation.specs.Tests.{pick};
 ghost use Rattle.foundation.specs.Masks.{asBit};
+ghost use Rattle.foundation.specs.Intervals.{interval};
 ghost use Rattle.relevance.specs.Chosen.{Picks};
-ghost use Rattle.relevance.specs.Needed.{bothAt, cellOf, neededIn, isNeeded};
+ghost use Rattle.relevance.specs.Needed.{bothAt, cellOf, neededIn, isChosen};
 ghost use Rattle.relevance.specs.Needed.{Charted, Placed, Ready, Choice};
 ghost use Rattle.relevance.specs.Forgotten.{Forgets};
 use encoding::authorization_at;
+use foundation::Interval;
 use model::AUTHORIZATION_BYTES;
 use model::Access;
 use model::Head;
@@ -91,8 +93,44 @@ pub fn counted(n: usize, more: bool) -> usize
     n
 }
 
-// Writes down the numbers of those of `total` authorizations that are needed; how many they are.
-pub fn choose(
+// Writes down the numbers of those of `total` authorizations that have one of the asked instants and are
+// needed; how many they are. The instants come first: where few are asked, few authorizations pass.
+fn choose_during(
+    lines: &[u8],
+    total: usize,
+    x: Access,
+    asked: Interval,
+    subjects: &[u8; 1024],
+    objects: &[u8; 130],
+    stride: u32,
+    need: &[u16],
+    which: &mut [u16],
+) -> usize
+    requires { ⌜ Ready (now lines) total (now subjects) (now objects) stride (now need) (now which) ⌝ }
+    ensures { λ r. ⌜ Choice
+        (isChosen asked (now (subjects .entry)) (now (objects .entry)) x stride (now (need .entry)))
+        (now (lines .entry)) total (now (which .entry)) (now (which .exit)) r ⌝ }
+{
+    let mut n = 0;
+    let mut i = 0;
+    while i < total {
+        let a = authorization_at(lines, i * AUTHORIZATION_BYTES);
+        let h = a.head;
+        let v = a.interval;
+        if (asked.start <= v.end) & (v.start <= asked.end) {
+            which[n] = i as u16;
+            n = counted(
+                n,
+                is_needed(h, cell_of(h, x, subjects, objects), stride, need),
+            );
+        }
+        i += 1;
+    }
+    n
+}
+
+// The same where all of time is asked: each authorization has an instant of it, and a test would only cost.
+fn choose_needed(
     lines: &[u8],
     total: usize,
     x: Access,
@@ -104,7 +142,8 @@ pub fn choose(
 ) -> usize
     requires { ⌜ Ready (now lines) total (now subjects) (now objects) stride (now need) (now which) ⌝ }
     ensures { λ r. ⌜ Choice
-        (isNeeded (now (subjects .entry)) (now (objects .entry)) x stride (now (need .entry)))
+        (isChosen (interval 0 4294967295) (now (subjects .entry)) (now (objects .entry)) x stride
+        (now (need .entry)))
         (now (lines .entry)) total (now (which .entry)) (now (which .exit)) r ⌝ }
 {
     let mut n = 0;
@@ -120,6 +159,39 @@ pub fn choose(
         i += 1;
     }
     n
+}
+
+// The same for whatever is asked.
+pub fn choose(
+    lines: &[u8],
+    total: usize,
+    x: Access,
+    asked: Interval,
+    subjects: &[u8; 1024],
+    objects: &[u8; 130],
+    stride: u32,
+    need: &[u16],
+    which: &mut [u16],
+) -> usize
+    requires { ⌜ Ready (now lines) total (now subjects) (now objects) stride (now need) (now which) ⌝ }
+    ensures { λ r. ⌜ Choice
+        (isChosen asked (now (subjects .entry)) (now (objects .entry)) x stride (now (need .entry)))
+        (now (lines .entry)) total (now (which .entry)) (now (which .exit)) r ⌝ }
+{
+    if (asked.start == 0) & (asked.end == 4294967295) {
+        return choose_needed(lines, total, x, subjects, objects, stride, need, which);
+    }
+    choose_during(
+        lines,
+        total,
+        x,
+        asked,
+        subjects,
+        objects,
+        stride,
+        need,
+        which,
+    )
 }
 
 // Forgets those of n authorizations that end before t; how many are left.

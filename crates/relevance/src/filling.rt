@@ -31,6 +31,14 @@ pub fn fill(
     ensures { λ r. ⌜ Fills (marksFor (now (lines .entry)) (now (which .entry)) (now (body .entry)) c)
         from to width (now (marks .exit)) r ⌝ }
 {
+    // The only instant is a window by itself: no mark has to be looked for.
+    if from == to as u64 {
+        marks[0] = to;
+        return Filled {
+            count: 1,
+            next: from + 1,
+        };
+    }
     let mut count = 0;
     let mut t = from;
     let mut near = nothing_near();

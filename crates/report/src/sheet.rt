@@ -13,6 +13,7 @@ ghost use Rattle.encoding.specs.Format.{authorizationsIn};
 ghost use Rattle.printing.specs.Print.{Printed};
 ghost use Rattle.report.specs.Sheet.{Lines, filled};
 use columns::put_row;
+use model::AUTHORIZATION_BYTES;
 use model::Authorization;
 use model::Counted;
 
@@ -33,7 +34,10 @@ fn count_on(lines: &[u8], n: usize, object: u32) -> usize
     let mut k = 0;
     let mut i = 0;
     while i < n {
-        if is_on(encoding::authorization_at(lines, i * 24), object) {
+        if is_on(
+            encoding::authorization_at(lines, i * AUTHORIZATION_BYTES),
+            object,
+        ) {
             k += 1;
         }
         i += 1;
@@ -64,7 +68,7 @@ fn put_rows(lines: &[u8], n: usize, object: u32, page: &mut [u8])
     let mut at = 0;
     let mut i = 0;
     while i < n {
-        let a = encoding::authorization_at(lines, i * 24);
+        let a = encoding::authorization_at(lines, i * AUTHORIZATION_BYTES);
         at = put_if(page, at, a, is_on(a, object));
         i += 1;
     }

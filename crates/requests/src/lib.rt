@@ -17,6 +17,17 @@ ghost use Rattle.requests.specs.KeepingKinds.{keepingKinds};
 
 mod room;
 
+use model::ADDRULE;
+use model::DENY;
+use model::DROPRULE;
+use model::GRANT;
+use model::GRANTADM;
+use model::GRANTREF;
+use model::NEW;
+use model::REVOKE;
+use model::REVOKEADM;
+use model::REVOKEN;
+use model::REVOKEP;
 use model::Reply;
 use model::Request;
 use refusals::Early;
@@ -29,11 +40,11 @@ fn apply(s: &mut [u8], q: Request)
 {
     let k = q.kind;
     match k {
-        1 => effects::new_object(s, q),
-        2 | 3 => effects::grant(s, q),
-        7 => effects::add_rule(s, q),
-        8 => effects::drop_rule(s, q),
-        9 | 11 => effects::grant_privilege(s, q),
+        NEW => effects::new_object(s, q),
+        GRANT | DENY => effects::grant(s, q),
+        ADDRULE => effects::add_rule(s, q),
+        DROPRULE => effects::drop_rule(s, q),
+        GRANTADM | GRANTREF => effects::grant_privilege(s, q),
         _ => effects::revoke_referrer(s, q),
     }
 }
@@ -78,8 +89,8 @@ fn carry_out(s: &mut [u8], q: Request) -> Reply
 {
     let k = q.kind;
     match k {
-        4 | 5 | 6 => revocation::revoke(s, q),
-        10 => revocation::revoke_administrator(s, q),
+        REVOKE | REVOKEP | REVOKEN => revocation::revoke(s, q),
+        REVOKEADM => revocation::revoke_administrator(s, q),
         _ => add_or_drop(s, q),
     }
 }

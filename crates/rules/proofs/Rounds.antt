@@ -1,13 +1,13 @@
 -- Tables filled place by place, and rounds of ranks: ranks that a round does not change are settled, and
 -- ranks that change in one round more than there are rules betray a circle.
-use mathlib.Core.Path.{_≡_, sym, ap, _∙_}
+use mathlib.Core.Path.{_≡_, sym, _∙_}
 use mathlib.Core.Bool.{Bool, true, false}
 use mathlib.Core.List.{List}
 use Prim.Native.Nat.{ℕ, suc, _+_, _*_, _≤_, _<_}
 use native.Mathlib.Omega.{arith}
 use native.Mathlib.Numerals.{add-one}
 use lib.Dec.{eqb}
-use lib.ListN.{length, getD, set, replicate, getD-replicate}
+use lib.ListN.{length, getD, set}
 use lib.Seq.{getD-set-same, getD-set-other}
 use Rattle.foundation.specs.Tests.{cases, true-eq, false-eq}
 use Rattle.foundation.specs.Lists.{Mem}
@@ -28,10 +28,6 @@ pub fill-turn : (f : ℕ → ℕ) (l : List ℕ) (j v : ℕ) → j < length l �
 fill-turn f l j v h e g i k = cases (eqb i j)
     (λ q. let z = true-eq i j q in rw z (getD-set-same l j v 0 h ∙ e))
     (λ q. let z = false-eq i j q in getD-set-other l j i v 0 z ∙ g i (omega arith))
-
--- the table with which the rounds begin
-pub none-at : (w n : ℕ) → n ≤ w → Filled n (λ i. 0) (replicate w 0)
-none-at w n h i k = getD-replicate w i 0 0 (omega arith)
 
 -- ---- ranks
 

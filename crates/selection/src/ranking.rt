@@ -1,14 +1,18 @@
 // The strata of the rules that matter, among themselves.
 ghost use mathlib.Core.Path.{_≡_};
-ghost use mathlib.Core.Bool.{true};
+ghost use mathlib.Core.Bool.{true, false};
 ghost use Prim.Native.Nat.{ℕ, _*_, _≤_, _<_};
 ghost use lib.ListN.{length, getD};
 ghost use Rattle.foundation.specs.Masks.{bit};
 ghost use Rattle.model.specs.Stratification.{stratified, stratum};
 ghost use Rattle.encoding.specs.Format.{rulesIn, ruleAt};
+ghost use Rattle.masks.specs.Masks.{RulesIn};
 ghost use Rattle.relevance.specs.Chosen.{selected};
+ghost use Rattle.laws.specs.Plain.{Plain};
 ghost use Rattle.selection.specs.Selection.{position};
+use encoding::rule_at;
 use model::RULE_BYTES;
+use rules::negates;
 use words::next_bit;
 
 // Copies the rules of a mask to the front; how many they are.
@@ -45,6 +49,22 @@ fn spread(ranks: &[u16; 65], needed: u64, strata: &mut [u16; 65])
     }
 }
 
+// Whether one of some rules negates, or has a denial on its left: where none does, no step counts.
+fn counts_some(body: &[u8], rules: u64) -> bool
+    requires { ⌜ RulesIn rules (now body) ⌝ }
+    ensures { λ x. ⌜ (x ≡ false → (r : ℕ) → bit r rules ≡ true → Plain (ruleAt (now (body .entry)) r)) ⌝ }
+{
+    let mut r = next_bit(rules, 0);
+    while r < 64 {
+        let q = rule_at(body, (r as usize) * RULE_BYTES);
+        if negates(q) | q.left.negative {
+            return true;
+        }
+        r = next_bit(rules, r + 1);
+    }
+    false
+}
+
 // Puts the stratum of each rule of a mask, among these, in its place.
 pub fn strata_of(body: &[u8], n: usize, needed: u64, strata: &mut [u16; 65])
     requires { ⌜ (n ≤ 64) × (n * 28 ≤ length (now body)) × ((r : ℕ) → bit r needed ≡ true → r < n)
@@ -52,6 +72,10 @@ pub fn strata_of(body: &[u8], n: usize, needed: u64, strata: &mut [u16; 65])
     ensures { λ _. ⌜ ((r : ℕ) → bit r needed ≡ true → getD (now (strata .exit)) r 0
         ≡ stratum (selected needed (rulesIn n (now (body .entry)))) (ruleAt (now (body .entry)) r)) ⌝ }
 {
+    if !counts_some(body, needed) {
+        *strata = [0; 65];
+        return;
+    }
     let mut few = [0u8; 1792];
     let mut ranks = [0u16; 65];
     let k = select(body, n, needed, &mut few);

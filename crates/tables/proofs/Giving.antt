@@ -1,11 +1,11 @@
--- Steps of giving: to no table, to one behind the other, to the table of a sign.
+-- Steps of giving: nothing, to no table, to one behind the other, to the table of a sign.
 use mathlib.Core.Path.{_≡_, refl, sym, ap, _∙_}
 use mathlib.Core.Bool.{Bool, true, false, _&&_, _||_, true≢false, false≢true}
 use mathlib.Core.List.{List}
 use Prim.Native.Nat.{ℕ, zero, suc, _+_, _*_, _^_, _≤_, _<_}
 use native.Mathlib.Nat.{mul-lt-mul-of-pos-right}
 use native.Mathlib.Omega.{arith}
-use lib.Bits.{bitOr}
+use lib.Bits.{bitOr, or-zero-r}
 use lib.Dec.{eqb, ltb}
 use lib.ListN.{length}
 use lib.Pow.{pow-pos}
@@ -13,19 +13,19 @@ use Rattle.foundation.specs.Tests.{pick, cases, agree, eq-true, true-eq, ne-fal
 use Rattle.foundation.specs.Tests.{false-le, and-true, and-intro, and-false, or-cases, or-false}
 use Rattle.foundation.specs.Tests.{or-intro-left, or-true-right}
 use Rattle.foundation.specs.Masks.{bit}
+use Rattle.words.specs.Bits.{bit-inside}
 use Rattle.words.specs.Fields.{starts, fieldOf, joined}
-use Rattle.places.specs.declared.Spot.{Spot}
+use Rattle.places.specs.declared.Point.{Point}
 use Rattle.places.specs.Regions.{sizeOf, indexIn, Within, In}
 use Rattle.tables.specs.declared.Frame.{Frame}
 use Rattle.tables.specs.Layout.{Tables, fieldIn, Laid, whole}
 use Rattle.tables.specs.Giving.{tablesOf, rule, takes, same, same-eq, Given, given-one}
-use Rattle.tables.proofs.Rooms.{bit-inside}
 
 -- a field below the end starts below the end
 pub start-below : (k i n m : ℕ) → i < n → starts k n ≤ m → starts k i < m
 start-below k i n m h l = omega (arith, mul-lt-mul-of-pos-right h (pow-pos k))
 
-module _ (t : Tables) (k n : ℕ) (x : Spot) (v : ℕ) where
+module _ (t : Tables) (k n : ℕ) (x : Point) (v : ℕ) where
   -- a table that does not have the place gets nothing
   pub given-none : (c : ℕ) (l : List ℕ) → (In (t .region c) x → ⊥) → Given t k n x (λ d. eqb d c) v l l
   given-none c l out = record {
@@ -42,8 +42,18 @@ module _ (t : Tables) (k n : ℕ) (x : Spot) (v : ℕ) where
   pub given-nothing : (p : ℕ → Bool) (l : List ℕ) → ((d : ℕ) → p d ≡ false) → Given t k n x p v l l
   given-nothing p l e = record { lengths = refl; fields = λ d m y h w. rw (e d) }
 
+-- a word without bits gives nothing
+pub given-zero : (t : Tables) (k n : ℕ) (x : Point) (taken : ℕ → Bool) (v : ℕ) (l : List ℕ) → v ≡ 0 →
+    Given t k n x taken v l l
+given-zero t k n x taken v l z = record {
+  lengths = refl;
+  fields = λ c m y h p. cases (taken c && same y x)
+      (λ e. rw (e, z) (sym (or-zero-r (fieldOf k l (fieldIn t c m y)))))
+      (λ e. rw e);
+}
+
 -- two steps, no table taking twice
-pub given-then : {t : Tables} {k n : ℕ} {x : Spot} {v : ℕ} {p q : ℕ → Bool} {a b c : List ℕ} (r : ℕ → Bool) →
+pub given-then : {t : Tables} {k n : ℕ} {x : Point} {v : ℕ} {p q : ℕ → Bool} {a b c : List ℕ} (r : ℕ → Bool) →
     ((d : ℕ) → p d ≡ true → q d ≡ false) → ((d : ℕ) → p d || q d ≡ r d) →
     Given t k n x p v a b → Given t k n x q v b c → Given t k n x r v a c
 given-then {t} {k} {n} {x} {v} {p} {q} {a} {b} {c} r once both g h = record {
@@ -70,14 +80,14 @@ module _ (f : Frame) (right first : List ℕ) (laid : Laid (tablesOf f right fir
   plain-fits (suc zero) h = omega (arith, laid .high 1 refl)
   plain-fits (suc (suc s)) h = absurd (omega arith)
 
-  all-in : (x : Spot) → In whole x
+  all-in : (x : Point) → In whole x
   all-in x = record {
     subject = λ e. absurd (true≢false e);
     object = λ e. absurd (true≢false e);
     mode = λ e. absurd (true≢false e);
   }
 
-  module _ (k n : ℕ) (x : Spot) (v : ℕ) (within : Within (f .grid) n x) (old new : List ℕ)
+  module _ (k n : ℕ) (x : Point) (v : ℕ) (within : Within (f .grid) n x) (old new : List ℕ)
       (lengths : length new ≡ length old) where
     pub given-plain : (sign : ℕ) → sign < 2 →
         ((j : ℕ) → fieldOf k new j ≡ joined k old (sign * side + indexIn (f .grid) whole n x) v j) →

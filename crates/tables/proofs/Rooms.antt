@@ -2,24 +2,15 @@
 use mathlib.Core.Path.{_≡_, refl, sym, ap, _∙_}
 use mathlib.Core.Bool.{true, false}
 use mathlib.Core.List.{List}
-use Prim.Native.Nat.{ℕ, zero, suc, _+_, _-_, _/_, _%_, _^_, _≤_, _<_}
-use native.Mathlib.Nat.{div-eq-of-lt, lt-of-lt-of-le}
+use Prim.Native.Nat.{ℕ, zero, suc, _+_, _-_, _^_, _≤_, _<_}
 use native.Mathlib.Omega.{arith}
-use lib.Dec.{ltb}
 use lib.ListN.{getD}
-use lib.Pow.{pow-mono}
-use Rattle.foundation.specs.Tests.{cases, true-eq, true-le, false-le}
+use Rattle.foundation.specs.Tests.{cases}
 use Rattle.foundation.specs.Masks.{bit}
+use Rattle.words.specs.Bits.{bit-inside}
 use Rattle.places.specs.declared.Grid.{Grid}
 use Rattle.places.specs.Regions.{sizeOf}
 use Rattle.tables.specs.Layout.{Laid, regionAt, ruleTables, roomOf}
-
--- a number below 2 ^ k has no bit from the k-th on
-pub bit-inside : (k x i : ℕ) → x < 2 ^ k → bit i x ≡ true → i < k
-bit-inside k x i h e = cases (ltb i k) (λ l. true-le (suc i) k l) (λ l.
-    let g : k ≤ i = omega (arith, false-le (suc i) k l) in
-    let z : x / 2 ^ i ≡ 0 = div-eq-of-lt (lt-of-lt-of-le h (pow-mono g)) in
-    absurd (omega (arith, true-eq (x / 2 ^ i % 2) 1 e)))
 
 module _ (g : Grid) (codes : List ℕ) (rules : ℕ) where
   pub room-none : roomOf g codes rules 0 ≡ 0

@@ -11,7 +11,7 @@ use Rattle.foundation.specs.Tests.{pick, cases, eq-true, true-eq, ne-false, and
 use Rattle.foundation.specs.Masks.{bit}
 use Rattle.words.specs.Fields.{starts, fieldOf, joined}
 use Rattle.places.specs.declared.Region.{Region}
-use Rattle.places.specs.declared.Spot.{Spot}
+use Rattle.places.specs.declared.Point.{Point}
 use Rattle.places.specs.Regions.{sizeOf, Within}
 use Rattle.tables.specs.declared.Frame.{Frame}
 use Rattle.tables.specs.declared.Place.{Place}
@@ -34,10 +34,10 @@ pub record Reaches (f : Frame) (from : ℕ) (b : Region) (p : Place) (size : ℕ
   pub narrow : f .width ≤ 6
   pub fits : starts (f .width) (f .fields) ≤ 64 * size
   pub high : from + sizeOf (f .grid) b ≤ f .fields
-  pub within : Within (f .grid) (p .pair) (p .spot)
+  pub within : Within (f .grid) (p .pair) (p .point)
 
 module _ (f : Frame) (right first : List ℕ) (size : ℕ) (p : Place) (ready : Ready f right first size)
-    (within : Within (f .grid) (p .pair) (p .spot)) where
+    (within : Within (f .grid) (p .pair) (p .point)) where
   -- so do the tables that are there
   pub reaches : (c : ℕ) → isThere (f .choosy) c ≡ true →
       Reaches f (offsetOf (f .grid) first c) (regionOf right c) p size
@@ -59,11 +59,11 @@ takes sign takers (suc (suc c)) = bit c takers
 -- ---- what is given
 
 -- one place
-abbrev pub same : Spot → Spot → Bool
+abbrev pub same : Point → Point → Bool
 same x y = eqb (x .subject) (y .subject) && eqb (x .object) (y .object) && eqb (x .mode) (y .mode)
 
 -- places that are tested the same are one
-pub same-eq : (x y : Spot) → same x y ≡ true → x ≡ y
+pub same-eq : (x y : Point) → same x y ≡ true → x ≡ y
 same-eq x y e =
     let w = and-three (eqb (x .subject) (y .subject)) (eqb (x .object) (y .object)) (eqb (x .mode) (y .mode))
     .0 e in
@@ -72,64 +72,34 @@ same-eq x y e =
     let m = true-eq (x .mode) (y .mode) (w .2) in
     λ i. record { subject = s i; mode = m i; object = o i }
 
-pub same-self : (x : Spot) → same x x ≡ true
-same-self x =
-    and-three (eqb (x .subject) (x .subject)) (eqb (x .object) (x .object)) (eqb (x .mode) (x .mode)) .1 (
-      eq-true (x .subject) (x .subject) refl,
-      eq-true (x .object) (x .object) refl,
-      eq-true (x .mode) (x .mode) refl,
-    )
-
 -- v is joined to the fields, of width k, of a place x in the tables that take it; n is the number of its pair
-pub record Given (t : Tables) (k n : ℕ) (x : Spot) (taken : ℕ → Bool) (v : ℕ) (old new : List ℕ) : Type 0
+pub record Given (t : Tables) (k n : ℕ) (x : Point) (taken : ℕ → Bool) (v : ℕ) (old new : List ℕ) : Type 0
   where
     pub lengths : length new ≡ length old
-    pub fields : (c m : ℕ) (y : Spot) → Has t c m y → Paired m y n x →
+    pub fields : (c m : ℕ) (y : Point) → Has t c m y → Paired m y n x →
         fieldOf k new (fieldIn t c m y)
         ≡ pick (taken c && same y x)
         (bitOr (fieldOf k old (fieldIn t c m y)) v)
         (fieldOf k old (fieldIn t c m y))
 
-module _ (t : Tables) (k n : ℕ) (x : Spot) (taken : ℕ → Bool) (v : ℕ) (old new : List ℕ)
-    (given : Given t k n x taken v old new) where
-  -- the place has it in the tables that take it
-  pub given-there : (c : ℕ) → Has t c n x → taken c ≡ true →
-      fieldOf k new (fieldIn t c n x) ≡ bitOr (fieldOf k old (fieldIn t c n x)) v
-  given-there c h e =
-      let i : ℕ = fieldIn t c n x in
-      given .fields c n x h ((λ q. (refl, refl)), (λ q. refl))
-      ∙ ap (λ (b : Bool). pick b (bitOr (fieldOf k old i) v) (fieldOf k old i))
-      (and-intro (taken c) (same x x) e (same-self x))
-
-  -- nothing else changes
-  pub given-else : (c m : ℕ) (y : Spot) → Has t c m y → Paired m y n x → (y ≡ x → taken c ≡ true → ⊥) →
-      fieldOf k new (fieldIn t c m y) ≡ fieldOf k old (fieldIn t c m y)
-  given-else c m y h p out =
-      let i : ℕ = fieldIn t c m y in
-      given .fields c m y h p
-      ∙ ap (λ (b : Bool). pick b (bitOr (fieldOf k old i) v) (fieldOf k old i))
-      (cases (taken c && same y x)
-      (λ e. let w = and-true (taken c) (same y x) e in absurd (out (same-eq y x (w .1)) (w .0)))
-      (λ e. e))
-
 -- ---- one field
 
-module _ (t : Tables) (k n : ℕ) (x : Spot) (v : ℕ) where
+module _ (t : Tables) (k n : ℕ) (x : Point) (v : ℕ) where
   -- v is joined to the field of one table
   module _ (from to : ℕ) (laid : Laid t from to) (c : ℕ) (here : Has t c n x) (old new : List ℕ)
       (join : (j : ℕ) → fieldOf k new j ≡ joined k old (fieldIn t c n x) v j)
       (lengths : length new ≡ length old) where
-    own : (d m : ℕ) (y : Spot) → Paired m y n x → d ≡ c → y ≡ x →
+    own : (d m : ℕ) (y : Point) → Paired m y n x → d ≡ c → y ≡ x →
         fieldOf k new (fieldIn t d m y) ≡ bitOr (fieldOf k old (fieldIn t d m y)) v
     own d m y p e f =
-        let i : m ≡ n = p .1 (ap (λ (s : Spot). s .subject) f, ap (λ (s : Spot). s .object) f) in
+        let i : m ≡ n = p .1 (ap (λ (s : Point). s .subject) f, ap (λ (s : Point). s .object) f) in
         let q : fieldIn t d m y ≡ fieldIn t c n x = rw (e, i, f) in
         rw q (join (fieldIn t c n x)
         ∙ ap (λ (b : Bool). pick b (bitOr (fieldOf k old (fieldIn t c n x)) v)
         (fieldOf k old (fieldIn t c n x)))
         (eq-true (fieldIn t c n x) (fieldIn t c n x) refl))
 
-    other : (d m : ℕ) (y : Spot) → Has t d m y → Paired m y n x → eqb d c && same y x ≡ false →
+    other : (d m : ℕ) (y : Point) → Has t d m y → Paired m y n x → eqb d c && same y x ≡ false →
         fieldOf k new (fieldIn t d m y) ≡ fieldOf k old (fieldIn t d m y)
     other d m y h p e = join (fieldIn t d m y)
         ∙ ap (λ (b : Bool). pick b (bitOr (fieldOf k old (fieldIn t c n x)) v)

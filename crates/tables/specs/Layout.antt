@@ -15,7 +15,7 @@ use Rattle.foundation.specs.Tests.{pick, cases, true-le, false-le}
 use Rattle.foundation.specs.Masks.{bit}
 use Rattle.places.specs.declared.Grid.{Grid}
 use Rattle.places.specs.declared.Region.{Region}
-use Rattle.places.specs.declared.Spot.{Spot}
+use Rattle.places.specs.declared.Point.{Point}
 use Rattle.places.specs.Regions.{free, outerSize, modeSize, sizeOf, indexIn, Within, In}
 use Rattle.places.specs.Regions.{index-below, index-apart}
 
@@ -33,7 +33,7 @@ abbrev pub sizeIn : Tables → ℕ → ℕ
 sizeIn t c = sizeOf (t .grid) (t .region c)
 
 -- the field of a place in table c, n being the number of its pair
-abbrev pub fieldIn : Tables → ℕ → ℕ → Spot → ℕ
+abbrev pub fieldIn : Tables → ℕ → ℕ → Point → ℕ
 fieldIn t c n x = t .offset c + indexIn (t .grid) (t .region c) n x
 
 -- the tables lie one behind the other, between two numbers
@@ -45,22 +45,22 @@ pub record Laid (t : Tables) (from to : ℕ) : Type 0 where
       t .offset c + sizeIn t c ≤ t .offset d
 
 -- two places have one pair exactly if their pairs have one number
-abbrev pub Paired : ℕ → Spot → ℕ → Spot → Type 0
+abbrev pub Paired : ℕ → Point → ℕ → Point → Type 0
 Paired n x m y = (n ≡ m) ↔ ((x .subject ≡ y .subject) × (x .object ≡ y .object))
 
 -- a place of the region of table c, n being the number of its pair
-pub record Has (t : Tables) (c n : ℕ) (x : Spot) : Type 0 where
+pub record Has (t : Tables) (c n : ℕ) (x : Point) : Type 0 where
   pub table : t .there c ≡ true
   pub within : Within (t .grid) n x
   pub inside : In (t .region c) x
 
 module _ (t : Tables) (from to : ℕ) (laid : Laid t from to) where
-  pub field-below : (c n : ℕ) (x : Spot) → Has t c n x → fieldIn t c n x < to
+  pub field-below : (c n : ℕ) (x : Point) → Has t c n x → fieldIn t c n x < to
   field-below c n x h =
       omega (arith, laid .high c (h .table), index-below (t .grid) (t .region c) n x (h .within))
 
   -- a field of a table lies before those of the tables behind it
-  before : (c d n m : ℕ) (x y : Spot) → Has t c n x → Has t d m y → c < d → fieldIn t c n x < fieldIn t d m y
+  before : (c d n m : ℕ) (x y : Point) → Has t c n x → Has t d m y → c < d → fieldIn t c n x < fieldIn t d m y
   before c d n m x y h k l = omega (
     arith,
     laid .behind c d (h .table) (k .table) l,
@@ -68,7 +68,7 @@ module _ (t : Tables) (from to : ℕ) (laid : Laid t from to) where
   )
 
   -- so one field is of one table
-  pub table-same : (c d n m : ℕ) (x y : Spot) → Has t c n x → Has t d m y →
+  pub table-same : (c d n m : ℕ) (x y : Point) → Has t c n x → Has t d m y →
       fieldIn t c n x ≡ fieldIn t d m y → c ≡ d
   table-same c d n m x y h k e = cases (ltb c d)
       (λ l. absurd (omega (arith, before c d n m x y h k (true-le (suc c) d l))))
@@ -77,7 +77,7 @@ module _ (t : Tables) (from to : ℕ) (laid : Laid t from to) where
       (λ g. omega (arith, false-le (suc c) d l, false-le (suc d) c g)))
 
   -- and of one place
-  pub field-apart : (c d n m : ℕ) (x y : Spot) → Has t c n x → Has t d m y →
+  pub field-apart : (c d n m : ℕ) (x y : Point) → Has t c n x → Has t d m y →
       (n ≡ m → (x .subject ≡ y .subject) × (x .object ≡ y .object)) → fieldIn t c n x ≡ fieldIn t d m y →
       (c ≡ d) × (x .subject ≡ y .subject) × (x .object ≡ y .object) × (x .mode ≡ y .mode)
   field-apart c d n m x y h k one e =

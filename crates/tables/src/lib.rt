@@ -13,8 +13,8 @@ ghost use Rattle.places.specs.Regions.{free, sizeOf, indexIn, Within, In};
 ghost use Rattle.tables.specs.Layout.{regionAt, whole, ruleTables, allTables, roomOf, Small, Laid};
 ghost use Rattle.tables.specs.Giving.{tablesOf, Ready, Reaches, Given, rule, takes};
 use places::Grid;
+use places::Point;
 use places::Region;
-use places::Spot;
 use words::field_at;
 use words::join_at;
 use words::next_bit;
@@ -30,7 +30,7 @@ pub struct Frame {
 // A place, with the number of its pair.
 pub struct Place {
     pub pair: u32,
-    pub spot: Spot,
+    pub point: Point,
 }
 
 // The region of all places.
@@ -64,7 +64,7 @@ fn names(code: u8, v: u32) -> bool
 }
 
 // Whether a place lies in a region.
-pub fn is_in(b: Region, x: Spot) -> bool
+fn is_in(b: Region, x: Point) -> bool
     ensures { λ r. ⌜ (r ≡ true) ↔ In b x ⌝ }
 {
     names(b.subject, x.subject) & names(b.object, x.object) & names(b.mode, x.mode)
@@ -100,11 +100,11 @@ pub fn lay_all(right: &[u8; 256], choosy: u64, g: Grid, first: &mut [u32; 64]) -
 
 // The number of a place's field in the table of a region that starts at `from`.
 fn number_in(f: Frame, from: u32, b: Region, p: Place) -> u32
-    requires { ⌜ (from + sizeOf (f .grid) b ≤ f .fields) × Within (f .grid) (p .pair) (p .spot) ⌝ }
-    ensures { λ r. ⌜ (r ≡ from + indexIn (f .grid) b (p .pair) (p .spot)) × (r < f .fields) ⌝ }
+    requires { ⌜ (from + sizeOf (f .grid) b ≤ f .fields) × Within (f .grid) (p .pair) (p .point) ⌝ }
+    ensures { λ r. ⌜ (r ≡ from + indexIn (f .grid) b (p .pair) (p .point)) × (r < f .fields) ⌝ }
 {
     let g = f.grid;
-    let x = p.spot;
+    let x = p.point;
     from + places::index_in(g, b, p.pair, x)
 }
 
@@ -112,16 +112,16 @@ fn number_in(f: Frame, from: u32, b: Region, p: Place) -> u32
 pub fn field_in(words: &[u64], f: Frame, from: u32, b: Region, p: Place) -> u64
     requires { ⌜ Reaches f from b p (length (now words)) ⌝ }
     ensures { λ r. ⌜ r ≡ fieldOf (f .width) (now (words .entry))
-        (from + indexIn (f .grid) b (p .pair) (p .spot)) ⌝ }
+        (from + indexIn (f .grid) b (p .pair) (p .point)) ⌝ }
 {
     field_at(words, f.width, number_in(f, from, b, p))
 }
 
 // Joins v to it; whether that is new.
-pub fn join_in(words: &mut [u64], f: Frame, from: u32, b: Region, p: Place, v: u64) -> bool
+fn join_in(words: &mut [u64], f: Frame, from: u32, b: Region, p: Place, v: u64) -> bool
     requires { ⌜ Reaches f from b p (length (now words)) × (v < 2 ^ (2 ^ f .width)) ⌝ }
     ensures { λ r. ⌜ ((j : ℕ) → fieldOf (f .width) (now (words .exit)) j
-        ≡ joined (f .width) (now (words .entry)) (from + indexIn (f .grid) b (p .pair) (p .spot)) v j)
+        ≡ joined (f .width) (now (words .entry)) (from + indexIn (f .grid) b (p .pair) (p .point)) v j)
         × (length (now (words .exit)) ≡ length (now (words .entry)))
         × Grown r (now (words .entry)) (now (words .exit)) ⌝ }
 {
@@ -138,15 +138,15 @@ fn give_rule(
     c: u32,
     v: u64,
 ) -> bool
-    requires { ⌜ Ready f (now right) (now first) (length (now words)) × Within (f .grid) (p .pair) (p .spot)
+    requires { ⌜ Ready f (now right) (now first) (length (now words)) × Within (f .grid) (p .pair) (p .point)
         × (c < 64) × (bit c (f .choosy) ≡ true) × (v < 2 ^ (2 ^ f .width)) ⌝ }
     ensures { λ r. ⌜ Given (tablesOf f (now (right .entry)) (now (first .entry))) (f .width) (p .pair)
-        (p .spot) (rule c) v (now (words .entry)) (now (words .exit))
+        (p .point) (rule c) v (now (words .entry)) (now (words .exit))
         × Grown r (now (words .entry)) (now (words .exit)) ⌝ }
 {
     let i = c as usize;
     let b = region_at(right, i);
-    let x = p.spot;
+    let x = p.point;
     if is_in(b, x) {
         return join_in(words, f, first[i], b, p, v);
     }
@@ -165,11 +165,11 @@ pub fn give(
     takers: u64,
     v: u64,
 ) -> bool
-    requires { ⌜ Ready f (now right) (now first) (length (now words)) × Within (f .grid) (p .pair) (p .spot)
+    requires { ⌜ Ready f (now right) (now first) (length (now words)) × Within (f .grid) (p .pair) (p .point)
         × (sign < 2) × ((c : ℕ) → bit c takers ≡ true → bit c (f .choosy) ≡ true)
         × (v < 2 ^ (2 ^ f .width)) ⌝ }
     ensures { λ r. ⌜ Given (tablesOf f (now (right .entry)) (now (first .entry))) (f .width) (p .pair)
-        (p .spot) (takes sign takers) v (now (words .entry)) (now (words .exit))
+        (p .point) (takes sign takers) v (now (words .entry)) (now (words .exit))
         × Grown r (now (words .entry)) (now (words .exit)) ⌝ }
 {
     let g = f.grid;

@@ -42,7 +42,7 @@ use Rattle.model.specs.Answers.{Answer, answering, refusing, accessIn, mayReply
 use Rattle.model.specs.Text.{asksMay, asksWhen, readLine}
 use Rattle.model.specs.Session.{whenList, replyLine}
 use Rattle.model.specs.Batch.{replyByte, byteFor, batchRefusal, batchBytes, Batched}
-use Rattle.laws.specs.Looking.{looks-access}
+use Rattle.laws.specs.Dependence.{depends-access}
 use Rattle.laws.specs.Matching.{direct, Bears, Matched, Alike}
 use Rattle.laws.specs.Transfer.{holds-alike}
 
@@ -296,7 +296,7 @@ module _ (block : ℕ → Bool) where
   alike b c g s k = record {
     inward = λ r x w. right-inside b c g s k r x w;
     lines = λ r x w p e t l. direct-same b c g t p
-        (ap (λ (y : Access). block (y .object)) (looks-access r x p e) ∙ right-inside b c g s k r x w);
+        (ap (λ (y : Access). block (y .object)) (depends-access r x p e) ∙ right-inside b c g s k r x w);
     fresh = λ r x w e. omega arith;
   }
 

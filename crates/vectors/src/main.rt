@@ -17,13 +17,14 @@ use messages::put_number;
 use messages::say;
 use messages::say_stands;
 use messages::say_wrong;
+use model::REPLY_BYTES;
 
 // Runs a transcript and says how far it stands; whether all of it does.
 fn check_text(name: &[u8], text: &[u8]) -> bool
     requires { ⌜ length (now text) ≤ 65536 ⌝ }
     ensures { λ r. ⌜ r ≡ agrees fresh (lines (now (text .entry))) ⌝ }
 {
-    let mut out = [0u8; 24576];
+    let mut out = [0u8; REPLY_BYTES];
     let c = check(text, &mut out);
     if c.good {
         say_stands(name, c.lines);

@@ -13,7 +13,7 @@ ghost use Rattle.vectors.specs.Transcripts.{opens, unmarked, stage};
 ghost use Rattle.vectors.specs.LinePlaces.{Leads};
 
 // Whether a line begins with a mark and a space.
-pub fn marked(line: &[u8], mark: u8) -> bool
+fn marked(line: &[u8], mark: u8) -> bool
     ensures { λ r. ⌜ r ≡ Transcripts·marked mark (now (line .entry)) ⌝ }
 {
     if line.len() < 2 {

@@ -2,11 +2,14 @@
 use mathlib.Core.Path.{_≡_, refl, sym, ap, ap₂, _∙_}
 use mathlib.Core.Bool.{Bool, true, false, not, _&&_, _||_}
 use Prim.Native.Nat.{ℕ, zero, suc, _+_, _*_, _-_, _/_, _%_, _^_, _≤_, _<_, min, max}
-use native.Mathlib.Nat.{pow-succ', div-one, one-mul, max-le, min-le-left, min-zero, zero-min}
+use native.Mathlib.Nat.{pow-succ', div-one, div-eq-of-lt, one-mul, max-le, min-le-left, min-zero, zero-min}
+use native.Mathlib.Nat.{lt-of-lt-of-le}
 use native.Mathlib.Omega.{arith}
 use lib.Bits.{bitAnd, bitOr, and-step, or-step, and-self, and-shr, or-shr, and-le-l}
 use lib.Dec.{eqb, leb, ltb}
-use Rattle.foundation.specs.Tests.{cases, agree, le-true, le-false, true-le, and-true, true-eq, false-eq}
+use lib.Pow.{pow-mono}
+use Rattle.foundation.specs.Tests.{cases, agree, le-true, le-false, true-le, false-le, and-true, true-eq}
+use Rattle.foundation.specs.Tests.{false-eq}
 use Rattle.foundation.specs.Masks.{bit}
 use Rattle.words.specs.Ones.{bit-half, bit-shl, span-bit}
 
@@ -110,6 +113,13 @@ no-bits (suc n) x h z =
     let q : x / 2 ≡ 0 = no-bits n (x / 2) (omega arith) (λ i m. sym (bit-half i x)
     ∙ z (suc i) (omega arith)) in
     omega arith
+
+-- a number has no bit behind its last
+pub bit-inside : (n x i : ℕ) → x < 2 ^ n → bit i x ≡ true → i < n
+bit-inside n x i h e = cases (ltb i n) (λ y. true-le (suc i) n y) (λ y.
+    let g : n ≤ i = omega (arith, false-le (suc i) n y) in
+    let z : x / 2 ^ i ≡ 0 = div-eq-of-lt (lt-of-lt-of-le h (pow-mono g)) in
+    absurd (omega (arith, true-eq (x / 2 ^ i % 2) 1 e)))
 
 -- ---- a word without its lowest bit
 

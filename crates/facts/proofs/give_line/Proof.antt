@@ -9,8 +9,9 @@ use Rattle.foundation.specs.Tests.{and-true}
 use Rattle.foundation.specs.Masks.{bit, bit-le}
 use Rattle.tables.specs.declared.Place.{Place}
 use Rattle.tables.specs.Giving.{tablesOf, Given}
+use Rattle.tables.proofs.Giving.{given-zero}
 use Rattle.facts.specs.Facts.{fitsRule, takenBy, placeFor}
-use Rattle.facts.proofs.Giving.{span-fits, given-zero, takes-mask}
+use Rattle.facts.proofs.Giving.{span-fits, takes-mask}
 use Rattle.facts.proofs.give_line.Statement.{statement}
 use Rattle.facts.proofs.give_line.Tie as tie
 
@@ -29,7 +30,7 @@ returns c =
       value = s .span .result;
       instants = s .span .ensures;
       given = given-zero (tablesOf (a .f) (now (a .right)) (now (a .first))) (a .f .width)
-          (p .pair) (p .spot) (takenBy (now (a .body)) (a .f .choosy) h) (s .span .result) (now (a .words))
+          (p .pair) (p .point) (takenBy (now (a .body)) (a .f .choosy) h) (s .span .result) (now (a .words))
           (c .if1 .taken);
     }
 
@@ -71,11 +72,11 @@ returns-2 c =
     record {
       value = v;
       instants = s .span .ensures;
-      given = subst (λ (z : Place). Given t (a .f .width) (z .pair) (z .spot)
+      given = subst (λ (z : Place). Given t (a .f .width) (z .pair) (z .point)
           (takenBy (now (a .body)) (a .f .choosy) (a .a .head)) v (now (a .words)) (g .give .last .0))
           (q .place-of .ensures)
           (subst (λ (taken : ℕ → Bool). Given t (a .f .width) (q .place-of .result .pair)
-          (q .place-of .result .spot) taken v (now (a .words)) (g .give .last .0))
+          (q .place-of .result .point) taken v (now (a .words)) (g .give .last .0))
           (takes-mask (now (a .body)) (a .f .choosy) (a .a .head) (n .sign-of .result) (k .takers-of .result)
           (n .sign-of .ensures) (k .takers-of .ensures))
           (g .give .ensures .0));

@@ -81,7 +81,7 @@ returns c =
     let a = e .before .before .args in
     ap (λ (r : Cell). record {
       pair = getD (now (a .number)) (r .object * a .g .subjects + r .subject) 0;
-      spot = record { subject = r .subject; mode = a .h .mode - 1; object = r .object };
+      point = record { subject = r .subject; mode = a .h .mode - 1; object = r .object };
     }) (e .cell-of .ensures .0)
 
 pub place-of-spec : {M : Type 1} → statement M

@@ -8,7 +8,7 @@ use denote.Ref.{now}
 use lib.Dec.{ltb}
 use Rattle.foundation.specs.Tests.{cases, le-true, and-false}
 use Rattle.foundation.specs.Masks.{bit}
-use Rattle.masks.specs.Collecting.{Collected, collect-start, collect-turn}
+use Rattle.masks.proofs.Collecting.{Collected, collect-start, collect-turn}
 use Rattle.facts.specs.Facts.{fitsKind, fitsRule}
 use Rattle.facts.proofs.takers_of.Statement.{statement}
 use Rattle.facts.proofs.takers_of.Tie as tie

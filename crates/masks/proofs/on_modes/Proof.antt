@@ -10,8 +10,7 @@ use denote.Ref.{now}
 use lib.ListN.{getD}
 use Rattle.foundation.specs.Tests.{or-intro-left, or-true-right}
 use Rattle.foundation.specs.Masks.{bit}
-use Rattle.words.specs.Bits.{bit-or}
-use Rattle.masks.proofs.Bits.{bit-inside}
+use Rattle.words.specs.Bits.{bit-or, bit-inside}
 use Rattle.masks.proofs.Loops.{Passed, passed-start, passed-turn}
 use Rattle.masks.proofs.on_modes.Statement.{statement}
 use Rattle.masks.proofs.on_modes.Tie as tie

@@ -5,14 +5,15 @@ use mathlib.Core.Bool.{Bool, _||_}
 use Prim.Native.Nat.{_^_}
 use Rattle.foundation.specs.Masks.{bit}
 use Rattle.words.specs.Bits.{bit-or}
-use Rattle.masks.proofs.Bits.{shifted, one-bit}
+use Rattle.words.proofs.FieldLaws.{bit-shifted}
+use Rattle.masks.proofs.Bits.{one-bit}
 use Rattle.masks.proofs.with_bit.Statement.{statement}
 use Rattle.masks.proofs.with_bit.Tie as tie
 
 returns : tie.Need-returns
 returns c =
     let a = c .args in
-    rw (shifted (a .r) (c .pre)) (λ i. bit-or (a .m) (2 ^ a .r) i
+    rw (bit-shifted (a .r) (c .pre)) (λ i. bit-or (a .m) (2 ^ a .r) i
     ∙ ap (λ (x : Bool). bit i (a .m) || x) (one-bit (a .r) i))
 
 pub with-bit-spec : {M : Type 1} → statement M

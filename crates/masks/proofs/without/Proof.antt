@@ -7,7 +7,8 @@ use lib.Bits.{and-le-l}
 use Rattle.foundation.specs.Masks.{bit}
 use Rattle.words.specs.Bits.{bit-less}
 use Rattle.reach.proofs.Aims.{cut-less}
-use Rattle.masks.proofs.Bits.{shifted, one-bit}
+use Rattle.words.proofs.FieldLaws.{bit-shifted}
+use Rattle.masks.proofs.Bits.{one-bit}
 use Rattle.masks.proofs.without.Statement.{statement}
 use Rattle.masks.proofs.without.Tie as tie
 
@@ -17,7 +18,7 @@ sub-result c = and-le-l (c .args .m) _
 returns : tie.Need-returns
 returns c =
     let a = c .args in
-    rw (shifted (a .r) (c .pre .0)) (
+    rw (bit-shifted (a .r) (c .pre .0)) (
       cut-less (a .m) (a .r) (c .pre .1),
       λ i. bit-less i (a .m) (2 ^ a .r) ∙ ap (λ (x : Bool). bit i (a .m) && not x) (one-bit (a .r) i),
     )

@@ -10,7 +10,7 @@ use denote.Ref.{now}
 use lib.ListN.{length, getD}
 use Rattle.foundation.specs.Masks.{bit}
 use Rattle.reach.specs.Net.{Net, has, ClosedBut, Formed, Only}
-use Rattle.reach.specs.Reach.{weight}
+use Rattle.reach.specs.Reach.{remaining}
 use Rattle.reach.proofs.Growth.{closed-grown, closed-start, closed-end, none-within}
 use Rattle.reach.proofs.reach.Statement.{statement}
 use Rattle.reach.proofs.reach.Tie as tie
@@ -31,7 +31,7 @@ Inv-loop left right subjects pair bits need₀ todo₀ j₀ need todo j =
     × Only (record { left = left; right = right; subjects = subjects }) pair todo
 
 abbrev μ-loop : tie.MeasureT-loop
-μ-loop left right subjects pair bits need₀ todo₀ j₀ need todo j = weight need todo
+μ-loop left right subjects pair bits need₀ todo₀ j₀ need todo j = remaining need todo
 
 ask-requires : tie.Need-ask-requires Inv-loop μ-loop
 ask-requires c κo = let p = c .before .before .before .before .pre in (p .2, omega (arith, p .1, p .2))

@@ -21,7 +21,7 @@ use Rattle.tables.proofs.give.Tie as tie
 abbrev Inv-loop : tie.InvT-loop
 Inv-loop words₀ right first f p sign takers v fresh₀ c₀ words fresh c =
     (c ≤ 64) × (c < 64 → bit c takers ≡ true)
-    × Given (tablesOf f right first) (f .width) (p .pair) (p .spot) (below takers c) v words₀ words
+    × Given (tablesOf f right first) (f .width) (p .pair) (p .point) (below takers c) v words₀ words
     × ((old : List ℕ) → Grown fresh₀ old words₀ → Grown fresh old words)
 
 abbrev μ-loop : tie.MeasureT-loop
@@ -66,7 +66,7 @@ loop-holds c =
       e .1,
       e .3,
       given-nothing (tablesOf (a .f) (now (a .right)) (now (a .first))) (a .f .width) (a .p .pair)
-          (a .p .spot) (a .v) (below (a .takers) (c .next-bit .result)) (w .join-in .last .0)
+          (a .p .point) (a .v) (below (a .takers) (c .next-bit .result)) (w .join-in .last .0)
           (below-none (a .takers) (c .next-bit .result) (e .2)),
       λ old g. g,
     )
@@ -115,9 +115,9 @@ returns c =
     let l = c .before .loop in
     let e : l .c ≡ 64 = omega (arith, l .inv .0) in
     let plain = given-plain (a .f) (now (a .right)) (now (a .first)) (p .0 .laid) (a .f .width) (a .p .pair)
-    (a .p .spot) (a .v) (p .1) (now (a .words)) (j .last .0) (j .ensures .1) (a .sign) (p .2)
+    (a .p .point) (a .v) (p .1) (now (a .words)) (j .last .0) (j .ensures .1) (a .sign) (p .2)
     (λ i. j .ensures .0 i ∙ ap₂ (λ (n : ℕ) (r : Region). joined (a .f .width) (now (a .words))
-    (a .sign * n + indexIn (a .f .grid) r (a .p .pair) (a .p .spot)) (a .v) i)
+    (a .sign * n + indexIn (a .f .grid) r (a .p .pair) (a .p .point)) (a .v) i)
     (z ∙ ap (sizeOf (a .f .grid)) b) b) in (
       given-then (takes (a .sign) (a .takers)) (plain-once (a .sign) (a .takers) (l .c) (p .2))
           (λ d. rw e (below-all (a .sign) (a .takers) (p .2) (omega arith) d)) plain (l .inv .2),

@@ -33,7 +33,7 @@ returns c =
     let e = c .before .before .join-in .ensures in
     let b = c .before .before .before .before .before .before .before .before .region-at .ensures in
     let t = tablesOf (a .f) (now (a .right)) (now (a .first)) in
-    let x = a .p .spot in
+    let x = a .p .point in
     let i : In (regionAt (now (a .right)) (a .c)) x =
     rw b at (c .before .before .before .before .before .before .is-in .ensures .0
     (c .before .before .before .before .before .if1 .taken)) in (
@@ -52,7 +52,7 @@ returns-2 c =
     let a = s .args in
     let b = c .before .before .before .region-at .ensures in
     let t = tablesOf (a .f) (now (a .right)) (now (a .first)) in (
-      given-none t (a .f .width) (a .p .pair) (a .p .spot) (a .v) (suc (suc (a .c))) (now (a .words))
+      given-none t (a .f .width) (a .p .pair) (a .p .point) (a .v) (suc (suc (a .c))) (now (a .words))
           (λ i. true≢false (sym (c .before .is-in .ensures .1 (rw b i)) ∙ c .if1 .left)),
       grown-none (now (a .words)),
     )

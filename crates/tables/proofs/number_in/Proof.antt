@@ -3,7 +3,7 @@ use native.Mathlib.Omega.{arith}
 use mathlib.Core.Path.{ap}
 use Prim.Native.Nat.{ℕ, _+_}
 use Rattle.places.specs.Regions.{index-below}
-use Rattle.tables.proofs.Rooms.{bit-inside}
+use Rattle.words.specs.Bits.{bit-inside}
 use Rattle.tables.proofs.number_in.Statement.{statement}
 use Rattle.tables.proofs.number_in.Tie as tie
 
@@ -11,20 +11,20 @@ index-in-requires : tie.Need-index-in-requires
 index-in-requires c κs =
     let a = c .before .before .args in
     let p = c .before .before .pre in
-    (omega arith, p .1, bit-inside 32 (a .f .grid .modes) (a .p .spot .mode) (omega arith) (p .1 .mode))
+    (omega arith, p .1, bit-inside 32 (a .f .grid .modes) (a .p .point .mode) (omega arith) (p .1 .mode))
 
 add-result : tie.Need-add-result
 add-result c =
     let a = c .before .before .before .args in
     let p = c .before .before .before .pre in
-    omega (arith, c .index-in .ensures, index-below (a .f .grid) (a .b) (a .p .pair) (a .p .spot) (p .1))
+    omega (arith, c .index-in .ensures, index-below (a .f .grid) (a .b) (a .p .pair) (a .p .point) (p .1))
 
 returns : tie.Need-returns
 returns c =
     let a = c .before .before .before .args in
     let p = c .before .before .before .pre in (
       ap (λ (i : ℕ). a .from + i) (c .index-in .ensures),
-      omega (arith, c .index-in .ensures, index-below (a .f .grid) (a .b) (a .p .pair) (a .p .spot) (p .1)),
+      omega (arith, c .index-in .ensures, index-below (a .f .grid) (a .b) (a .p .pair) (a .p .point) (p .1)),
     )
 
 pub number-in-spec : {M : Type 1} → statement M

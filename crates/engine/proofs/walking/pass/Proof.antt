@@ -3,7 +3,8 @@ use borrow.Author.Needs.{needs}
 use native.Mathlib.Omega.{arith}
 use mathlib.Core.Path.{refl}
 use Rattle.model.specs.Rules.{may}
-use Rattle.engine.proofs.Onward.{turns-able, rules-low, layered, looks-back, readable, further, keeps}
+use Rattle.engine.proofs.Onward.{turns-able, rules-low, layered}
+use Rattle.engine.proofs.Onward.{among-lasting, readable, further, keeps}
 use Rattle.engine.proofs.Onward.{given, notable, listed-first, answered, ends, goes}
 use Rattle.engine.proofs.walking.pass.Statement.{statement}
 use Rattle.engine.proofs.walking.pass.Tie as tie
@@ -16,7 +17,7 @@ evaluate-requires c κs =
     let i = f .before .before .instants .ensures in
     let g = s .pre .1 in
     let h = s .pre .2 in
-    let w = g .walks .posed .drawn .grounds in (
+    let w = g .walks .posed .drawn .well-formed in (
       given g h (i .1) (i .2) (f .fill .ensures),
       (turns-able g refl refl, (rules-low g, w .few, w .there, layered g, refl)),
     )
@@ -67,11 +68,12 @@ mark-broken-requires c κs =
     let i = f .before .before .instants .ensures in
     let g = s .pre .1 in
     let h = s .pre .2 in (
-      λ r b. turns-able g (e .evaluate .ensures .1) refl _ (e .evaluate .ensures .0 .low) r (looks-back g r b
+      λ r b. turns-able g (e .evaluate .ensures .1) refl _ (e .evaluate .ensures .0 .low) r (among-lasting g r
+          b
           .0),
       omega (arith, f .fill .ensures .few, f .fill .ensures .some, i .1),
       keeps g h (i .1) (i .2) (f .fill .ensures) (c .before .before .before .if1 .taken),
-      λ r b. looks-back g r b .1,
+      λ r b. among-lasting g r b .1,
     )
 
 forget-requires : tie.Need-forget-requires

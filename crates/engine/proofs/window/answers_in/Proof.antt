@@ -54,7 +54,7 @@ returns c =
     let b = c .before .before .before .before .all-places .ensures in
     let e = c .before .size-of .ensures ∙ ap (sizeOf (a .f .grid)) b in
     let field : ℕ → Region → ℕ = λ from b.
-    fieldOf (a .f .width) (now (a .words)) (from + indexIn (a .f .grid) b (a .p .pair) (a .p .spot)) in
+    fieldOf (a .f .width) (now (a .words)) (from + indexIn (a .f .grid) b (a .p .pair) (a .p .point)) in
     λ i. bit-less i (c .before .before .field-in .result) (c .field-in2 .result)
     ∙ ap₂ (λ (m n : ℕ). bit i m && not (bit i n)) (c .before .before .field-in .ensures ∙ ap (field 0) b)
     (c .field-in2 .ensures ∙ ap₂ field e b)

@@ -3,7 +3,7 @@ use borrow.Author.Needs.{needs}
 use denote.Ref.{now}
 use Rattle.words.specs.Sums.{grown-none}
 use Rattle.tables.specs.Giving.{tablesOf, takes}
-use Rattle.grounding.proofs.Reading.{given-empty}
+use Rattle.tables.proofs.Giving.{given-zero}
 use Rattle.grounding.proofs.pairs.derive_at.Statement.{statement}
 use Rattle.grounding.proofs.pairs.derive_at.Tie as tie
 
@@ -14,8 +14,8 @@ returns c =
       record {
         value = v .result;
         derived = v .ensures;
-        given = given-empty (tablesOf (a .f) (now (a .right)) (now (a .first))) (a .f .width) (a .p .pair)
-            (a .p .spot) (takes (a .t .sign) (a .t .takers)) (v .result) (now (a .words)) (c .if1 .taken);
+        given = given-zero (tablesOf (a .f) (now (a .right)) (now (a .first))) (a .f .width) (a .p .pair)
+            (a .p .point) (takes (a .t .sign) (a .t .takers)) (v .result) (now (a .words)) (c .if1 .taken);
       },
       grown-none (now (a .words)),
     )

@@ -40,7 +40,7 @@ returns-2 c =
     let b = c .before .before .all-places .ensures in
     let e = c .before .size-of .ensures ∙ ap (sizeOf (a .f .grid)) b in
     let field : ℕ → Region → ℕ = λ from b.
-    fieldOf (a .f .width) (now (a .words)) (from + indexIn (a .f .grid) b (a .y .pair) (a .y .spot)) in
+    fieldOf (a .f .width) (now (a .words)) (from + indexIn (a .f .grid) b (a .y .pair) (a .y .point)) in
     rw (d .if1 .left) (ap₂ less (d .before .field-in .ensures) (c .field-in2 .ensures ∙ ap₂ field e b))
 
 pub in-force-spec : {M : Type 1} → statement M

@@ -1,36 +1,42 @@
 -- The rules that are to do may go on from where the tables are. A turn adds bits, or takes a rule out.
+use borrow.Author.Needs.{needs}
 use native.Mathlib.Omega.{arith}
 use mathlib.Core.Path.{_≡_, refl, sym, ap, _∙_}
-use mathlib.Core.Bool.{Bool, true, true≢false}
+use mathlib.Core.Bool.{Bool, true, _&&_, true≢false}
 use mathlib.Core.List.{List}
 use Prim.Native.Nat.{ℕ, _<_}
 use denote.Ref.{now}
-use lib.Bits.{bitOr, or-lt}
-use lib.ListN.{length, getD}
-use Rattle.foundation.specs.Tests.{or-intro-left, or-true-right, or-cases}
+use lib.Bits.{or-lt}
+use lib.ListN.{length, getD, getD-replicate}
+use Rattle.foundation.specs.Tests.{and-true, and-intro, or-intro-left, or-true-right, or-cases}
 use Rattle.foundation.specs.Masks.{bit}
 use Rattle.words.specs.Bits.{bit-or}
 use Rattle.reach.proofs.Growth.{none-set}
+use Rattle.masks.proofs.BitWalk.{bits-le}
 use Rattle.grounding.specs.Turns.{prepared, Rounds, none, then}
-use Rattle.grounding.proofs.Rounds.{others, among, passes, passed}
-use Rattle.grounding.proofs.Rounds.{weight, lighter, less-to-do}
+use Rattle.grounding.proofs.Rounds.{others, among, measure, lighter, less-to-do}
 use Rattle.grounding.proofs.turns.close.Statement.{statement}
 use Rattle.grounding.proofs.turns.close.Tie as tie
 
 abbrev Inv-loop : tie.InvT-loop
-Inv-loop body rules f left feed sides right need codes number first starts active old bits _ _
+Inv-loop body rules f left feed sides right need codes number first starts active old bits fed _ _
     words dirty at =
     let p = prepared body left feed sides right need codes number first starts f in
     ((w : List ℕ) → Rounds p active bits rules dirty words w → Rounds p active bits rules rules old w)
     × ((q : ℕ) → bit q dirty ≡ true → bit q rules ≡ true)
     × (length words ≡ length old)
     × (at .rule < 64)
+    × ((r q : ℕ) → r < 64 → bit q (getD fed r 0)
+    ≡ bit q rules && (bit r (getD feed q 0) && bit r rules))
 
 abbrev μ-loop : tie.MeasureT-loop
-μ-loop _ _ _ _ _ _ _ _ _ _ _ _ _ _ _ _ _ words dirty _ = weight words dirty
+μ-loop _ _ _ _ _ _ _ _ _ _ _ _ _ _ _ _ _ _ words dirty _ = measure words dirty
+
+transpose-requires : tie.Need-transpose-requires Inv-loop μ-loop
+transpose-requires c κs = λ r h. getD-replicate 64 r 0 0 h
 
 loop-holds : tie.Need-loop-holds Inv-loop μ-loop
-loop-holds c = ((λ w t. t), (λ q e. e), refl, omega arith)
+loop-holds c = ((λ w t. t), (λ q e. e), refl, omega arith, c .transpose .ensures)
 
 next-dirty-requires : tie.Need-next-dirty-requires Inv-loop μ-loop
 next-dirty-requires c κs = (omega arith, c .before .loop .inv .3)
@@ -42,48 +48,60 @@ derive-rule-requires : tie.Need-derive-rule-requires Inv-loop μ-loop
 derive-rule-requires c κs =
     let n = c .before .before .next-dirty in
     let l = c .before .before .before .before .loop in
-    let s = c .before .before .before .before .before .before .before .before .before .before .before in
+    let t = c .before .before .before .before .before in
+    let s = t .before .before .before .before .before .before .before .before in
     rw (l .inv .2) (s .pre (n .result .rule) (l .inv .1 (n .result .rule) (n .ensures .1)))
 
-fed-by-requires : tie.Need-fed-by-requires Inv-loop μ-loop
-fed-by-requires c κs = c .before .before .before .before .before .before .next-dirty .ensures .0
+array-read-dirty : tie.Need-array-read-dirty Inv-loop μ-loop
+array-read-dirty c = c .before .before .before .before .before .before .next-dirty .ensures .0
 
 loop-less : tie.Need-loop-less Inv-loop μ-loop
 loop-less c =
-    let d = c .before .before .before .before in
+    let d = c .before .before .before in
     let x = d .before .before .without in
-    let l = d .before .before .before .before .before .loop in
+    let n = d .before .before .before .next-dirty in
+    let b = d .before .before .before .before .before in
+    let l = b .loop in
+    let s = b .before .before .before .before .before .before .before .before .before in
+    let rules : ℕ = s .args .rules in
     let e = d .derive-rule .ensures in
-    let m = c .fed-by .result in
-    lighter (l .words) _ (l .dirty) (bitOr (x .result) m) (e .2) (e .1 .more (c .before .if1 .taken))
-    (λ i. omega (arith, c .before .before .slice-known2 .given i))
-    (or-lt 64 (x .result) m (omega arith) (omega arith))
+    let r = n .result .rule in
+    let m = bits-le _ rules (λ q y. and-true (bit q rules)
+    (bit r (getD (now (s .args .feed)) q 0) && bit r rules) (sym (l .inv .4 r q (n .ensures .0)) ∙ y) .0) in
+    lighter (l .words) _ (l .dirty) _ (e .2) (e .1 .more (c .if1 .taken))
+    (λ i. omega (arith, c .before .slice-known2 .given i))
+    (or-lt 64 (x .result) _ (omega arith) (omega (arith, m, s .fits .rules)))
 
 loop-again : tie.Need-loop-again Inv-loop μ-loop
 loop-again c =
-    let d = c .before .before .before .before in
+    let d = c .before .before .before in
     let x = d .before .before .without in
     let n = d .before .before .before .next-dirty in
-    let l = d .before .before .before .before .before .loop in
-    let s = d .before .before .before .before .before .before in
-    let a = s .before .before .before .before .before .before .args in
+    let b = d .before .before .before .before .before in
+    let l = b .loop in
+    let s = b .before .before .before .before .before .before .before .before .before in
+    let rules : ℕ = s .args .rules in
     let i = l .inv in
     let e = d .derive-rule .ensures in
     let r = n .result .rule in
-    let m = c .fed-by .result in
-    let looks : ℕ → Bool = λ q. bit r (getD (now (a .feed)) q 0) in (
-      (λ w t. i .0 w (then r (d .derive-rule .result) (n .ensures .1) (i .1 r (n .ensures .1)) (e .0) (e .1)
+    let m : ℕ = getD (b .before .transpose .last .1 .1 .0) r 0 in
+    let own = i .1 r (n .ensures .1) in
+    let looks : ℕ → Bool = λ q. bit r (getD (now (s .args .feed)) q 0) in
+    let fed : (q : ℕ) → bit q m ≡ bit q rules && (looks q && bit r rules) = λ q. i .4 r q (n .ensures .0) in (
+      (λ w t. i .0 w (then r (d .derive-rule .result) (n .ensures .1) own (e .0) (e .1)
           (λ q o z. bit-or (x .result) m q
           ∙ or-intro-left (bit q (x .result)) (bit q m)
           (others (l .dirty) (x .result) r (x .ensures .1) q o z))
           (λ f q h o z. bit-or (x .result) m q
           ∙ or-true-right (bit q (x .result)) (bit q m)
-          (passes looks (a .rules) m (c .fed-by .ensures) q h o z)) t)),
+          (fed q ∙ and-intro (bit q rules) (looks q && bit r rules) o
+          (and-intro (looks q) (bit r rules) z own))) t)),
       (λ q o. or-cases (bit q (x .result)) (bit q m) (sym (bit-or (x .result) m q) ∙ o)
           (λ y. i .1 q (among (l .dirty) (x .result) r (x .ensures .1) q y))
-          (λ y. passed looks (a .rules) m (c .fed-by .ensures) q y .0)),
+          (λ y. and-true (bit q rules) (looks q && bit r rules) (sym (fed q) ∙ y) .0)),
       e .2 ∙ i .2,
       n .ensures .0,
+      i .4,
     )
 
 loop-less-2 : tie.Need-loop-less-2 Inv-loop μ-loop
@@ -109,6 +127,7 @@ loop-again-2 c =
       (λ q o. i .1 q (among (l .dirty) (x .result) r (x .ensures .1) q o)),
       e .2 ∙ i .2,
       n .ensures .0,
+      i .4,
     )
 
 same-length : tie.Need-same-length Inv-loop μ-loop
@@ -123,5 +142,6 @@ returns c =
 pub close-spec : {M : Type 1} → statement M
 close-spec =
     tie.close
-    (tie.spec Inv-loop μ-loop loop-holds next-dirty-requires without-requires derive-rule-requires
-    fed-by-requires loop-less loop-again loop-less-2 loop-again-2 same-length returns)
+    (tie.spec Inv-loop μ-loop transpose-requires loop-holds next-dirty-requires without-requires
+    derive-rule-requires (λ c. search needs) (λ c. search needs) array-read-dirty loop-less loop-again
+    loop-less-2 loop-again-2 same-length returns)

@@ -10,8 +10,9 @@ use Rattle.foundation.specs.Masks.{bit}
 use Rattle.encoding.specs.Format.{ruleAt}
 use Rattle.words.specs.Bits.{bit-or}
 use Rattle.foundation.specs.Tests.{true-eq, eq-true, ne-false}
-use Rattle.outlines.proofs.MaskWords.{no-bit, power-is, shift-one}
-use Rattle.outlines.proofs.BitWalk.{pass-start, pass-turn, pass-end, take-one, leave-one}
+use Rattle.words.proofs.FieldLaws.{bit-shifted}
+use Rattle.masks.proofs.Bits.{no-bit, one-bit}
+use Rattle.masks.proofs.BitWalk.{pass-start, pass-turn, pass-end, take-one, leave-one}
 use Rattle.model.specs.declared.Rule.{Rule}
 use Rattle.outlines.proofs.feed.by_author.Statement.{statement}
 use Rattle.outlines.proofs.feed.by_author.Tie as tie
@@ -64,7 +65,7 @@ loop-again c =
       λ j. ⊎-elim
           (λ w. ap (bit j) (w .1) ∙ bit-or (l .m) (1 * 2 ^ q % 18446744073709551616) j
           ∙ ap₂ (λ (x y : Bool). x || y) (l .inv .2 j)
-          (ap (bit j) (shift-one q (omega arith)) ∙ power-is q j)
+          (ap (bit j) (bit-shifted q (omega arith)) ∙ one-bit q j)
           ∙ take-one (ltb j q && bit j (a .f)) (eqb j q) (t j)
           (λ y. ap t (true-eq j q y) ∙ eq-true (a .author) (ruleAt (now (a .body)) q .author)
           (w .0 .taken ∙ ap authorOf (c .before .before .before .rule-at .ensures)))

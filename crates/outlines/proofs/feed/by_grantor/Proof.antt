@@ -3,7 +3,7 @@ use native.Mathlib.Omega.{arith}
 use mathlib.Core.Path.{_≡_, refl}
 use Rattle.foundation.specs.Masks.{bit}
 use Rattle.foundation.specs.Tests.{eq-true, ne-false}
-use Rattle.outlines.proofs.BitWalk.{and-last}
+use Rattle.masks.proofs.BitWalk.{and-last}
 use Rattle.outlines.proofs.feed.by_grantor.Statement.{statement}
 use Rattle.outlines.proofs.feed.by_grantor.Tie as tie
 

@@ -8,8 +8,8 @@ use lib.Dec.{eqb, ltb}
 use lib.ListN.{getD}
 use Rattle.foundation.specs.Masks.{bit}
 use Rattle.foundation.specs.Tests.{true-eq}
-use Rattle.outlines.proofs.MaskWords.{no-bit}
-use Rattle.outlines.proofs.BitWalk.{pass-start, pass-turn, pass-end, bring-one}
+use Rattle.masks.proofs.Bits.{no-bit}
+use Rattle.masks.proofs.BitWalk.{pass-start, pass-turn, pass-end, bring-one}
 use Rattle.outlines.proofs.feed.draw_fed.Statement.{statement}
 use Rattle.outlines.proofs.feed.draw_fed.Tie as tie
 
@@ -45,7 +45,7 @@ loop-again c =
       e .1,
       e .3,
       (λ w h. f .0 w h ∙ l .inv .2 w h),
-      λ i r h. f .1 i r h
+      λ i r h. f .1 i r
           ∙ ap₂ (λ (x y : Bool). x || (eqb r (l .c) && y)) (l .inv .3 i r h) (ap (bit i) (l .inv .2 (l .c) s))
           ∙ bring-one (ltb r (l .c) && bit r (a .choosy)) (eqb r (l .c)) (bit i (getD (now (a .feed)) r 0))
           (bit i (getD (now (a .feed)) (l .c) 0))

@@ -20,12 +20,12 @@ draw-feeders-requires c κs = c .before .before .pre .0
 draw-fed-requires : tie.Need-draw-fed-requires
 draw-fed-requires c κs =
     let b = c .before .before .before .before in
-    λ k h. c .before .draw-feeders .ensures .1 k (omega (arith, b .pre .0 .grounds .few)) ∙ b .pre .1 k
+    λ k h. c .before .draw-feeders .ensures .1 k (omega (arith, b .pre .0 .well-formed .few)) ∙ b .pre .1 k
 
 draw-linkers-requires : tie.Need-draw-linkers-requires
 draw-linkers-requires c κs =
     let b = c .before .before .before .before .before .before in
-    (b .pre .0 .grounds .few, λ i h. right-placed (b .pre .0) i h)
+    (b .pre .0 .well-formed .few, λ i h. right-placed (b .pre .0) i h)
 
 returns : tie.Need-returns
 returns c =
@@ -34,7 +34,7 @@ returns c =
     let n = a .n in
     let body = now (a .body) in
     let o = b .pre .0 in
-    let few = o .grounds .few in
+    let few = o .well-formed .few in
     let d = c .before .before .before .before .draw-feeders .ensures in
     let e = c .before .before .draw-fed .ensures in
     let l = c .draw-linkers .ensures in

@@ -26,7 +26,7 @@ feeders-requires : tie.Need-feeders-requires Inv-loop μ-loop
 feeders-requires c κs = (omega arith, c .before .before .before .pre)
 
 put-word-requires : tie.Need-put-word-requires Inv-loop μ-loop
-put-word-requires c κs = omega (arith, c .before .before .before .before .before .pre .grounds .few)
+put-word-requires c κs = omega (arith, c .before .before .before .before .before .pre .well-formed .few)
 
 loop-again : tie.Need-loop-again Inv-loop μ-loop
 loop-again c =

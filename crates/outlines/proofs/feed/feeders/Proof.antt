@@ -11,13 +11,13 @@ use Rattle.outlines.proofs.feed.feeders.Statement.{statement}
 use Rattle.outlines.proofs.feed.feeders.Tie as tie
 
 mul-wide : tie.Need-mul-wide
-mul-wide c = omega (arith, c .before .pre .1 .grounds .few)
+mul-wide c = omega (arith, c .before .pre .1 .well-formed .few)
 
 add-wide : tie.Need-add-wide
-add-wide c = omega (arith, c .before .pre .1 .grounds .few)
+add-wide c = omega (arith, c .before .pre .1 .well-formed .few)
 
 element-copy-out-wide : tie.Need-element-copy-out-wide
-element-copy-out-wide c = omega (arith, c .before .pre .1 .grounds .few)
+element-copy-out-wide c = omega (arith, c .before .pre .1 .well-formed .few)
 
 meeting-requires : tie.Need-meeting-requires
 meeting-requires c κs =
@@ -26,22 +26,22 @@ meeting-requires c κs =
     let h = b .pre .0 in
     let i = b .args .i in
     let s = bit-le (ruleAt (now (b .args .body)) i .right .negative) in (
-      omega (arith, o .grounds .few),
+      omega (arith, o .well-formed .few),
       omega (arith, s, sign-bit o i h, c .wide .ensures .0),
       right-placed o i h,
     )
 
 mul-rule-at : tie.Need-mul-rule-at
-mul-rule-at c = omega (arith, c .before .before .before .before .pre .1 .grounds .few)
+mul-rule-at c = omega (arith, c .before .before .before .before .pre .1 .well-formed .few)
 
 rule-at-requires : tie.Need-rule-at-requires
-rule-at-requires c κs = omega (arith, c .before .before .before .before .pre .1 .grounds .there)
+rule-at-requires c κs = omega (arith, c .before .before .before .before .pre .1 .well-formed .there)
 
 narrowed-requires : tie.Need-narrowed-requires
 narrowed-requires c κs =
     let b = c .before .before .before .before .before in
     let a = b .args in (
-      b .pre .1 .grounds .there,
+      b .pre .1 .well-formed .there,
       meeting-inside (b .pre .1) (a .i) (b .pre .0) _ (c .before .meeting .ensures
           ∙ ap (λ (k : ℕ). meetingWord (now (a .left)) (now (a .right)) (a .i) (k / 2))
           (c .before .before .wide .ensures .0)),

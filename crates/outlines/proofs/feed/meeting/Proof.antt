@@ -7,24 +7,24 @@ use lib.Dec.{eqb}
 use lib.ListN.{getD}
 use lib.Bits.{bitAnd, bitOr}
 use Rattle.foundation.specs.Tests.{pick}
-use Rattle.outlines.specs.Feed.{looksWord, meetingWord}
-use Rattle.outlines.proofs.MaskWords.{looks-below}
+use Rattle.outlines.specs.Feed.{rightModeWord, meetingWord}
+use Rattle.outlines.proofs.MaskWords.{depends-below}
 use Rattle.outlines.proofs.feed.meeting.Statement.{statement}
 use Rattle.outlines.proofs.feed.meeting.Tie as tie
 
 mul-meet-subject : tie.Need-mul-meet-subject
 mul-meet-subject c =
     let b = c .before .before .before in
-    let e = c .looks-word .ensures
-    ∙ ap (λ (m : ℕ). looksWord m (b .args .sign)) (c .before .wide .ensures .0) in
-    omega (arith, looks-below (now (b .args .right)) (b .args .i) (b .pre .2) (b .args .sign) (b .pre .1))
+    let e = c .right-mode-word .ensures
+    ∙ ap (λ (m : ℕ). rightModeWord m (b .args .sign)) (c .before .wide .ensures .0) in
+    omega (arith, depends-below (now (b .args .right)) (b .args .i) (b .pre .2) (b .args .sign) (b .pre .1))
 
 element-copy-out-meet-subject : tie.Need-element-copy-out-meet-subject
 element-copy-out-meet-subject c =
     let b = c .before .before .before in
-    let e = c .looks-word .ensures
-    ∙ ap (λ (m : ℕ). looksWord m (b .args .sign)) (c .before .wide .ensures .0) in
-    omega (arith, looks-below (now (b .args .right)) (b .args .i) (b .pre .2) (b .args .sign) (b .pre .1))
+    let e = c .right-mode-word .ensures
+    ∙ ap (λ (m : ℕ). rightModeWord m (b .args .sign)) (c .before .wide .ensures .0) in
+    omega (arith, depends-below (now (b .args .right)) (b .args .i) (b .pre .2) (b .args .sign) (b .pre .1))
 
 meet-subject-requires : tie.Need-meet-subject-requires
 meet-subject-requires c κs =
@@ -42,7 +42,8 @@ returns c =
     let a = c .before .before .before .before .before .before .before .before .before .before .args in
     let l = now (a .left) in
     let k = c .before .before .before .before .before .before .before in
-    let e = k .looks-word .ensures ∙ ap (λ (m : ℕ). looksWord m (a .sign)) (k .before .wide .ensures .0) in
+    let e = k .right-mode-word .ensures ∙ ap (λ (m : ℕ). rightModeWord m (a .sign)) (k .before .wide .ensures
+    .0) in
     let f = c .before .before .before .meet-subject .ensures
     ∙ ap₂ (λ (w s : ℕ). pick (eqb s 255) (getD l w 0) (bitAnd (getD l w 0) (getD l (65 + s) 0))) e
     (c .before .before .before .before .wide2 .ensures .0) in

@@ -8,8 +8,8 @@ use Rattle.foundation.specs.Tests.{and-false}
 use Rattle.model.specs.declared.OptionTerm.the-variants.{With, Without, Either}
 use Rattle.model.specs.Rules.{fitsGrantor}
 use Rattle.encoding.specs.Format.{ruleAt}
-use Rattle.outlines.proofs.MaskWords.{no-bit}
-use Rattle.outlines.proofs.BitWalk.{and-last}
+use Rattle.masks.proofs.Bits.{no-bit}
+use Rattle.masks.proofs.BitWalk.{and-last}
 use Rattle.outlines.proofs.feed.narrowed.Statement.{statement}
 use Rattle.outlines.proofs.feed.narrowed.Tie as tie
 

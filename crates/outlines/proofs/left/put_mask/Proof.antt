@@ -1,6 +1,6 @@
 use borrow.Author.Needs.{needs}
 use denote.Ref.{now}
-use Rattle.outlines.proofs.MaskWords.{put-bit}
+use Rattle.masks.proofs.Puts.{put-bit}
 use Rattle.outlines.proofs.left.put_mask.Statement.{statement}
 use Rattle.outlines.proofs.left.put_mask.Tie as tie
 

@@ -1,6 +1,6 @@
 use borrow.Author.Needs.{needs}
 use denote.Ref.{now}
-use Rattle.outlines.proofs.MaskWords.{set-at}
+use Rattle.masks.proofs.Puts.{set-at}
 use Rattle.outlines.proofs.left.put_word.Statement.{statement}
 use Rattle.outlines.proofs.left.put_word.Tie as tie
 

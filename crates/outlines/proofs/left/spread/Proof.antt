@@ -8,7 +8,8 @@ use denote.Ref.{now}
 use lib.Dec.{eqb, leb, ltb}
 use lib.ListN.{length, getD, length-set}
 use Rattle.foundation.specs.Masks.{bit}
-use Rattle.outlines.proofs.MaskWords.{join-word, spread-turn, spread-start}
+use Rattle.masks.proofs.Puts.{join-word}
+use Rattle.outlines.proofs.MaskWords.{spread-turn, spread-start}
 use Rattle.outlines.proofs.left.spread.Statement.{statement}
 use Rattle.outlines.proofs.left.spread.Tie as tie
 

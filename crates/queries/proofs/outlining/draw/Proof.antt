@@ -33,7 +33,7 @@ draw-feed-requires c κs =
     let u = r .before .before .before .before in
     let s = u .before .before .before .before .before in (
       record {
-        grounds = s .pre .0;
+        well-formed = s .pre .0;
         chart = record {
           subjects = _;
           objects = _;
@@ -72,7 +72,7 @@ returns c =
     let u = r .before .before .before .before in
     let s = u .before .before .before .before .before in
     record {
-      grounds = s .pre .0;
+      well-formed = s .pre .0;
       charted = record { subjects = u .number-sides .ensures .0; objects = u .number-sides .ensures .1 };
       rights = r .draw-right .ensures .0;
       behind = λ k h. r .draw-right .ensures .1 k h ∙ s .pre .5 k;

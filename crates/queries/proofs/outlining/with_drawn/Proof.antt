@@ -27,7 +27,7 @@ cast-with-sizes c =
       arith,
       d .charted .subjects .below (s .args .x .subject),
       d .charted .subjects .few,
-      d .grounds .few,
+      d .well-formed .few,
     )
 
 cast-with-sizes-2 : tie.Need-cast-with-sizes-2
@@ -39,7 +39,7 @@ cast-with-sizes-2 c =
       arith,
       d .charted .objects .below (s .args .x .object),
       d .charted .objects .few,
-      d .grounds .few,
+      d .well-formed .few,
     )
 
 with-sizes-requires : tie.Need-with-sizes-requires

@@ -8,7 +8,7 @@ use Rattle.queries.proofs.outlining.with_outline.Tie as tie
 draw-requires : tie.Need-draw-requires
 draw-requires c κs =
     let s = c .before .before .before .before .before .before .before .before .before .before in (
-      s .pre .0 .1 .grounds,
+      s .pre .0 .1 .well-formed,
       zeros-blank 1024,
       zeros-blank 130,
       zeros-blank 152,

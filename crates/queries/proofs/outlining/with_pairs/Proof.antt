@@ -34,7 +34,7 @@ map-pairs-requires c κs =
     let k = s .pre .4 .1 .sketch in (
       s .pre .0,
       s .pre .1,
-      chart-small _ (k .outline .rules .grounds .few) (k .outline .rules .charted) .2,
+      chart-small _ (k .outline .rules .well-formed .few) (k .outline .rules .charted) .2,
       s .pre .2,
       s .pre .3,
       pair-in k (now (s .args .need)) (s .pre .1),
@@ -110,8 +110,8 @@ cast-t37 c =
       pair-few (s .pre .4 .1 .sketch),
     )
 
-looks-from-requires : tie.Need-looks-from-requires
-looks-from-requires c κs =
+walk-start-requires : tie.Need-walk-start-requires
+walk-start-requires c κs =
     let l = c .before .before .before .before .before in
     let r = c .before .before .before .before .before .before in
     let y = c .before .before .before .before .before .before .before .before .before .before .before
@@ -148,7 +148,7 @@ with-tables-requires c κs =
               lasts-is = l .lasting-of .ensures;
               total-is = omega (arith, h .lay-out .ensures .0);
               starts-laid = h .lay-out .ensures .1;
-            }) refl refl (z .last-asked .ensures) refl (v .looks-from .ensures);
+            }) refl refl (z .last-asked .ensures) refl (v .walk-start .ensures);
         bodies = s .pre .4 .1 .bodies;
       },
     )
@@ -187,7 +187,7 @@ returns c =
     let m = y .map-pairs .ensures .0 (now (s .args .subjects)) (now (s .args .objects)) in
     λ base b.
     finds-answers (s .args .one) (s .args .t) _ base (s .args .x) _ _ _ (z .last-asked .ensures)
-    (v .looks-from .ensures .all) refl (w .with-tables .ensures base (s .args .x) (record {
+    (v .walk-start .ensures .all) refl (w .with-tables .ensures base (s .args .x) (record {
       holder = b .holder;
       tabled = sketch-tabled (b .sketch) m (r .needed-rules .ensures) (l .lasting-of .result) (h .lay-out
           .result) _
@@ -198,7 +198,7 @@ returns c =
             lasts-is = l .lasting-of .ensures;
             total-is = omega (arith, h .lay-out .ensures .0);
             starts-laid = h .lay-out .ensures .1;
-          }) refl refl (z .last-asked .ensures) refl (v .looks-from .ensures);
+          }) refl refl (z .last-asked .ensures) refl (v .walk-start .ensures);
       bodies = b .bodies;
     }))
 
@@ -208,5 +208,5 @@ with-pairs-spec =
     (tie.spec mul-pair add-pair cast-pair (λ c. search needs) map-pairs-requires (λ c. search needs)
     needed-rules-requires lasting-of-requires lay-all-requires lay-out-requires mul-t49 slice-read-t55
     cast-t37
-    looks-from-requires (λ c κs. search needs) with-tables-requires same-length same-length-2 same-length-3
+    walk-start-requires (λ c κs. search needs) with-tables-requires same-length same-length-2 same-length-3
     (λ c. search needs) returns)

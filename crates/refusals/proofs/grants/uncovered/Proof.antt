@@ -1,12 +1,14 @@
 -- `refusals::grants::uncovered`: the first gap of the authorizations as they are lent (`uncovered-is`).
 use borrow.Author.Needs.{needs}
 use borrow.Author.Tests.{not-true, not-false}
-use mathlib.Core.Path.{_≡_, refl, sym, _∙_, subst}
-use mathlib.Core.Bool.{true}
+use mathlib.Core.Path.{_≡_, sym, _∙_, subst}
+use mathlib.Core.Bool.{true, _&&_}
 use mathlib.Core.List.{List}
 use Prim.Native.Nat.{suc}
 use native.Mathlib.Omega.{arith}
+use lib.Dec.{eqb}
 use denote.Ref.{now}
+use Rattle.foundation.specs.Tests.{or-false}
 use Rattle.model.specs.declared.Authorization.{Authorization}
 use Rattle.model.specs.Encoding.{decode}
 use Rattle.model.specs.EncodingFacts.{sound-length}
@@ -56,7 +58,7 @@ cast-grantor c = omega (
 
 sub-first-gap : tie.Need-sub-first-gap
 sub-first-gap c =
-    let l = c .before .before .before .before in
+    let l = c .before .before .before .before .before .before in
     let n = l .before in
     let d = n .before .before .before .before .before .before in
     omega (
@@ -70,7 +72,7 @@ part-first-gap-start c = sub-first-gap c
 
 first-gap-requires : tie.Need-first-gap-requires
 first-gap-requires c κs =
-    let l = c .before .before .before .before .before .before in
+    let l = c .before .before .before .before .before .before .before .before in
     let n = l .before in
     let d = n .before .before .before .before .before .before in
     let f = fitting (now (d .args .s)) (d .pre .0) (n .counts-of .result) (n .counts-of .ensures) in
@@ -80,7 +82,7 @@ first-gap-requires c κs =
 
 returns-3 : tie.Need-returns-3
 returns-3 c =
-    let l = c .before .before .before .before .before .before .before in
+    let l = c .before .before .before .before .before .before .before .before .before in
     let n = l .before in
     let e = n .before in
     let d = e .before .before .before .before .before in
@@ -93,7 +95,13 @@ returns-3 c =
     (subst (λ (xs : List Authorization). GapIs xs h (q .interval) (c .first-gap .result))
     (authorizations-lent s (n .counts-of .result) (n .counts-of .ensures) (l .authorizations-at .result)
     (l .authorizations-at .ensures))
-    (c .first-gap .ensures .model h refl))
+    (c .first-gap .ensures .model h (λ k. record {
+      object = q .object;
+      mode = q .mode;
+      grantor = q .requester;
+      option = sym (or-false (eqb (q .kind) 2)) k && q .option;
+      before = q .now;
+    })))
 
 pub uncovered-spec : {M : Type 1} → statement M
 uncovered-spec =

@@ -1,112 +1,21 @@
--- The loop's invariant is `Chose`.
+-- The test says that what is asked starts at 0 and ends with the last instant.
 use borrow.Author.Needs.{needs}
-use native.Mathlib.Omega.{arith}
-use mathlib.Core.Path.{_≡_, sym, ap, _∙_, subst}
-use mathlib.Core.List.{List}
-use Prim.Native.Nat.{ℕ, _-_}
-use denote.Ref.{now}
-use Rattle.model.specs.declared.Authorization.{Authorization}
-use Rattle.relevance.specs.Chosen.{authorizationAt, number-inside}
-use Rattle.relevance.specs.Needed.{isNeeded, neededIn, Placed}
-use Rattle.relevance.specs.declared.choice.Cell.{Cell}
-use Rattle.relevance.proofs.Keeping.{Chose, chose-start, chose-turn, chose-end, charted}
+use lib.Dec.{eqb}
+use Rattle.foundation.specs.Tests.{and-true, true-eq}
 use Rattle.relevance.proofs.choice.choose.Statement.{statement}
 use Rattle.relevance.proofs.choice.choose.Tie as tie
 
-abbrev Inv-loop : tie.InvT-loop
-Inv-loop lines total x subjects objects stride need which₀ n₀ i₀ which n i =
-    Chose (isNeeded subjects objects x stride need) lines total which₀ which n i
-
-abbrev μ-loop : tie.MeasureT-loop
-μ-loop lines total x subjects objects stride need which₀ n₀ i₀ which n i = total - i
-
--- what is known of the authorization at i is known of the one read
-placed-at : (s : List ℕ) (i : ℕ) (r : Authorization) → r ≡ authorizationAt s i →
-    Placed (authorizationAt s i .head) → Placed (r .head)
-placed-at s i r e p = subst (λ (a : Authorization). Placed (a .head)) (sym e) p
-
-loop-holds : tie.Need-loop-holds Inv-loop μ-loop
-loop-holds c =
-    let a = c .before .before .before .args in
-    chose-start (isNeeded (now (a .subjects)) (now (a .objects)) (a .x) (a .stride) (now (a .need)))
-    (now (a .lines)) (a .total) (now (a .which))
-
-mul-authorization-at : tie.Need-mul-authorization-at Inv-loop μ-loop
-mul-authorization-at c =
-    let b = c .before .before .before .before .before in
-    omega (
-      arith,
-      number-inside (c .before .loop .i) (b .args .total) (now (b .args .lines)) (omega arith)
-          (b .pre .bytes),
-    )
-
-authorization-at-requires : tie.Need-authorization-at-requires Inv-loop μ-loop
-authorization-at-requires c κs =
-    let b = c .before .before .before .before .before in
-    number-inside (c .before .loop .i) (b .args .total) (now (b .args .lines)) (omega arith) (b .pre .bytes)
-
-cast-which : tie.Need-cast-which Inv-loop μ-loop
-cast-which c = omega (arith, c .before .before .before .before .before .before .before .pre .numbers)
-
-slice-write-which : tie.Need-slice-write-which Inv-loop μ-loop
-slice-write-which c =
-    let b = c .before .before .before .before .before .before .before in
-    let v = c .before .before .before .loop .inv in
-    omega (arith, v .few, v .same-length, b .pre .room)
-
-cell-of-requires : tie.Need-cell-of-requires Inv-loop μ-loop
-cell-of-requires c κs =
-    let b = c .before .before .before .before .before .before .before in
-    let r = c .before .authorization-at in
-    let i = c .before .before .before .loop .i in
-    let p = placed-at (now (b .args .lines)) i (r .result) (r .ensures) (b .pre .placed i (omega arith)) in
-    (p .subject, p .object)
-
-is-needed-requires : tie.Need-is-needed-requires Inv-loop μ-loop
-is-needed-requires c κs =
-    let b = c .before .before .before .before .before .before .before .before in
-    let a = b .args in
-    let r = c .before .before .authorization-at in
-    let i = c .before .before .before .before .loop .i in
-    let e = c .cell-of .ensures in (
-      placed-at (now (a .lines)) i (r .result) (r .ensures) (b .pre .placed i (omega arith)),
-      charted (now (a .lines)) (a .total) (now (a .subjects)) (now (a .objects)) (a .stride) (now (a .need))
-          (now (a .which)) (b .pre) (a .x) (r .result .head) (c .cell-of .result) (e .0) (e .1) (e .2),
-    )
-
-counted-requires : tie.Need-counted-requires Inv-loop μ-loop
-counted-requires c κs =
-    let b = c .before .before .before .before .before .before .before .before .before in
-    omega (arith, c .before .before .before .before .before .loop .inv .few, b .pre .numbers)
-
-loop-again : tie.Need-loop-again Inv-loop μ-loop
-loop-again c =
-    let b = c .before .before .before .before .before .before .before .before .before .before in
-    let a = b .args in
-    let l = c .before .before .before .before .before .before .loop in
-    let r = c .before .before .before .before .authorization-at in
-    let k = c .before .before .cell-of in
-    chose-turn (isNeeded (now (a .subjects)) (now (a .objects)) (a .x) (a .stride) (now (a .need)))
-    (now (a .lines)) (a .total) (now (a .which)) (l .which) (l .n) (l .i) (c .counted .result)
-    (c .before .is-needed .result) (l .inv) (omega arith) (b .pre .room)
-    (c .before .is-needed .ensures
-    ∙ ap (λ (d : Cell). neededIn (a .stride) (now (a .need)) d (r .result .head)) (k .ensures .0)
-    ∙ ap (isNeeded (now (a .subjects)) (now (a .objects)) (a .x) (a .stride) (now (a .need))) (r .ensures))
-    (c .counted .ensures)
-
-same-length : tie.Need-same-length Inv-loop μ-loop
-same-length c = c .before .loop .inv .same-length
-
-returns : tie.Need-returns Inv-loop μ-loop
+returns : tie.Need-returns
 returns c =
-    let a = c .before .before .before .before .before .args in
-    let l = c .before .loop in
-    chose-end (isNeeded (now (a .subjects)) (now (a .objects)) (a .x) (a .stride) (now (a .need)))
-    (now (a .lines)) (a .total) (now (a .which)) (l .which) (l .n) (l .i) (l .inv) (omega arith)
+    let t = c .before .before .before .before in
+    let v = t .before .before .before .before .before .before .args .asked in
+    let w = and-true (eqb (v .start) 0) (eqb (v .end) 4294967295) (t .if1 .taken) in
+    let s = true-eq (v .start) 0 (w .0) in
+    let e = true-eq (v .end) 4294967295 (w .1) in
+    rw (s, e) (c .before .before .choose-needed .ensures)
 
 pub choose-spec : {M : Type 1} → statement M
 choose-spec =
     tie.close
-    (tie.spec Inv-loop μ-loop loop-holds mul-authorization-at authorization-at-requires cast-which
-    (λ c. search needs) slice-write-which cell-of-requires is-needed-requires counted-requires
-    (λ c. search needs) (λ c. search needs) loop-again same-length returns)
+    (tie.spec (λ c κs. search needs) (λ c. search needs) returns (λ c κs. search needs) (λ c. search needs)
+    (λ c. search needs))

@@ -1,4 +1,4 @@
--- The loop's invariant is `Grown`, and that what is near stands.
+-- One instant is a window (`only-one`). The loop's invariant is `Grown`, and that what is near stands.
 use borrow.Author.Needs.{needs}
 use native.Mathlib.Omega.{arith}
 use mathlib.Core.Path.{sym, ap, _∙_}
@@ -11,7 +11,7 @@ use Rattle.encoding.specs.Format.{rulesIn}
 use denote.Ref.{now}
 use Rattle.relevance.specs.Ahead.{Standing}
 use Rattle.relevance.specs.Chosen.{marksFor, marks-for, picked, selected}
-use Rattle.relevance.proofs.Growing.{Grown, grown-start, grown-turn, grown-end}
+use Rattle.relevance.proofs.Growing.{Grown, grown-start, only-one, grown-turn, grown-end}
 use Rattle.relevance.proofs.filling.fill.Statement.{statement}
 use Rattle.relevance.proofs.filling.fill.Tie as tie
 use Rattle.relevance.proofs.filling.fill.Reads as reads
@@ -31,7 +31,7 @@ abbrev μ-loop : tie.MeasureT-loop
 
 loop-holds : tie.Need-loop-holds Inv-loop μ-loop
 loop-holds c =
-    let b = c .before .before .before .before in
+    let b = c .before .before .before .before .before in
     let a = b .args in (
       grown-start (marksFor (now (a .lines)) (now (a .which)) (now (a .body)) (a .c)) (a .from) (a .to)
           (a .width) (now (a .marks)) (b .pre .4) (b .pre .1) (omega arith),
@@ -51,20 +51,21 @@ Looping =
       next-of-reads.Learnt,
     ) reads.Pre reads.Post Inv-loop μ-loop
 
-tested : (c : Looping) → let a = c .before .before .before .before .before .before .args in
+tested : (c : Looping) → let a = c .before .before .before .before .before .before .before .args in
     (c .before .loop .count < a .width) × (c .before .loop .t ≤ a .to)
 tested c =
     let l = c .before .loop in
-    let a = c .before .before .before .before .before .before .args in
+    let a = c .before .before .before .before .before .before .before .args in
     let w = and-true (ltb (l .count) (a .width)) (leb (l .t) (a .to)) (c .loop-test .taken) in
     (true-le (suc (l .count)) (a .width) (w .0), true-le (l .t) (a .to) (w .1))
 
 near-at-requires : tie.Need-near-at-requires Inv-loop μ-loop
-near-at-requires c κs = (c .before .before .before .before .before .before .pre .0, c .before .loop .inv .1)
+near-at-requires c κs =
+    (c .before .before .before .before .before .before .before .pre .0, c .before .loop .inv .1)
 
 loop-again : tie.Need-loop-again Inv-loop μ-loop
 loop-again c =
-    let b = c .before .before .before .before .before .before .before .before in
+    let b = c .before .before .before .before .before .before .before .before .before in
     let a = b .args in
     let l = c .before .before .before .loop in
     let w = tested (c .before .before) in
@@ -81,7 +82,14 @@ loop-again c =
 
 returns : tie.Need-returns Inv-loop μ-loop
 returns c =
-    let b = c .before .before .before .before .before .before in
+    let b = c .before .before .before .before in
+    let a = b .args in
+    only-one (marksFor (now (a .lines)) (now (a .which)) (now (a .body)) (a .c)) (a .from) (a .to)
+    (a .width) (now (a .marks)) (b .pre .4) (c .if1 .taken) (omega arith) (b .pre .2)
+
+returns-2 : tie.Need-returns-2 Inv-loop μ-loop
+returns-2 c =
+    let b = c .before .before .before .before .before .before .before in
     let a = b .args in
     let l = c .before .loop in
     grown-end (marksFor (now (a .lines)) (now (a .which)) (now (a .body)) (a .c)) (a .from) (a .to)
@@ -91,7 +99,7 @@ returns c =
 pub fill-spec : {M : Type 1} → statement M
 fill-spec =
     tie.close
-    (tie.spec Inv-loop μ-loop (λ c κs. search needs) loop-holds (λ c. omega (arith, tested c))
-    (λ c. omega (arith, tested c)) (λ c. omega (arith, tested c)) (λ c. omega (arith, tested c))
-    (λ c. omega (arith, tested c)) near-at-requires (λ c κs. search needs)
-    (λ c. omega (arith, tested (c .before .before))) loop-again returns)
+    (tie.spec Inv-loop μ-loop (λ c. search needs) (λ c. search needs) returns (λ c κs. search needs)
+    loop-holds (λ c. omega (arith, tested c)) (λ c. omega (arith, tested c)) (λ c. omega (arith, tested c))
+    (λ c. omega (arith, tested c)) (λ c. omega (arith, tested c)) near-at-requires (λ c κs. search needs)
+    (λ c. omega (arith, tested (c .before .before))) loop-again returns-2)

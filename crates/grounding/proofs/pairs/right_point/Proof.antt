@@ -1,7 +1,7 @@
 -- Coordinate by coordinate.
 use borrow.Author.Needs.{needs}
-use Rattle.grounding.proofs.pairs.right_spot.Statement.{statement}
-use Rattle.grounding.proofs.pairs.right_spot.Tie as tie
+use Rattle.grounding.proofs.pairs.right_point.Statement.{statement}
+use Rattle.grounding.proofs.pairs.right_point.Tie as tie
 
 returns : tie.Need-returns
 returns c = λ i. record {
@@ -10,6 +10,6 @@ returns c = λ i. record {
   object = c .turn3 .ensures i;
 }
 
-pub right-spot-spec : {M : Type 1} → statement M
-right-spot-spec =
+pub right-point-spec : {M : Type 1} → statement M
+right-point-spec =
     tie.close (tie.spec (λ c κs. search needs) (λ c κs. search needs) (λ c κs. search needs) returns)

@@ -13,8 +13,8 @@ use Rattle.foundation.specs.declared.Interval.{Interval}
 use Rattle.model.specs.declared.Rule.{Rule}
 use Rattle.masks.proofs.Loops.{Passed, passed-start, passed-turn}
 use Rattle.selection.proofs.Seen.{Seen, Idle, idle}
-use Rattle.selection.proofs.looking.first_look.Statement.{statement}
-use Rattle.selection.proofs.looking.first_look.Tie as tie
+use Rattle.selection.proofs.history.history_start.Statement.{statement}
+use Rattle.selection.proofs.history.history_start.Tie as tie
 
 abbrev Inv-loop : tie.InvT-loop
 Inv-loop body lasting t least₀ back₀ r₀ least back r =
@@ -75,8 +75,8 @@ returns-2 c =
     let s = c .before .before .before .before .before in
     (omega arith, λ r e. l .inv .3 r (omega (arith, s .pre r e .0, l .inv .0)) e .1 (c .if2 .left))
 
-pub first-look-spec : {M : Type 1} → statement M
-first-look-spec =
+pub history-start-spec : {M : Type 1} → statement M
+history-start-spec =
     tie.close
     (tie.spec Inv-loop μ-loop (λ c κs. search needs) loop-holds (λ c. search needs) (λ c. search needs)
     rule-at-requires (λ c. search needs) (λ c κs. search needs) (λ c. search needs) loop-again returns

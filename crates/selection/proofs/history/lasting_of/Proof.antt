@@ -12,9 +12,9 @@ use Rattle.foundation.specs.Masks.{bit}
 use Rattle.model.specs.declared.Rule.{Rule}
 use Rattle.model.specs.Stratification.{lasting}
 use Rattle.encoding.specs.Format.{ruleAt}
-use Rattle.masks.specs.Collecting.{Collected, collect-start, collect-turn}
-use Rattle.selection.proofs.looking.lasting_of.Statement.{statement}
-use Rattle.selection.proofs.looking.lasting_of.Tie as tie
+use Rattle.masks.proofs.Collecting.{Collected, collect-start, collect-turn}
+use Rattle.selection.proofs.history.lasting_of.Statement.{statement}
+use Rattle.selection.proofs.history.lasting_of.Tie as tie
 
 -- rule i looks back
 abbrev back : List ℕ → ℕ → Bool

@@ -5,9 +5,9 @@ ghost use mathlib.Core.Bool.{true, false, _&&_};
 ghost use Prim.Native.Nat.{ℕ, _+_, _*_, _≤_, _<_};
 ghost use Rattle.foundation.specs.Masks.{bit};
 ghost use Rattle.foundation.specs.Intervals.{inInterval};
+ghost use Rattle.masks.specs.Masks.{RulesIn};
 ghost use Rattle.questions.specs.Operators.{lasting};
 ghost use Rattle.encoding.specs.Format.{ruleAt};
-ghost use Rattle.selection.specs.Selection.{RulesIn};
 use encoding::rule_at;
 use evaluation::is_lasting;
 use masks::with_if;
@@ -32,7 +32,7 @@ pub fn lasting_of(body: &[u8], rules: u64) -> u64
 
 // The instant from which on the answer at t can be found: t, if none of some rules that look back is at work
 // before t; else where the first of them starts.
-pub fn first_look(body: &[u8], lasting: u64, t: u32) -> u32
+pub fn history_start(body: &[u8], lasting: u64, t: u32) -> u32
     requires { ⌜ RulesIn lasting (now body) ⌝ }
     ensures { λ x. ⌜ (x ≤ t) × ((r : ℕ) → bit r lasting ≡ true →
         (x ≤ ruleAt (now (body .entry)) r .interval .start)

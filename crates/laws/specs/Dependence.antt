@@ -1,5 +1,5 @@
--- Which patterns a rule looks at for an access (`Looks`), and for which of them at what holds below its
--- stratum (`LooksBelow`). Both are used through their laws: what a right side is read from is said here
+-- Which patterns a rule looks at for an access (`Depends`), and for which of them at what holds below its
+-- stratum (`DependsBelow`). Both are used through their laws: what a right side is read from is said here
 -- alone.
 use mathlib.Core.Path.{_≡_, refl, sym, ap, _∙_}
 use mathlib.Core.Logic.{_⊎_, inl, inr, ⊎-elim}
@@ -34,41 +34,41 @@ abbrev Denials : Rule → Access → Pattern → Type 0
 Denials r x p = (r .right .negative ≡ false) × (p ≡ asked (rightOf r x .access) true)
 
 -- r, standing for x, looks at p: at its right side, and at denials of it if that is positive
-unfoldable pub Looks : Rule → Access → Pattern → Type 0
-Looks r x p = (p ≡ rightOf r x) ⊎ Denials r x p
+unfoldable pub Depends : Rule → Access → Pattern → Type 0
+Depends r x p = (p ≡ rightOf r x) ⊎ Denials r x p
 
 -- and looks at what holds of p below its stratum: a rule with WHENEVERNOT or UNLESS does, and every rule at
 -- denials
-unfoldable pub LooksBelow : Rule → Access → Pattern → Type 0
-LooksBelow r x p = ((negates r ≡ true) × Looks r x p) ⊎ Denials r x p
+unfoldable pub DependsBelow : Rule → Access → Pattern → Type 0
+DependsBelow r x p = ((negates r ≡ true) × Depends r x p) ⊎ Denials r x p
 
 module _ (r : Rule) (x : Access) (p : Pattern) where
-  pub looks-access : Looks r x p → p .access ≡ rightOf r x .access
-  unfolding Looks
-  looks-access e = ⊎-elim (λ a. ap (λ (q : Pattern). q .access) a)
+  pub depends-access : Depends r x p → p .access ≡ rightOf r x .access
+  unfolding Depends
+  depends-access e = ⊎-elim (λ a. ap (λ (q : Pattern). q .access) a)
       (λ d. ap (λ (q : Pattern). q .access) (d .1)) e
 
-  pub below-looks : LooksBelow r x p → Looks r x p
-  unfolding Looks LooksBelow
-  below-looks w = ⊎-elim (λ n. n .1) (λ d. inr d) w
+  pub below-depends : DependsBelow r x p → Depends r x p
+  unfolding Depends DependsBelow
+  below-depends w = ⊎-elim (λ n. n .1) (λ d. inr d) w
 
-  pub negates-below : negates r ≡ true → Looks r x p → LooksBelow r x p
-  unfolding LooksBelow
+  pub negates-below : negates r ≡ true → Depends r x p → DependsBelow r x p
+  unfolding DependsBelow
   negates-below g e = inl (g, e)
 
   denials-strictly : (base : Base) → Denials r x p → StrictlyFed base r p
   denials-strictly base d q f = strictly-linked base r x (d .0) q (rw (← d .1) f)
 
   -- what r looks at is derived by rules that precede it,
-  pub looks-fed : (base : Base) → Looks r x p → Fed base r p
-  unfolding Looks
-  looks-fed base e q f = ⊎-elim (λ a. fit-precedes base q r x (rw (← a) f))
+  pub depends-fed : (base : Base) → Depends r x p → Fed base r p
+  unfolding Depends
+  depends-fed base e q f = ⊎-elim (λ a. fit-precedes base q r x (rw (← a) f))
       (λ d. denials-strictly base d q f .0) e
 
   -- and by steps that count where it looks below its stratum
-  pub looks-strictly : (base : Base) → LooksBelow r x p → StrictlyFed base r p
-  unfolding LooksBelow
-  looks-strictly base w = ⊎-elim (λ n. strictly-fed base r (n .0) p (looks-fed base (n .1)))
+  pub depends-strictly : (base : Base) → DependsBelow r x p → StrictlyFed base r p
+  unfolding DependsBelow
+  depends-strictly base w = ⊎-elim (λ n. strictly-fed base r (n .0) p (depends-fed base (n .1)))
       (λ d. denials-strictly base d) w
 
   module _ (s : Rule) (twins : Twins r s) where
@@ -78,22 +78,22 @@ module _ (r : Rule) (x : Access) (p : Pattern) where
       d .1 ∙ ap (λ (q : Pattern). asked (q .access) true) (right-twin r s twins x),
     )
 
-    pub looks-twin : Looks r x p → Looks s x p
-    unfolding Looks
-    looks-twin e = ⊎-elim (λ a. inl (a ∙ right-twin r s twins x)) (λ d. inr (denials-twin d)) e
+    pub depends-twin : Depends r x p → Depends s x p
+    unfolding Depends
+    depends-twin e = ⊎-elim (λ a. inl (a ∙ right-twin r s twins x)) (λ d. inr (denials-twin d)) e
 
-    pub below-twin : LooksBelow r x p → LooksBelow s x p
-    unfolding LooksBelow
-    below-twin w = ⊎-elim (λ n. inl (ap negates (sym twins) ∙ n .0, looks-twin (n .1)))
+    pub below-twin : DependsBelow r x p → DependsBelow s x p
+    unfolding DependsBelow
+    below-twin w = ⊎-elim (λ n. inl (ap negates (sym twins) ∙ n .0, depends-twin (n .1)))
         (λ d. inr (denials-twin d)) w
 
 -- where no less holds of what r looks at, and the same of what it looks at below its stratum, its right side
 -- counts as held no less
 pub right-carry : (r : Rule) (x : Access) (same same′ lower lower′ : Pattern → Bool) →
-    ((p : Pattern) → Looks r x p → same p ≡ true → same′ p ≡ true) →
-    ((p : Pattern) → LooksBelow r x p → lower p ≡ lower′ p) →
+    ((p : Pattern) → Depends r x p → same p ≡ true → same′ p ≡ true) →
+    ((p : Pattern) → DependsBelow r x p → lower p ≡ lower′ p) →
     rightHolds same lower (rightOf r x) ≡ true → rightHolds same′ lower′ (rightOf r x) ≡ true
-unfolding Looks LooksBelow rightOf
+unfolding Depends DependsBelow rightOf
 right-carry r x same same′ lower lower′ h k e =
     let p = rightOf r x in
     let w = right-is same lower p .0 e in
@@ -103,7 +103,7 @@ right-carry r x same same′ lower lower′ h k e =
 -- a rule with WHENEVERNOT or UNLESS looks only below its stratum: where the same holds there, its right side
 -- counts as held alike
 pub right-alike : (r : Rule) (x : Access) (lower lower′ : Pattern → Bool) → negates r ≡ true →
-    ((p : Pattern) → LooksBelow r x p → lower p ≡ lower′ p) →
+    ((p : Pattern) → DependsBelow r x p → lower p ≡ lower′ p) →
     rightHolds lower lower (rightOf r x) ≡ rightHolds lower′ lower′ (rightOf r x)
 right-alike r x lower lower′ g k =
     agree (rightHolds lower lower (rightOf r x)) (rightHolds lower′ lower′ (rightOf r x))

@@ -183,7 +183,7 @@ module _ (s : List ℕ) (e : soundBytes s ≡ true) (c : Counts) (q : c ≡ coun
         rules-are = sym as-rules;
         few = omega (arith, f);
         there = there s la (authorizationsAt c) (c .authorizations * 24) al (omega (arith, f));
-        grounds = record {
+        well-formed = record {
           few = omega (arith, f);
           there = there s ra (rulesAt c) (c .rules * 28) ar (omega (arith, f));
           left = λ i h. sides i h .0;
@@ -213,7 +213,7 @@ ruleless-bodies {base = base} b = record {
   rules-are = refl;
   few = b .few;
   there = b .there;
-  grounds = record {
+  well-formed = record {
     few = omega arith;
     there = omega arith;
     left = λ i h. absurd (omega arith);
@@ -255,7 +255,7 @@ module _ {holder : Base} {lines : List ℕ} {total : ℕ} {body : List ℕ} {n :
     fewer (may base x) 4294967295 lent 4294967296 w list r o (omega arith) (λ h. absurd (omega arith)),
     most,
     b .few,
-    b .grounds .few,
+    b .well-formed .few,
   )
 
   -- the intervals where MAY says yes are WHEN's
@@ -269,7 +269,7 @@ module _ {holder : Base} {lines : List ℕ} {total : ℕ} {body : List ℕ} {n :
       Filling (when base x) r list list′ → Listing (when base x) r list list′
   listing r list list′ room w = record {
     count = w .count;
-    few = omega (arith, w .count, most, b .few, b .grounds .few);
+    few = omega (arith, w .count, most, b .few, b .well-formed .few);
     lent = w .lent ∙ filled-all (when base x) list (omega arith) ∙ sym (listed-all (when base x) list room);
   }
 
@@ -278,7 +278,7 @@ module _ {holder : Base} {lines : List ℕ} {total : ℕ} {body : List ℕ} {n :
       r ≡ length (when base x) → Listing (when base x) r list list
   listing-short r list short e = record {
     count = e;
-    few = omega (arith, most, b .few, b .grounds .few);
+    few = omega (arith, most, b .few, b .well-formed .few);
     lent = sym (listed-short (when base x) list short);
   }
 

@@ -2,8 +2,8 @@ use borrow.Author.Needs.{needs}
 use native.Mathlib.Omega.{arith}
 use mathlib.Core.Path.{_≡_, refl}
 use Rattle.foundation.specs.Tests.{eq-true, ne-false}
-use Rattle.outlines.proofs.feed.looks_word.Statement.{statement}
-use Rattle.outlines.proofs.feed.looks_word.Tie as tie
+use Rattle.outlines.proofs.feed.right_mode_word.Statement.{statement}
+use Rattle.outlines.proofs.feed.right_mode_word.Tie as tie
 
 returns : tie.Need-returns
 returns c = rw (eq-true _ _ (c .if1 .taken))
@@ -11,7 +11,7 @@ returns c = rw (eq-true _ _ (c .if1 .taken))
 returns-2 : tie.Need-returns-2
 returns-2 c = rw (ne-false _ _ (c .if1 .left))
 
-pub looks-word-spec : {M : Type 1} → statement M
-looks-word-spec =
+pub right-mode-word-spec : {M : Type 1} → statement M
+right-mode-word-spec =
     tie.close (tie.spec (λ c. search needs) returns (λ c. search needs) (λ c. search needs)
     (λ c. search needs) returns-2)

@@ -1,16 +1,19 @@
 -- A walk over the bits of a word, from each to the next: which are passed (`pass-start`, `pass-turn`,
--- `pass-end`), and what is gathered on the way. Words with the same bits are one (`same-bits`).
+-- `pass-end`), and what is gathered on the way. Words with the same bits are one (`same-bits`), and
+-- one with fewer is less (`bits-le`).
 use mathlib.Core.Path.{_≡_, refl, sym, ap, _∙_}
 use mathlib.Core.Bool.{Bool, true, false, _&&_, _||_}
 use Prim.Native.Nat.{ℕ, zero, suc, _+_, _*_, _/_, _%_, _^_, _≤_, _<_}
-use native.Mathlib.Nat.{pow-succ', div-one, div-eq-of-lt, pow-le-pow-right, lt-of-lt-of-le}
+use native.Mathlib.Nat.{pow-succ', div-one, pow-le-pow-right, lt-of-lt-of-le}
 use native.Mathlib.Omega.{arith}
+use lib.Bits.{bitAnd, and-le-r}
 use lib.Dec.{eqb, ltb}
-use Rattle.foundation.specs.Tests.{cases, true-eq, false-eq, le-true, le-false}
-use Rattle.foundation.specs.Tests.{true-le}
-use Rattle.foundation.specs.Tests.{false-le, or-false}
+use Rattle.foundation.specs.Tests.{cases, agree, true-eq, false-eq, le-true, le-false, true-le, false-le}
+use Rattle.foundation.specs.Tests.{or-false}
 use Rattle.foundation.specs.Masks.{bit}
 use Rattle.words.specs.Ones.{bit-half}
+use Rattle.words.specs.Bits.{bit-inside}
+use Rattle.masks.proofs.Bits.{in-both, both-in}
 
 -- nothing is passed before the first
 pub pass-start : (p : ℕ → Bool) (q j : ℕ) → ((i : ℕ) → 0 ≤ i → i < q → p i ≡ false) → ltb j q && p j ≡ false
@@ -36,18 +39,12 @@ pass-turn p q n j h e z = cases (eqb j q)
     (λ d. rw d (z j (omega arith) (true-le (suc j) n d)))
     (λ d. rw d))))
 
--- a word of 64 bits has no further one
-pub bit-high : (x j : ℕ) → x < 18446744073709551616 → 64 ≤ j → bit j x ≡ false
-bit-high x j h k =
-    let l : 18446744073709551616 ≤ 2 ^ j = pow-le-pow-right {n = 2} (omega arith) {i = 64} {j = j} k in
-    let z : x / 2 ^ j ≡ 0 = div-eq-of-lt (omega arith) in
-    rw z
-
 -- all are passed in the end
 pub pass-end : (x q j : ℕ) → x < 18446744073709551616 → 64 ≤ q → ltb j q && bit j x ≡ bit j x
 pass-end x q j h k = cases (ltb j q)
     (λ e. rw e)
-    (λ e. let l = false-le (suc j) q e in rw e (sym (bit-high x j h (omega arith))))
+    (λ e. let l = false-le (suc j) q e in
+    rw e (cases (bit j x) (λ y. absurd (omega (arith, bit-inside 64 x j h y))) (λ y. sym y)))
 
 -- ---- what is gathered
 
@@ -119,3 +116,10 @@ same-bits a b = same-low (a + b) a b (below a (omega arith)) (below b (omega ari
     below : (k : ℕ) → k ≤ a + b → k < 2 ^ (a + b)
     below k h =
         lt-of-lt-of-le (below-power k) (pow-le-pow-right {n = 2} (omega arith) {i = k} {j = a + b} h)
+
+-- a word whose bits are all in another is not greater
+pub bits-le : (a b : ℕ) → ((i : ℕ) → bit i a ≡ true → bit i b ≡ true) → a ≤ b
+bits-le a b h =
+    let e : bitAnd a b ≡ a = same-bits (bitAnd a b) a (λ i. agree (bit i (bitAnd a b)) (bit i a)
+    (λ y. in-both a b i y .0) (λ y. both-in a b i y (h i y))) in
+    omega (arith, and-le-r a b)
