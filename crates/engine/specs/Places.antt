@@ -1,6 +1,5 @@
 -- The places of what was drawn: each access that is needed has its own (`mapping-placed`), and the number of
--- a
--- pair leads back to its object and its subject (`pair-at`, `pair-back`).
+-- a pair leads back to its object and its subject (`pair-at`, `pair-back`).
 use mathlib.Core.Path.{_≡_, refl, sym, ap, _∙_}
 use mathlib.Core.Logic.{⊎-elim}
 use mathlib.Core.Bool.{true, false, true≢false}

@@ -1,7 +1,6 @@
 -- What the steps of a turn mean. A mapping says which access a place stands for, and which pattern a table
--- has
--- of it (`pat`); the words of a mapping are the fields of the tables (`wordsIn`). A step gives what the rule
--- derives, and once all steps are done that is in the tables (`turn-given`).
+-- has of it (`pat`); the words of a mapping are the fields of the tables (`wordsIn`). A step gives what the
+-- rule derives, and once all steps are done that is in the tables (`turn-given`).
 use mathlib.Core.Path.{_≡_, refl, sym, ap, ap₂, _∙_, subst}
 use mathlib.Core.Bool.{Bool, true, false, not, _&&_, _||_, true≢false}
 use mathlib.Core.List.{List}

@@ -1,4 +1,4 @@
-// Dependence things up in a base: who owns, administers, refers or controls, who is denied, which objects and
+// Looking things up in a base: who owns, administers, refers or controls, who is denied, which objects and
 // labels exist; and what such questions rest on: ranges of numbers, kinds of requests, the order of records.
 mod base;
 mod bodies;

@@ -10,7 +10,8 @@ ghost use Rattle.reach.specs.Net.{Only};
 ghost use Rattle.reach.specs.Reach.{Grown, Kept, Stepped};
 use words::next_bit;
 
-// A place: the coordinates of its object, subject and mode, and how many subjects there are.
+// The place that rules lead on from: the coordinates of its object, subject and mode, and how many subjects
+// there are.
 pub struct Origin {
     pub object: usize,
     pub subject: usize,
