@@ -1,2 +1,2 @@
--- `ByRows` has the answers of MAY and WHEN by the rows of the table that apply.
-pub mod ByRows
+-- `AnswersByRows` has the answers of MAY and WHEN by the rows of the table that apply.
+pub mod AnswersByRows

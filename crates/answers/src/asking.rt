@@ -5,7 +5,7 @@ ghost use Rattle.model.specs.Encoding.{decode};
 ghost use Rattle.model.specs.Soundness.{soundBytes};
 ghost use Rattle.model.specs.Step.{firstNumber};
 ghost use Rattle.model.specs.Answers.{answering, mayReply, mayAnswer, whenAnswer};
-ghost use Rattle.answers.specs.Asking.{accessRows};
+ghost use Rattle.answers.specs.AskingRows.{accessRows};
 use model::Access;
 use model::Question;
 use model::Reply;

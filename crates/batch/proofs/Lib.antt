@@ -1,2 +1,2 @@
--- `Filled` has the byte list while the questions are answered.
-pub mod Filled
+-- `AnswerBytes` has the byte list while the questions are answered.
+pub mod AnswerBytes

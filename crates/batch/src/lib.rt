@@ -6,7 +6,7 @@ ghost use lib.Dec.{eqb};
 ghost use lib.ListN.{length, drop};
 ghost use Rattle.foundation.specs.Tests.{pick};
 ghost use Rattle.model.specs.Soundness.{soundBytes};
-ghost use Rattle.batch.specs.Prepared.{Prepared};
+ghost use Rattle.batch.specs.Prepared.{TablePrepared};
 ghost use Rattle.model.specs.Batch.{replyByte, byteFor, batchRefusal, Batched, questionIn, questionsIn};
 use model::Access;
 use model::Question;
@@ -30,14 +30,14 @@ fn byte_of(r: Reply) -> u8
 // What is the same for all questions, worked out once where there are any: so far nothing.
 fn prepare(base: &[u8], questions: usize) -> [u64; 1]
     requires { ⌜ (0 < questions → soundBytes (now base) ≡ true) ⌝ }
-    ensures { λ t. ⌜ (0 < questions → Prepared (now (base .entry)) t) ⌝ }
+    ensures { λ t. ⌜ (0 < questions → TablePrepared (now (base .entry)) t) ⌝ }
 {
     [0u64; 1]
 }
 
 // The byte for one question, over a base that is known to be sound.
 fn byte_for(base: &[u8], prepared: &[u64], q: Question) -> u8
-    requires { ⌜ (soundBytes (now base) ≡ true) × Prepared (now base) (now prepared) ⌝ }
+    requires { ⌜ (soundBytes (now base) ≡ true) × TablePrepared (now base) (now prepared) ⌝ }
     ensures { λ r. ⌜ r ≡ byteFor (now (base .entry)) q ⌝ }
 {
     byte_of(answers::may_sound(base, q))

@@ -5,7 +5,7 @@ ghost use lib.ListN.{length};
 ghost use Rattle.foundation.specs.Lists.{allb};
 ghost use Rattle.model.specs.Soundness.{privilegeIn};
 ghost use Rattle.encoding.specs.Format.{privilegesIn, authorizationsIn, rulesIn};
-ghost use Rattle.bodies.specs.Parts.{privilegeTest, authorizationTest, ruleTest};
+ghost use Rattle.bodies.specs.BodyTests.{privilegeTest, authorizationTest, ruleTest};
 use crate::tests::authorization_in;
 use crate::tests::privilege_in;
 use crate::tests::rule_in;

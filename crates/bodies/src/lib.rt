@@ -3,7 +3,7 @@ ghost use mathlib.Core.Path.{_≡_};
 ghost use Prim.Native.Nat.{_*_, _≤_};
 ghost use lib.ListN.{length};
 ghost use Rattle.encoding.specs.Format.{privilegesIn, authorizationsIn, rulesIn};
-ghost use Rattle.bodies.specs.Parts.{objectsPart, privilegesPart, authorizationsPart, rulesPart};
+ghost use Rattle.bodies.specs.BodyTests.{objectsPart, privilegesPart, authorizationsPart, rulesPart};
 
 mod each;
 mod orders;

@@ -6,7 +6,7 @@ ghost use lib.ListN.{length};
 ghost use Rattle.model.specs.Requests.{before};
 ghost use Rattle.model.specs.Soundness.{chained};
 ghost use Rattle.encoding.specs.Format.{privilegesIn, authorizationsIn, rulesIn};
-ghost use Rattle.bodies.specs.Parts.{neighbours};
+ghost use Rattle.bodies.specs.BodyTests.{neighbours};
 use crate::tests::neighbour_test;
 use encoding::authorization_at;
 use encoding::privilege_at;

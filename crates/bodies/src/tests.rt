@@ -1,9 +1,14 @@
-// The tests of single records and of neighbours, by value. Where a test holds of any 16-bit or 32-bit number,
-// it is there for the definition's sake and costs nothing.
+// The tests of single records and of neighbours, by value.
 ghost use mathlib.Core.Path.{_≡_};
 ghost use Rattle.model.specs.Soundness.{privilegeIn, intervalIn, authorizationIn, sideIn, ruleIn, sameHead};
-ghost use Rattle.bodies.specs.Parts.{neighbours, starsMeet};
+ghost use Rattle.model.specs.Soundness.{starsMeet};
+ghost use Rattle.bodies.specs.BodyTests.{neighbours};
 use foundation::Interval;
+use lookup::instant_in;
+use lookup::label_in;
+use lookup::mode_in;
+use lookup::object_in;
+use lookup::subject_in;
 use model::Authorization;
 use model::Head;
 use model::Privilege;
@@ -14,13 +19,13 @@ use model::Side;
 pub fn privilege_in(p: Privilege) -> bool
     ensures { λ r. ⌜ r ≡ privilegeIn p ⌝ }
 {
-    ((1 <= p.object) & (p.object <= 128)) & ((1 <= p.subject) & (p.subject <= 1023))
+    object_in(p.object as u32) & subject_in(p.subject as u32)
 }
 
 fn interval_in(i: Interval) -> bool
     ensures { λ r. ⌜ r ≡ intervalIn i ⌝ }
 {
-    (i.start <= 4294967295) & (i.end <= 4294967295)
+    instant_in(i.start) & instant_in(i.end)
 }
 
 // Every number of an authorization is in its range.
@@ -28,12 +33,12 @@ pub fn authorization_in(a: Authorization) -> bool
     ensures { λ r. ⌜ r ≡ authorizationIn a ⌝ }
 {
     let h = a.head;
-    ((1 <= h.label) & (h.label <= 65535))
-        & ((1 <= h.grantor) & (h.grantor <= 1023))
-        & ((1 <= h.subject) & (h.subject <= 1023))
-        & ((1 <= h.object) & (h.object <= 128))
-        & ((1 <= h.mode) & (h.mode <= 8))
-        & (h.granted <= 4294967295)
+    label_in(h.label as u32)
+        & subject_in(h.grantor as u32)
+        & subject_in(h.subject as u32)
+        & object_in(h.object as u32)
+        & mode_in(h.mode as u32)
+        & instant_in(h.granted)
         & interval_in(a.interval)
 }
 
@@ -41,20 +46,20 @@ pub fn authorization_in(a: Authorization) -> bool
 fn side_in(s: Side) -> bool
     ensures { λ r. ⌜ r ≡ sideIn s ⌝ }
 {
-    ((s.subject == 0) | ((1 <= s.subject) & (s.subject <= 1023)))
-        & ((s.mode == 0) | ((1 <= s.mode) & (s.mode <= 8)))
-        & ((s.object == 0) | ((1 <= s.object) & (s.object <= 128)))
+    ((s.subject == 0) | subject_in(s.subject as u32))
+        & ((s.mode == 0) | mode_in(s.mode as u32))
+        & ((s.object == 0) | object_in(s.object as u32))
 }
 
 // Every number of a rule is in its range, or the star where one may stand.
 pub fn rule_in(r: Rule) -> bool
     ensures { λ x. ⌜ x ≡ ruleIn r ⌝ }
 {
-    ((1 <= r.label) & (r.label <= 65535))
-        & ((1 <= r.author) & (r.author <= 1023))
+    label_in(r.label as u32)
+        & subject_in(r.author as u32)
         & side_in(r.left)
         & side_in(r.right)
-        & ((r.grantor == 0) | ((1 <= r.grantor) & (r.grantor <= 1023)))
+        & ((r.grantor == 0) | subject_in(r.grantor as u32))
         & interval_in(r.interval)
 }
 

@@ -1,1 +1,2 @@
-pub mod Filling
+pub mod RowFilling
+pub mod RowFacts

@@ -44,7 +44,7 @@ fn put_instant(column: &mut [u8], t: u32)
     put_number(column, t);
 }
 
-fn sign_of(h: Head) -> u8
+fn sign_byte(h: Head) -> u8
     ensures { λ r. ⌜ r ∷ [] ≡ printSign h ⌝ }
 {
     if h.negative {
@@ -53,7 +53,7 @@ fn sign_of(h: Head) -> u8
     b'+'
 }
 
-fn option_of(h: Head) -> u8
+fn option_byte(h: Head) -> u8
     ensures { λ r. ⌜ r ∷ [] ≡ printOption h ⌝ }
 {
     if h.negative {
@@ -74,7 +74,7 @@ fn put_head(row: &mut [u8], h: Head)
     put_number(&mut row[5..10], h.grantor as u32);
     put_number(&mut row[10..15], h.subject as u32);
     put_number(&mut row[15..17], h.mode as u32);
-    fields::put4(row, 17, b' ', sign_of(h), b' ', option_of(h));
+    fields::put4(row, 17, b' ', sign_byte(h), b' ', option_byte(h));
 }
 
 // Fills a row.

@@ -1,6 +1,6 @@
 -- What is wanted of an authorization is what the model asks of one that stands directly before another:
--- `supports-wanted`, which looks into the model's `supports`.
-use mathlib.Core.Path.{_≡_, refl, _∙_}
+-- `supports-wanted`.
+use mathlib.Core.Path.{_≡_, refl, sym, _∙_}
 use Prim.Native.Nat.{ℕ}
 use mathlib.Core.Bool.{Bool, _&&_}
 use mathlib.Core.List.{List, [], _∷_}
@@ -9,12 +9,12 @@ use Rattle.foundation.specs.Lists.{anyb, any-cong}
 use Rattle.foundation.specs.Intervals.{inInterval}
 use Rattle.model.specs.declared.Head.{Head}
 use Rattle.model.specs.declared.Authorization.{Authorization}
-use Rattle.model.specs.Support.{supports, live, coveredFor}
-use Rattle.cover.specs.Cover.{wantOf, wanted, coveredBy}
+use Rattle.model.specs.Support.{supports, supports-eq, live, coveredFor}
+use Rattle.cover.specs.Cover.{wantOf, headFor, wanted, coveredBy}
 
 pub supports-wanted : (k h : Head) → supports k h ≡ wanted (wantOf h) k
-unfolding supports wanted
-supports-wanted k h = refl
+unfolding wanted
+supports-wanted k h = supports-eq k h ∙ sym (supports-eq k (headFor (wantOf h)))
 
 -- ---- what covers an instant
 

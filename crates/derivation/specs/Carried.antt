@@ -22,7 +22,7 @@ use Rattle.model.specs.Stratification.{stratified}
 use Rattle.model.specs.Rules.{operate, rightOf}
 use Rattle.model.specs.HoldsFacts.{below-steady}
 use Rattle.model.specs.HoldsLaws.{holding, derived-law}
-use Rattle.questions.specs.Operators.{lasting, operate-back}
+use Rattle.questions.specs.OperatorSteps.{lasting, operate-back}
 use Rattle.questions.specs.Table.{truth}
 use Rattle.derivation.specs.Window.{Window}
 use Rattle.derivation.specs.Words.{Framed}

@@ -8,24 +8,24 @@ use native.Mathlib.Omega.{arith}
 use lib.Dec.{ltb}
 use Rattle.foundation.specs.Tests.{cases, true-le, false-le}
 use Rattle.foundation.specs.Intervals.{inInterval, inInterval-in, inInterval-true}
-use Rattle.foundation.specs.Masks.{bit}
+use Rattle.foundation.specs.BitMasks.{bit}
 use Rattle.model.specs.declared.Operator.{Operator}
 use Rattle.model.specs.declared.Rule.{Rule}
-use Rattle.questions.specs.Operators.{lasting}
+use Rattle.questions.specs.OperatorSteps.{lasting}
 use Rattle.words.specs.Bits.{no-bits}
 use Rattle.derivation.specs.Window.{made}
 use Rattle.derivation.specs.Lasting.{made-idle, made-plain}
 use Rattle.derivation.specs.Words.{bit-zero, derivedWord, Framed, word-made}
 
 -- a is the first bit of a word
-pub record First (a active : ℕ) : Type 0 where
+pub record FirstBit (a active : ℕ) : Type 0 where
   pub set : bit a active ≡ true
   pub none : (i : ℕ) → i < a → bit i active ≡ false
 
 -- r is what a rule derives that is active at some instants, and held as the operator wants at some of them
 pub record Derived (o : Operator) (held active : ℕ) (broken : Bool) (r : ℕ) : Type 0 where
   pub within : r ≤ active
-  pub word : (a : ℕ) → First a active → (i : ℕ) → bit i r ≡ bit i (derivedWord o held active broken a)
+  pub word : (a : ℕ) → FirstBit a active → (i : ℕ) → bit i r ≡ bit i (derivedWord o held active broken a)
 
 -- a number is below a power of two, so that a word with no bit is 0
 below-power : (n : ℕ) → n < 2 ^ n
@@ -33,7 +33,7 @@ below-power zero = omega arith
 below-power (suc n) = rw (pow-succ' 2 n) (omega (arith, below-power n))
 
 -- a word has a first bit below n, or none there
-first-or-none : {X : Type 0} (active n : ℕ) → ((a : ℕ) → a < n → First a active → X) →
+first-or-none : {X : Type 0} (active n : ℕ) → ((a : ℕ) → a < n → FirstBit a active → X) →
     (((i : ℕ) → i < n → bit i active ≡ false) → X) → X
 first-or-none active zero f g = g (λ i h. absurd (omega arith))
 first-or-none active (suc n) f g = first-or-none active n
@@ -67,7 +67,7 @@ module _ (r : Rule) (k : ℕ) (ms : ℕ → ℕ) (f : Framed r k ms) (right : �
       ap (bit i) w ∙ bit-zero i
       ∙ sym (made-idle r ms right before i (sym (acts i h) ∙ z i h))
 
-  first-made : (a : ℕ) → a < k → First a active → (i : ℕ) → i < k → bit i v ≡ made r ms right before i
+  first-made : (a : ℕ) → a < k → FirstBit a active → (i : ℕ) → i < k → bit i v ≡ made r ms right before i
   first-made a l w i h =
       let there : inInterval (r .interval) (ms a) ≡ true = sym (acts a l) ∙ w .set in
       let outside : (j : ℕ) → j < a → inInterval (r .interval) (ms j) ≡ false =

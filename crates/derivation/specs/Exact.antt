@@ -8,7 +8,7 @@ use mathlib.Core.Bool.{Bool, true, _&&_, false≢true}
 use Rattle.foundation.specs.Tests.{agree, and-true, and-intro, or-cases, or-intro-left, or-true-right}
 use Rattle.foundation.specs.Lists.{anyb, Mem, any-mem, mem-any}
 use Rattle.foundation.specs.Intervals.{inInterval, always}
-use Rattle.foundation.specs.Masks.{bit}
+use Rattle.foundation.specs.BitMasks.{bit}
 use Rattle.model.specs.declared.Authorization.{Authorization}
 use Rattle.model.specs.declared.Rule.{Rule}
 use Rattle.model.specs.declared.Access.{Access}
@@ -22,36 +22,36 @@ use Rattle.questions.specs.Table.{truth}
 use Rattle.derivation.specs.Words.{bit-zero}
 
 -- the word of each access in each table
-abbrev pub Tables : Type 0
-Tables = ℕ → Access → ℕ
+abbrev pub AccessWords : Type 0
+AccessWords = ℕ → Access → ℕ
 
 module _ (base : Base) (count : ℕ) (ms : ℕ → ℕ) (pat : ℕ → Access → Pattern)
     (Kept : ℕ → Access → Type 0) where
   -- what the words say holds
-  abbrev pub SoundWords : Tables → Type 0
+  abbrev pub SoundWords : AccessWords → Type 0
   SoundWords W = (T : ℕ) (x : Access) → Kept T x → (i : ℕ) → i < count → bit i (W T x) ≡ true →
       holds always base (ms i) (pat T x) ≡ true
 
   -- an authorization is in the words
-  abbrev pub LineIn : Tables → Authorization → Type 0
+  abbrev pub LineIn : AccessWords → Authorization → Type 0
   LineIn W a = (T : ℕ) (x : Access) → Kept T x → fits (pat T x) (a .head) ≡ true → (i : ℕ) → i < count →
       inInterval (a .interval) (ms i) ≡ true → bit i (W T x) ≡ true
 
   -- the words say nothing wrong, and have all authorizations in them
-  pub record Valued (W : Tables) : Type 0 where
+  pub record Valued (W : AccessWords) : Type 0 where
     pub sound : SoundWords W
     pub lines : (a : Authorization) → Mem a (base .authorizations) → LineIn W a
 
   -- what the rule derives for x is in the words, for all x
-  abbrev pub GivenAt : Tables → Rule → Access → Type 0
+  abbrev pub GivenAt : AccessWords → Rule → Access → Type 0
   GivenAt W r x = (T : ℕ) → Kept T x → derivesFor base (pat T x) r ≡ true → (i : ℕ) → i < count →
       truth base (ms i) r x ≡ true → bit i (W T x) ≡ true
 
-  abbrev pub Done : Tables → Rule → Type 0
+  abbrev pub Done : AccessWords → Rule → Type 0
   Done W r = (x : Access) → GivenAt W r x
 
   -- words with no bit say nothing wrong
-  pub none-sound : (W : Tables) → ((T : ℕ) (x : Access) → Kept T x → W T x ≡ 0) → SoundWords W
+  pub none-sound : (W : AccessWords) → ((T : ℕ) (x : Access) → Kept T x → W T x ≡ 0) → SoundWords W
   none-sound W z T x k i h e = absurd (false≢true (sym (ap (bit i) (z T x k) ∙ bit-zero i) ∙ e))
 
 -- ---- what holds, and by what
@@ -92,7 +92,7 @@ held-cases base S t p e f g =
 module _ (base : Base) (count : ℕ) (ms : ℕ → ℕ) (pat : ℕ → Access → Pattern)
     (on : (T : ℕ) (x : Access) → pat T x .access ≡ x) (Kept : ℕ → Access → Type 0) where
   -- the word is right, if the rules that derive for its pattern have given what they derive
-  pub exact : (W : Tables) → Valued base count ms pat Kept W → (T : ℕ) (x : Access) → Kept T x →
+  pub exact : (W : AccessWords) → Valued base count ms pat Kept W → (T : ℕ) (x : Access) → Kept T x →
       ((r : Rule) → Mem r (base .rules) → derivesFor base (pat T x) r ≡ true →
       GivenAt base count ms pat Kept W r x) →
       (i : ℕ) → i < count → bit i (W T x) ≡ holds always base (ms i) (pat T x)

@@ -14,7 +14,7 @@ use Rattle.foundation.specs.Tests.{and-mono, or-mono}
 use Rattle.foundation.specs.Lists.{Mem}
 use Rattle.foundation.specs.Closure.{iter}
 use Rattle.foundation.specs.Intervals.{inInterval, inInterval-true, always}
-use Rattle.foundation.specs.Masks.{bit}
+use Rattle.foundation.specs.BitMasks.{bit}
 use Rattle.model.specs.declared.Rule.{Rule}
 use Rattle.model.specs.declared.Access.{Access}
 use Rattle.model.specs.declared.Pattern.{Pattern}
@@ -24,16 +24,17 @@ use Rattle.model.specs.Stratification.{negates-heavy}
 use Rattle.model.specs.StratificationFacts.{feeder-below, stratum-few}
 use Rattle.model.specs.Rules.{Fact, fact, fits, standsFor, derivesFor, rightOf, operate, holdsBy, rightBy}
 use Rattle.model.specs.Rules.{asked, derives, enough, derivedBelow, holds}
+use Rattle.model.specs.SideFacts.{right-sign}
 use Rattle.model.specs.RightFacts.{right-is}
 use Rattle.model.specs.HoldsFacts.{below-steady, below-stratum, rounds, rounds-below}
 use Rattle.model.specs.HoldsLaws.{holding, fit-precedes, StrictlyFed, strictly-fed, right-settled}
 use Rattle.model.specs.HoldsLaws.{strictly-linked, strictly-settled, settled-at}
 use Rattle.laws.specs.Dependence.{Depends}
-use Rattle.questions.specs.Operators.{lasting, sense, operate-back, operate-now, sense-more}
+use Rattle.questions.specs.OperatorSteps.{lasting, sense, operate-back, operate-now, sense-more}
 use Rattle.questions.specs.Table.{truth, instant-before}
 use Rattle.derivation.specs.Window.{Window, made}
 use Rattle.derivation.specs.Lasting.{prior, made-by}
-use Rattle.derivation.specs.Exact.{Tables, Valued, Done, held-cases}
+use Rattle.derivation.specs.Exact.{AccessWords, Valued, Done, held-cases}
 use Rattle.derivation.specs.Turn.{Evaluated, evaluated-stays, right-seen, right-sound}
 use Rattle.derivation.specs.Turn.{right-exact, evaluated-made, right-made}
 
@@ -59,16 +60,16 @@ made-more r ms right more before k f (suc i) h e =
 module _ (base : Base) (count : ℕ) (ms : ℕ → ℕ) (pat : ℕ → Access → Pattern)
     (Kept : ℕ → Access → Type 0) where
   -- what the rule derives for x of the tables is in table T already
-  abbrev pub ShutAt : Tables → Rule → ℕ → Access → Type 0
+  abbrev pub ShutAt : AccessWords → Rule → ℕ → Access → Type 0
   ShutAt W r T x = (v : ℕ) × Evaluated base count ms pat Kept W r x v
       × ((i : ℕ) → i < count → bit i v ≡ true → bit i (W T x) ≡ true)
 
   -- and so for all words that the rule derives for
-  abbrev pub Shut : Tables → Rule → Type 0
+  abbrev pub Shut : AccessWords → Rule → Type 0
   Shut W r = (T : ℕ) (x : Access) → Kept T x → derivesFor base (pat T x) r ≡ true → ShutAt W r T x
 
   -- that stays so while the words that the rule looks at do not change, and no bit is lost
-  pub shut-stays : (W W′ : Tables) (r : Rule) (T : ℕ) (x : Access) →
+  pub shut-stays : (W W′ : AccessWords) (r : Rule) (T : ℕ) (x : Access) →
       ((R : ℕ) → Depends r x (pat R (rightOf r x .access)) → Kept R (rightOf r x .access) →
       W′ R (rightOf r x .access) ≡ W R (rightOf r x .access)) →
       ((i : ℕ) → bit i (W T x) ≡ true → bit i (W′ T x) ≡ true) →
@@ -82,7 +83,7 @@ module _ (base : Base) (count : ℕ) (ms : ℕ → ℕ) (pat : ℕ → Access �
 module _ (base : Base) (s : stratified (base .rules) ≡ true) (count : ℕ) (ms : ℕ → ℕ)
     (w : Window base count ms) (pat : ℕ → Access → Pattern)
     (on : (T : ℕ) (x : Access) → pat T x .access ≡ x) (Kept : ℕ → Access → Type 0)
-    (W : Tables) (a : Valued base count ms pat Kept W) (k : ℕ)
+    (W : AccessWords) (a : Valued base count ms pat Kept W) (k : ℕ)
     (below : (q : Rule) → Mem q (base .rules) → stratum (base .rules) q < k →
     Done base count ms pat Kept W q) where
   module _ (r : Rule) (m : Mem r (base .rules)) (h : stratum (base .rules) r ≡ k) (x : Access) (v : ℕ)
@@ -188,7 +189,6 @@ module _ (base : Base) (s : stratified (base .rules) ≡ true) (count : ℕ) (ms
             h (strictly-settled base s r m (ms i) p f)
 
         same-in : same (ms i) ≡ true → bit i (e .seen) ≡ true
-        unfolding rightOf
         same-in b =
             let c = right-is (holdsBy always base (stage n) (ms i)) (holdsBy always base lower (ms i))
             (rightOf r x) .0 b in
@@ -198,7 +198,7 @@ module _ (base : Base) (s : stratified (base .rules) ≡ true) (count : ℕ) (ms
             (λ q p d t. given q p
             (subst (λ (z : Pattern). derivesFor base z q ≡ true) (sym (e .looks)) d) t) in
             right-seen base s count ms w pat on Kept W a r m x v e (linked-done r m h x v e) i inside held
-            (λ d. sym (settled (asked y true) (strictly-linked base r x d)) ∙ c .1 d)
+            (λ d. sym (settled (asked y true) (strictly-linked base r x d)) ∙ c .1 (right-sign r x ∙ d))
 
         under-is : negating (r .operator) ≡ true → under (ms i) ≡ bit i (e .seen)
         under-is g =

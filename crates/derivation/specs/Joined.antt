@@ -8,7 +8,7 @@ use lib.Dec.{eqb}
 use Rattle.foundation.specs.Tests.{cases, true-eq, eq-true, or-cases, or-intro-left, or-true-right}
 use Rattle.foundation.specs.Lists.{Mem}
 use Rattle.foundation.specs.Intervals.{inInterval}
-use Rattle.foundation.specs.Masks.{bit}
+use Rattle.foundation.specs.BitMasks.{bit}
 use Rattle.model.specs.declared.Authorization.{Authorization}
 use Rattle.model.specs.declared.Rule.{Rule}
 use Rattle.model.specs.declared.Access.{Access}
@@ -17,7 +17,8 @@ use Rattle.model.specs.Base.{Base}
 use Rattle.model.specs.Rules.{fits, derivesFor}
 use Rattle.laws.specs.Narrowing.{accessOf, fits-access}
 use Rattle.questions.specs.Table.{truth}
-use Rattle.derivation.specs.Exact.{Tables, SoundWords, LineIn, Valued, GivenAt, line-holds, rule-holds}
+use Rattle.derivation.specs.Exact.{AccessWords, SoundWords, LineIn, Valued, GivenAt, line-holds}
+use Rattle.derivation.specs.Exact.{rule-holds}
 
 -- two accesses are the same or not
 same-or-not : {X : Type 0} (z x : Access) → (z ≡ x → X) → ((z ≡ x → ⊥) → X) → X
@@ -35,11 +36,11 @@ same-or-not z x f g = cases (eqb (z .subject) (x .subject))
 
 module _ (Kept : ℕ → Access → Type 0) where
   -- v is joined to the words of x in the tables that take it, and no other word that is kept changes
-  pub record Joined (W W′ : Tables) (takes : ℕ → Bool) (x : Access) (v : ℕ) : Type 0 where
+  pub record Joined (W W′ : AccessWords) (takes : ℕ → Bool) (x : Access) (v : ℕ) : Type 0 where
     pub there : (T : ℕ) → Kept T x → takes T ≡ true → (i : ℕ) → bit i (W′ T x) ≡ bit i (W T x) || bit i v
     pub else-kept : (T : ℕ) (z : Access) → Kept T z → (z ≡ x → takes T ≡ true → ⊥) → W′ T z ≡ W T z
 
-  module _ (W W′ : Tables) (takes : ℕ → Bool) (x : Access) (v : ℕ) (j : Joined W W′ takes x v) where
+  module _ (W W′ : AccessWords) (takes : ℕ → Bool) (x : Access) (v : ℕ) (j : Joined W W′ takes x v) where
     -- a word changes only if v is joined to it
     word-cases : {X : Type 0} (T : ℕ) (z : Access) → Kept T z →
         (z ≡ x → takes T ≡ true → ((i : ℕ) → bit i (W′ T z) ≡ bit i (W T z) || bit i v) → X) →
@@ -68,7 +69,7 @@ module _ (Kept : ℕ → Access → Type 0) where
 module _ (base : Base) (count : ℕ) (ms : ℕ → ℕ) (pat : ℕ → Access → Pattern)
     (on : (T : ℕ) (x : Access) → pat T x .access ≡ x) (Kept : ℕ → Access → Type 0) where
   -- what is in the tables stays there
-  module _ (W W′ : Tables) (takes : ℕ → Bool) (x : Access) (v : ℕ) (j : Joined Kept W W′ takes x v) where
+  module _ (W W′ : AccessWords) (takes : ℕ → Bool) (x : Access) (v : ℕ) (j : Joined Kept W W′ takes x v) where
     pub line-stays : (a : Authorization) → LineIn base count ms pat Kept W a →
         LineIn base count ms pat Kept W′ a
     line-stays a l T z k f i h n = joined-more Kept W W′ takes x v j T z k i (l T z k f i h n)
@@ -78,7 +79,7 @@ module _ (base : Base) (count : ℕ) (ms : ℕ → ℕ) (pat : ℕ → Access �
     given-stays q z g T k d i h n = joined-more Kept W W′ takes x v j T z k i (g T k d i h n)
 
   -- what a rule derives for x is joined to the tables that it derives for
-  module _ (W W′ : Tables) (r : Rule) (x : Access) (v : ℕ)
+  module _ (W W′ : AccessWords) (r : Rule) (x : Access) (v : ℕ)
       (j : Joined Kept W W′ (λ T. derivesFor base (pat T x) r) x v) where
     pub rule-valued : Mem r (base .rules) →
         ((i : ℕ) → i < count → bit i v ≡ true → truth base (ms i) r x ≡ true) →
@@ -98,7 +99,7 @@ module _ (base : Base) (count : ℕ) (ms : ℕ → ℕ) (pat : ℕ → Access �
         j .there T k d i ∙ or-true-right (bit i (W T x)) (bit i v) (right i h ∙ e)
 
   -- the instants of an authorization are joined to the tables that it fits
-  module _ (W W′ : Tables) (a : Authorization) (x : Access) (v : ℕ)
+  module _ (W W′ : AccessWords) (a : Authorization) (x : Access) (v : ℕ)
       (j : Joined Kept W W′ (λ T. fits (pat T x) (a .head)) x v)
       (right : (i : ℕ) → i < count → bit i v ≡ inInterval (a .interval) (ms i)) where
     pub line-sound : Mem a (base .authorizations) → SoundWords base count ms pat Kept W →

@@ -10,9 +10,9 @@ use lib.Dec.{eqb, leb}
 use lib.Pow.{shr-shr}
 use Rattle.foundation.specs.Tests.{cases, le-true, le-false, true-le, false-le}
 use Rattle.foundation.specs.Intervals.{inInterval}
-use Rattle.foundation.specs.Masks.{bit}
+use Rattle.foundation.specs.BitMasks.{bit}
 use Rattle.model.specs.declared.Rule.{Rule}
-use Rattle.questions.specs.Operators.{lasting, sense}
+use Rattle.questions.specs.OperatorSteps.{lasting, sense}
 use Rattle.words.specs.Ones.{upTo, allFrom}
 use Rattle.derivation.specs.Window.{made}
 

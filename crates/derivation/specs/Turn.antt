@@ -8,14 +8,14 @@ use mathlib.Core.Bool.{Bool, true, false, not, _&&_, _||_}
 use Rattle.foundation.specs.Tests.{cases, not-true, and-true}
 use Rattle.foundation.specs.Lists.{Mem}
 use Rattle.foundation.specs.Intervals.{inInterval, always}
-use Rattle.foundation.specs.Masks.{bit}
+use Rattle.foundation.specs.BitMasks.{bit}
 use Rattle.model.specs.declared.Rule.{Rule}
 use Rattle.model.specs.declared.Access.{Access}
 use Rattle.model.specs.declared.Pattern.{Pattern}
 use Rattle.model.specs.Base.{Base}
 use Rattle.model.specs.Stratification.{stratified, links, precedes, links-precedes}
 use Rattle.model.specs.Rules.{asked, standsFor, derivesFor, rightOf, holds}
-use Rattle.model.specs.SideFacts.{fit-links}
+use Rattle.model.specs.SideFacts.{right-sign, fit-links}
 use Rattle.model.specs.RightFacts.{right-own, right-is}
 use Rattle.model.specs.HoldsLaws.{holding, fit-precedes}
 use Rattle.laws.specs.Dependence.{Depends}
@@ -23,7 +23,7 @@ use Rattle.questions.specs.Table.{truth, Before, right-truth}
 use Rattle.derivation.specs.Window.{Window, made, word-right}
 use Rattle.derivation.specs.Derive.{Derived, derived-made}
 use Rattle.derivation.specs.Carried.{Carried, window-framed}
-use Rattle.derivation.specs.Exact.{Tables, Valued, Done, exact}
+use Rattle.derivation.specs.Exact.{AccessWords, Valued, Done, exact}
 
 -- what was derived at the instant before
 pub before-right : (base : Base) (D : Access → Bool) (t : ℕ) → Before base D (λ r x. truth base (t - 1) r x) t
@@ -44,7 +44,7 @@ right-made base s count ms w r m x n right e =
 -- v is what r derives for x over the window, of the words that it looks at
 module _ (base : Base) (count : ℕ) (ms : ℕ → ℕ) (pat : ℕ → Access → Pattern)
     (Kept : ℕ → Access → Type 0) where
-  pub record Evaluated (W : Tables) (r : Rule) (x : Access) (v : ℕ) : Type 0 where
+  pub record Evaluated (W : AccessWords) (r : Rule) (x : Access) (v : ℕ) : Type 0 where
     -- a table that has the right side's pattern, and keeps its word
     pub table : ℕ
     pub looks : pat table (rightOf r x .access) ≡ rightOf r x
@@ -67,11 +67,11 @@ module _ (base : Base) (count : ℕ) (ms : ℕ → ℕ) (pat : ℕ → Access �
     pub derived : Derived (r .operator) seen active broken v
 
   -- it is so of all tables with the same words of what the rule looks at
-  pub evaluated-stays : (W W′ : Tables) (r : Rule) (x : Access) (v : ℕ) →
+  pub evaluated-stays : (W W′ : AccessWords) (r : Rule) (x : Access) (v : ℕ) →
       ((R : ℕ) → Depends r x (pat R (rightOf r x .access)) → Kept R (rightOf r x .access) →
       W′ R (rightOf r x .access) ≡ W R (rightOf r x .access)) →
       Evaluated W r x v → Evaluated W′ r x v
-  unfolding Depends rightOf
+  unfolding Depends
   evaluated-stays W W′ r x v same e = record {
     table = e .table;
     looks = e .looks;
@@ -80,9 +80,9 @@ module _ (base : Base) (count : ℕ) (ms : ℕ → ℕ) (pat : ℕ → Access �
     denies = e .denies;
     seen = e .seen;
     seen-is = λ i. e .seen-is i ∙ cases (r .right .negative)
-        (λ n. rw (n, same (e .table) (inl (e .looks)) (e .kept)))
+        (λ n. rw (same (e .table) (inl (e .looks)) (e .kept), n))
         (λ n. let d = e .denies n in
-        rw (n, same (e .table) (inl (e .looks)) (e .kept), same (e .denials) (inr (n, d .0)) (d .1)));
+        rw (same (e .table) (inl (e .looks)) (e .kept), same (e .denials) (inr (n, d .0)) (d .1)));
     active = e .active;
     acts = e .acts;
     inside = e .inside;
@@ -94,7 +94,7 @@ module _ (base : Base) (count : ℕ) (ms : ℕ → ℕ) (pat : ℕ → Access �
 module _ (base : Base) (s : stratified (base .rules) ≡ true) (count : ℕ) (ms : ℕ → ℕ)
     (w : Window base count ms) (pat : ℕ → Access → Pattern)
     (on : (T : ℕ) (x : Access) → pat T x .access ≡ x) (Kept : ℕ → Access → Type 0)
-    (W : Tables) (a : Valued base count ms pat Kept W) (r : Rule) (m : Mem r (base .rules)) (x : Access)
+    (W : AccessWords) (a : Valued base count ms pat Kept W) (r : Rule) (m : Mem r (base .rules)) (x : Access)
     (v : ℕ) (e : Evaluated base count ms pat Kept W r x v) where
   -- what is seen of the right side
   abbrev pub rightBit : ℕ → Bool
@@ -119,12 +119,10 @@ module _ (base : Base) (s : stratified (base .rules) ≡ true) (count : ℕ) (ms
     pub right-seen : (i : ℕ) → i < count → bit i (W (e .table) (rightOf r x .access)) ≡ true →
         (r .right .negative ≡ false →
         holds always base (ms i) (asked (rightOf r x .access) true) ≡ false) → rightBit i ≡ true
-    unfolding rightOf
     right-seen i h b d = e .seen-is i ∙ rw b (cases (r .right .negative)
-        (λ n. rw n) (λ n. rw (n, denials-exact n i h, d n)))
+        (λ n. rw n) (λ n. rw (denials-exact n i h, d n, n)))
 
     pub right-sound : (i : ℕ) → i < count → rightBit i ≡ true → holding base (ms i) (rightOf r x) ≡ true
-    unfolding rightOf
     right-sound i h b =
         let y = rightOf r x .access in
         let all : Pattern → Bool = holds always base (ms i) in
@@ -132,14 +130,15 @@ module _ (base : Base) (s : stratified (base .rules) ≡ true) (count : ℕ) (ms
         (sym (e .seen-is i) ∙ b) in
         right-is all all (rightOf r x) .1 (
           subst (λ (p : Pattern). all p ≡ true) (e .looks) (a .sound (e .table) y (e .kept) i h (c .0)),
-          λ n. sym (denials-exact n i h) ∙ not-true (bit i (W (e .denials) y)) (rw n at (c .1)),
+          λ k. let n = sym (right-sign r x) ∙ k in
+              sym (denials-exact n i h) ∙ not-true (bit i (W (e .denials) y))
+              (subst (λ (g : Bool). g || not (bit i (W (e .denials) y)) ≡ true) n (c .1)),
         )
 
     -- what is seen is right, if the rules that derive for the right side have given what they derive, too
     pub right-exact : ((q : Rule) → Mem q (base .rules) → derivesFor base (rightOf r x) q ≡ true →
         Done base count ms pat Kept W q) →
         (i : ℕ) → i < count → rightBit i ≡ holding base (ms i) (rightOf r x)
-    unfolding rightOf
     right-exact fed i h =
         let y = rightOf r x .access in
         let all : Pattern → Bool = holds always base (ms i) in
@@ -148,8 +147,10 @@ module _ (base : Base) (s : stratified (base .rules) ≡ true) (count : ℕ) (ms
         (λ q n d. fed q n (subst (λ (p : Pattern). derivesFor base p q ≡ true) (e .looks) d) y) i h
         ∙ ap all (e .looks) in
         e .seen-is i
+        ∙ ap (λ (n : Bool). bit i (W (e .table) y) && (n || not (bit i (W (e .denials) y))))
+        (sym (right-sign r x))
         ∙ right-own (λ p. bit i (W (e .table) y)) all (λ p. bit i (W (e .denials) y)) all (rightOf r x)
-        held (λ n. denials-exact n i h)
+        held (λ n. denials-exact (sym (right-sign r x) ∙ n) i h)
 
   -- ---- the word that is derived
 

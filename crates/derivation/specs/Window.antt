@@ -13,7 +13,7 @@ use Rattle.model.specs.declared.Access.{Access}
 use Rattle.model.specs.Stratification.{stratified}
 use Rattle.model.specs.Means.{allMarks}
 use Rattle.model.specs.Base.{Base}
-use Rattle.questions.specs.Operators.{lasting, sense}
+use Rattle.questions.specs.OperatorSteps.{lasting, sense}
 use Rattle.questions.specs.Table.{Bits, truth, rightIn, gate, Node, Before, now-law}
 use Rattle.questions.specs.FromMarkToMark.{before-next}
 

@@ -12,12 +12,12 @@ use Rattle.foundation.specs.Tests.{pick, cases, le-true, le-false, true-le, fal
 use Rattle.foundation.specs.Tests.{true-eq}
 use Rattle.foundation.specs.Tests.{or-intro-left, or-true-right}
 use Rattle.foundation.specs.Intervals.{inInterval, inInterval-in, inInterval-true}
-use Rattle.foundation.specs.Masks.{bit}
+use Rattle.foundation.specs.BitMasks.{bit}
 use Rattle.model.specs.declared.Rule.{Rule}
 use Rattle.model.specs.declared.Operator.{Operator}
 use Rattle.model.specs.declared.Operator.the-variants.{Whenever, AsLongAs, WheneverNot, Unless}
 use Rattle.model.specs.Stratification.{negating}
-use Rattle.questions.specs.Operators.{lasting, sense}
+use Rattle.questions.specs.OperatorSteps.{lasting, sense}
 use Rattle.words.specs.Ones.{ones, ones-from}
 use Rattle.words.specs.Bits.{bit-and, bit-less, less}
 use Rattle.derivation.specs.Window.{made}

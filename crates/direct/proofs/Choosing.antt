@@ -14,7 +14,7 @@ use Rattle.foundation.specs.Tests.{cases, or-assoc, or-false, true-eq, eq-true,
 use Rattle.foundation.specs.Lists.{anyb, any-append, keepIf}
 use Rattle.foundation.specs.Intervals.{inInterval, maximal}
 use Rattle.foundation.specs.Marks.{Steady, clear-both, next, next-above, next-clear}
-use Rattle.foundation.specs.Counting.{maximal-count}
+use Rattle.foundation.specs.MaximalCount.{maximal-count}
 use Rattle.model.specs.declared.Access.{Access}
 use Rattle.model.specs.declared.Authorization.{Authorization}
 use Rattle.model.specs.Support.{live}
@@ -27,7 +27,7 @@ use Rattle.relevance.specs.declared.Chosen.{Chosen}
 use Rattle.relevance.specs.Chosen.{authorizationAt, picked, picked-none, picked-more, marksFor}
 use Rattle.direct.specs.Direct.{heldDirectly}
 use Rattle.direct.specs.Among.{isFor, signedAt, heldAmong}
-use Rattle.direct.proofs.Turns.{by-sign, live-step, is-positive, is-negative}
+use Rattle.direct.proofs.FoundLoop.{by-sign, live-step, is-positive, is-negative}
 
 -- ---- an authorization is for the access
 

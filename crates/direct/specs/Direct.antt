@@ -17,6 +17,7 @@ use Rattle.model.specs.Base.{Base}
 use Rattle.model.specs.Support.{live}
 use Rattle.model.specs.Rules.{Fact, fact, fits, standsFor, derivesFor, derivedBelow, holds}
 use Rattle.model.specs.Rules.{asked, may, mayWith, when}
+use Rattle.model.specs.SideFacts.{derives-eq}
 
 -- MAY's answer by the authorizations alone: a positive one has t, and no denial has
 abbrev pub heldDirectly : List Authorization → Access → ℕ → Bool
@@ -36,10 +37,12 @@ module _ (b : Base) (x : Access) (t : ℕ) (none : anyb (λ r. standsFor b r x) 
   -- no rule derives it, whatever rules derive
   underived : (negative : Bool) (S : Fact → Bool) →
       anyb (λ r. let d = S (fact r x t) in derivesFor b (asked x negative) r && d) (b .rules) ≡ false
-  unfolding derivesFor
   underived negative S =
       any-cong-mem (λ r. let d = S (fact r x t) in derivesFor b (asked x negative) r && d) (λ r. false)
-      (b .rules) (λ r m. rw (any-false (λ q. standsFor b q x) (b .rules) none r m) refl)
+      (b .rules) (λ r m. rw (
+        derives-eq b (asked x negative) r,
+        any-false (λ q. standsFor b q x) (b .rules) none r m,
+      ) refl)
       ∙ any-none (λ (r : Rule). false) (b .rules) (λ r. refl)
 
   direct-holds : (negative : Bool) →

@@ -5,7 +5,7 @@ ghost use lib.ListN.{length};
 ghost use Rattle.encoding.specs.Format.{authorizationsIn};
 ghost use Rattle.relevance.specs.Chosen.{authorizationAt, picked, Picks};
 ghost use Rattle.relevance.specs.Needed.{Choice};
-ghost use Rattle.scan.specs.Runs.{Reached};
+ghost use Rattle.scan.specs.Runs.{ScannedTo};
 ghost use Rattle.direct.specs.Among.{isFor, heldAmong};
 ghost use Rattle.direct.specs.Direct.{heldDirectly};
 use encoding::authorization_at;
@@ -72,7 +72,7 @@ fn holds_among(lines: &[u8], which: &[u16], n: usize, t: u32) -> bool
 // open at the end. What they say changes at their marks only.
 fn walk_among(lines: &[u8], which: &[u16], n: usize, list: &mut [u32]) -> Track
     requires { ⌜ Picks (now lines) (now which) n × (n ≤ 64) ⌝ }
-    ensures { λ r. ⌜ Reached (heldAmong (picked (now (lines .entry)) (now (which .entry)) n)) 4294967295
+    ensures { λ r. ⌜ ScannedTo (heldAmong (picked (now (lines .entry)) (now (which .entry)) n)) 4294967295
         (now (list .entry)) 4294967296 r (now (list .exit)) ⌝ }
 {
     let c = Chosen {
@@ -101,7 +101,7 @@ fn walk_among(lines: &[u8], which: &[u16], n: usize, list: &mut [u32]) -> Track
 pub fn walk_directly(lines: &[u8], total: usize, x: Access, list: &mut [u32]) -> Track
     requires { ⌜ (total ≤ 64) × (total * 24 ≤ length (now lines)) × (x .subject < 65536)
         × (x .object < 65536) ⌝ }
-    ensures { λ r. ⌜ Reached (heldDirectly (authorizationsIn total (now (lines .entry))) x) 4294967295
+    ensures { λ r. ⌜ ScannedTo (heldDirectly (authorizationsIn total (now (lines .entry))) x) 4294967295
         (now (list .entry)) 4294967296 r (now (list .exit)) ⌝ }
 {
     let mut which = [0u16; 64];

@@ -1,5 +1,5 @@
 -- The edits of a body of records: one put in (`insertion`), one taken out (`removal`), all replaced
--- (`replacement`). What they need to know of a body is the record `Body`; each of the five is one
+-- (`replacement`). What they need to know of a body is the record `BodyKind`; each of the five is one
 -- (`privileges`, `authorizations`, `rules`).
 use mathlib.Core.Path.{_≡_, refl, sym, ap, _∙_, subst}
 use Prim.Native.Nat.{ℕ, suc, _+_, _-_, _*_, _≤_, _<_}
@@ -32,7 +32,7 @@ use Rattle.edits.proofs.EditedBytes.{countsIn, Differ, Edit, edit, with
 
 -- ---- any body
 
-pub record Body (R : Type 0) : Type 1 where
+pub record BodyKind (R : Type 0) : Type 1 where
   -- the records of the body, and the base with others
   pub of : Base → List R
   pub with : List R → Base → Base
@@ -74,7 +74,7 @@ each-split {R} f i xs =
     ap (λ (l : List R). each l f) (sym (take-append-drop i xs)) ∙ each-append (take i xs) (drop i xs) f
 
 -- bytes s that are written, with the body k: c are the counts that they name
-module _ {R : Type 0} (k : Body R) (s : List ℕ) (W : Written s) (c : Counts) (e : c ≡ countsOf s) where
+module _ {R : Type 0} (k : BodyKind R) (s : List ℕ) (W : Written s) (c : Counts) (e : c ≡ countsOf s) where
   known : c ≡ countsIn (decode s)
   known = e ∙ written-counts s W
 
@@ -237,7 +237,7 @@ privileges-limited Objects b f = omega arith
 privileges-limited Administrators b f = omega arith
 privileges-limited Referrers b f = omega arith
 
-abbrev pub privileges : PrivilegeBody → Body Privilege
+abbrev pub privileges : PrivilegeBody → BodyKind Privilege
 privileges k = record {
   of = privilegesOf k;
   with = withPrivileges k;
@@ -267,7 +267,7 @@ authorizations-start b =
     rw (length-append (before-privileges Referrers b) (each (b .referrers) privilegeBytes))
     (omega (arith, privileges-start Referrers b, privileges-length (b .referrers)))
 
-abbrev pub authorizations : Body Authorization
+abbrev pub authorizations : BodyKind Authorization
 authorizations = record {
   of = λ b. b .authorizations;
   with = withAuthorizations;
@@ -302,7 +302,7 @@ rules-start b =
     rw (length-append (before-authorizations b) (each (b .authorizations) authorizationBytes))
     (omega (arith, authorizations-start b, length-each (b .authorizations) authorizationBytes 24 (λ a. refl)))
 
-abbrev pub rules : Body Rule
+abbrev pub rules : BodyKind Rule
 rules = record {
   of = λ b. b .rules;
   with = withRules;

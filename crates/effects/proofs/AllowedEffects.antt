@@ -37,22 +37,22 @@ use Rattle.model.specs.Effects.{withAuthorizations, withRules, withReferrers}
 use Rattle.edits.specs.Edits.{withPrivileges, privilegesOf}
 use Rattle.edits.proofs.Kept.{fits-clock}
 use Rattle.edits.specs.Edits.{withPrivileges, privilegesOf}
-use Rattle.effects.specs.Effects.{Allowed, bodyOf, dropsBy}
+use Rattle.effects.specs.EffectRecords.{Allowed, privilegeBodyOf, dropsBy}
 
 -- ---- bytes that hold a base
 
-pub record Holds (b : Base) (s : List ℕ) : Type 0 where
+pub record HoldsBase (b : Base) (s : List ℕ) : Type 0 where
   pub base : decode s ≡ b
   pub written : Written s
 
-pub holds : (b : Base) (s : List ℕ) → BaseFits b → s ≡ encode b → Holds b s
+pub holds : (b : Base) (s : List ℕ) → BaseFits b → s ≡ encode b → HoldsBase b s
 holds b s f e = record {
   base = ap decode e ∙ decode-fits b f;
   written = rw e (written-encode b f);
 }
 
 pub stamped : (s : List ℕ) (clock last : ℕ) → Written s → clock < 256 ^ 4 → last < 256 ^ 2 → (s₁ : List ℕ) →
-    s₁ ≡ encode (withStamp clock last (decode s)) → Holds (withStamp clock last (decode s)) s₁
+    s₁ ≡ encode (withStamp clock last (decode s)) → HoldsBase (withStamp clock last (decode s)) s₁
 stamped s clock last W hc hl s₁ e = holds (withStamp clock last (decode s)) s₁
     (fits-clock clock last (decode s) (W .fits) hc hl) e
 
@@ -125,8 +125,8 @@ module _ (b : Base) (q : Request) where
   effect-new k = rw (kind-is q NEW k)
 
   pub effect-privilege : is q (GRANTADM ∷ GRANTREF ∷ []) ≡ true → effect plainly b q ≡
-      withPrivileges (bodyOf (q .kind))
-      (insert (privilege (q .object) (q .subject)) (privilegesOf (bodyOf (q .kind)) b))
+      withPrivileges (privilegeBodyOf (q .kind))
+      (insert (privilege (q .object) (q .subject)) (privilegesOf (privilegeBodyOf (q .kind)) b))
       (withStamp (q .now) (b .last) b)
   effect-privilege k = or-cases (eqb (q .kind) GRANTADM) (is q (GRANTREF ∷ [])) k
       (λ e. rw (true-eq (q .kind) GRANTADM e))
@@ -141,7 +141,7 @@ module _ (b : Base) (q : Request) where
 -- ---- a record behind the others of a body, under the next label
 
 -- a body of the base that takes records with labels
-pub record Part (R : Type 0) : Type 1 where
+pub record LabelledBody (R : Type 0) : Type 1 where
   -- its records, and the base with others
   pub of : Base → List R
   pub with : List R → Base → Base
@@ -156,7 +156,7 @@ pub record Part (R : Type 0) : Type 1 where
   pub limited : (b : Base) → BaseFits b → length (of b) ≤ most
   pub fits : (b : Base) → BaseFits b → (x : R) → Mem x (of b) → Fits x
 
-abbrev pub authorizations : Part Authorization
+abbrev pub authorizations : LabelledBody Authorization
 authorizations = record {
   of = λ b. b .authorizations;
   with = withAuthorizations;
@@ -170,7 +170,7 @@ authorizations = record {
   fits = λ b f. f .authorizations;
 }
 
-abbrev pub rules : Part Rule
+abbrev pub rules : LabelledBody Rule
 rules = record {
   of = λ b. b .rules;
   with = withRules;
@@ -185,7 +185,7 @@ rules = record {
 }
 
 -- an addition: what is put in under a label, and the effect of the request
-pub record Addition {R : Type 0} (P : Part R) (s : List ℕ) (q : Request) (new : ℕ → R) : Type 0 where
+pub record Addition {R : Type 0} (P : LabelledBody R) (s : List ℕ) (q : Request) (new : ℕ → R) : Type 0 where
   pub written : Written s
   pub after : BaseFits (effect plainly (decode s) q)
   pub effects : effect plainly (decode s) q
@@ -208,7 +208,8 @@ rule-addition s q a = record {
   effects = effect-rule (decode s) q (a .kind);
 }
 
-module _ {R : Type 0} {P : Part R} {s : List ℕ} {q : Request} {new : ℕ → R} (d : Addition P s q new) where
+module _ {R : Type 0} {P : LabelledBody R} {s : List ℕ} {q : Request} {new : ℕ → R}
+    (d : Addition P s q new) where
   abbrev old : List R
   old = P .of (decode s)
 
@@ -237,7 +238,7 @@ module _ {R : Type 0} {P : Part R} {s : List ℕ} {q : Request} {new : ℕ → R
     -- behind the stamp, with the place that was counted before
     module _ (s₁ : List ℕ) (e₁ : s₁ ≡ encode (withStamp (q .now) label (decode s)))
         (i : ℕ) (place : i ≡ length (P .of (decode s))) where
-      now-holds : Holds (withStamp (q .now) label (decode s)) s₁
+      now-holds : HoldsBase (withStamp (q .now) label (decode s)) s₁
       now-holds = stamped s (q .now) label (d .written) (d .after .clock) label-within s₁ e₁
 
       now-old : P .of (decode s₁) ≡ P .of (decode s)

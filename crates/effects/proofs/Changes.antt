@@ -2,21 +2,21 @@
 -- Assumes nothing.
 use mathlib.Core.Path.{_≡_, refl, sym, ap, _∙_}
 use mathlib.Core.Logic.{inl, inr}
-use Prim.Native.Nat.{ℕ, _^_, _≤_, _<_}
+use Prim.Native.Nat.{ℕ, _≤_, _<_}
 use native.Mathlib.Omega.{arith}
 use mathlib.Core.Bool.{Bool, true, false, not}
 use mathlib.Core.List.{List, [], _∷_}
-use lib.Dec.{leb, eqb}
+use lib.Dec.{eqb}
 use lib.ListN.{length}
-use Rattle.foundation.specs.Tests.{and-true, true-le, must-pass, or-true}
+use Rattle.foundation.specs.Tests.{must-pass, or-true}
 use Rattle.foundation.specs.Lists.{anyb, allb, keepIf, kept}
 use Rattle.model.specs.declared.Privilege.{Privilege}
 use Rattle.model.specs.declared.Rule.{Rule}
 use Rattle.model.specs.declared.Request.{Request}
-use Rattle.model.specs.Ranges.{mostObjects, isObject, isSubject}
+use Rattle.model.specs.Ranges.{mostObjects}
 use Rattle.model.specs.Base.{Base, privilege, isPrivilege, listed, administers, refers}
 use Rattle.model.specs.Encoding.{encode, decode}
-use Rattle.model.specs.FitsFacts.{BaseFits, PrivilegeFits}
+use Rattle.model.specs.FitsFacts.{BaseFits, PrivilegeFits, object-fits, subject-fits}
 use Rattle.model.specs.Soundness.{chained}
 use Rattle.model.specs.SoundTests.{order-test}
 use Rattle.model.specs.SoundnessFacts.{Sound}
@@ -30,20 +30,12 @@ use Rattle.edits.specs.declared.PrivilegeBody.the-variants.{Objects, Administra
 use Rattle.edits.specs.Edits.{Written, withStamp, withPrivileges, privilegesOf}
 use Rattle.model.specs.Effects.{withRules, withReferrers}
 use Rattle.edits.proofs.Kept.{fits-clock, fits-privileges, length-insertAt}
-use Rattle.effects.specs.Effects.{Allowed, dropsBy, firstIndex}
-use Rattle.effects.proofs.AllowedEffects.{Holds, holds, stamped, allowed-sound, allowed-written}
+use Rattle.effects.specs.EffectRecords.{Allowed, dropsBy, firstIndex}
+use Rattle.effects.proofs.AllowedEffects.{HoldsBase, holds, stamped, allowed-sound, allowed-written}
 use Rattle.effects.proofs.AllowedEffects.{after-fits}
 use Rattle.effects.proofs.AllowedEffects.{effect-revoke}
 use Rattle.effects.proofs.Dropping.{kept-length}
 use Rattle.effects.proofs.PrivilegePlaces.{insert-place}
-
--- ---- numbers of the request
-
-pub object-fits : (n : ℕ) → isObject n ≡ true → n < 256 ^ 2
-object-fits n e = omega (arith, true-le n 128 (and-true (leb 1 n) (leb n 128) e .1))
-
-pub subject-fits : (n : ℕ) → isSubject n ≡ true → n < 256 ^ 2
-subject-fits n e = omega (arith, true-le n 1023 (and-true (leb 1 n) (leb n 1023) e .1))
 
 -- ---- one body of privileges
 
@@ -90,7 +82,7 @@ module _ (kinds : List ℕ) (s : List ℕ) (q : Request) (a : Allowed kinds s q)
   clocked = withStamp (q .now) (decode s .last) (decode s)
 
   module _ (s₁ : List ℕ) (e₁ : s₁ ≡ encode (withStamp (q .now) (decode s .last) (decode s))) where
-    pub clock-holds : Holds (withStamp (q .now) (decode s .last) (decode s)) s₁
+    pub clock-holds : HoldsBase (withStamp (q .now) (decode s .last) (decode s)) s₁
     clock-holds = stamped s (q .now) (decode s .last) (allowed-written kinds s q a)
         (after-fits kinds s q a .clock)
         (allowed-written kinds s q a .fits .last) s₁ e₁
@@ -157,7 +149,7 @@ module _ (s : List ℕ) (q : Request) (a : Allowed (REVOKEREF ∷ []) s q) (p : 
   left = withReferrers (without (q .object) (q .subject) (decode s .referrers))
       (withStamp (q .now) (decode s .last) (decode s))
 
-  clock-left : Holds (withStamp (q .now) (decode s .last) (decode s)) s₁
+  clock-left : HoldsBase (withStamp (q .now) (decode s .last) (decode s)) s₁
   clock-left = clock-holds (REVOKEREF ∷ []) s q a s₁ e₁
 
   pub revoke-ready : Written s₁ × (chained before (decode s₁ .referrers) ≡ true)
@@ -172,7 +164,7 @@ module _ (s : List ℕ) (q : Request) (a : Allowed (REVOKEREF ∷ []) s q) (p : 
   module _ (s₂ : List ℕ)
       (e₂ : s₂ ≡ encode (withReferrers (without (p .object) (p .subject) (decode s₁ .referrers)) (decode s₁)))
     where
-      pub revoke-holds : Holds (withReferrers (without (q .object) (q .subject) (decode s .referrers))
+      pub revoke-holds : HoldsBase (withReferrers (without (q .object) (q .subject) (decode s .referrers))
           (withStamp (q .now) (decode s .last) (decode s))) s₂
       revoke-holds =
           let W = allowed-written (REVOKEREF ∷ []) s q a in

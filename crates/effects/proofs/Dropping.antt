@@ -18,7 +18,7 @@ use Rattle.model.specs.FitsFacts.{BaseFits}
 use Rattle.edits.specs.Edits.{Written, removeAt}
 use Rattle.model.specs.Effects.{withRules}
 use Rattle.edits.proofs.Kept.{fits-rules}
-use Rattle.effects.proofs.AllowedEffects.{Holds, holds}
+use Rattle.effects.proofs.AllowedEffects.{HoldsBase, holds}
 
 -- ---- lists
 
@@ -88,7 +88,7 @@ module _ (k : Rule → Bool) (b : Base) where
       s ≡ encode (withRules (keepIf k (b .rules)) b)
   drop-ends s i e v = v .1 ∙ ap (λ (n : ℕ). encode (left n)) e
 
-  pub dropped-holds : BaseFits b → (i : ℕ) (s : List ℕ) → Dropped k b i s → Holds (left i) s
+  pub dropped-holds : BaseFits b → (i : ℕ) (s : List ℕ) → Dropped k b i s → HoldsBase (left i) s
   dropped-holds f i s v =
       let l = partly-length k i (b .rules) (v .0) in
       holds (left i) s (fits-rules (partly k i (b .rules)) b f (omega (arith, l, f .counts .rules))

@@ -1,5 +1,5 @@
 pub mod AllowedEffects
-pub mod Reading
+pub mod BodiesRead
 pub mod Dropping
 pub mod PrivilegePlaces
 pub mod Changes

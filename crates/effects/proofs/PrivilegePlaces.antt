@@ -18,7 +18,7 @@ use Rattle.model.specs.Soundness.{chained}
 use Rattle.laws.specs.Chained.{Pairwise, Passing, chained-all}
 use Rattle.laws.specs.Privileges.{before-cases, before-trans, the-privilege}
 use Rattle.edits.specs.Edits.{removeAt}
-use Rattle.effects.specs.Effects.{firstIndex}
+use Rattle.effects.specs.EffectRecords.{firstIndex}
 
 -- ---- a loop over the elements of a list: r is the i-th
 

@@ -1,1 +1,1 @@
-pub mod Effects
+pub mod EffectRecords

@@ -15,7 +15,7 @@ ghost use Rattle.model.specs.Means.{plainly};
 ghost use Rattle.model.specs.Step.{effect};
 ghost use Rattle.edits.specs.Edits.{Written, withStamp};
 ghost use Rattle.model.specs.Effects.{withAdministrators};
-ghost use Rattle.effects.specs.Effects.{Allowed};
+ghost use Rattle.effects.specs.EffectRecords.{Allowed};
 
 mod privileges;
 mod records;
@@ -24,11 +24,11 @@ mod rules;
 use edits::PrivilegeBody;
 use encoding::rule_of;
 use model::Request;
-use privileges::put_privilege;
+use privileges::insert_in_order;
 use privileges::take_privilege;
 use records::authorization_of;
-use records::body_of;
 use records::owner_of;
+use records::privilege_body_of;
 use records::privilege_of;
 pub use rules::drop_rules;
 
@@ -86,7 +86,7 @@ pub fn new_object(s: &mut [u8], q: Request)
     ensures { λ _. ⌜ now (s .exit) ≡ encode (effect plainly (decode (now (s .entry))) q) ⌝ }
 {
     edits::set_clock(s, q.now);
-    put_privilege(s, PrivilegeBody::Objects, owner_of(q));
+    insert_in_order(s, PrivilegeBody::Objects, owner_of(q));
 }
 
 // GRANTADM and GRANTREF: the privilege is put in its place.
@@ -95,7 +95,7 @@ pub fn grant_privilege(s: &mut [u8], q: Request)
     ensures { λ _. ⌜ now (s .exit) ≡ encode (effect plainly (decode (now (s .entry))) q) ⌝ }
 {
     edits::set_clock(s, q.now);
-    put_privilege(s, body_of(q.kind), privilege_of(q));
+    insert_in_order(s, privilege_body_of(q.kind), privilege_of(q));
 }
 
 // REVOKEREF: the privilege is taken out, and with it the subject's rules with the object on the right, unless

@@ -10,7 +10,7 @@ ghost use Rattle.model.specs.Requests.{before, insert, without};
 ghost use Rattle.model.specs.Encoding.{encode, decode};
 ghost use Rattle.model.specs.Soundness.{chained};
 ghost use Rattle.edits.specs.Edits.{Written, privilegesOf, withPrivileges};
-ghost use Rattle.effects.specs.Effects.{firstIndex};
+ghost use Rattle.effects.specs.EffectRecords.{firstIndex};
 use edits::PrivilegeBody;
 use lookup::is_before;
 use model::PRIVILEGE_BYTES;
@@ -29,7 +29,7 @@ fn nth_privilege(s: &[u8], k: PrivilegeBody, i: usize) -> Privilege
 }
 
 // How many privileges of a body stand before the first that a privilege is before.
-fn place_of(s: &[u8], k: PrivilegeBody, p: Privilege) -> usize
+fn privilege_index(s: &[u8], k: PrivilegeBody, p: Privilege) -> usize
     requires { ⌜ Written (now s) ⌝ }
     ensures { λ r. ⌜ r ≡ firstIndex (before p) (privilegesOf k (decode (now (s .entry)))) ⌝ }
 {
@@ -45,13 +45,13 @@ fn place_of(s: &[u8], k: PrivilegeBody, p: Privilege) -> usize
 }
 
 // Puts a privilege in its place.
-pub fn put_privilege(s: &mut [u8], k: PrivilegeBody, p: Privilege)
+pub fn insert_in_order(s: &mut [u8], k: PrivilegeBody, p: Privilege)
     requires { ⌜ Written (now s) × (length (privilegesOf k (decode (now s))) < mostObjects) ⌝ }
     ensures { λ _. ⌜ now (s .exit)
         ≡ encode (withPrivileges k (insert p (privilegesOf k (decode (now (s .entry)))))
         (decode (now (s .entry)))) ⌝ }
 {
-    let i = place_of(s, k, p);
+    let i = privilege_index(s, k, p);
     edits::insert_privilege(s, k, i, p);
 }
 
@@ -63,6 +63,6 @@ pub fn take_privilege(s: &mut [u8], k: PrivilegeBody, p: Privilege)
         ≡ encode (withPrivileges k (without (p .object) (p .subject)
         (privilegesOf k (decode (now (s .entry))))) (decode (now (s .entry)))) ⌝ }
 {
-    let i = place_of(s, k, p) - 1;
+    let i = privilege_index(s, k, p) - 1;
     edits::remove_privilege(s, k, i);
 }

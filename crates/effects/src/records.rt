@@ -4,7 +4,7 @@ ghost use Rattle.model.specs.Base.{privilege};
 ghost use Rattle.model.specs.Withdrawal.{authorization};
 ghost use Rattle.model.specs.Requests.{newHead};
 ghost use Rattle.model.specs.FitsFacts.{PrivilegeFits, AuthorizationFits};
-ghost use Rattle.effects.specs.Effects.{bodyOf};
+ghost use Rattle.effects.specs.EffectRecords.{privilegeBodyOf};
 use edits::PrivilegeBody;
 use model::Authorization;
 use model::DENY;
@@ -59,8 +59,8 @@ pub fn owner_of(q: Request) -> Privilege
 }
 
 // The body that a request on privileges changes.
-pub fn body_of(kind: u32) -> PrivilegeBody
-    ensures { λ r. ⌜ r ≡ bodyOf kind ⌝ }
+pub fn privilege_body_of(kind: u32) -> PrivilegeBody
+    ensures { λ r. ⌜ r ≡ privilegeBodyOf kind ⌝ }
 {
     if (kind == GRANTADM) | (kind == REVOKEADM) {
         return PrivilegeBody::Administrators;

@@ -8,7 +8,7 @@ ghost use Rattle.foundation.specs.Lists.{keepIf};
 ghost use Rattle.model.specs.Encoding.{encode, decode};
 ghost use Rattle.edits.specs.Edits.{Written};
 ghost use Rattle.model.specs.Effects.{withRules};
-ghost use Rattle.effects.specs.Effects.{dropsBy};
+ghost use Rattle.effects.specs.EffectRecords.{dropsBy};
 use model::DROPRULE;
 use model::REVOKEADM;
 use model::REVOKEREF;

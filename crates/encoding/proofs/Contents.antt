@@ -13,14 +13,14 @@ use Rattle.encoding.specs.Format.{countsFit, contentsOf}
 use Rattle.encoding.specs.declared.Counts.{Counts}
 
 -- no count is above its most
-pub record Within (c : Counts) : Type 0 where
+pub record CountsWithin (c : Counts) : Type 0 where
   pub objects : c .objects ≤ 128
   pub administrators : c .administrators ≤ 128
   pub referrers : c .referrers ≤ 128
   pub authorizations : c .authorizations ≤ 1024
   pub rules : c .rules ≤ 64
 
-pub within : (c : Counts) → countsFit c ≡ true → Within c
+pub within : (c : Counts) → countsFit c ≡ true → CountsWithin c
 within c e =
     let t = conjunct (leb (c .objects) 128 ∷ leb (c .administrators) 128 ∷ leb (c .referrers) 128
     ∷ leb (c .authorizations) 1024 ∷ leb (c .rules) 64 ∷ []) e in

@@ -15,7 +15,7 @@ use Rattle.foundation.specs.Tests.{and-true, and-intro, and-assoc, agree, cases
 use Rattle.foundation.specs.Tests.{true-eq}
 use Rattle.foundation.specs.Lists.{each}
 use Rattle.foundation.specs.Bytes.{le, bytesOf, records, eqList, eqList-eq, eqList-refl, length-bytesOf}
-use Rattle.foundation.specs.Records.{length-records}
+use Rattle.foundation.specs.ByteRecords.{length-records}
 use Rattle.foundation.specs.BytesFacts.{Bytes, bytes-drop, bytesOf-le-at, eachBelow, each-below}
 use Rattle.model.specs.declared.Operator.{Operator}
 use Rattle.model.specs.declared.Operator.the-variants.{Whenever, AsLongAs, WheneverNot, Unless}

@@ -7,7 +7,7 @@ use native.Mathlib.Omega.{arith}
 use lib.ListN.{length, List·getD-append}
 use Rattle.foundation.specs.BytesFacts.{le-own, field-own}
 use Rattle.foundation.specs.Intervals.{interval}
-use Rattle.foundation.specs.Masks.{bit}
+use Rattle.foundation.specs.BitMasks.{bit}
 use Rattle.model.specs.Requests.{operatorOf}
 use Rattle.model.specs.Encoding.{isNegative, hasOption, authorizationOf, optionOf, ruleOf}
 

@@ -33,7 +33,7 @@ pub use heading::put_counts;
 pub use heading::referrers_at;
 pub use heading::rules_at;
 pub use insertion::insert_authorization;
-pub use insertion::place_of;
+pub use insertion::insertion_index;
 pub use terms::number_of;
 pub use terms::rule_of;
 

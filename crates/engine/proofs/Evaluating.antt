@@ -11,16 +11,16 @@ use lib.ListN.{getD}
 use lib.Pow.{pow-pos, pow-add, pow-mono}
 use Rattle.foundation.specs.Intervals.{inInterval}
 use Rattle.foundation.specs.Tests.{le-false}
-use Rattle.foundation.specs.Masks.{bit}
+use Rattle.foundation.specs.BitMasks.{bit}
 use Rattle.model.specs.declared.Authorization.{Authorization}
 use Rattle.encoding.specs.Format.{ruleAt}
 use Rattle.words.specs.Bits.{no-bits}
 use Rattle.words.specs.Fields.{fieldOf}
 use Rattle.windows.specs.Windows.{inside}
 use Rattle.derivation.specs.Words.{bit-zero}
-use Rattle.masks.specs.Masks.{clear-fields}
+use Rattle.masks.specs.RuleMasks.{clear-fields}
 use Rattle.facts.specs.Facts.{Setting, LineSteps}
-use Rattle.grounding.specs.Turns.{Prepared}
+use Rattle.grounding.specs.RuleTurns.{Prepared}
 use Rattle.engine.specs.Evaluation.{Low, RulesRan, Evaluation}
 
 -- ---- instants

@@ -13,7 +13,7 @@ use Rattle.foundation.specs.Tests.{pick, cases, le-true, le-false, true-le, fal
 use Rattle.foundation.specs.Lists.{Mem, keepIf, keepIf-mem, kept}
 use Rattle.foundation.specs.Intervals.{inInterval, inInterval-above, maximal}
 use Rattle.foundation.specs.Marks.{clear, clear-part}
-use Rattle.foundation.specs.Masks.{bit}
+use Rattle.foundation.specs.BitMasks.{bit}
 use Rattle.model.specs.declared.Access.{Access}
 use Rattle.model.specs.declared.Authorization.{Authorization}
 use Rattle.model.specs.declared.Rule.{Rule}
@@ -23,7 +23,7 @@ use Rattle.model.specs.HoldsMarks.{may-steady}
 use Rattle.model.specs.Rules.{may}
 use Rattle.model.specs.Stratification.{stratified}
 use Rattle.encoding.specs.Format.{rulesIn, ruleAt}
-use Rattle.questions.specs.Operators as operators
+use Rattle.questions.specs.OperatorSteps as operators
 use Rattle.places.specs.Regions.{Within}
 use Rattle.facts.specs.Facts.{LinesReady}
 use Rattle.relevance.specs.declared.Chosen.{Chosen}
@@ -34,21 +34,21 @@ use Rattle.relevance.specs.Forgotten.{endsFrom, during, Forgets, forgets-picks,
 use Rattle.relevance.specs.Forgotten.{none-during, clear-during, clear-left}
 use Rattle.scan.specs.declared.Track.{Track}
 use Rattle.scan.specs.Filled.{filled}
-use Rattle.scan.specs.Runs.{Reached, Answered, instant, counted}
+use Rattle.scan.specs.Runs.{ScannedTo, Answered, instantAt, counted}
 use Rattle.words.specs.Fields.{fieldOf}
 use Rattle.tables.specs.declared.Place.{Place}
-use Rattle.tables.specs.Layout.{fieldIn}
-use Rattle.tables.specs.Giving.{tablesOf, Ready}
+use Rattle.tables.specs.TableLayout.{fieldIn}
+use Rattle.tables.specs.TableGiving.{tablesOf, TablesReady}
 use Rattle.outlines.specs.Coordinates.{Chart}
-use Rattle.grounding.specs.Turns.{Prepared, Able, Marked}
+use Rattle.grounding.specs.RuleTurns.{Prepared, Able, Marked}
 use Rattle.engine.specs.declared.Query.{Query}
 use Rattle.engine.specs.declared.walking.Progress.{Progress}
 use Rattle.engine.specs.Evaluation.{Low, Evaluation}
-use Rattle.engine.specs.Places.{place-within}
-use Rattle.engine.specs.Standing.{rule-low}
+use Rattle.engine.specs.AccessPlaces.{place-within}
+use Rattle.engine.specs.StandingPlaces.{rule-low}
 use Rattle.engine.specs.Posed.{Posed, Walks, Finds}
 use Rattle.engine.specs.Right.{settingFor, CarriedAt, Views, able, ready, answers, carried-next}
-use Rattle.engine.specs.Going.{upTo, Start, Going}
+use Rattle.engine.specs.Going.{cappedAt, Start, Going}
 
 -- what is kept by two tests is kept by the later one
 keep-twice : (t u : ℕ) → t ≤ u → (xs : List Authorization) →
@@ -60,25 +60,25 @@ keep-twice t u h (a ∷ xs) =
     (λ e. rw e (ap (λ (l : List Authorization). pick (endsFrom u a) (a ∷ l) l) i))
     (λ e. rw (e, le-false u (a .interval .end) (omega (arith, false-le t (a .interval .end) e))) i)
 
-upTo-within : (to t : ℕ) → upTo to t ≤ suc to
+upTo-within : (to t : ℕ) → cappedAt to t ≤ suc to
 upTo-within to t = cases (leb t to)
     (λ e. rw e (omega (arith, true-le t to e)))
     (λ e. rw e (omega arith))
 
-upTo-most : (to t : ℕ) → upTo to t ≤ t
+upTo-most : (to t : ℕ) → cappedAt to t ≤ t
 upTo-most to t = cases (leb t to)
     (λ e. rw e (omega arith))
     (λ e. rw e (omega (arith, false-le t to e)))
 
-upTo-above : (to t u : ℕ) → u ≤ to → u < t → u < upTo to t
+upTo-above : (to t u : ℕ) → u ≤ to → u < t → u < cappedAt to t
 upTo-above to t u h k = cases (leb t to)
     (λ e. rw e k)
     (λ e. rw e (omega arith))
 
-pub upTo-before : (to t : ℕ) → t ≤ to → upTo to t ≡ t
+pub upTo-before : (to t : ℕ) → t ≤ to → cappedAt to t ≡ t
 upTo-before to t h = rw (le-true t to h)
 
-pub upTo-behind : (to t : ℕ) → to < t → upTo to t ≡ suc to
+pub upTo-behind : (to t : ℕ) → to < t → cappedAt to t ≡ suc to
 upTo-behind to t h = rw (le-false t to h)
 
 -- ---- the start
@@ -152,7 +152,7 @@ module _ {lines : List ℕ} {c : Chosen} {lasting : ℕ} {q : Query} {C : Chart}
       list
   finds h = record {
     last = g .last h;
-    listed = λ l. subst (λ (t : ℕ). Reached answer (q .to) (o .list) t (s .track) list)
+    listed = λ l. subst (λ (t : ℕ). ScannedTo answer (q .to) (o .list) t (s .track) list)
         (upTo-behind (q .to) (s .next) h) (g .listed l);
   }
 
@@ -195,9 +195,10 @@ module _ {lines : List ℕ} {c : Chosen} {lasting : ℕ} {q : Query} {C : Chart}
 
   -- the answers can be read
   pub readable : {w : ℕ} → w ≡ length words →
-      Ready (p .frame) (p .right) (p .first) w × Within (p .frame .grid) (q .place .pair) (q .place .point)
+      TablesReady (p .frame) (p .right) (p .first) w × Within (p .frame .grid) (q .place .pair)
+      (q .place .point)
   readable e = (
-    subst (λ (n : ℕ). Ready (p .frame) (p .right) (p .first) n) (sym (e ∙ g .words-size)) (posed .drawn
+    subst (λ (n : ℕ). TablesReady (p .frame) (p .right) (p .first) n) (sym (e ∙ g .words-size)) (posed .drawn
         .laid),
     subst (λ (z : Place). Within (p .frame .grid) (z .pair) (z .point)) (sym (g .walks .place))
         (place-within (posed .drawn) (o .base) (o .access) (posed .matters)),
@@ -212,7 +213,7 @@ module _ {lines : List ℕ} {c : Chosen} {lasting : ℕ} {q : Query} {C : Chart}
         omega (
           arith,
           g .walks .few,
-          counted answer (q .to) (o .list) (upTo (q .to) (s .next)) (s .track) list
+          counted answer (q .to) (o .list) (cappedAt (q .to) (s .next)) (s .track) list
               r,
         ),
       )
@@ -291,18 +292,18 @@ module _ {lines : List ℕ} {c : Chosen} {lasting : ℕ} {q : Query} {C : Chart}
 
     -- the intervals are known up to the first instant
     pub listed-first : q .listing ≡ true →
-        Reached answer (q .to) (o .list) (getD ms 0 0) (s .track) list
-    listed-first l = subst (λ (t : ℕ). Reached answer (q .to) (o .list) t (s .track) list)
+        ScannedTo answer (q .to) (o .list) (getD ms 0 0) (s .track) list
+    listed-first l = subst (λ (t : ℕ). ScannedTo answer (q .to) (o .list) t (s .track) list)
         (upTo-before (q .to) (s .next) before ∙ sym (fills .first)) (g .listed l)
 
     -- between two instants of the window, and up to the next behind it, nothing changes
     steady : (i : ℕ) → i < r .count → (u : ℕ) → getD ms i 0 ≤ u →
-        u < instant (r .count) ms (upTo (q .to) (r .next)) (suc i) → answer u ≡ answer (getD ms i 0)
+        u < instantAt (r .count) ms (cappedAt (q .to) (r .next)) (suc i) → answer u ≡ answer (getD ms i 0)
     steady i h u l k = may-steady (o .base) (o .access) (getD ms i 0) u l (cases (ltb (suc i) (r .count))
         (λ e. let n : u < getD ms (suc i) 0 = rw e at k in
         clear-part (allMarks (o .base)) (getD ms i 0) (getD ms i 0) (getD ms (suc i) 0 - 1) u (omega arith)
         (omega arith) (views .window .between i (true-le (suc (suc i)) (r .count) e)))
-        (λ e. let n : u < upTo (q .to) (r .next) = rw e at k in
+        (λ e. let n : u < cappedAt (q .to) (r .next) = rw e at k in
         let z : r .count - 1 ≡ i = omega (arith, false-le (suc (suc i)) (r .count) e) in
         subst (λ (j : ℕ). clear (allMarks (o .base)) (getD ms j 0) u ≡ true) z
         (behind u (omega (arith, upTo-within (q .to) (r .next)))
@@ -326,7 +327,7 @@ module _ {lines : List ℕ} {c : Chosen} {lasting : ℕ} {q : Query} {C : Chart}
             (fieldIn (tablesOf (p .frame) (p .right) (p .first)) 1 (z .pair) (z .point))))) (g .walks .place)
             ∙ answers posed views (g .bits-size) done carried-here i h
 
-        pub answered : Answered answer (q .to) (r .count) ms (upTo (q .to) (r .next)) word
+        pub answered : Answered answer (q .to) (r .count) ms (cappedAt (q .to) (r .next)) word
         answered = record {
           answers = right;
           steady = steady;
@@ -345,7 +346,7 @@ module _ {lines : List ℕ} {c : Chosen} {lasting : ℕ} {q : Query} {C : Chart}
         module _ (sized : length new ≡ length words) (w : Track) (yes : Bool)
             (told : yes ≡ bit (r .count - 1) word) (list′ : List ℕ)
             (listed : q .listing ≡ true →
-            Reached answer (q .to) (o .list) (upTo (q .to) (r .next)) w list′) where
+            ScannedTo answer (q .to) (o .list) (cappedAt (q .to) (r .next)) w list′) where
           -- the last instant was in the window
           pub ends : q .to < r .next → Going lines c lasting q C p o which new bits list′
               (record { next = r .next; track = w; yes = yes; left = s .left })

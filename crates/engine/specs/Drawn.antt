@@ -4,22 +4,22 @@ use mathlib.Core.Bool.{true, _&&_, _||_}
 use mathlib.Core.List.{List}
 use Prim.Native.Nat.{ℕ, _+_, _*_, _≤_, _<_}
 use lib.ListN.{length, getD}
-use Rattle.foundation.specs.Masks.{bit}
+use Rattle.foundation.specs.BitMasks.{bit}
 use Rattle.model.specs.declared.Access.{Access}
 use Rattle.model.specs.Base.{Base, controls}
 use Rattle.encoding.specs.Format.{ruleAt}
-use Rattle.questions.specs.Operators.{lasting}
+use Rattle.questions.specs.OperatorSteps.{lasting}
 use Rattle.reach.specs.Net.{Closed}
-use Rattle.places.specs.Numbering.{used, before, codeOf}
-use Rattle.tables.specs.Layout.{Laid, ruleTables}
-use Rattle.tables.specs.Giving.{Ready}
-use Rattle.masks.specs.Masks.{Needed}
+use Rattle.places.specs.ReachedNumbers.{used, before, codeOf}
+use Rattle.tables.specs.TableLayout.{TablesLaid, ruleTables}
+use Rattle.tables.specs.TableGiving.{TablesReady}
+use Rattle.masks.specs.RuleMasks.{Needed}
 use Rattle.outlines.specs.Coordinates.{WellFormed, Chart, Charted, subjectOf, objectOf, modeOf}
 use Rattle.outlines.specs.Outline.{RightSides, LeftSides}
-use Rattle.outlines.specs.Masks.{Masked, Owned}
-use Rattle.outlines.specs.Feed.{isChoosy, Fed}
-use Rattle.outlines.specs.Needed.{needed}
-use Rattle.grounding.specs.Turns.{Prepared}
+use Rattle.outlines.specs.LeftMasks.{Masked, Owned}
+use Rattle.outlines.specs.Feed.{isChoosy, FeedTable}
+use Rattle.outlines.specs.NeededAccesses.{needed}
+use Rattle.grounding.specs.RuleTurns.{Prepared}
 use Rattle.grounding.specs.Meaning.{Mapping}
 
 -- every coordinate of a table is that of some number, and the star has none
@@ -48,7 +48,7 @@ pub record Drawn (holder : Base) (n : ℕ) (C : Chart) (asked : Access) (p : Pre
     pub outlined : List ℕ
     pub masks : Masked holder n C (p .body) (p .sides) outlined
     pub own : Owned holder n (p .body) asked outlined (p .left)
-    pub feed : (choosy : ℕ) × Fed n (p .body) choosy (p .feed)
+    pub feed : (choosy : ℕ) × FeedTable n (p .body) choosy (p .feed)
         × ((c : ℕ) → c < n → bit c choosy ≡ isChoosy (ruleAt (p .body) c))
     -- what is needed
     pub closed : Closed (record { left = p .left; right = p .right; subjects = C .width }) (p .need)
@@ -67,12 +67,12 @@ pub record Drawn (holder : Base) (n : ℕ) (C : Chart) (asked : Access) (p : Pre
     pub needs : Needed (p .left) (p .need) (p .codes) (C .width) (p .frame .grid .pairs) rules
     -- the tables of fields and of broken bits
     pub choosy : (c : ℕ) → bit c (p .frame .choosy) ≡ bit c rules && isChoosy (ruleAt (p .body) c)
-    pub laid : Ready (p .frame) (p .right) (p .first) words
+    pub laid : TablesReady (p .frame) (p .right) (p .first) words
     pub fields : p .frame .fields < 4294967296
     pub lasts : ℕ
     pub lasts-is : (r : ℕ) → bit r lasts ≡ bit r rules && lasting (ruleAt (p .body) r .operator)
     pub total : ℕ
-    pub starts : (0 < bits) → Laid (ruleTables (p .frame .grid) (p .sides) lasts (p .starts)) 0 total
+    pub starts : (0 < bits) → TablesLaid (ruleTables (p .frame .grid) (p .sides) lasts (p .starts)) 0 total
     pub room : (0 < bits) → (total ≤ 64 * bits) × (total < 4294967296)
 
 -- the mapping, for a base

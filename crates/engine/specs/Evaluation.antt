@@ -5,7 +5,7 @@ use mathlib.Core.Bool.{true}
 use mathlib.Core.List.{List}
 use Prim.Native.Nat.{ℕ, _^_, _<_}
 use lib.ListN.{getD}
-use Rattle.foundation.specs.Masks.{bit}
+use Rattle.foundation.specs.BitMasks.{bit}
 use Rattle.model.specs.declared.Authorization.{Authorization}
 use Rattle.model.specs.Stratification.{stratum}
 use Rattle.encoding.specs.Format.{rulesIn, ruleAt}
@@ -13,7 +13,7 @@ use Rattle.words.specs.Fields.{fieldOf}
 use Rattle.windows.specs.Windows.{inside}
 use Rattle.relevance.specs.Chosen.{selected}
 use Rattle.facts.specs.Facts.{Setting, LineSteps}
-use Rattle.grounding.specs.Turns.{Prepared, Turns, Strata}
+use Rattle.grounding.specs.RuleTurns.{Prepared, Turns, Strata}
 
 -- the instants of the rules of a mask fit into fields of 2^width bits
 abbrev pub Low : List ℕ → ℕ → ℕ → Type 0

@@ -1,4 +1,4 @@
--- How far the walk from window to window is (`Going`), and a window further (`Passed`).
+-- How far the walk from window to window is (`Going`), and a window further (`WindowPassed`).
 use mathlib.Core.Path.{_≡_}
 use mathlib.Core.Bool.{true}
 use mathlib.Core.List.{List}
@@ -13,10 +13,10 @@ use Rattle.model.specs.Rules.{may}
 use Rattle.relevance.specs.declared.Chosen.{Chosen}
 use Rattle.relevance.specs.Chosen.{picked, Picks}
 use Rattle.relevance.specs.Forgotten.{endsFrom, during}
-use Rattle.scan.specs.Runs.{Reached}
+use Rattle.scan.specs.Runs.{ScannedTo}
 use Rattle.tables.specs.declared.Frame.{Frame}
 use Rattle.outlines.specs.Coordinates.{Chart}
-use Rattle.grounding.specs.Turns.{Prepared}
+use Rattle.grounding.specs.RuleTurns.{Prepared}
 use Rattle.engine.specs.declared.Query.{Query}
 use Rattle.engine.specs.declared.walking.Progress.{Progress}
 use Rattle.engine.specs.Posed.{Walks}
@@ -31,8 +31,8 @@ chartOf subjects objects f = record {
 }
 
 -- t, but no instant behind the one that follows `to`
-abbrev pub upTo : ℕ → ℕ → ℕ
-upTo to t = pick (leb t to) t (suc to)
+abbrev pub cappedAt : ℕ → ℕ → ℕ
+cappedAt to t = pick (leb t to) t (suc to)
 
 -- what is asked, and what the walk started with
 pub record Start : Type 0 where
@@ -57,14 +57,14 @@ pub record Going (lines : List ℕ) (c : Chosen) (lasting : ℕ) (q : Query) (C 
       ≡ keepIf (endsFrom since) (keepIf (during (q .from) (q .to)) (o .base .authorizations))
   pub carried : s .next ≤ q .to → CarriedAt (walks .posed) (s .next) bits
   pub listed : q .listing ≡ true →
-      Reached (may (o .base) (o .access)) (q .to) (o .list) (upTo (q .to) (s .next)) (s .track) list
+      ScannedTo (may (o .base) (o .access)) (q .to) (o .list) (cappedAt (q .to) (s .next)) (s .track) list
   pub last : q .to < s .next → s .yes ≡ may (o .base) (o .access) (q .to)
   pub words-size : length words ≡ length (o .words)
   pub bits-size : length bits ≡ length (o .bits)
 
 -- a window further, whatever the walk started with
-abbrev pub Passed : List ℕ → Chosen → ℕ → Query → Chart → Prepared → (which words bits list : List ℕ) →
+abbrev pub WindowPassed : List ℕ → Chosen → ℕ → Query → Chart → Prepared → (which words bits list : List ℕ) →
     Progress → (which′ words′ bits′ list′ : List ℕ) → Progress → Type 0
-Passed lines c lasting q C p which words bits list s which′ words′ bits′ list′ r =
+WindowPassed lines c lasting q C p which words bits list s which′ words′ bits′ list′ r =
     (o : Start) → Going lines c lasting q C p o which words bits list s →
     (s .next < r .next) × Going lines c lasting q C p o which′ words′ bits′ list′ r

@@ -1,11 +1,11 @@
 pub mod Drawn
 pub mod Evaluation
-pub mod Facts
+pub mod LinesGiven
 pub mod Going
-pub mod Narrowed
-pub mod Places
+pub mod NarrowedBase
+pub mod AccessPlaces
 pub mod Posed
-pub mod Reading
+pub mod TurnReads
 pub mod Right
 pub mod Sides
-pub mod Standing
+pub mod StandingPlaces

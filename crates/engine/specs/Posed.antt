@@ -8,7 +8,7 @@ use Prim.Native.Nat.{ℕ, suc, _≤_, _<_}
 use lib.ListN.{length}
 use Rattle.foundation.specs.Lists.{Mem, keepIf}
 use Rattle.foundation.specs.Intervals.{maximal}
-use Rattle.foundation.specs.Masks.{bit}
+use Rattle.foundation.specs.BitMasks.{bit}
 use Rattle.model.specs.declared.Access.{Access}
 use Rattle.model.specs.declared.Authorization.{Authorization}
 use Rattle.model.specs.Base.{Base}
@@ -19,14 +19,14 @@ use Rattle.laws.specs.Narrowing.{accessOf}
 use Rattle.derivation.specs.Carried.{Carried}
 use Rattle.relevance.specs.declared.Chosen.{Chosen}
 use Rattle.relevance.specs.Chosen.{picked, selected, Picks}
-use Rattle.relevance.specs.Needed.{Placed}
+use Rattle.relevance.specs.Needed.{HeadInRange}
 use Rattle.relevance.specs.Forgotten.{during}
-use Rattle.scan.specs.Runs.{Reached}
+use Rattle.scan.specs.Runs.{ScannedTo}
 use Rattle.outlines.specs.Coordinates.{Chart}
-use Rattle.outlines.specs.Needed as outlines
-use Rattle.grounding.specs.Steps.{brokenIn}
+use Rattle.outlines.specs.NeededAccesses as outlines
+use Rattle.grounding.specs.RuleSteps.{brokenIn}
 use Rattle.grounding.specs.Meaning.{placeOf}
-use Rattle.grounding.specs.Turns.{Prepared, turnIn}
+use Rattle.grounding.specs.RuleTurns.{Prepared, turnIn}
 use Rattle.engine.specs.declared.Query.{Query}
 use Rattle.engine.specs.declared.Found.{Found}
 use Rattle.engine.specs.Drawn.{SamePowers, Drawn, mappingOf}
@@ -42,7 +42,7 @@ pub record Posed (n : ℕ) (C : Chart) (own : Access) (p : Prepared) (needed wor
   pub rules : base .rules ≡ selected needed (rulesIn n (p .body))
   pub matters : outlines.needed C own (p .need) x ≡ true
   pub lines : (a : Authorization) → Mem a (base .authorizations) →
-      (outlines.needed C own (p .need) (accessOf (a .head)) ≡ true) × Placed (a .head)
+      (outlines.needed C own (p .need) (accessOf (a .head)) ≡ true) × HeadInRange (a .head)
       × (a .interval .start ≤ a .interval .end)
 
 -- the walk can start
@@ -69,4 +69,4 @@ pub record Walks (lines which : List ℕ) (c : Chosen) (lasting : ℕ) (q : Quer
 -- what it finds
 pub record Finds (q : Query) (base : Base) (x : Access) (r : Found) (old new : List ℕ) : Type 0 where
   pub last : r .yes ≡ may base x (q .to)
-  pub listed : q .listing ≡ true → Reached (may base x) (q .to) old (suc (q .to)) (r .track) new
+  pub listed : q .listing ≡ true → ScannedTo (may base x) (q .to) old (suc (q .to)) (r .track) new

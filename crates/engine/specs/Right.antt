@@ -11,10 +11,10 @@ use Rattle.foundation.specs.Tests.{and-true, and-intro}
 use Rattle.foundation.specs.Lists.{Mem}
 use Rattle.foundation.specs.Intervals.{inInterval}
 use Rattle.foundation.specs.Marks.{clear}
-use Rattle.foundation.specs.Masks.{bit}
+use Rattle.foundation.specs.BitMasks.{bit}
 use Rattle.places.specs.Regions.{Within}
 use Rattle.tables.specs.declared.Place.{Place}
-use Rattle.tables.specs.Layout.{Laid}
+use Rattle.tables.specs.TableLayout.{TablesLaid}
 use Rattle.model.specs.declared.Access.{Access}
 use Rattle.model.specs.declared.Authorization.{Authorization}
 use Rattle.model.specs.declared.Head.{Head}
@@ -26,30 +26,30 @@ use Rattle.model.specs.Rules.{standsFor, may}
 use Rattle.laws.specs.Narrowing.{accessOf}
 use Rattle.encoding.specs.Format.{ruleAt}
 use Rattle.windows.specs.Windows.{Rising}
-use Rattle.questions.specs.Operators as operators
+use Rattle.questions.specs.OperatorSteps as operators
 use Rattle.relevance.specs.Chosen.{authorizationAt, picked, Picks}
 use Rattle.derivation.specs.Window.{Window}
 use Rattle.derivation.specs.Carried.{Carried}
 use Rattle.facts.specs.Facts.{Setting, setting, placeIn, HasPlace, LinesReady}
 use Rattle.outlines.specs.Coordinates.{Chart, coordinate}
 use Rattle.outlines.specs.Feed.{isChoosy}
-use Rattle.outlines.specs.Needed as outlines
-use Rattle.grounding.specs.Steps.{brokenIn}
+use Rattle.outlines.specs.NeededAccesses as outlines
+use Rattle.grounding.specs.RuleSteps.{brokenIn}
 use Rattle.grounding.specs.Meaning.{placeOf, wordsIn}
-use Rattle.grounding.specs.Turns.{Prepared, turnIn, Able, Marked}
+use Rattle.grounding.specs.RuleTurns.{Prepared, turnIn, Able, Marked}
 use Rattle.grounding.specs.Order.{Stage, Staged, RightIn, DoneIn, turns-done, none-left}
 use Rattle.grounding.specs.Strata.{strata-done}
-use Rattle.grounding.specs.Answers.{may-exact}
+use Rattle.grounding.specs.WindowAnswers.{may-exact}
 use Rattle.grounding.specs.Broken.{brokenTables, next-carried}
 use Rattle.engine.specs.Drawn.{mappingOf}
 use Rattle.engine.specs.Evaluation.{Low, Evaluation}
-use Rattle.engine.specs.Facts.{LineAt, lines-sound, lines-in, empty-sound}
-use Rattle.engine.specs.Places.{size-few, pair-below, mapping-placed, place-within}
+use Rattle.engine.specs.LinesGiven.{LineAt, lines-sound, lines-in, empty-sound}
+use Rattle.engine.specs.AccessPlaces.{size-few, pair-below, mapping-placed, place-within}
 use Rattle.engine.specs.Posed.{Posed}
-use Rattle.engine.specs.Reading.{rule-able}
+use Rattle.engine.specs.TurnReads.{rule-able}
 use Rattle.selection.specs.Selected.{selected-few, rule-selected, selected-rule, picked-mem}
 use Rattle.engine.specs.Sides.{in-whole, feed-has, turn-of}
-use Rattle.engine.specs.Standing.{rule-low, stands-for, stands-at, left-in}
+use Rattle.engine.specs.StandingPlaces.{rule-low, stands-for, stands-at, left-in}
 
 module _ {n : ℕ} {C : Chart} {own : Access} {p : Prepared} {needed words bits₀ : ℕ} {base : Base} {x : Access}
     (posed : Posed n C own p needed words bits₀ base x) where
@@ -240,7 +240,7 @@ module _ {n : ℕ} {C : Chart} {own : Access} {p : Prepared} {needed words bits�
         (bit r needed ≡ true) × (operators.lasting (ruleAt (p .body) r .operator) ≡ true) = λ r e.
         and-true (bit r needed) (operators.lasting (ruleAt (p .body) r .operator))
         (sym (d .lasts-is r) ∙ sym (same r) ∙ e) in
-        let laid : (to : ℕ) × Laid (brokenTables stage lasting) 0 to = ⊎-elim
+        let laid : (to : ℕ) × TablesLaid (brokenTables stage lasting) 0 to = ⊎-elim
         (λ f. (
           0,
           record {

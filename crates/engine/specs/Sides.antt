@@ -12,14 +12,14 @@ use Rattle.foundation.specs.Tests.{pick, cases, agree, true-eq, le-true, true-l
 use Rattle.foundation.specs.Tests.{and-intro}
 use Rattle.foundation.specs.Lists.{Mem}
 use Rattle.foundation.specs.Intervals.{inInterval}
-use Rattle.foundation.specs.Masks.{asBit, bit, bit-le, bit-true}
+use Rattle.foundation.specs.BitMasks.{asBit, bit, bit-le, bit-true}
 use Rattle.words.specs.Bits.{bit-and}
 use Rattle.windows.specs.Windows.{inside}
 use Rattle.places.specs.declared.Region.{Region}
 use Rattle.places.specs.declared.Point.{Point}
 use Rattle.places.specs.Regions.{sizeOf, In}
-use Rattle.tables.specs.Layout.{regionAt, whole, isThere, offsetOf, regionOf}
-use Rattle.tables.specs.Giving.{takes}
+use Rattle.tables.specs.TableLayout.{regionAt, wholeRegion, isThere, offsetOf, regionOf}
+use Rattle.tables.specs.TableGiving.{tableTakes}
 use Rattle.model.specs.declared.OptionTerm.{OptionTerm}
 use Rattle.model.specs.declared.OptionTerm.the-variants.{With, Without, Either}
 use Rattle.model.specs.declared.Rule.{Rule}
@@ -29,21 +29,21 @@ use Rattle.model.specs.Base.{Base}
 use Rattle.model.specs.Stratification.{isStar, feeds, precedes}
 use Rattle.model.specs.Rules.{standsFor, derivesFor, rightOf}
 use Rattle.model.specs.Rules as rules
-use Rattle.model.specs.SideFacts.{derives-is, fit-feeds, feeds-fit}
+use Rattle.model.specs.SideFacts.{derives-is, right-eq, fit-feeds, feeds-fit}
 use Rattle.encoding.specs.Format.{ruleAt}
 use Rattle.outlines.specs.Coordinates.{Chart, subjectOf, objectOf, known, modeOf}
 use Rattle.outlines.specs.CoordinateFacts.{known-one}
-use Rattle.outlines.specs.Aims.{aim-known}
-use Rattle.outlines.specs.Needed.{needed, needed-known}
-use Rattle.outlines.specs.Standing.{rule-bit}
+use Rattle.outlines.specs.RuleAims.{aim-known}
+use Rattle.outlines.specs.NeededAccesses.{needed, needed-known}
+use Rattle.outlines.specs.StandingRules.{rule-bit}
 use Rattle.outlines.specs.Feed.{isEither, isChoosy}
-use Rattle.grounding.specs.Steps.{turned, turnedPoint}
+use Rattle.grounding.specs.RuleSteps.{turned, turnedPoint}
 use Rattle.grounding.specs.Meaning.{pat, Kept, TurnOf}
-use Rattle.grounding.specs.Turns.{Prepared, lookedBy, turnIn}
+use Rattle.grounding.specs.RuleTurns.{Prepared, lookedBy, turnIn}
 use Rattle.engine.specs.Drawn.{SamePowers, Drawn, mappingOf}
-use Rattle.engine.specs.Places.{place-within}
-use Rattle.engine.specs.Standing.{rule-low}
-use Rattle.engine.specs.Reading.{point-right, right-needed}
+use Rattle.engine.specs.AccessPlaces.{place-within}
+use Rattle.engine.specs.StandingPlaces.{rule-low}
+use Rattle.engine.specs.TurnReads.{point-right, right-needed}
 
 -- ---- small laws
 
@@ -52,14 +52,14 @@ sign-there : (choosy : ℕ) (g : Bool) → isThere choosy (asBit g) ≡ true
 sign-there choosy true = refl
 sign-there choosy false = refl
 
-pub in-whole : (x : Point) → In whole x
+pub in-whole : (x : Point) → In wholeRegion x
 in-whole x = record {
   subject = λ e. absurd (true≢false e);
   object = λ e. absurd (true≢false e);
   mode = λ e. absurd (true≢false e);
 }
 
-sign-region : (right : List ℕ) (g : Bool) → regionOf right (asBit g) ≡ whole
+sign-region : (right : List ℕ) (g : Bool) → regionOf right (asBit g) ≡ wholeRegion
 sign-region right true = refl
 sign-region right false = refl
 
@@ -88,20 +88,11 @@ sign-pattern rule false x = refl
 -- what fits the right side of a rule, seen from x
 own-pattern : (rule : ℕ → Rule) (c : ℕ) (x : Access) →
     pat rule (suc (suc c)) (rightOf (rule c) x .access) ≡ rightOf (rule c) x
-unfolding rightOf
-own-pattern rule c x = refl
+own-pattern rule c x = rw (right-eq (rule c) x)
 
 any-pattern : (r : Rule) (x : Access) → isChoosy r ≡ false →
     rules.asked (rightOf r x .access) (r .right .negative) ≡ rightOf r x
-unfolding rightOf
-any-pattern r x c =
-    let w = any-side r c in
-    λ k. record {
-      access = rightOf r x .access;
-      negative = r .right .negative;
-      grantor = sym (w .0) k;
-      option = sym (w .1) k;
-    }
+any-pattern r x c = let w = any-side r c in rw (right-eq r x, w .0, w .1)
 
 -- a region leads from its places to themselves, and from any place to one of its own
 in-turned : (b : Region) (x : Point) → In b x → turnedPoint b x ≡ x
@@ -193,7 +184,7 @@ module _ {holder : Base} {n : ℕ} {C : Chart} {asked : Access} {p : Prepared} {
         (λ c. rw c)
         (λ c. rw (c, right-sign r (rule-low d r e)) (start (one .right .negative)))
       where
-        start : (g : Bool) → pick (eqb (asBit g) 1) (sizeOf (p .frame .grid) whole) 0
+        start : (g : Bool) → pick (eqb (asBit g) 1) (sizeOf (p .frame .grid) wholeRegion) 0
             ≡ offsetOf (p .frame .grid) (p .first) (asBit g)
         start true = refl
         start false = refl
@@ -276,7 +267,8 @@ module _ {holder : Base} {n : ℕ} {C : Chart} {asked : Access} {p : Prepared} {
 
     turn-gives : (x : Access) → needed C asked (p .need) x ≡ true → standsFor base one x ≡ true → (T : ℕ) →
         Kept (mappingOf base C asked p) T x →
-        takes (getD (p .sides) (4 * r + 3) 0 % 2) (bitAnd (getD (p .feed) (64 + r) 0) (p .frame .choosy)) T
+        tableTakes (getD (p .sides) (4 * r + 3) 0 % 2) (bitAnd (getD (p .feed) (64 + r) 0) (p .frame .choosy))
+        T
         ≡ derivesFor base (pat (ruleAt (p .body)) T x) one
     turn-gives x m s zero k = sign-given x s false
     turn-gives x m s (suc zero) k = sign-given x s true

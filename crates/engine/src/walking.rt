@@ -7,10 +7,10 @@ ghost use lib.ListN.{getD};
 ghost use Rattle.model.specs.Base.{Base};
 ghost use Rattle.model.specs.declared.Access.{Access};
 ghost use Rattle.windows.specs.Windows.{Rising};
-ghost use Rattle.scan.specs.Runs.{Reached, Answered};
-ghost use Rattle.grounding.specs.Turns.{prepared};
+ghost use Rattle.scan.specs.Runs.{ScannedTo, Answered};
+ghost use Rattle.grounding.specs.RuleTurns.{prepared};
 ghost use Rattle.engine.specs.Posed.{Walks, Finds};
-ghost use Rattle.engine.specs.Going.{chartOf, Start, Going, Passed};
+ghost use Rattle.engine.specs.Going.{chartOf, Start, Going, WindowPassed};
 use crate::Found;
 use crate::Query;
 use crate::window::answers_in;
@@ -56,8 +56,8 @@ fn noted(
     requires { ⌜ (1 ≤ count) × (count ≤ 63) × Rising count (now marks) × (listing ≡ true →
         (w .inside ≡ true → 0 < getD (now marks) 0 0) × (w .count ≤ 1089)) ⌝ }
     ensures { λ r. ⌜ (listing ≡ true → (f : ℕ → Bool) (e : ℕ) (lent : List ℕ) (m : ℕ) →
-        Reached f e lent (getD (now (marks .entry)) 0 0) w (now (list .entry)) →
-        Answered f e count (now (marks .entry)) m yes → Reached f e lent m r (now (list .exit))) ⌝ }
+        ScannedTo f e lent (getD (now (marks .entry)) 0 0) w (now (list .entry)) →
+        Answered f e count (now (marks .entry)) m yes → ScannedTo f e lent m r (now (list .exit))) ⌝ }
 {
     if listing {
         return note_word(list, w, marks, count, yes);
@@ -66,7 +66,7 @@ fn noted(
 }
 
 // Goes through one window, and to the next instant behind it.
-fn pass(
+fn pass_window(
     lines: &[u8],
     which: &mut [u16],
     body: &[u8],
@@ -93,7 +93,7 @@ fn pass(
     requires { ⌜ ((o : Start) × Going (now lines) chosen lasting q (chartOf (now subjects) (now objects) f)
         (prepared (now body) (now left) (now feed) (now sides) (now right) (now need) (now codes) (now number)
         (now first) (now starts) f) o (now which) (now words) (now bits) (now list) s × (s .next ≤ q .to)) ⌝ }
-    ensures { λ r. ⌜ Passed (now (lines .entry)) chosen lasting q
+    ensures { λ r. ⌜ WindowPassed (now (lines .entry)) chosen lasting q
         (chartOf (now (subjects .entry)) (now (objects .entry)) f)
         (prepared (now (body .entry)) (now (left .entry)) (now (feed .entry)) (now (sides .entry))
         (now (right .entry)) (now (need .entry)) (now (codes .entry)) (now (number .entry))
@@ -232,7 +232,7 @@ pub fn walk(
         left: chosen.authorizations,
     };
     while s.next <= to as u64 {
-        s = pass(
+        s = pass_window(
             lines,
             which,
             body,

@@ -4,16 +4,16 @@ ghost use mathlib.Core.Bool.{true, not, _&&_};
 ghost use mathlib.Core.List.{List};
 ghost use Prim.Native.Nat.{ℕ, _*_, _≤_, _<_};
 ghost use lib.ListN.{length};
-ghost use Rattle.foundation.specs.Masks.{bit};
+ghost use Rattle.foundation.specs.BitMasks.{bit};
 ghost use Rattle.model.specs.Stratification.{stratified};
 ghost use Rattle.encoding.specs.Format.{rulesIn};
 ghost use Rattle.places.specs.Regions.{Within};
-ghost use Rattle.tables.specs.Layout.{fieldIn};
-ghost use Rattle.tables.specs.Giving.{tablesOf, Ready};
+ghost use Rattle.tables.specs.TableLayout.{fieldIn};
+ghost use Rattle.tables.specs.TableGiving.{tablesOf, TablesReady};
 ghost use Rattle.words.specs.Fields.{fieldOf};
 ghost use Rattle.relevance.specs.Chosen.{picked, selected};
 ghost use Rattle.facts.specs.Facts.{setting, LinesReady};
-ghost use Rattle.grounding.specs.Turns.{prepared, Able};
+ghost use Rattle.grounding.specs.RuleTurns.{prepared, Able};
 ghost use Rattle.engine.specs.Evaluation.{Low, RulesRan, Evaluation};
 use facts::give_lines;
 use grounding::derive_rules;
@@ -186,7 +186,7 @@ pub fn evaluate(
 
 // The answers at the instants of a window, once it is evaluated.
 pub fn answers_in(f: Frame, p: Place, words: &[u64], right: &[u8; 256], first: &[u32; 64]) -> u64
-    requires { ⌜ Ready f (now right) (now first) (length (now words))
+    requires { ⌜ TablesReady f (now right) (now first) (length (now words))
         × Within (f .grid) (p .pair) (p .point) ⌝ }
     ensures { λ r. ⌜ ((i : ℕ) → bit i r ≡ bit i (fieldOf (f .width) (now (words .entry))
         (fieldIn (tablesOf f (now (right .entry)) (now (first .entry))) 0 (p .pair) (p .point)))

@@ -1,2 +1,2 @@
--- `Rules` has the cases of the word of a rule.
-pub mod Rules
+-- `RuleWords` has the cases of the word of a rule.
+pub mod RuleWords

@@ -2,7 +2,7 @@
 ghost use mathlib.Core.Path.{_≡_};
 ghost use Prim.Native.Nat.{_<_};
 ghost use Rattle.model.specs.Stratification.{negating};
-ghost use Rattle.questions.specs.Operators.{lasting};
+ghost use Rattle.questions.specs.OperatorSteps.{lasting};
 ghost use Rattle.derivation.specs.Words.{wantedWord};
 ghost use Rattle.derivation.specs.Derive.{Derived};
 use model::Operator;

@@ -1,2 +1,2 @@
--- `Giving`: the instants of an authorization as a word that fits a field, and who takes it.
-pub mod Giving
+-- `LineGiving`: the instants of an authorization as a word that fits a field, and who takes it.
+pub mod LineGiving

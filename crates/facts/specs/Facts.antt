@@ -6,7 +6,7 @@ use mathlib.Core.List.{List, [], _∷_}
 use Prim.Native.Nat.{ℕ, zero, suc, _+_, _*_, _-_, _^_, _≤_, _<_}
 use lib.Dec.{eqb}
 use lib.ListN.{length, getD}
-use Rattle.foundation.specs.Masks.{asBit, bit}
+use Rattle.foundation.specs.BitMasks.{asBit, bit}
 use Rattle.model.specs.declared.Access.{Access}
 use Rattle.model.specs.declared.Authorization.{Authorization}
 use Rattle.model.specs.declared.Head.{Head}
@@ -17,12 +17,12 @@ use Rattle.encoding.specs.Format.{ruleAt}
 use Rattle.windows.specs.Windows.{Rising, inside}
 use Rattle.places.specs.declared.Grid.{Grid}
 use Rattle.places.specs.Regions.{Within}
-use Rattle.masks.specs.Masks.{RulesIn}
+use Rattle.masks.specs.RuleMasks.{RulesIn}
 use Rattle.tables.specs.declared.Frame.{Frame}
 use Rattle.tables.specs.declared.Place.{Place}
-use Rattle.tables.specs.Giving.{tablesOf, Ready, Given}
+use Rattle.tables.specs.TableGiving.{tablesOf, TablesReady, TablesGiven}
 use Rattle.relevance.specs.Chosen.{authorizationAt, Picks}
-use Rattle.relevance.specs.Needed.{cellOf, Placed}
+use Rattle.relevance.specs.Needed.{cellOf, HeadInRange}
 
 -- ---- which rules take an authorization
 
@@ -95,7 +95,7 @@ module _ (e : Setting) where
 
   -- the tables and the window can be used; `words` is the length of the tables
   pub record Usable (words : ℕ) : Type 0 where
-    pub ready : Ready (e .frame) (e .right) (e .first) words
+    pub ready : TablesReady (e .frame) (e .right) (e .first) words
     pub rules : RulesIn (e .frame .choosy) (e .body)
     pub few : length (e .number) ≤ 4225
     pub short : e .count ≤ 63
@@ -104,7 +104,7 @@ module _ (e : Setting) where
 
   -- an authorization has a place
   pub record HasPlace (h : Head) : Type 0 where
-    pub placed : Placed h
+    pub placed : HeadInRange h
     pub pair : pairFor (e .subjects) (e .objects) (e .asked) (e .frame .grid) h < length (e .number)
     pub within : Within (e .frame .grid) (placeIn h .pair) (placeIn h .point)
 
@@ -120,7 +120,8 @@ module _ (e : Setting) where
   pub record LineStep (a : Authorization) (old new : List ℕ) : Type 0 where
     pub value : ℕ
     pub instants : (j : ℕ) → bit j value ≡ inside (e .count) (e .marks) (a .interval) j
-    pub given : Given (tablesOf (e .frame) (e .right) (e .first)) (e .frame .width) (placeIn (a .head) .pair)
+    pub given : TablesGiven (tablesOf (e .frame) (e .right) (e .first)) (e .frame .width)
+        (placeIn (a .head) .pair)
         (placeIn (a .head) .point) (takenBy (e .body) (e .frame .choosy) (a .head)) value old new
 
   -- those of a list, one after the other

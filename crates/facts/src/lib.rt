@@ -4,10 +4,10 @@ ghost use mathlib.Core.Path.{_≡_};
 ghost use mathlib.Core.Bool.{_&&_};
 ghost use Prim.Native.Nat.{ℕ, _≤_, _<_};
 ghost use lib.ListN.{length};
-ghost use Rattle.foundation.specs.Masks.{bit};
-ghost use Rattle.masks.specs.Masks.{RulesIn};
+ghost use Rattle.foundation.specs.BitMasks.{bit};
+ghost use Rattle.masks.specs.RuleMasks.{RulesIn};
 ghost use Rattle.relevance.specs.Chosen.{picked};
-ghost use Rattle.relevance.specs.Needed.{Placed};
+ghost use Rattle.relevance.specs.Needed.{HeadInRange};
 ghost use Rattle.facts.specs.Facts.{fitsKind, fitsRule, setting, pairFor, placeFor};
 ghost use Rattle.facts.specs.Facts.{Usable, HasPlace, LinesReady, LineStep, LineSteps};
 use encoding::authorization_at;
@@ -58,7 +58,7 @@ fn takers_of(h: Head, body: &[u8], choosy: u64) -> u64
 }
 
 // The place of an authorization, x being asked.
-fn place_of(
+fn place_for(
     h: Head,
     x: Access,
     subjects: &[u8; 1024],
@@ -66,7 +66,7 @@ fn place_of(
     number: &[u16],
     g: Grid,
 ) -> Place
-    requires { ⌜ Placed h × (pairFor (now subjects) (now objects) x g h < length (now number))
+    requires { ⌜ HeadInRange h × (pairFor (now subjects) (now objects) x g h < length (now number))
         × (length (now number) ≤ 4225) ⌝ }
     ensures { λ r. ⌜ r
         ≡ placeFor (now (subjects .entry)) (now (objects .entry)) x g (now (number .entry)) h ⌝ }
@@ -111,7 +111,7 @@ fn give_line(
     if v == 0 {
         return;
     }
-    let p = place_of(h, x, subjects, objects, number, f.grid);
+    let p = place_for(h, x, subjects, objects, number, f.grid);
     let takers = takers_of(h, body, f.choosy);
     give(words, right, first, f, p, sign_of(h.negative), takers, v);
 }

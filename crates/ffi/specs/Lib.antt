@@ -1,2 +1,2 @@
-pub mod Bounds
-pub mod Numbers
+pub mod ReplyBounds
+pub mod PackedReplies

@@ -12,8 +12,8 @@ ghost use Rattle.model.specs.Report.{reportAnswer};
 ghost use Rattle.model.specs.Session.{textAnswer};
 ghost use Rattle.model.specs.Batch.{Batched, question, questionsIn};
 ghost use Rattle.records.specs.Records.{recordsAnswer};
-ghost use Rattle.ffi.specs.Numbers.{termOf, optionOf, side, access, packed, packedCount};
-ghost use Rattle.ffi.specs.Numbers.{packedText, AnsweredBy};
+ghost use Rattle.ffi.specs.PackedReplies.{termOf, optionFrom, sideFrom, access, packed, packedCount};
+ghost use Rattle.ffi.specs.PackedReplies.{packedText, AnsweredBy};
 use foundation::Interval;
 use model::Access;
 use model::Counted;
@@ -37,7 +37,7 @@ fn term(any: bool, n: u32) -> Term
 
 // A starred option, or else with or without the grant option.
 fn option_term(any: bool, with: bool) -> OptionTerm
-    ensures { λ r. ⌜ r ≡ optionOf any with ⌝ }
+    ensures { λ r. ⌜ r ≡ optionFrom any with ⌝ }
 {
     if any {
         return OptionTerm::Either;
@@ -165,13 +165,13 @@ pub extern "C" fn access_base_when(
 
 // The records of a body as numbers, from one on.
 #[no_mangle]
-pub extern "C" fn access_base_records(base: &[u8], body: u32, first: u32, list: &mut [u32]) -> u64
+pub extern "C" fn access_base_records(base: &[u8], source: u32, first: u32, list: &mut [u32]) -> u64
     ensures { λ r. ⌜
-        (r ≡ packed (recordsAnswer (now (base .entry)) body first (now (list .entry)) .reply))
-        × (now (list .exit) ≡ recordsAnswer (now (base .entry)) body first (now (list .entry)) .lent)
+        (r ≡ packed (recordsAnswer (now (base .entry)) source first (now (list .entry)) .reply))
+        × (now (list .exit) ≡ recordsAnswer (now (base .entry)) source first (now (list .entry)) .lent)
         ⌝ }
 {
-    pack(base::records(base, body, first, list))
+    pack(base::records(base, source, first, list))
 }
 
 // A request of any kind. A field that the kind does not name is not looked at.
@@ -219,14 +219,14 @@ pub extern "C" fn access_base_request(
       interval = interval start end;
       option = option;
       rule = record {
-        left = side «left_any_subject» «left_subject» «left_any_mode» «left_mode» «left_any_object»
+        left = sideFrom «left_any_subject» «left_subject» «left_any_mode» «left_mode» «left_any_object»
             «left_object» «left_negative»;
         operator = operator;
         right =
-            side «right_any_subject» «right_subject» «right_any_mode» «right_mode» «right_any_object»
+            sideFrom «right_any_subject» «right_subject» «right_any_mode» «right_mode» «right_any_object»
             «right_object» «right_negative»;
         grantor = termOf «any_grantor» grantor;
-        option = optionOf «any_option» «with_option»;
+        option = optionFrom «any_option» «with_option»;
       };
     }) r (now (base .exit)) ⌝ }
 {

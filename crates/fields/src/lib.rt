@@ -1,15 +1,17 @@
-// Numbers at a place of a byte slice, the least byte first, and the moving of bytes.
+// Numbers at a place of a byte slice, the least byte first, a test as a number, the lesser of two, and the
+// moving of bytes.
 ghost use mathlib.Core.Path.{_≡_};
 ghost use mathlib.Core.List.{_++_, _∷_, []};
-ghost use Prim.Native.Nat.{_+_, _-_, _≤_, _<_};
+ghost use Prim.Native.Nat.{_+_, _-_, _≤_, _<_, min};
 ghost use lib.Dec.{eqb};
 ghost use lib.ListN.{length, take, drop, replicate};
 ghost use Rattle.foundation.specs.Lists.{allb};
 ghost use Rattle.foundation.specs.Bytes.{le, bytesOf, eqList};
+ghost use Rattle.foundation.specs.BitMasks.{asBit};
 ghost use Rattle.fields.specs.Field.{splice, gapped, closed};
 
 // A byte as a 16-bit number.
-pub fn wide(x: u8) -> u16
+pub fn u16_of(x: u8) -> u16
     ensures { λ r. ⌜ (r ≡ x) × (r < 256) ⌝ }
 {
     x as u16
@@ -20,7 +22,7 @@ pub fn le16(s: &[u8], at: usize) -> u16
     requires { ⌜ at + 2 ≤ length (now s) ⌝ }
     ensures { λ r. ⌜ r ≡ le 2 (drop at (now (s .entry))) ⌝ }
 {
-    wide(s[at]) + 256 * wide(s[at + 1])
+    u16_of(s[at]) + 256 * u16_of(s[at + 1])
 }
 
 // The 32-bit number at a place.
@@ -29,6 +31,26 @@ pub fn le32(s: &[u8], at: usize) -> u32
     ensures { λ r. ⌜ r ≡ le 4 (drop at (now (s .entry))) ⌝ }
 {
     le16(s, at) as u32 + 65536 * (le16(s, at + 2) as u32)
+}
+
+// 1 where a test passes, else 0.
+pub fn as_bit(b: bool) -> u8
+    ensures { λ r. ⌜ r ≡ asBit b ⌝ }
+{
+    if b {
+        return 1;
+    }
+    0
+}
+
+// The lesser of two numbers.
+pub fn lesser(a: u64, b: u64) -> u64
+    ensures { λ r. ⌜ r ≡ min a b ⌝ }
+{
+    if a < b {
+        return a;
+    }
+    b
 }
 
 // Writes a 16-bit number at a place.

@@ -8,7 +8,8 @@ use mathlib.Core.Bool.{Bool, true, false}
 use mathlib.Core.List.{List}
 use lib.ListN.{length}
 use Rattle.foundation.specs.Lists.{Mem}
-use Rattle.foundation.specs.Totals.{count, count-le, count-mono, count-same, total, total-le, Gap}
+use Rattle.foundation.specs.Totals.{total, total-le, Gap}
+use Rattle.foundation.specs.BitMasks.{asBit, bit-le, bit-mono, bit-same}
 use Rattle.foundation.specs.Totals.{total-gap}
 use Rattle.foundation.specs.Totals.{still-after}
 
@@ -20,21 +21,21 @@ iter F (suc n) S = F (iter F n S)
 -- ---- the size of a set: how many of the keys are in it
 
 abbrev pub size : {K : Type 0} → (K → Bool) → List K → ℕ
-size S ks = total (λ k. count (S k)) ks
+size S ks = total (λ k. asBit (S k)) ks
 
 pub size-le : {K : Type 0} (S : K → Bool) (ks : List K) → size S ks ≤ length ks
-size-le S ks = omega (arith, total-le (λ k. count (S k)) 1 ks (λ k m. count-le (S k)))
+size-le S ks = omega (arith, total-le (λ k. asBit (S k)) 1 ks (λ k m. bit-le (S k)))
 
 -- S is part of Q on the keys: it is no larger, and smaller if some key is in Q only
 module _ {K : Type 0} (S Q : K → Bool) (ks : List K) (h : (k : K) → Mem k ks → S k ≡ true → Q k ≡ true) where
-  gap : Gap (λ k. count (S k)) (λ k. count (Q k)) ks
-  gap = total-gap (λ k. count (S k)) (λ k. count (Q k)) ks (λ k m. count-mono (S k) (Q k) (h k m))
+  gap : Gap (λ k. asBit (S k)) (λ k. asBit (Q k)) ks
+  gap = total-gap (λ k. asBit (S k)) (λ k. asBit (Q k)) ks (λ k m. bit-mono (S k) (Q k) (h k m))
 
   pub size-mono : size S ks ≤ size Q ks
   size-mono = ⊎-elim (λ a. omega (arith, a .1)) (λ l. omega arith) gap
 
   pub size-less : (k : K) → Mem k ks → S k ≡ false → Q k ≡ true → size S ks < size Q ks
-  size-less k m p q = ⊎-elim (λ a. absurd (omega (arith, a .0 k m, ap count p, ap count q))) (λ l. l) gap
+  size-less k m p q = ⊎-elim (λ a. absurd (omega (arith, a .0 k m, ap asBit p, ap asBit q))) (λ l. l) gap
 
 -- ---- steps
 
@@ -53,11 +54,11 @@ module _ {K : Type 0} (keys : List K) (F : (K → Bool) → K → Bool) (Inv : (
   pub settled : (S : K → Bool) → Inv S → (n : ℕ) → length keys ≤ n →
       (k : K) → Mem k keys → iter F n S k ≡ F (iter F n S) k
   unfolding iter
-  settled S v n h k m = count-same (iter F n S k) (F (iter F n S) k)
-      (still-after keys (λ i k. count (iter F i S k)) (length keys)
-      (λ i k m. count-mono (iter F i S k) (F (iter F i S) k) (adds (iter F i S) (iter-inv S v i) k))
-      (λ i a k m. ap count (local (iter F i S) (F (iter F i S)) (iter-inv S v i) (iter-inv S v (suc i))
-      (λ j n. count-same (iter F i S j) (F (iter F i S) j) (a j n)) k m))
+  settled S v n h k m = bit-same (iter F n S k) (F (iter F n S) k)
+      (still-after keys (λ i k. asBit (iter F i S k)) (length keys)
+      (λ i k m. bit-mono (iter F i S k) (F (iter F i S) k) (adds (iter F i S) (iter-inv S v i) k))
+      (λ i a k m. ap asBit (local (iter F i S) (F (iter F i S)) (iter-inv S v i) (iter-inv S v (suc i))
+      (λ j n. bit-same (iter F i S j) (F (iter F i S) j) (a j n)) k m))
       (λ i. size-le (iter F i S) keys) n h k m)
 
 -- a part of every closed set that has the start in it

@@ -12,7 +12,7 @@ use lib.Dec.{ltb}
 use lib.ListN.{length, length-map}
 use Rattle.foundation.specs.Tests.{and-true, and-intro, or-true-right, or-intro-left, or-cases}
 use Rattle.foundation.specs.Lists.{anyb, keepIf, Mem, any-mem, mem-any, any-cong, any-cong-mem, any-map}
-use Rattle.foundation.specs.Totals.{count}
+use Rattle.foundation.specs.BitMasks.{asBit}
 use Rattle.foundation.specs.Closure.{iter, settled}
 
 module _ {K : Type 0} where
@@ -53,8 +53,8 @@ module _ {K : Type 0} where
   -- the most that a path of at most n edges counts which ends in r: its edges' weights, and its first node's
   -- own
   unfoldable pub rankIn : (edge : K → K → Bool) (weight : K → K → ℕ) (own : K → Bool) → ℕ → List K → K → ℕ
-  rankIn edge weight own zero nodes r = count (own r)
-  rankIn edge weight own (suc n) nodes r = max (count (own r))
+  rankIn edge weight own zero nodes r = asBit (own r)
+  rankIn edge weight own (suc n) nodes r = max (asBit (own r))
       (most (λ q. weight q r + rankIn edge weight own n nodes q) (keepIf (λ q. edge q r) nodes))
 
   -- rounds enough that one more adds nothing, if no edge that counts lies on a cycle (`rank-settled`)
@@ -65,7 +65,7 @@ module _ {K : Type 0} where
   -- a path that ends in r, with what it counts
   pub data Walk (edge : K → K → Bool) (weight : K → K → ℕ) (own : K → Bool) (nodes : List K) :
       ℕ → K → Type 0 where
-    alone : {r : K} → Walk edge weight own nodes (count (own r)) r
+    alone : {r : K} → Walk edge weight own nodes (asBit (own r)) r
     then : {n : ℕ} {q r : K} → Walk edge weight own nodes n q → Mem q nodes → edge q r ≡ true →
         Walk edge weight own nodes (weight q r + n) r
 

@@ -12,7 +12,8 @@ use lib.Dec.{leb}
 use lib.ListN.{length}
 use Rattle.foundation.specs.Tests.{cases, must-fail, and-true, and-intro, le-true, true-le, false-le}
 use Rattle.foundation.specs.Lists.{keepIf, Mem, keepIf-mem, kept}
-use Rattle.foundation.specs.Totals.{count, count-le, count-mono, count-same, total-le, still-after}
+use Rattle.foundation.specs.Totals.{total-le, still-after}
+use Rattle.foundation.specs.BitMasks.{asBit, bit-le, bit-mono, bit-same}
 use Rattle.foundation.specs.Closure.{size, size-le, size-mono, size-less}
 use Rattle.foundation.specs.Graph.{Path, direct, onward, reaches, strictEdge, cyclic, most, heavy}
 use Rattle.foundation.specs.Graph.{rankIn, rank}
@@ -77,15 +78,15 @@ module _ {K : Type 0} (edge : K → K → Bool) (weight : K → K → ℕ) (own 
   abbrev by : ℕ → K → K → ℕ
   by n r q = weight q r + after n q
 
-  rank-zero : (r : K) → after zero r ≡ count (own r)
+  rank-zero : (r : K) → after zero r ≡ asBit (own r)
   unfolding rankIn
   rank-zero r = refl
 
-  rank-step : (n : ℕ) (r : K) → after (suc n) r ≡ max (count (own r)) (most (by n r) (before r))
+  rank-step : (n : ℕ) (r : K) → after (suc n) r ≡ max (asBit (own r)) (most (by n r) (before r))
   unfolding rankIn
   rank-step n r = refl
 
-  own-le : (n : ℕ) (r : K) → count (own r) ≤ after n r
+  own-le : (n : ℕ) (r : K) → asBit (own r) ≤ after n r
   own-le zero r = omega (arith, rank-zero r)
   own-le (suc n) r = omega (arith, rank-step n r)
 
@@ -97,7 +98,7 @@ module _ {K : Type 0} (edge : K → K → Bool) (weight : K → K → ℕ) (own 
   )
 
   -- no more than what the node has of its own and what others contribute
-  after-le : (n b : ℕ) (r : K) → count (own r) ≤ b →
+  after-le : (n b : ℕ) (r : K) → asBit (own r) ≤ b →
       ((q : K) → Mem q nodes → edge q r ≡ true → by n r q ≤ b) →
       after (suc n) r ≤ b
   after-le n b r g h = omega (
@@ -114,12 +115,12 @@ module _ {K : Type 0} (edge : K → K → Bool) (weight : K → K → ℕ) (own 
 
   -- a round adds at most two
   pub rank-rounds : (n : ℕ) (r : K) → rankIn edge weight own n nodes r ≤ 2 * n + 1
-  rank-rounds zero r = omega (arith, rank-zero r, count-le (own r))
-  rank-rounds (suc n) r = after-le n (2 * suc n + 1) r (omega (arith, count-le (own r)))
+  rank-rounds zero r = omega (arith, rank-zero r, bit-le (own r))
+  rank-rounds (suc n) r = after-le n (2 * suc n + 1) r (omega (arith, bit-le (own r)))
       (λ q m e. omega (arith, rank-rounds n q, light q r))
 
   -- a bound that every node's own and every edge keep to is kept to by the ranks
-  within : (g : K → ℕ) → ((r : K) → Mem r nodes → count (own r) ≤ g r) →
+  within : (g : K → ℕ) → ((r : K) → Mem r nodes → asBit (own r) ≤ g r) →
       ((q r : K) → Mem q nodes → Mem r nodes → edge q r ≡ true → weight q r + g q ≤ g r) →
       (n : ℕ) (r : K) → Mem r nodes → after n r ≤ g r
   within g a b zero r m = omega (arith, rank-zero r, a r m)
@@ -129,7 +130,7 @@ module _ {K : Type 0} (edge : K → K → Bool) (weight : K → K → ℕ) (own 
   -- a round looks at the nodes' ranks only
   step-cong : (m n : ℕ) → ((q : K) → Mem q nodes → after m q ≡ after n q) →
       (r : K) → after (suc m) r ≡ after (suc n) r
-  step-cong m n h r = rank-step m r ∙ ap (max (count (own r))) (most-cong (by m r) (by n r) (before r)
+  step-cong m n h r = rank-step m r ∙ ap (max (asBit (own r))) (most-cong (by m r) (by n r) (before r)
       (λ q k. ap (λ (i : ℕ). weight q r + i) (h q (kept (λ q. edge q r) nodes q k .0)))) ∙ sym (rank-step n r)
 
   -- some walk counts as much
@@ -139,14 +140,14 @@ module _ {K : Type 0} (edge : K → K → Bool) (weight : K → K → ℕ) (own 
       (λ e. rw e alone)
       (λ w. let k = kept (λ q. edge q r) nodes (w .0) (w .1) in
       rw (w .2) (then (walk-after n (w .0)) (k .0) (k .1)))
-      (most-from (by n r) (before r) (count (own r))))
+      (most-from (by n r) (before r) (asBit (own r))))
 
   -- the rank is what some walk counts
   pub rank-walk : (r : K) → Walk edge weight own nodes (rank edge weight own nodes r) r
   unfolding rank
   rank-walk r = walk-after (length nodes * (2 * length nodes)) r
 
-  rank-own : (r : K) → count (own r) ≤ rank edge weight own nodes r
+  rank-own : (r : K) → asBit (own r) ≤ rank edge weight own nodes r
   unfolding rank
   rank-own r = own-le (length nodes * (2 * length nodes)) r
 
@@ -181,7 +182,7 @@ module _ {K : Type 0} (edge : K → K → Bool) (weight : K → K → ℕ) (own 
         more p k a = above-path p r n .1 (onward (above-path p q m .0 a) m e)
 
     after-above : (n : ℕ) (r : K) → Mem r nodes → after n r ≤ 1 + 2 * size (above r) nodes
-    after-above = within (λ r. 1 + 2 * size (above r) nodes) (λ r m. omega (arith, count-le (own r)))
+    after-above = within (λ r. 1 + 2 * size (above r) nodes) (λ r m. omega (arith, bit-le (own r)))
         (λ q r m k e. omega (arith, above-less q r m k e))
 
     -- r itself is not above r
@@ -243,11 +244,11 @@ module _ {K : Type 0} (edge : K → K → Bool) (weight : K → K → ℕ) (own 
 
     -- if a round finds no further one, all were found: else one less for each that is missing would bound the
     -- ranks
-    module _ (n : ℕ) (none : (r : K) → Mem r nodes → count (known n r) ≡ count (known (suc n) r)) where
+    module _ (n : ℕ) (none : (r : K) → Mem r nodes → asBit (known n r) ≡ asBit (known (suc n) r)) where
       abbrev lower : K → ℕ
-      lower r = rank edge weight own nodes r - count (not (known n r))
+      lower r = rank edge weight own nodes r - asBit (not (known n r))
 
-      lower-own : (r : K) → Mem r nodes → count (own r) ≤ lower r
+      lower-own : (r : K) → Mem r nodes → asBit (own r) ≤ lower r
       lower-own r m = cases (known n r)
           (λ e. rw e (omega (arith, rank-own r)))
           (λ e. rw e (omega (arith, unknown-less n r e, own-le n r)))
@@ -256,7 +257,7 @@ module _ {K : Type 0} (edge : K → K → Bool) (weight : K → K → ℕ) (own 
       lower-edge q r m k e = cases (known n r)
           (λ a. rw a (omega (arith, rank-by q r m k e)))
           (λ a. cases (known n q)
-          (λ b. let less = unknown-less (suc n) r (sym (count-same (known n r) (known (suc n) r) (none r k))
+          (λ b. let less = unknown-less (suc n) r (sym (bit-same (known n r) (known (suc n) r) (none r k))
           ∙ a) in
           rw (a, b) (omega (arith, known-le n q b, by-le n q r m e)))
           (λ b. rw (a, b) (omega (arith, unknown-less n q b, rank-by q r m k e))))
@@ -270,10 +271,10 @@ module _ {K : Type 0} (edge : K → K → Bool) (weight : K → K → ℕ) (own 
       )))
 
     all-known : (r : K) → Mem r nodes → known (length nodes) r ≡ true
-    all-known = known-all (length nodes) (still-after nodes (λ n r. count (known n r)) (length nodes)
-        (λ n r m. count-mono (known n r) (known (suc n) r) (known-on n r))
-        (λ n h r m. let e = known-on n r (known-all n h r m) in ap count (e ∙ sym (known-on (suc n) r e)))
-        (λ n. omega (arith, total-le (λ r. count (known n r)) 1 nodes (λ r m. count-le (known n r))))
+    all-known = known-all (length nodes) (still-after nodes (λ n r. asBit (known n r)) (length nodes)
+        (λ n r m. bit-mono (known n r) (known (suc n) r) (known-on n r))
+        (λ n h r m. let e = known-on n r (known-all n h r m) in ap asBit (e ∙ sym (known-on (suc n) r e)))
+        (λ n. omega (arith, total-le (λ r. asBit (known n r)) 1 nodes (λ r m. bit-le (known n r))))
         (length nodes) (omega arith))
 
     known-rank : (n : ℕ) (r : K) → Mem r nodes → known n r ≡ true → after n r ≡ rank edge weight own nodes r

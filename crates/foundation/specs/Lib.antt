@@ -6,9 +6,10 @@ pub mod Graph
 pub mod GraphFacts
 pub mod Intervals
 pub mod Marks
-pub mod Counting
+pub mod MaximalCount
 pub mod Bytes
-pub mod Records
+pub mod ByteRecords
 pub mod BytesFacts
-pub mod Masks
-pub mod Runs
+pub mod BitMasks
+pub mod CoordinateTables
+pub mod MaximalRuns

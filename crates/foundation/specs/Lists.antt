@@ -89,6 +89,19 @@ pub all-cong : {A : Type 0} (p q : A → Bool) (xs : List A) → ((x : A) → p 
 all-cong p q [] h = refl
 all-cong p q (x ∷ xs) h = rw (h x, all-cong p q xs h)
 
+-- two tests of each: one after the other, or both at once
+pub all-both : {A : Type 0} (p q : A → Bool) (xs : List A) → allb p xs ≡ true → allb q xs ≡ true →
+    allb (λ x. p x && q x) xs ≡ true
+all-both p q xs e f = mem-all (λ x. p x && q x) xs
+    (λ x m. and-intro (p x) (q x) (all-mem p xs e x m) (all-mem q xs f x m))
+
+pub all-each : {A : Type 0} (p q : A → Bool) (xs : List A) → allb (λ x. p x && q x) xs ≡ true →
+    (allb p xs ≡ true) × (allb q xs ≡ true)
+all-each {A} p q xs e = (mem-all p xs (λ x m. both x m .0), mem-all q xs (λ x m. both x m .1))
+  where
+    both : (x : A) → Mem x xs → (p x ≡ true) × (q x ≡ true)
+    both x m = and-true (p x) (q x) (all-mem (λ x. p x && q x) xs e x m)
+
 -- ---- tests joined by &&, which nests to the left
 
 -- a && b && c is `conjunction true (a ∷ b ∷ c ∷ [])`

@@ -4,32 +4,11 @@ use mathlib.Core.Path.{_≡_, refl}
 use mathlib.Core.Logic.{_⊎_, inl, inr, ⊎-elim}
 use Prim.Native.Nat.{ℕ, zero, suc, _+_, _*_, _≤_, _<_}
 use native.Mathlib.Omega.{arith}
-use mathlib.Core.Bool.{Bool, true, false}
 use mathlib.Core.List.{List, [], _∷_}
 use lib.Dec.{eqb}
 use lib.ListN.{length}
 use Rattle.foundation.specs.Tests.{cases, true-eq, false-eq}
 use Rattle.foundation.specs.Lists.{Mem}
-
--- ---- a test as a number
-
-abbrev pub count : Bool → ℕ
-count true = 1
-count false = 0
-
-pub count-le : (b : Bool) → count b ≤ 1
-count-le true = omega arith
-count-le false = omega arith
-
-pub count-mono : (a b : Bool) → (a ≡ true → b ≡ true) → count a ≤ count b
-count-mono true b h = rw (h refl) (omega arith)
-count-mono false b h = omega arith
-
-pub count-same : (a b : Bool) → count a ≡ count b → a ≡ b
-count-same true true e = refl
-count-same true false e = absurd (omega arith)
-count-same false true e = absurd (omega arith)
-count-same false false e = refl
 
 -- ---- totals
 

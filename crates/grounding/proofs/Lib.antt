@@ -1,5 +1,5 @@
--- `Rounds` has the laws of turns: masks of rules, and why the rounds of a set of rules end.
-pub mod Rows
-pub mod Reading
+-- `TurnRounds` has the laws of turns: masks of rules, and why the rounds of a set of rules end.
+pub mod StepRows
+pub mod StepBits
 pub mod Modes
-pub mod Rounds
+pub mod TurnRounds

@@ -7,19 +7,19 @@ use lib.Bits.{bitAnd}
 use lib.Dec.{eqb, ltb}
 use lib.Pow.{shr-shr}
 use Rattle.foundation.specs.Tests.{cases, agree, eq-true, true-eq, ne-false, le-true, true-le}
-use Rattle.foundation.specs.Masks.{bit}
+use Rattle.foundation.specs.BitMasks.{bit}
 use Rattle.words.specs.Ones.{span-bit}
 use Rattle.words.specs.Bits.{bit-and}
-use Rattle.masks.proofs.Bits.{no-bit, one-bit}
-use Rattle.grounding.specs.declared.Turn.{Turn}
-use Rattle.grounding.specs.Steps.{modesAt}
+use Rattle.masks.proofs.SingleBits.{no-bit, one-bit}
+use Rattle.grounding.specs.declared.RuleTurn.{RuleTurn}
+use Rattle.grounding.specs.RuleSteps.{modesAt}
 
 eqb-sym : (m n : ℕ) → eqb m n ≡ eqb n m
 eqb-sym m n = agree (eqb m n) (eqb n m)
     (λ e. eq-true n m (sym (true-eq m n e)))
     (λ e. eq-true m n (sym (true-eq n m e)))
 
-module _ (t : Turn) (need : ℕ) where
+module _ (t : RuleTurn) (need : ℕ) where
   -- the modes that are needed with both signs
   abbrev pub needed : ℕ
   needed = bitAnd (bitAnd need (need / 2 ^ 8)) 255

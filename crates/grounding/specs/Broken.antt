@@ -13,24 +13,23 @@ use Rattle.foundation.specs.Tests.{pick, cases, le-true, le-false, true-le, fal
 use Rattle.foundation.specs.Tests.{ne-false, or-none, or-false}
 use Rattle.foundation.specs.Lists.{Mem}
 use Rattle.foundation.specs.Marks.{clear}
-use Rattle.foundation.specs.Masks.{bit}
-use Rattle.foundation.specs.Totals as totals
+use Rattle.foundation.specs.BitMasks.{asBit, bit}
 use Rattle.words.specs.Fields.{fieldOf}
 use Rattle.tables.specs.declared.Place.{Place}
-use Rattle.tables.specs.Layout.{Tables, Laid, Has, ruleTables, field-apart}
+use Rattle.tables.specs.TableLayout.{Tables, TablesLaid, Has, ruleTables, field-apart}
 use Rattle.model.specs.declared.Rule.{Rule}
 use Rattle.model.specs.declared.Access.{Access}
 use Rattle.model.specs.Means.{allMarks}
 use Rattle.model.specs.Rules.{standsFor}
-use Rattle.questions.specs.Operators.{lasting}
+use Rattle.questions.specs.OperatorSteps.{lasting}
 use Rattle.questions.specs.Table.{truth}
 use Rattle.derivation.specs.Derive.{Derived}
 use Rattle.derivation.specs.Carried.{Carried, carried-on, carried-first, window-framed}
 use Rattle.derivation.specs.Turn.{turn-right}
-use Rattle.grounding.specs.Steps.{forceIn, brokenAt, brokenIn, Mark, Steps, Visited}
+use Rattle.grounding.specs.RuleSteps.{forceIn, brokenAt, brokenIn, Mark, Steps, Visited}
 use Rattle.grounding.specs.Meaning.{StandsIn, Kept, placeOf, pat-on, evaluated-at}
-use Rattle.grounding.specs.Turns as turns
-use Rattle.grounding.specs.Turns.{turnIn, RuleMarked, Marked}
+use Rattle.grounding.specs.RuleTurns as turns
+use Rattle.grounding.specs.RuleTurns.{turnIn, RuleMarked, Marked}
 use Rattle.grounding.specs.Order.{Stage, Staged, mappingOf, ruleOf}
 use Rattle.grounding.specs.Order.{patternOf, turnOf, W, RightIn, DoneIn}
 use Rattle.grounding.specs.Order.{steps-along, steps-within, visited-within}
@@ -41,7 +40,7 @@ one-bit : (ws : List ℕ) (i : ℕ) → fieldOf 0 ws i < 2
 unfolding fieldOf
 one-bit ws i = omega arith
 
-or-bit : (n : ℕ) (b : Bool) → n < 2 → eqb (bitOr n (totals.count b)) 1 ≡ eqb n 1 || b
+or-bit : (n : ℕ) (b : Bool) → n < 2 → eqb (bitOr n (asBit b)) 1 ≡ eqb n 1 || b
 or-bit zero true h = refl
 or-bit zero false h = refl
 or-bit (suc zero) true h = refl
@@ -71,7 +70,7 @@ module _ (o : Stage) where
       (rules : ℕ)
       (within : (r : ℕ) → bit r rules ≡ true →
       (bit r (o .needed) ≡ true) × (lasting (ruleOf o r .operator) ≡ true))
-      (from to : ℕ) (laid : Laid (brokenTables rules) from to)
+      (from to : ℕ) (laid : TablesLaid (brokenTables rules) from to)
       (has : (r : ℕ) → bit r rules ≡ true → (x : Access) → o .matters x ≡ true →
       standsFor (o .base) (ruleOf o r) x ≡ true →
       Has (brokenTables rules) r (placeOf (mappingOf o) x .pair) (o .point x)) where
@@ -130,7 +129,7 @@ module _ (o : Stage) where
       own-bit =
           let i = bitOf q y in
           read-bit new size q (j .rule) y ∙ ap (λ (n : ℕ). eqb n 1) (d .marked i)
-          ∙ ap (λ (b : Bool). eqb (pick b (bitOr (fieldOf 0 old i) (totals.count (not (bit last (d .value)))))
+          ∙ ap (λ (b : Bool). eqb (pick b (bitOr (fieldOf 0 old i) (asBit (not (bit last (d .value)))))
           (fieldOf 0 old i)) 1) (eq-true i i refl)
           ∙ or-bit (fieldOf 0 old i) (not (bit last (d .value))) (one-bit old i)
           ∙ ap (λ (b : Bool). b || not (bit last (d .value))) (sym (read-bit old (m .some) q (j .rule) y))
@@ -173,7 +172,7 @@ module _ (o : Stage) where
           (λ e. inl (read-bit new size r (i .rule) x
           ∙ ap (λ (n : ℕ). eqb n 1) (d .marked (bitOf r x))
           ∙ ap (λ (b : Bool). eqb (pick b (bitOr (fieldOf 0 old (bitOf q y))
-          (totals.count (not (bit last (d .value))))) (fieldOf 0 old (bitOf r x))) 1) e
+          (asBit (not (bit last (d .value))))) (fieldOf 0 old (bitOf r x))) 1) e
           ∙ sym (read-bit old (m .some) r (i .rule) x)))
 
       step-final : (r : ℕ) (x : Access) → Instance r x → brokenOf old r x ≡ final r x →

@@ -1,7 +1,7 @@
-pub mod Steps
+pub mod RuleSteps
 pub mod Meaning
-pub mod Turns
+pub mod RuleTurns
 pub mod Order
 pub mod Strata
-pub mod Answers
+pub mod WindowAnswers
 pub mod Broken

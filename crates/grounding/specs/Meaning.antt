@@ -12,7 +12,7 @@ use lib.ListN.{getD}
 use Rattle.foundation.specs.Tests.{pick, cases, and-true, and-three, true-eq, eq-true}
 use Rattle.foundation.specs.Lists.{Mem}
 use Rattle.foundation.specs.Intervals.{inInterval}
-use Rattle.foundation.specs.Masks.{bit}
+use Rattle.foundation.specs.BitMasks.{bit}
 use Rattle.words.specs.Bits.{less, bit-or, bit-less}
 use Rattle.words.specs.Fields.{fieldOf}
 use Rattle.places.specs.declared.Region.{Region}
@@ -20,8 +20,8 @@ use Rattle.places.specs.declared.Point.{Point}
 use Rattle.places.specs.Regions.{sizeOf, indexIn}
 use Rattle.tables.specs.declared.Frame.{Frame}
 use Rattle.tables.specs.declared.Place.{Place}
-use Rattle.tables.specs.Layout.{fieldIn, Paired, Has, whole}
-use Rattle.tables.specs.Giving.{tablesOf, takes, same, Given}
+use Rattle.tables.specs.TableLayout.{fieldIn, Paired, Has, wholeRegion}
+use Rattle.tables.specs.TableGiving.{tablesOf, tableTakes, samePlace, TablesGiven}
 use Rattle.model.specs.declared.Operator.{Operator}
 use Rattle.model.specs.declared.Rule.{Rule}
 use Rattle.model.specs.declared.Access.{Access}
@@ -33,12 +33,12 @@ use Rattle.questions.specs.Table.{truth}
 use Rattle.derivation.specs.Window.{Window}
 use Rattle.derivation.specs.Derive.{Derived}
 use Rattle.derivation.specs.Carried.{Carried}
-use Rattle.derivation.specs.Exact.{Tables, Valued, GivenAt, Done}
+use Rattle.derivation.specs.Exact.{AccessWords, Valued, GivenAt, Done}
 use Rattle.derivation.specs.Joined.{Joined, given-stays, rule-valued, rule-given}
 use Rattle.derivation.specs.Turn.{Evaluated, turn-right}
-use Rattle.grounding.specs.declared.Turn.{Turn}
-use Rattle.grounding.specs.Steps.{turnedPoint, pairIn, forceAt, forceIn, brokenIn, Step, Steps}
-use Rattle.grounding.specs.Steps.{none, then, Visited}
+use Rattle.grounding.specs.declared.RuleTurn.{RuleTurn}
+use Rattle.grounding.specs.RuleSteps.{turnedPoint, pairIn, forceAt, forceIn, brokenIn, Step, Steps}
+use Rattle.grounding.specs.RuleSteps.{none, then, Visited}
 
 -- ---- patterns
 
@@ -80,7 +80,7 @@ module _ (z : Mapping) where
       × Has (tablesOf (z .frame) (z .right) (z .first)) T (placeOf x .pair) (z .point x)
 
   -- the word of an access in a table
-  abbrev pub wordsIn : List ℕ → Tables
+  abbrev pub wordsIn : List ℕ → AccessWords
   wordsIn words T x = fieldOf (z .frame .width) words
       (fieldIn (tablesOf (z .frame) (z .right) (z .first)) T (placeOf x .pair) (z .point x))
 
@@ -112,14 +112,15 @@ module _ (z : Mapping) where
   module _ (placed : Placed) (x : Access) (m : z .matters x ≡ true) (taken : ℕ → Bool) (v : ℕ)
       (old new : List ℕ) (wanted : ℕ → Bool)
       (alike : (T : ℕ) → Kept T x → taken T ≡ wanted T)
-      (g : Given (tablesOf (z .frame) (z .right) (z .first)) (z .frame .width) (placeOf x .pair) (z .point x)
+      (g : TablesGiven (tablesOf (z .frame) (z .right) (z .first)) (z .frame .width) (placeOf x .pair)
+      (z .point x)
       taken
       v old new) where
     abbrev field : ℕ → Access → ℕ
     field T y = fieldIn (tablesOf (z .frame) (z .right) (z .first)) T (placeOf y .pair) (z .point y)
 
     given-at : (T : ℕ) (y : Access) → Kept T y → wordsIn new T y
-        ≡ pick (taken T && same (z .point y) (z .point x)) (bitOr (wordsIn old T y) v) (wordsIn old T y)
+        ≡ pick (taken T && samePlace (z .point y) (z .point x)) (bitOr (wordsIn old T y) v) (wordsIn old T y)
     given-at T y k = g .fields T (placeOf y .pair) (z .point y) (k .1) (placed .paired y x (k .0) m)
 
     -- no word becomes less
@@ -127,12 +128,12 @@ module _ (z : Mapping) where
     given-grows T y k =
         let a : ℕ = wordsIn old T y in
         let n : ℕ = wordsIn new T y in
-        let e : n ≡ pick (taken T && same (z .point y) (z .point x)) (bitOr a v) a = given-at T y k in
-        cases (taken T && same (z .point y) (z .point x))
+        let e : n ≡ pick (taken T && samePlace (z .point y) (z .point x)) (bitOr a v) a = given-at T y k in
+        cases (taken T && samePlace (z .point y) (z .point x))
         (λ c. let q : n ≡ bitOr a v = e ∙ rw c in omega (arith, or-add-and a v, and-le-r a v))
         (λ c. let q : n ≡ a = e ∙ rw c in omega arith)
 
-    same-refl : same (z .point x) (z .point x) ≡ true
+    same-refl : samePlace (z .point x) (z .point x) ≡ true
     same-refl =
         let p = z .point x in
         and-three (eqb (p .subject) (p .subject)) (eqb (p .object) (p .object)) (eqb (p .mode) (p .mode)) .1 (
@@ -141,7 +142,7 @@ module _ (z : Mapping) where
           eq-true (p .mode) (p .mode) refl,
         )
 
-    same-access : (y : Access) → z .matters y ≡ true → same (z .point y) (z .point x) ≡ true → y ≡ x
+    same-access : (y : Access) → z .matters y ≡ true → samePlace (z .point y) (z .point x) ≡ true → y ≡ x
     same-access y n e =
         let p = z .point y in
         let q = z .point x in
@@ -157,8 +158,8 @@ module _ (z : Mapping) where
       there = λ T k t i.
           ap (bit i) (given-at T x k ∙ rw (alike T k ∙ t, same-refl)) ∙ bit-or (wordsIn old T x) v i;
       else-kept = λ T y k n.
-          given-at T y k ∙ cases (taken T && same (z .point y) (z .point x))
-          (λ e. let w = and-true (taken T) (same (z .point y) (z .point x)) e in
+          given-at T y k ∙ cases (taken T && samePlace (z .point y) (z .point x))
+          (λ e. let w = and-true (taken T) (samePlace (z .point y) (z .point x)) e in
           let q = same-access y (k .0) (w .1) in
           absurd (n q (sym (alike T (subst (Kept T) q k)) ∙ w .0)))
           (λ e. rw e);
@@ -167,7 +168,7 @@ module _ (z : Mapping) where
   -- ---- the turn of a rule
 
   -- t is the turn of rule r over a window
-  pub record TurnOf (count : ℕ) (ms : ℕ → ℕ) (r : Rule) (t : Turn) : Type 0 where
+  pub record TurnOf (count : ℕ) (ms : ℕ → ℕ) (r : Rule) (t : RuleTurn) : Type 0 where
     pub mem : Mem r (z .base .rules)
     pub operator : t .operator ≡ r .operator
     pub acts : (i : ℕ) → i < count → bit i (t .active) ≡ inInterval (r .interval) (ms i)
@@ -184,7 +185,7 @@ module _ (z : Mapping) where
     pub pattern : (x : Access) → pat (z .rule) looked (rightOf r x .access) ≡ rightOf r x
     -- and those that it gives to
     pub gives : (x : Access) → z .matters x ≡ true → standsFor (z .base) r x ≡ true → (T : ℕ) → Kept T x →
-        takes (t .sign) (t .takers) T ≡ derivesFor (z .base) (pat (z .rule) T x) r
+        tableTakes (t .sign) (t .takers) T ≡ derivesFor (z .base) (pat (z .rule) T x) r
 
   -- a place at which the rule stands
   pub record StandsIn (r : Rule) (p : Place) : Type 0 where
@@ -194,7 +195,7 @@ module _ (z : Mapping) where
     pub place : p ≡ placeOf access
 
   module _ (placed : Placed) (strata : stratified (z .base .rules) ≡ true) (count : ℕ) (ms : ℕ → ℕ)
-      (w : Window (z .base) count ms) (r : Rule) (t : Turn) (turn : TurnOf count ms r t) (bits : List ℕ)
+      (w : Window (z .base) count ms) (r : Rule) (t : RuleTurn) (turn : TurnOf count ms r t) (bits : List ℕ)
       (carried : (x : Access) → z .matters x ≡ true → standsFor (z .base) r x ≡ true →
       Carried (z .base) (ms 0) r x (brokenIn t (z .frame .grid) bits (placeOf x))) where
     abbrev Does : List ℕ → Place → List ℕ → List ℕ → Type 0
@@ -220,7 +221,7 @@ module _ (z : Mapping) where
         let y = rightOf r x .access in
         let field : ℕ → Region → ℕ = λ from b. fieldOf (z .frame .width) u
         (from + indexIn (z .frame .grid) b (placeOf y .pair) (z .point y)) in
-        let denials = field (sizeOf (z .frame .grid) whole) whole in
+        let denials = field (sizeOf (z .frame .grid) wholeRegion) wholeRegion in
         ap (λ (q : Point). forceAt t (z .frame) u
         (record { pair = getD (z .number) (pairIn (z .frame .grid) q) 0; point = q })) (sym (turn .point x m
         s))
@@ -263,7 +264,7 @@ module _ (z : Mapping) where
         (step : Does bits (placeOf x) old new) where
       pub step-joined : Joined Kept (wordsIn old) (wordsIn new) (λ T. derivesFor (z .base) (patterns T x) r) x
           (step .value)
-      step-joined = given-joined placed x m (takes (t .sign) (t .takers)) (step .value) old new
+      step-joined = given-joined placed x m (tableTakes (t .sign) (t .takers)) (step .value) old new
           (λ T. derivesFor (z .base) (patterns T x) r) (turn .gives x m s) (step .given)
 
       pub step-evaluated : Evaluated (z .base) count ms patterns Kept (wordsIn old) r x (step .value)

@@ -11,10 +11,10 @@ use lib.ListN.{getD}
 use Rattle.foundation.specs.Tests.{cases, true-eq, false-eq, and-true}
 use Rattle.foundation.specs.Lists.{Mem}
 use Rattle.foundation.specs.Intervals.{inInterval, always}
-use Rattle.foundation.specs.Masks.{bit}
+use Rattle.foundation.specs.BitMasks.{bit}
 use Rattle.places.specs.declared.Point.{Point}
 use Rattle.tables.specs.declared.Place.{Place}
-use Rattle.tables.specs.Giving.{takes}
+use Rattle.tables.specs.TableGiving.{tableTakes}
 use Rattle.model.specs.declared.Rule.{Rule}
 use Rattle.model.specs.declared.Access.{Access}
 use Rattle.model.specs.declared.Pattern.{Pattern}
@@ -27,14 +27,14 @@ use Rattle.encoding.specs.Format.{ruleAt}
 use Rattle.derivation.specs.Window.{Window}
 use Rattle.derivation.specs.Words.{bit-zero}
 use Rattle.derivation.specs.Carried.{Carried}
-use Rattle.derivation.specs.Exact.{Tables, Valued, Done}
+use Rattle.derivation.specs.Exact.{AccessWords, Valued, Done}
 use Rattle.derivation.specs.Joined.{Joined, joined-more}
-use Rattle.grounding.specs.declared.Turn.{Turn}
-use Rattle.grounding.specs.Steps.{brokenIn, Step, Steps, none, then, Visited, AtPair, PairsRan}
+use Rattle.grounding.specs.declared.RuleTurn.{RuleTurn}
+use Rattle.grounding.specs.RuleSteps.{brokenIn, Step, Steps, none, then, Visited, AtPair, PairsRan}
 use Rattle.grounding.specs.Meaning.{Mapping, Placed, TurnOf, StandsIn, Kept, placeOf, wordsIn, pat}
 use Rattle.grounding.specs.Meaning.{pat-on, given-grows, step-joined, steps-keep, turn-given}
-use Rattle.grounding.specs.Turns as turns
-use Rattle.grounding.specs.Turns.{Prepared, turnIn, rangeFor, RuleRan, Turns}
+use Rattle.grounding.specs.RuleTurns as turns
+use Rattle.grounding.specs.RuleTurns.{Prepared, turnIn, rangeFor, RuleRan, Turns}
 
 -- ---- rows of steps
 
@@ -118,10 +118,10 @@ module _ (o : Stage) where
   abbrev pub patternOf : ℕ → Access → Pattern
   patternOf = pat ruleOf
 
-  abbrev pub turnOf : ℕ → Turn
+  abbrev pub turnOf : ℕ → RuleTurn
   turnOf = turnIn p active
 
-  abbrev pub W : List ℕ → Tables
+  abbrev pub W : List ℕ → AccessWords
   W = wordsIn mappingOf
 
   -- the places at which rule r has a step
@@ -207,7 +207,7 @@ module _ (o : Stage) where
 
         row-grows : (T : ℕ) (y : Access) → Kept mappingOf T y → W a T y ≤ W b T y
         row-grows = given-grows mappingOf (staged .placed) (s .access) (s .matters)
-            (takes (turnOf r .sign) (turnOf r .takers)) (there .value) a b
+            (tableTakes (turnOf r .sign) (turnOf r .takers)) (there .value) a b
             (λ T. derivesFor base (patternOf T (s .access)) (ruleOf r))
             (staged .turn r n .gives (s .access) (s .matters) (s .stands)) (there .given)
 

@@ -11,8 +11,8 @@ use lib.Dec.{eqb, ltb}
 use lib.ListN.{length, getD}
 use Rattle.foundation.specs.Tests.{cases, true-le, false-le, true-eq, false-eq, or-true-right}
 use Rattle.foundation.specs.Lists.{Mem}
-use Rattle.foundation.specs.Masks.{bit}
-use Rattle.words.specs.Sums.{Grown}
+use Rattle.foundation.specs.BitMasks.{bit}
+use Rattle.words.specs.Sums.{SumGrown}
 use Rattle.tables.specs.declared.Place.{Place}
 use Rattle.model.specs.declared.Rule.{Rule}
 use Rattle.model.specs.declared.Access.{Access}
@@ -23,10 +23,10 @@ use Rattle.laws.specs.Dependence.{Depends, depends-fed}
 use Rattle.derivation.specs.Joined.{rule-valued}
 use Rattle.derivation.specs.Turn.{Evaluated, evaluated-stays}
 use Rattle.derivation.specs.Fixpoint.{Shut, shut-stays, sound-stratum, shut-done}
-use Rattle.grounding.specs.Steps.{Steps, then}
+use Rattle.grounding.specs.RuleSteps.{Steps, then}
 use Rattle.grounding.specs.Meaning.{StandsIn, Kept, placeOf, pat-on, step-joined, step-evaluated}
-use Rattle.grounding.specs.Turns as turns
-use Rattle.grounding.specs.Turns.{RuleRan, Turns, Rounds, Strata}
+use Rattle.grounding.specs.RuleTurns as turns
+use Rattle.grounding.specs.RuleTurns.{RuleRan, Turns, Rounds, Strata}
 use Rattle.grounding.specs.Order.{Stage, Staged, mappingOf, ruleOf}
 use Rattle.grounding.specs.Order.{patternOf, turnOf, W, RightIn, DoneIn}
 use Rattle.grounding.specs.Order.{Gained, done-gained, steps-along, Does, Ran, Row, row-of, visited-of}
@@ -148,7 +148,7 @@ module _ (o : Stage) (staged : Staged o) where
     AllSettling dirty u = (q : ℕ) → bit q (o .needed) ≡ true → rank (ruleOf o q) ≡ k → Settling dirty u q
 
     module _ (r : ℕ) (fresh : Bool) (in-set : bit r rules ≡ true) (u v : List ℕ) (dirty dirty′ : ℕ)
-        (ran : RuleRan (o .prepared) (o .active) (o .bits) r u v) (grown : Grown fresh u v)
+        (ran : RuleRan (o .prepared) (o .active) (o .bits) r u v) (grown : SumGrown fresh u v)
         (kept : (q : ℕ) → bit q dirty ≡ true → (q ≡ r → ⊥) → bit q dirty′ ≡ true)
         (again : fresh ≡ true → (q : ℕ) → q < 64 → bit q rules ≡ true →
         bit r (getD (o .prepared .feed) q 0) ≡ true → bit q dirty′ ≡ true) where

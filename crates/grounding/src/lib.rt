@@ -11,7 +11,7 @@ pub use turns::mark_broken;
 // The turn of a rule: its number, its operator and the instants of its interval; its right side, whether that
 // is a denial, and where the table that it looks at starts and which places that has; its left side, with its
 // sign, and where its broken bits start; and the rules whose tables it gives to.
-pub struct Turn {
+pub struct RuleTurn {
     pub rule: u32,
     pub operator: Operator,
     pub active: u64,

@@ -3,17 +3,17 @@ ghost use mathlib.Core.Path.{_≡_};
 ghost use mathlib.Core.Bool.{true};
 ghost use Prim.Native.Nat.{ℕ, _+_, _*_, _^_, _≤_, _<_};
 ghost use lib.ListN.{length, getD};
-ghost use Rattle.foundation.specs.Masks.{bit};
-ghost use Rattle.questions.specs.Operators.{lasting};
-ghost use Rattle.words.specs.Sums.{Grown};
+ghost use Rattle.foundation.specs.BitMasks.{bit};
+ghost use Rattle.questions.specs.OperatorSteps.{lasting};
+ghost use Rattle.words.specs.Sums.{SumGrown};
 ghost use Rattle.places.specs.Regions.{sizeOf};
-ghost use Rattle.tables.specs.Layout.{whole};
-ghost use Rattle.tables.specs.Giving.{Ready, Reaches};
+ghost use Rattle.tables.specs.TableLayout.{wholeRegion};
+ghost use Rattle.tables.specs.TableGiving.{TablesReady, Reaches};
 ghost use Rattle.derivation.specs.Derive.{Derived};
-ghost use Rattle.grounding.specs.Steps.{turned, turnedPoint, pairIn, rightPlace, forceAt, forceIn};
-ghost use Rattle.grounding.specs.Steps.{brokenIn, modesAt, Step, Mark, ModesReady, ModesRan};
-ghost use Rattle.grounding.specs.Steps.{PairsReady, PairsRan, Ordinary, Reads};
-use crate::Turn;
+ghost use Rattle.grounding.specs.RuleSteps.{turned, turnedPoint, pairIn, rightPlace, forceAt, forceIn};
+ghost use Rattle.grounding.specs.RuleSteps.{brokenIn, modesAt, Step, Mark, ModesReady, ModesRan};
+ghost use Rattle.grounding.specs.RuleSteps.{PairsReady, PairsRan, Ordinary, StepReads};
+use crate::RuleTurn;
 use evaluation::is_lasting;
 use places::Grid;
 use places::Point;
@@ -49,7 +49,7 @@ fn right_point(b: Region, x: Point) -> Point
 }
 
 // The same with the number of its pair.
-fn right_place(t: Turn, g: Grid, number: &[u16], x: Point) -> Place
+fn right_place(t: RuleTurn, g: Grid, number: &[u16], x: Point) -> Place
     requires { ⌜ (pairIn g (turnedPoint (t .right) x) < length (now number))
         × (pairIn g (turnedPoint (t .right) x) < 4294967296) ⌝ }
     ensures { λ r. ⌜ r ≡ rightPlace t g (now (number .entry)) x ⌝ }
@@ -64,7 +64,7 @@ fn right_place(t: Turn, g: Grid, number: &[u16], x: Point) -> Place
 }
 
 // Whether the rule is broken at a place. Where no bits are kept none is.
-fn is_broken(t: Turn, g: Grid, bits: &[u64], p: Place) -> bool
+fn is_broken(t: RuleTurn, g: Grid, bits: &[u64], p: Place) -> bool
     requires { ⌜ Ordinary t g (length (now bits)) p ⌝ }
     ensures { λ r. ⌜ r ≡ brokenIn t g (now (bits .entry)) p ⌝ }
 {
@@ -78,9 +78,9 @@ fn is_broken(t: Turn, g: Grid, bits: &[u64], p: Place) -> bool
 }
 
 // The instants at which the right side counts as held: a positive one where no denial of its place is.
-fn in_force(t: Turn, f: Frame, words: &[u64], y: Place) -> u64
+fn instants_in_force(t: RuleTurn, f: Frame, words: &[u64], y: Place) -> u64
     requires { ⌜ Reaches f (t .first) (t .table) y (length (now words))
-        × Reaches f (sizeOf (f .grid) whole) whole y (length (now words)) ⌝ }
+        × Reaches f (sizeOf (f .grid) wholeRegion) wholeRegion y (length (now words)) ⌝ }
     ensures { λ r. ⌜ r ≡ forceAt t f (now (words .entry)) y ⌝ }
 {
     let b = t.table;
@@ -96,8 +96,8 @@ fn in_force(t: Turn, f: Frame, words: &[u64], y: Place) -> u64
 
 // What the rule derives over the window at a place of its left side: where it is broken nothing, and then
 // nothing else is looked at.
-fn value_at(t: Turn, f: Frame, number: &[u16], words: &[u64], bits: &[u64], p: Place) -> u64
-    requires { ⌜ Reads t f (now number) (length (now words)) (length (now bits)) p ⌝ }
+fn value_at(t: RuleTurn, f: Frame, number: &[u16], words: &[u64], bits: &[u64], p: Place) -> u64
+    requires { ⌜ StepReads t f (now number) (length (now words)) (length (now bits)) p ⌝ }
     ensures { λ r. ⌜ Derived (t .operator) (forceIn t f (now (number .entry)) (now (words .entry)) (p .point))
         (t .active) (brokenIn t (f .grid) (now (bits .entry)) p) r ⌝ }
 {
@@ -108,12 +108,12 @@ fn value_at(t: Turn, f: Frame, number: &[u16], words: &[u64], bits: &[u64], p: P
     let x = p.point;
     let y = right_place(t, g, number, x);
     let o = t.operator;
-    evaluation::derive(o, in_force(t, f, words, y), t.active, false)
+    evaluation::derive(o, instants_in_force(t, f, words, y), t.active, false)
 }
 
 // Gives what the rule derives at a place; whether something is new.
 fn derive_at(
-    t: Turn,
+    t: RuleTurn,
     f: Frame,
     number: &[u16],
     words: &mut [u64],
@@ -122,11 +122,11 @@ fn derive_at(
     first: &[u32; 64],
     p: Place,
 ) -> bool
-    requires { ⌜ Reads t f (now number) (length (now words)) (length (now bits)) p
-        × Ready f (now right) (now first) (length (now words)) ⌝ }
+    requires { ⌜ StepReads t f (now number) (length (now words)) (length (now bits)) p
+        × TablesReady f (now right) (now first) (length (now words)) ⌝ }
     ensures { λ r. ⌜ Step t f (now (number .entry)) (now (bits .entry)) (now (right .entry))
         (now (first .entry)) p (now (words .entry)) (now (words .exit))
-        × Grown r (now (words .entry)) (now (words .exit)) ⌝ }
+        × SumGrown r (now (words .entry)) (now (words .exit)) ⌝ }
 {
     let v = value_at(t, f, number, words, bits, p);
     if v == 0 {
@@ -136,7 +136,7 @@ fn derive_at(
 }
 
 // The modes of a pair at which the rule stands, as bits: those that are needed, with both signs, and its own.
-fn modes_at(t: Turn, need: u16) -> u64
+fn modes_at(t: RuleTurn, need: u16) -> u64
     ensures { λ r. ⌜ ((m : ℕ) → bit m r ≡ modesAt t need m) ⌝ }
 {
     let w = (need & (need >> 8) & 255) as u64;
@@ -152,7 +152,7 @@ fn modes_at(t: Turn, need: u16) -> u64
 
 // The same for each mode of a mask at a pair.
 fn derive_modes(
-    t: Turn,
+    t: RuleTurn,
     f: Frame,
     number: &[u16],
     words: &mut [u64],
@@ -163,10 +163,10 @@ fn derive_modes(
     modes: u64,
 ) -> bool
     requires { ⌜ ModesReady t f (now number) (length (now words)) (length (now bits)) pair modes
-        × Ready f (now right) (now first) (length (now words)) ⌝ }
+        × TablesReady f (now right) (now first) (length (now words)) ⌝ }
     ensures { λ r. ⌜ ModesRan (Step t f (now (number .entry)) (now (bits .entry)) (now (right .entry))
         (now (first .entry))) pair modes (now (words .entry)) (now (words .exit))
-        × Grown r (now (words .entry)) (now (words .exit)) ⌝ }
+        × SumGrown r (now (words .entry)) (now (words .exit)) ⌝ }
 {
     let x = pair.point;
     let mut fresh = false;
@@ -187,7 +187,7 @@ fn derive_modes(
 }
 
 // Whether the rule stands on an object and a subject.
-fn stands(t: Turn, left: &[u64; 152], o: usize, s: usize) -> bool
+fn stands_at_pair(t: RuleTurn, left: &[u64; 152], o: usize, s: usize) -> bool
     requires { ⌜ (o < 65) × (s < 65) × (t .rule < 64) ⌝ }
     ensures { λ r. ⌜ (r ≡ true → (bit (t .rule) (getD (now (left .entry)) o 0) ≡ true)
         × (bit (t .rule) (getD (now (left .entry)) (65 + s) 0) ≡ true))
@@ -198,7 +198,7 @@ fn stands(t: Turn, left: &[u64; 152], o: usize, s: usize) -> bool
 }
 
 // The modes of the pair with a code at which the rule stands; none where it does not.
-fn standing_modes(t: Turn, g: Grid, left: &[u64; 152], need: &[u16], o: usize, s: usize) -> u64
+fn standing_modes(t: RuleTurn, g: Grid, left: &[u64; 152], need: &[u16], o: usize, s: usize) -> u64
     requires { ⌜ (o < 65) × (s < 65) × (t .rule < 64) × (t .sign < 2)
         × (o * g .subjects + s < length (now need)) ⌝ }
     ensures { λ r. ⌜ ((m : ℕ) → bit m r ≡ true →
@@ -209,7 +209,7 @@ fn standing_modes(t: Turn, g: Grid, left: &[u64; 152], need: &[u16], o: usize, s
         bit (t .rule) (getD (now (left .entry)) (65 + s) 0) ≡ true →
         modesAt t (getD (now (need .entry)) (o * g .subjects + s) 0) m ≡ true → bit m r ≡ true) ⌝ }
 {
-    if stands(t, left, o, s) {
+    if stands_at_pair(t, left, o, s) {
         return modes_at(t, need[o * (g.subjects as usize) + s]);
     }
     0
@@ -217,7 +217,7 @@ fn standing_modes(t: Turn, g: Grid, left: &[u64; 152], need: &[u16], o: usize, s
 
 // The same for each pair with a number of a range.
 pub fn derive_pairs(
-    t: Turn,
+    t: RuleTurn,
     f: Frame,
     left: &[u64; 152],
     need: &[u16],
@@ -232,11 +232,11 @@ pub fn derive_pairs(
 ) -> bool
     requires { ⌜ PairsReady t f (now left) (now need) (now codes) (now number) (length (now words))
         (length (now bits)) from to
-        × Ready f (now right) (now first) (length (now words)) ⌝ }
+        × TablesReady f (now right) (now first) (length (now words)) ⌝ }
     ensures { λ r. ⌜ PairsRan t f (now (left .entry)) (now (need .entry)) (now (codes .entry))
         (Step t f (now (number .entry)) (now (bits .entry)) (now (right .entry)) (now (first .entry))) from to
         (now (words .entry)) (now (words .exit))
-        × Grown r (now (words .entry)) (now (words .exit)) ⌝ }
+        × SumGrown r (now (words .entry)) (now (words .exit)) ⌝ }
 {
     let g = f.grid;
     let mut fresh = false;
@@ -261,8 +261,16 @@ pub fn derive_pairs(
 }
 
 // Marks the rule as broken at a place, if it derives nothing there at the last instant.
-fn mark_at(t: Turn, f: Frame, number: &[u16], words: &[u64], bits: &mut [u64], last: u32, p: Place)
-    requires { ⌜ Reads t f (now number) (length (now words)) (length (now bits)) p × (last < 64)
+fn mark_broken_at(
+    t: RuleTurn,
+    f: Frame,
+    number: &[u16],
+    words: &[u64],
+    bits: &mut [u64],
+    last: u32,
+    p: Place,
+)
+    requires { ⌜ StepReads t f (now number) (length (now words)) (length (now bits)) p × (last < 64)
         × (0 < length (now bits)) × (lasting (t .operator) ≡ true) ⌝ }
     ensures { λ _. ⌜ Mark t f (now (number .entry)) (now (words .entry)) last p
         (now (bits .entry)) (now (bits .exit)) ⌝ }
@@ -278,7 +286,7 @@ fn mark_at(t: Turn, f: Frame, number: &[u16], words: &[u64], bits: &mut [u64], l
 
 // The same for each mode of a mask at a pair.
 fn mark_modes(
-    t: Turn,
+    t: RuleTurn,
     f: Frame,
     number: &[u16],
     words: &[u64],
@@ -303,14 +311,14 @@ fn mark_modes(
                 object: x.object,
             },
         };
-        mark_at(t, f, number, words, bits, last, p);
+        mark_broken_at(t, f, number, words, bits, last, p);
         m = next_bit(modes, m + 1);
     }
 }
 
 // The same for each pair with a number of a range.
 pub fn mark_pairs(
-    t: Turn,
+    t: RuleTurn,
     f: Frame,
     left: &[u64; 152],
     need: &[u16],

@@ -4,18 +4,19 @@ ghost use mathlib.Core.Path.{_≡_};
 ghost use mathlib.Core.Bool.{true};
 ghost use Prim.Native.Nat.{ℕ, _+_, _*_, _≤_, _<_};
 ghost use lib.ListN.{length, getD};
-ghost use Rattle.foundation.specs.Masks.{bit};
-ghost use Rattle.words.specs.Sums.{Grown};
+ghost use Rattle.foundation.specs.BitMasks.{bit};
+ghost use Rattle.words.specs.Sums.{SumGrown};
 ghost use Rattle.foundation.specs.Tests.{pick};
 ghost use mathlib.Core.Logic.{_⊎_};
 ghost use Rattle.places.specs.Regions.{sizeOf};
-ghost use Rattle.tables.specs.Layout.{regionAt, whole};
+ghost use Rattle.tables.specs.TableLayout.{regionAt, wholeRegion};
 ghost use Rattle.encoding.specs.Format.{ruleAt};
-ghost use Rattle.questions.specs.Operators.{lasting};
-ghost use Rattle.grounding.specs.Turns.{rangeOf, numberAt, turnFrom, Able, RuleRan, Turns, Rounds};
-ghost use Rattle.grounding.specs.Turns.{prepared, Strata, RuleMarked, Marked};
+ghost use Rattle.questions.specs.OperatorSteps.{lasting};
+ghost use Rattle.grounding.specs.RuleTurns.{rangeOf, pairNumberAt, turnFrom, Able, RuleRan, Turns};
+ghost use Rattle.grounding.specs.RuleTurns.{Rounds};
+ghost use Rattle.grounding.specs.RuleTurns.{prepared, Strata, RuleMarked, Marked};
 use crate::Range;
-use crate::Turn;
+use crate::RuleTurn;
 use crate::pairs::derive_pairs;
 use crate::pairs::mark_pairs;
 use encoding::rule_at;
@@ -35,8 +36,8 @@ use tables::region_at;
 use words::next_bit;
 
 // The number of the pair with a code; behind the last one how many there are.
-fn number_at(number: &[u16], j: usize, pairs: u32) -> u32
-    ensures { λ r. ⌜ r ≡ numberAt (now (number .entry)) j pairs ⌝ }
+fn pair_number_at(number: &[u16], j: usize, pairs: u32) -> u32
+    ensures { λ r. ⌜ r ≡ pairNumberAt (now (number .entry)) j pairs ⌝ }
 {
     if j < number.len() {
         return number[j] as u32;
@@ -58,21 +59,22 @@ fn range_of(b: Region, g: Grid, number: &[u16]) -> Range
     let row = (b.object as usize) * stride;
     if b.subject == 255 {
         return Range {
-            from: number_at(number, row, g.pairs),
-            to: number_at(number, row + stride, g.pairs),
+            from: pair_number_at(number, row, g.pairs),
+            to: pair_number_at(number, row + stride, g.pairs),
         };
     }
     let j = row + b.subject as usize;
     Range {
-        from: number_at(number, j, g.pairs),
-        to: number_at(number, j + 1, g.pairs),
+        from: pair_number_at(number, j, g.pairs),
+        to: pair_number_at(number, j + 1, g.pairs),
     }
 }
 
 // Where the table that a rule looks at starts: that of the rule itself, or of what is held or denied.
 fn table_start(f: Frame, first: &[u32; 64], i: usize, own: bool, denied: bool) -> u32
-    requires { ⌜ (i < 64) × (sizeOf (f .grid) whole < 4294967296) ⌝ }
-    ensures { λ r. ⌜ r ≡ pick own (getD (now (first .entry)) i 0) (pick denied (sizeOf (f .grid) whole) 0) ⌝ }
+    requires { ⌜ (i < 64) × (sizeOf (f .grid) wholeRegion < 4294967296) ⌝ }
+    ensures { λ r. ⌜ r ≡ pick own (getD (now (first .entry)) i 0) (pick denied (sizeOf (f .grid) wholeRegion)
+        0) ⌝ }
 {
     if own {
         return first[i];
@@ -87,7 +89,7 @@ fn table_start(f: Frame, first: &[u32; 64], i: usize, own: bool, denied: bool) -
 // The region of that table.
 fn table_region(right: &[u8; 256], i: usize, own: bool) -> Region
     requires { ⌜ i < 64 ⌝ }
-    ensures { λ r. ⌜ r ≡ pick own (regionAt (now (right .entry)) i) whole ⌝ }
+    ensures { λ r. ⌜ r ≡ pick own (regionAt (now (right .entry)) i) wholeRegion ⌝ }
 {
     if own {
         return region_at(right, i);
@@ -106,9 +108,9 @@ fn turn_of(
     first: &[u32; 64],
     starts: &[u32; 64],
     active: &[u64; 64],
-) -> Turn
+) -> RuleTurn
     requires { ⌜ (r < 64) × (28 * r + 28 ≤ length (now body)) × (getD (now sides) (4 * r + 3) 0 < 4)
-        × (sizeOf (f .grid) whole < 4294967296) ⌝ }
+        × (sizeOf (f .grid) wholeRegion < 4294967296) ⌝ }
     ensures { λ t. ⌜ t ≡ turnFrom f (now (body .entry)) (now (feed .entry)) (now (sides .entry))
         (now (right .entry)) (now (first .entry)) (now (starts .entry)) (now (active .entry)) r ⌝ }
 {
@@ -118,7 +120,7 @@ fn turn_of(
     let signs = sides[4 * i + 3];
     let denied = signs / 2 == 1;
     let own = has_bit(f.choosy, r);
-    Turn {
+    RuleTurn {
         rule: r,
         operator: operator,
         active: active[i],
@@ -159,7 +161,7 @@ fn derive_rule(
         (now (sides .entry)) (now (right .entry)) (now (need .entry)) (now (codes .entry))
         (now (number .entry)) (now (first .entry)) (now (starts .entry)) f)
         (now (active .entry)) (now (bits .entry)) r (now (words .entry)) (now (words .exit))
-        × Grown x (now (words .entry)) (now (words .exit))
+        × SumGrown x (now (words .entry)) (now (words .exit))
         × (length (now (words .exit)) ≡ length (now (words .entry))) ⌝ }
 {
     let i = r as usize;

@@ -3,7 +3,7 @@
 -- order.
 use mathlib.Core.Path.{_≡_, refl}
 use mathlib.Core.Logic.{inl, inr, ⊎-elim}
-use mathlib.Core.Bool.{Bool, true, _&&_}
+use mathlib.Core.Bool.{Bool, true}
 use mathlib.Core.List.{List, [], _∷_, _++_}
 use Rattle.foundation.specs.Tests.{cases, and-true, and-intro}
 use Rattle.foundation.specs.Lists.{keepIf, Mem, append-mem, kept}
@@ -55,19 +55,6 @@ pairwise-chained R p h (x ∷ []) a = refl
 pairwise-chained R p h (x ∷ y ∷ zs) a =
     and-intro (p x y) (chained p (y ∷ zs)) (h x y (a .0 y (inl refl)))
     (pairwise-chained R p h (y ∷ zs) (a .1))
-
--- two tests at once
-pub chained-both : {A : Type 0} (p q : A → A → Bool) (xs : List A) → chained p xs ≡ true →
-    chained q xs ≡ true →
-    chained (λ x y. p x y && q x y) xs ≡ true
-chained-both p q [] e f = refl
-chained-both p q (x ∷ []) e f = refl
-chained-both p q (x ∷ y ∷ zs) e f =
-    let u = and-true (p x y) (chained p (y ∷ zs)) e in
-    let v = and-true (q x y) (chained q (y ∷ zs)) f in
-    and-intro (p x y && q x y) (chained (λ x y. p x y && q x y) (y ∷ zs))
-    (and-intro (p x y) (q x y) (u .0) (v .0))
-    (chained-both p q (y ∷ zs) (u .1) (v .1))
 
 -- ---- a test that is transitive
 

@@ -16,7 +16,7 @@ use Rattle.model.specs.declared.Pattern.{Pattern}
 use Rattle.model.specs.Base.{Base}
 use Rattle.model.specs.Stratification.{negating, negates, lasting}
 use Rattle.model.specs.StratificationFacts.{unlabelled}
-use Rattle.model.specs.Rules.{rightOf, asked, rightHolds, operate}
+use Rattle.model.specs.Rules.{standsFor, rightOf, asked, rightHolds, operate}
 use Rattle.model.specs.RightFacts.{right-is}
 use Rattle.model.specs.HoldsLaws.{Fed, StrictlyFed, fit-precedes, strictly-fed, strictly-linked}
 
@@ -28,6 +28,11 @@ Twins r s = unlabelled r ≡ unlabelled s
 pub right-twin : (r s : Rule) → Twins r s → (x : Access) → rightOf r x ≡ rightOf s x
 unfolding rightOf
 right-twin r s e x = ap (λ (z : Rule). rightOf z x) e
+
+-- and stand for the same accesses
+pub stands-twin : (b : Base) (r s : Rule) → Twins r s → (x : Access) → standsFor b r x ≡ standsFor b s x
+unfolding standsFor
+stands-twin b r s e x = ap (λ (z : Rule). standsFor b z x) e
 
 -- p asks for denials of the access that r, standing for x, looks for with a positive right side
 abbrev Denials : Rule → Access → Pattern → Type 0

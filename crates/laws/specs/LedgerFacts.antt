@@ -25,18 +25,18 @@ use Rattle.model.specs.Ledger.{Entry, entry, standing, keepEntries, settle, lin
 use Rattle.laws.specs.KeepFacts.{live-pieces}
 
 -- no entry has an instant behind the last
-abbrev pub Framed : List Entry → Type 0
-Framed [] = Unit {0}
-Framed (e ∷ es) = ((t : ℕ) → e .at t ≡ true → t ≤ lastInstant) × Framed es
+abbrev pub WithinLast : List Entry → Type 0
+WithinLast [] = Unit {0}
+WithinLast (e ∷ es) = ((t : ℕ) → e .at t ≡ true → t ≤ lastInstant) × WithinLast es
 
-pub framed-keep : (p : Head → ℕ → Bool) (es : List Entry) → Framed es → Framed (keepEntries p es)
+pub framed-keep : (p : Head → ℕ → Bool) (es : List Entry) → WithinLast es → WithinLast (keepEntries p es)
 framed-keep p [] f = tt
 framed-keep p (e ∷ es) f = (
   (λ t h. f .0 t (and-true (e .at t) (p (e .head) t) h .0)),
   framed-keep p es (f .1),
 )
 
-pub framed-append : (xs ys : List Entry) → Framed xs → Framed ys → Framed (xs ++ ys)
+pub framed-append : (xs ys : List Entry) → WithinLast xs → WithinLast ys → WithinLast (xs ++ ys)
 framed-append [] ys f g = g
 framed-append (x ∷ xs) ys f g = (f .0, framed-append xs ys (f .1) g)
 
@@ -49,7 +49,7 @@ in-frame f h t = cases (f t)
     (λ e. rw (e, inInterval-in (interval 0 lastInstant) t (omega arith) (h t e)))
     (λ e. rw e (and-false (inInterval (interval 0 lastInstant) t)))
 
-pub live-lines : (es : List Entry) → Framed es → (t : ℕ) → live t (linesOf es) ≡ standing t es
+pub live-lines : (es : List Entry) → WithinLast es → (t : ℕ) → live t (linesOf es) ≡ standing t es
 unfolding linesOf
 live-lines [] f t = refl
 live-lines (e ∷ es) f t =
@@ -142,7 +142,7 @@ keep-lines p (e ∷ es) =
     (keep-lines p es)
 
 -- restricting the authorizations is settling the entries
-pub restrict-settle : (root : Head → Bool) (es : List Entry) → Framed es →
+pub restrict-settle : (root : Head → Bool) (es : List Entry) → WithinLast es →
     restrict root (λ h. true) (linesOf es) ≡ linesOf (settle root es)
 unfolding restrict
 restrict-settle root es f =

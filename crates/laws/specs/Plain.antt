@@ -7,7 +7,7 @@ use Prim.Native.Nat.{ℕ}
 use native.Mathlib.Omega.{arith}
 use Rattle.foundation.specs.Tests.{cases}
 use Rattle.foundation.specs.Lists.{Mem}
-use Rattle.foundation.specs.Totals.{count}
+use Rattle.foundation.specs.BitMasks.{asBit}
 use Rattle.foundation.specs.Graph.{alone, then}
 use Rattle.model.specs.declared.Rule.{Rule}
 use Rattle.model.specs.Stratification.{negates, links, stratum}
@@ -26,12 +26,12 @@ no-link q r e = cases (links q r)
 module _ (rules : List Rule) (plain : (r : Rule) → Mem r rules → Plain r) where
   -- no path counts anything, and a rank is what one counts
   walk-none : {n : ℕ} {r : Rule} → FeedingWalk rules n r → Mem r rules → n ≡ 0
-  walk-none (alone {r}) m = ap count (plain r m .0)
+  walk-none (alone {r}) m = ap asBit (plain r m .0)
   walk-none (then {n} {q} {r} w k e) m = omega (
     arith,
     walk-none w k,
-    ap count (plain r m .0),
-    ap count (no-link q r (plain q k .1)),
+    ap asBit (plain r m .0),
+    ap asBit (no-link q r (plain q k .1)),
   )
 
   pub stratum-none : (r : Rule) → Mem r rules → stratum rules r ≡ 0

@@ -37,7 +37,7 @@ use Rattle.laws.specs.Preservation.{effect-sound}
 use Rattle.laws.specs.RequestFacts.{request-accepted, request-refused}
 
 -- a turn through the bytes and one on the base print the same and leave the same base, a sound one
-record Same (x : ByteTurn) (y : Turn) : Type 0 where
+record SameTurn (x : ByteTurn) (y : Turn) : Type 0 where
   text : printReply (x .reply) (x .runs) ≡ printReply (y .reply) (y .runs)
   bytes : x .lent ≡ encode (y .base)
   kept : sound (y .base) ≡ true
@@ -53,10 +53,10 @@ list-pairs = ap (λ (n : ℕ). n / 2) (length-replicate {A = ℕ} (2 * pairs) 0)
 
 module _ (b : Base) (s : sound b ≡ true) where
   abbrev Both : Answer → Outcome → Type 0
-  Both a o = Same (record { reply = a .reply; runs = []; lent = a .lent })
+  Both a o = SameTurn (record { reply = a .reply; runs = []; lent = a .lent })
       (record { reply = o .reply; runs = []; base = o .base })
 
-  ordered : (q : Request) → Same (byteTurn (encode b) (order q)) (turn plainly asDefined b (order q))
+  ordered : (q : Request) → SameTurn (byteTurn (encode b) (order q)) (turn plainly asDefined b (order q))
   unfolding step
   ordered q = cases (eqb (refusal plainly b q) 0)
       (λ e. let z = true-eq (refusal plainly b q) 0 e in
@@ -66,7 +66,8 @@ module _ (b : Base) (s : sound b ≡ true) where
       subst₂ Both (sym (request-refused b q s n)) (sym (step-refused b q n))
       (record { text = refl; bytes = refl; kept = s }))
 
-  asked-may : (q : Question) → Same (byteTurn (encode b) (asksMay q)) (turn plainly asDefined b (asksMay q))
+  asked-may : (q : Question) → SameTurn (byteTurn (encode b) (asksMay q))
+      (turn plainly asDefined b (asksMay q))
   unfolding mayAnswer
   asked-may q =
       let e : mayAnswer (encode b) q ≡ refusedOr (mayTable b q) Refused
@@ -81,7 +82,8 @@ module _ (b : Base) (s : sound b ≡ true) where
   unfolding whenAnswer
   when-answer x = rw (encode-sound b s, decode-encode b s, list-pairs)
 
-  asked-when : (x : Access) → Same (byteTurn (encode b) (asksWhen x)) (turn plainly asDefined b (asksWhen x))
+  asked-when : (x : Access) → SameTurn (byteTurn (encode b) (asksWhen x))
+      (turn plainly asDefined b (asksWhen x))
   asked-when x =
       let rows = whenTable b x pairs (length (when b x)) in
       let a = answering (Runs (length (when b x)))
@@ -105,7 +107,7 @@ module _ (b : Base) (s : sound b ≡ true) where
       shownRuns : Answer → List ℕ
       shownRuns a = printReply (a .reply) (runsOf (a .reply) (a .lent))
 
-  same-turn : (l : Line) → Same (byteTurn (encode b) l) (turn plainly asDefined b l)
+  same-turn : (l : Line) → SameTurn (byteTurn (encode b) l) (turn plainly asDefined b l)
   same-turn (order q) = ordered q
   same-turn (asksMay q) = asked-may q
   same-turn (asksWhen x) = asked-when x

@@ -1,7 +1,7 @@
 -- An accepted request on a sound base: the rules are sound after it, but for their authors (SoundAuthors).
 use mathlib.Core.Path.{_≡_, refl, sym, _∙_}
 use mathlib.Core.Logic.{inl, inr, ⊎-elim}
-use mathlib.Core.Bool.{Bool, true, not, _&&_, _||_, Bool·beq, true≢false}
+use mathlib.Core.Bool.{Bool, true, not, _&&_, _||_, true≢false}
 use mathlib.Core.List.{[], _∷_}
 use Prim.Native.Nat.{ℕ, suc}
 use native.Mathlib.Omega.{arith}
@@ -18,7 +18,7 @@ use Rattle.model.specs.Requests.{ADDRULE, DROPRULE, REVOKEADM, REVOKEREF, is, l
 use Rattle.model.specs.Means.{plainly}
 use Rattle.model.specs.Step.{optionFits, leftObject, rightObject, effect}
 use Rattle.model.specs.StepFacts.{Accepted}
-use Rattle.model.specs.Soundness.{chained, ruleIn, startsFirst, starsMatch, rightDenialsPlain}
+use Rattle.model.specs.Soundness.{chained, ruleIn, startsFirst, starsMeet, starsMatch, rightDenialsPlain}
 use Rattle.model.specs.SoundnessFacts.{Sound}
 use Rattle.model.specs.Kinds.{kind-is}
 use Rattle.laws.specs.Rows.{requester-in, interval-in, rule-in, starts-first, both-exist, no-circle}
@@ -103,13 +103,8 @@ module _ (b : Base) (q : Request) where
         (λ k. let e : labels q ≡ true = rw (kind-is q ADDRULE k) in
         rw e (le-true (suc (b .last)) (suc (b .last)) (omega arith)))
 
-    abbrev matching : Rule → Bool
-    matching r = Bool·beq (isStar (r .left .subject)) (isStar (r .right .subject))
-        && Bool·beq (isStar (r .left .mode)) (isStar (r .right .mode))
-        && Bool·beq (isStar (r .left .object)) (isStar (r .right .object))
-
     pub stars-after : starsMatch after ≡ true
-    stars-after = rules-all b q matching (all-mem matching (b .rules) (s .stars))
+    stars-after = rules-all b q starsMeet (all-mem starsMeet (b .rules) (s .stars))
         (λ k. let l = side-tests (q .rule .left) (terms-in k _ (inl refl)) in
         let r = side-tests (q .rule .right) (terms-in k _ (inr (inl refl))) in
         rw (

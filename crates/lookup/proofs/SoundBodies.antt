@@ -18,7 +18,7 @@ use Rattle.encoding.specs.Format.{countsOf, countsFit, administratorsAt, referr
 use Rattle.encoding.specs.Format.{rulesAt, privilegesIn, authorizationsIn, rulesIn}
 use Rattle.encoding.proofs.FormatFacts.{decoded-objects, decoded-administrators, decoded-referrers}
 use Rattle.encoding.proofs.FormatFacts.{decoded-authorizations, decoded-rules, decoded-counts}
-use Rattle.encoding.proofs.Contents.{Within, within}
+use Rattle.encoding.proofs.Contents.{CountsWithin, within}
 
 -- a slice that is lent from a on
 abbrev pub lent : List ℕ → ℕ → List ℕ
@@ -50,7 +50,7 @@ module _ (s : List ℕ) (e : soundBytes s ≡ true) where
 -- the length, and the counts' bounds
 pub record Fitting (s : List ℕ) (c : Counts) : Type 0 where
   pub long : length s ≡ 27936
-  pub counts : Within c
+  pub counts : CountsWithin c
 
 pub fitting : (s : List ℕ) → soundBytes s ≡ true → (c : Counts) → c ≡ countsOf s → Fitting s c
 fitting s e c q = record {

@@ -6,7 +6,7 @@ ghost use Rattle.model.specs.Base as base;
 ghost use Rattle.model.specs.Encoding.{decode};
 ghost use Rattle.model.specs.Rules.{standsOn};
 ghost use Rattle.model.specs.Soundness.{soundBytes};
-ghost use Rattle.lookup.specs.Numbers.{hasLabel, ofOther, labelled, ofOtherAuthor};
+ghost use Rattle.lookup.specs.NarrowedNumbers.{hasLabel, ofOther, labelled, ofOtherAuthor};
 use crate::bodies::any_labelled;
 use crate::bodies::any_of_other;
 use crate::bodies::any_of_other_author;

@@ -73,14 +73,14 @@ module _ (t d : ℕ) where
 -- ---- the marks of authorizations and rules
 
 -- m is the start of the interval, or the instant directly after its end
-abbrev pub Bounds : Interval → ℕ → Type 0
-Bounds i m = (m ≡ i .start) ⊎ (m ≡ suc (i .end))
+abbrev pub IsEdge : Interval → ℕ → Type 0
+IsEdge i m = (m ≡ i .start) ⊎ (m ≡ suc (i .end))
 
 -- something can change at m: an authorization or a rule starts there, or ended right before
-abbrev pub Turns : List Authorization → List Rule → ℕ → Type 0
-Turns auths rules m =
-    ((a : Authorization) × Mem a auths × Bounds (a .interval) m) ⊎
-    ((r : Rule) × Mem r rules × Bounds (r .interval) m)
+abbrev pub CanChangeAt : List Authorization → List Rule → ℕ → Type 0
+CanChangeAt auths rules m =
+    ((a : Authorization) × Mem a auths × IsEdge (a .interval) m) ⊎
+    ((r : Rule) × Mem r rules × IsEdge (r .interval) m)
 
 marks-each : (xs : List Authorization) → marksOf xs ≡ each xs (λ x. boundaries (x .interval))
 marks-each [] = refl
@@ -92,34 +92,34 @@ rule-marks-each (r ∷ rs) = ap (λ (ms : List ℕ). boundaries (r .interval) ++
 
 -- the boundaries of things that have an interval
 module _ {A : Type 0} (interval : A → Interval) (xs : List A) (m : ℕ) where
-  one-bound : (i : Interval) → Mem m (boundaries i) → Bounds i m
+  one-bound : (i : Interval) → Mem m (boundaries i) → IsEdge i m
   one-bound i (inl e) = inl e
   one-bound i (inr (inl e)) = inr e
   one-bound i (inr (inr n)) = absurd (n .lower)
 
-  bound-one : (i : Interval) → Bounds i m → Mem m (boundaries i)
+  bound-one : (i : Interval) → IsEdge i m → Mem m (boundaries i)
   bound-one i (inl e) = inl e
   bound-one i (inr e) = inr (inl e)
 
-  each-bound : Mem m (each xs (λ x. boundaries (interval x))) → (x : A) × Mem x xs × Bounds (interval x) m
+  each-bound : Mem m (each xs (λ x. boundaries (interval x))) → (x : A) × Mem x xs × IsEdge (interval x) m
   each-bound k =
       let w = each-mem xs (λ x. boundaries (interval x)) m k in
       (w .0, w .1, one-bound (interval (w .0)) (w .2))
 
-  bound-each : ((x : A) × Mem x xs × Bounds (interval x) m) → Mem m (each xs (λ x. boundaries (interval x)))
+  bound-each : ((x : A) × Mem x xs × IsEdge (interval x) m) → Mem m (each xs (λ x. boundaries (interval x)))
   bound-each w = mem-each xs (λ x. boundaries (interval x)) (w .0) m (w .1)
       (bound-one (interval (w .0)) (w .2))
 
 module _ (auths : List Authorization) (rules : List Rule) where
   -- the marks are the instants at which something can change
-  pub mark-turns : (m : ℕ) → Mem m (marks auths rules) ↔ Turns auths rules m
+  pub mark-turns : (m : ℕ) → Mem m (marks auths rules) ↔ CanChangeAt auths rules m
   mark-turns m = ((λ k. there (append-mem m (marksOf auths) (ruleMarks rules) k)), back)
     where
-      there : Mem m (marksOf auths) ⊎ Mem m (ruleMarks rules) → Turns auths rules m
+      there : Mem m (marksOf auths) ⊎ Mem m (ruleMarks rules) → CanChangeAt auths rules m
       there (inl k) = inl (each-bound (λ a. a .interval) auths m (rw marks-each at k))
       there (inr k) = inr (each-bound (λ r. r .interval) rules m (rw rule-marks-each at k))
 
-      back : Turns auths rules m → Mem m (marks auths rules)
+      back : CanChangeAt auths rules m → Mem m (marks auths rules)
       back (inl w) = mem-left m (marksOf auths) (ruleMarks rules)
           (rw marks-each (bound-each (λ a. a .interval) auths m w))
       back (inr w) = mem-right m (marksOf auths) (ruleMarks rules)
@@ -127,7 +127,7 @@ module _ (auths : List Authorization) (rules : List Rule) where
 
   -- an instant above t at which something can change
   abbrev pub Ahead : ℕ → ℕ → Type 0
-  Ahead t m = Turns auths rules m × (t < m) × (m < 4294967296)
+  Ahead t m = CanChangeAt auths rules m × (t < m) × (m < 4294967296)
 
   -- 02, "Marks without a list": "the least instant above a given one at which a line or rule starts, or
   -- directly after the end of one, and none exactly if there is none". m is the mark found above t; 2^32
@@ -171,14 +171,14 @@ module _ (auths : List Authorization) (rules : List Rule) where
 
 -- In a sound base nothing changes behind 2^32, so that only what ends with the last instant has no mark
 -- behind it
-pub turns-until : (b : Base) → sound b ≡ true → (m : ℕ) → Turns (b .authorizations) (b .rules) m →
+pub turns-until : (b : Base) → sound b ≡ true → (m : ℕ) → CanChangeAt (b .authorizations) (b .rules) m →
     m ≤ 4294967296
 turns-until b e m w = until w
   where
-    within : (i : Interval) → IntervalFits i → Bounds i m → m ≤ 4294967296
+    within : (i : Interval) → IntervalFits i → IsEdge i m → m ≤ 4294967296
     within i f (inl q) = omega (arith, f .start)
     within i f (inr q) = omega (arith, f .end)
 
-    until : Turns (b .authorizations) (b .rules) m → m ≤ 4294967296
+    until : CanChangeAt (b .authorizations) (b .rules) m → m ≤ 4294967296
     until (inl w) = within (w .0 .interval) (base-fits b e .authorizations (w .0) (w .1) .interval) (w .2)
     until (inr w) = within (w .0 .interval) (base-fits b e .rules (w .0) (w .1) .interval) (w .2)

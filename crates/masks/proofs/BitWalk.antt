@@ -10,10 +10,10 @@ use lib.Bits.{bitAnd, and-le-r}
 use lib.Dec.{eqb, ltb}
 use Rattle.foundation.specs.Tests.{cases, agree, true-eq, false-eq, le-true, le-false, true-le, false-le}
 use Rattle.foundation.specs.Tests.{or-false}
-use Rattle.foundation.specs.Masks.{bit}
+use Rattle.foundation.specs.BitMasks.{bit}
 use Rattle.words.specs.Ones.{bit-half}
 use Rattle.words.specs.Bits.{bit-inside}
-use Rattle.masks.proofs.Bits.{in-both, both-in}
+use Rattle.masks.proofs.SingleBits.{in-both, both-in}
 
 -- nothing is passed before the first
 pub pass-start : (p : ℕ → Bool) (q j : ℕ) → ((i : ℕ) → 0 ≤ i → i < q → p i ≡ false) → ltb j q && p j ≡ false

@@ -6,7 +6,7 @@ use native.Mathlib.Nat.{zero-div}
 use native.Mathlib.Omega.{arith}
 use lib.Dec.{eqb, ltb}
 use Rattle.foundation.specs.Tests.{cases, true-eq, false-eq, true-le, false-le, le-true, le-false, or-false}
-use Rattle.foundation.specs.Masks.{bit}
+use Rattle.foundation.specs.BitMasks.{bit}
 
 module _ (t : ℕ → Bool) (rest : ℕ) where
   -- m has those below r

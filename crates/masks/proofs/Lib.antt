@@ -1,10 +1,10 @@
--- `Bits` has single bits of words; `BitWalk` and `Loops` what a loop over the bits of a mask passes and
--- keeps; `Puts` words of a list with a bit more; `Standing` the rules that stand at places that are needed;
--- `Widths` how many bits fields take.
-pub mod Bits
+-- `SingleBits` has single bits of words; `BitWalk` and `BitLoops` what a loop over the bits of a mask passes
+-- and keeps; `Puts` words of a list with a bit more; `StandingPairs` the rules that stand at places that are
+-- needed; `Widths` how many bits fields take.
+pub mod SingleBits
 pub mod Collecting
 pub mod BitWalk
-pub mod Loops
+pub mod BitLoops
 pub mod Puts
-pub mod Standing
+pub mod StandingPairs
 pub mod Widths

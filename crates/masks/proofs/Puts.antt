@@ -8,10 +8,10 @@ use lib.Dec.{eqb}
 use lib.ListN.{length, getD, set}
 use lib.Seq.{getD-set-same, getD-set-other}
 use Rattle.foundation.specs.Tests.{pick, cases, true-eq, false-eq, or-false}
-use Rattle.foundation.specs.Masks.{bit}
+use Rattle.foundation.specs.BitMasks.{bit}
 use Rattle.words.specs.Bits.{bit-or}
 use Rattle.words.proofs.FieldLaws.{bit-shifted}
-use Rattle.masks.proofs.Bits.{one-bit}
+use Rattle.masks.proofs.SingleBits.{one-bit}
 
 pub set-at : (l : List ℕ) (at v w : ℕ) → at < length l → getD (set l at v) w 0 ≡ pick (eqb w at) v
     (getD l w 0)

@@ -6,10 +6,10 @@ ghost use Prim.Native.Nat.{ℕ, _+_, _*_, _/_, _%_, _^_, _≤_, _<_};
 ghost use lib.Bits.{bitAnd};
 ghost use lib.Dec.{eqb, ltb};
 ghost use lib.ListN.{length, getD};
-ghost use Rattle.foundation.specs.Masks.{bit};
+ghost use Rattle.foundation.specs.BitMasks.{bit};
 ghost use Rattle.encoding.specs.Format.{ruleAt};
 ghost use Rattle.windows.specs.Windows.{Rising, inside};
-ghost use Rattle.masks.specs.Masks.{Alone, Ready, StandsAt, PairCode, Needed};
+ghost use Rattle.masks.specs.RuleMasks.{Alone, RuleReady, StandsAt, PairCode, Needed};
 use encoding::rule_at;
 use model::RULE_BYTES;
 use words::next_bit;
@@ -109,7 +109,7 @@ fn is_ready(feed: &[u64; 128], rest: u64, k: u32) -> bool
 // The first rule of the rest, from r on, that looks at none of it, or 64.
 fn ready_from(feed: &[u64; 128], rest: u64, r: u32) -> u32
     requires { ⌜ r ≤ 64 ⌝ }
-    ensures { λ k. ⌜ Ready (now (feed .entry)) rest k ⌝ }
+    ensures { λ k. ⌜ RuleReady (now (feed .entry)) rest k ⌝ }
 {
     let mut k = next_bit(rest, r);
     while k < 64 {
@@ -124,7 +124,7 @@ fn ready_from(feed: &[u64; 128], rest: u64, r: u32) -> u32
 // The last one below r, or 64.
 fn ready_below(feed: &[u64; 128], rest: u64, r: u32) -> u32
     requires { ⌜ r ≤ 64 ⌝ }
-    ensures { λ k. ⌜ Ready (now (feed .entry)) rest k ⌝ }
+    ensures { λ k. ⌜ RuleReady (now (feed .entry)) rest k ⌝ }
 {
     let mut k = last_bit(rest, r);
     while k < 64 {
@@ -140,7 +140,7 @@ fn ready_below(feed: &[u64; 128], rest: u64, r: u32) -> u32
 // then back, so that a chain of rules is gone through once, whichever way it is numbered.
 pub fn next_ready(feed: &[u64; 128], rest: u64, r: u32, up: bool) -> Next
     requires { ⌜ r ≤ 64 ⌝ }
-    ensures { λ n. ⌜ Ready (now (feed .entry)) rest (n .rule) ⌝ }
+    ensures { λ n. ⌜ RuleReady (now (feed .entry)) rest (n .rule) ⌝ }
 {
     if up {
         let k = ready_from(feed, rest, r);

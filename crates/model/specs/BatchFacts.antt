@@ -13,7 +13,7 @@ use lib.Seq.{drop-drop}
 use Rattle.foundation.specs.Tests.{cases, not-false, true-le, false-le, le-false}
 use Rattle.foundation.specs.Lists.{Mem, each, length-each}
 use Rattle.foundation.specs.Bytes.{records, records-back}
-use Rattle.foundation.specs.Records.{length-records}
+use Rattle.foundation.specs.ByteRecords.{length-records}
 use Rattle.model.specs.declared.Question.{Question}
 use Rattle.model.specs.declared.Reply.{Reply}
 use Rattle.model.specs.declared.Reply.the-variants.{Refused}

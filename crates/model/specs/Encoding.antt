@@ -6,7 +6,7 @@ use lib.ListN.{length, replicate, drop, getD}
 use Rattle.foundation.specs.Tests.{pick}
 use Rattle.foundation.specs.Lists.{each}
 use Rattle.foundation.specs.Bytes.{le, bytesOf, records}
-pub use Rattle.foundation.specs.Masks.{asBit, bit}
+pub use Rattle.foundation.specs.BitMasks.{asBit, bit}
 use Rattle.foundation.specs.Intervals.{interval}
 use Rattle.model.specs.declared.Privilege.{Privilege}
 use Rattle.model.specs.declared.Authorization.{Authorization}

@@ -214,37 +214,37 @@ sound-length s e =
 
 -- ---- every element is a byte
 
-abbrev Bytes : List ℕ → Type 0
-Bytes [] = Unit
-Bytes (n ∷ s) = (n < 256) × Bytes s
+abbrev AllBytes : List ℕ → Type 0
+AllBytes [] = Unit
+AllBytes (n ∷ s) = (n < 256) × AllBytes s
 
-bytes-mem : (s : List ℕ) → Bytes s → (n : ℕ) → Mem n s → n < 256
+bytes-mem : (s : List ℕ) → AllBytes s → (n : ℕ) → Mem n s → n < 256
 bytes-mem [] h n m = absurd (m .lower)
 bytes-mem (x ∷ s) h n (inl e) = rw e (h .0)
 bytes-mem (x ∷ s) h n (inr m) = bytes-mem s (h .1) n m
 
-bytes-append : (s t : List ℕ) → Bytes s → Bytes t → Bytes (s ++ t)
+bytes-append : (s t : List ℕ) → AllBytes s → AllBytes t → AllBytes (s ++ t)
 bytes-append [] t f g = g
 bytes-append (x ∷ s) t f g = (f .0, bytes-append s t (f .1) g)
 
 -- bytes, and a body of records behind them
-bytes-body : {A : Type 0} (s : List ℕ) (xs : List A) (enc : A → List ℕ) → Bytes s →
-    ((x : A) → Mem x xs → Bytes (enc x)) → Bytes (s ++ each xs enc)
+bytes-body : {A : Type 0} (s : List ℕ) (xs : List A) (enc : A → List ℕ) → AllBytes s →
+    ((x : A) → Mem x xs → AllBytes (enc x)) → AllBytes (s ++ each xs enc)
 bytes-body s [] enc f h = bytes-append s [] f tt
 bytes-body s (x ∷ xs) enc f h = rw (← append-assoc s (enc x) (each xs enc))
     (bytes-body (s ++ enc x) xs enc (bytes-append s (enc x) f (h x (inl refl))) (λ y m. h y (inr m)))
 
-bytes-zero : (k : ℕ) → Bytes (replicate k 0)
+bytes-zero : (k : ℕ) → AllBytes (replicate k 0)
 bytes-zero zero = tt
 bytes-zero (suc k) = (omega arith, bytes-zero k)
 
-bytes-privileges : (s : List ℕ) (ps : List Privilege) → Bytes s → Bytes (s ++ each ps privilegeBytes)
+bytes-privileges : (s : List ℕ) (ps : List Privilege) → AllBytes s → AllBytes (s ++ each ps privilegeBytes)
 bytes-privileges s ps f = bytes-body s ps privilegeBytes f (λ p m. omega arith)
 
-authorization-bytes : (a : Authorization) → AuthorizationFits a → Bytes (authorizationBytes a)
+authorization-bytes : (a : Authorization) → AuthorizationFits a → AllBytes (authorizationBytes a)
 authorization-bytes a f = omega (arith, f .mode, head-flags-most (a .head .negative) (a .head .option))
 
-rule-bytes : (r : Rule) → RuleFits r → Bytes (ruleBytes r)
+rule-bytes : (r : Rule) → RuleFits r → AllBytes (ruleBytes r)
 rule-bytes r f = omega (
   arith,
   f .left .mode,
@@ -253,7 +253,7 @@ rule-bytes r f = omega (
   rule-flags-most (r .left .negative) (r .right .negative) (r .option),
 )
 
-bodies-bytes : (b : Base) → BaseFits b → Bytes (bodies b)
+bodies-bytes : (b : Base) → BaseFits b → AllBytes (bodies b)
 bodies-bytes b f =
     let s₁ = each (b .objects) privilegeBytes in
     let s₂ = s₁ ++ each (b .administrators) privilegeBytes in

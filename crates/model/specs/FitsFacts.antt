@@ -38,10 +38,10 @@ instant-fits n e = omega (arith, true-le n lastInstant e)
 label-fits : (n : ℕ) → isLabel n ≡ true → n < 256 ^ 2
 label-fits n = below 1 lastLabel (256 ^ 2) n (omega arith)
 
-subject-fits : (n : ℕ) → isSubject n ≡ true → n < 256 ^ 2
+pub subject-fits : (n : ℕ) → isSubject n ≡ true → n < 256 ^ 2
 subject-fits n = below 1 1023 (256 ^ 2) n (omega arith)
 
-object-fits : (n : ℕ) → isObject n ≡ true → n < 256 ^ 2
+pub object-fits : (n : ℕ) → isObject n ≡ true → n < 256 ^ 2
 object-fits n = below 1 128 (256 ^ 2) n (omega arith)
 
 -- a mode is written as the byte that it is

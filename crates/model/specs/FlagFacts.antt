@@ -4,12 +4,13 @@ use mathlib.Core.Path.{_≡_, refl}
 use Prim.Native.Nat.{_≤_}
 use native.Mathlib.Omega.{arith}
 use mathlib.Core.Bool.{Bool, true, false}
+use Rattle.foundation.specs.BitMasks.{bit-le}
 use Rattle.model.specs.declared.Operator.{Operator}
 use Rattle.model.specs.declared.Operator.the-variants.{Whenever, AsLongAs, WheneverNot, Unless}
 use Rattle.model.specs.declared.OptionTerm.{OptionTerm}
 use Rattle.model.specs.declared.OptionTerm.the-variants.{With, Without, Either}
 use Rattle.model.specs.Requests.{operatorOf}
-use Rattle.model.specs.Encoding.{asBit, bit, headFlags, isNegative, hasOption, optionFlags, optionOf}
+use Rattle.model.specs.Encoding.{bit, headFlags, isNegative, hasOption, optionFlags, optionOf}
 use Rattle.model.specs.Encoding.{ruleFlags}
 use Rattle.model.specs.Encoding.{operatorNumber}
 
@@ -42,20 +43,16 @@ operator-back AsLongAs = refl
 operator-back WheneverNot = refl
 operator-back Unless = refl
 
-as-bit : (b : Bool) → asBit b ≤ 1
-as-bit true = omega arith
-as-bit false = omega arith
-
 option-flags : (o : OptionTerm) → optionFlags o ≤ 8
 option-flags With = omega arith
 option-flags Without = omega arith
 option-flags Either = omega arith
 
 pub head-flags-most : (negative option : Bool) → headFlags negative option ≤ 3
-head-flags-most n o = omega (arith, as-bit n, as-bit o)
+head-flags-most n o = omega (arith, bit-le n, bit-le o)
 
 pub rule-flags-most : (left right : Bool) (option : OptionTerm) → ruleFlags left right option ≤ 11
-rule-flags-most l r o = omega (arith, as-bit l, as-bit r, option-flags o)
+rule-flags-most l r o = omega (arith, bit-le l, bit-le r, option-flags o)
 
 pub operator-most : (o : Operator) → operatorNumber o ≤ 4
 operator-most Whenever = omega arith

@@ -16,7 +16,7 @@ use Rattle.model.specs.Base.{Base}
 use Rattle.model.specs.Stratification.{stratum}
 use Rattle.model.specs.Rules.{Fact, fact, round, enough, derivedBelow}
 use Rattle.model.specs.Means.{allMarks}
-use Rattle.model.specs.HoldsSteady.{Stead, Part, round-steady, round-mono}
+use Rattle.model.specs.HoldsSteady.{Stead, Subset, round-steady, round-mono}
 use Rattle.model.specs.HoldsKeys.{keys, keys-enough, in-keys, round-local}
 
 module _ (base : Base) where
@@ -29,7 +29,7 @@ module _ (base : Base) where
 
   -- steady, and a part of what one more round makes of it
   abbrev Good : ℕ → (Fact → Bool) → (Fact → Bool) → Type 0
-  Good k L S = Stead base S × Part S (stage k L S)
+  Good k L S = Stead base S × Subset S (stage k L S)
 
   good-round : (k : ℕ) (L S : Fact → Bool) → Stead base L → Good k L S → Good k L (stage k L S)
   good-round k L S c g = (round-steady base k L S c (g .0), round-mono base k L S (stage k L S) (g .1))
@@ -49,7 +49,7 @@ module _ (base : Base) where
       (λ p. let z = true-eq n k (and-true (eqb n k) _ (rw p at e) .0) in omega arith)
 
   -- what lower strata derive stays
-  below-part : (k : ℕ) → Part (below k) (stage k (below k) (below k))
+  below-part : (k : ℕ) → Subset (below k) (stage k (below k) (below k))
   below-part k x e = rw (le-true (suc (stratum (base .rules) (x .rule))) k (below-stratum k x e)) e
 
   rounds-good : (k : ℕ) → Stead base (below k) → (n : ℕ) → Good k (below k) (rounds k n)
@@ -68,7 +68,7 @@ module _ (base : Base) where
   rounds-steady k n = rounds-good k (below-steady k) n .0
 
   -- each round only adds,
-  rounds-grow : (k n j : ℕ) → n ≤ j → Part (rounds k n) (rounds k j)
+  rounds-grow : (k n j : ℕ) → n ≤ j → Subset (rounds k n) (rounds k j)
   unfolding iter
   rounds-grow k n zero h x e = let q : n ≡ 0 = omega arith in subst (λ (i : ℕ). rounds k i x ≡ true) q e
   rounds-grow k n (suc j) h x e = cases (leb n j)

@@ -13,7 +13,7 @@ use Rattle.foundation.specs.Lists.{Mem}
 use Rattle.foundation.specs.Closure.{iter}
 use Rattle.foundation.specs.Intervals.{inInterval, none?, always}
 use Rattle.foundation.specs.Marks.{Steady, not-steady, walk, walk-maximal}
-use Rattle.foundation.specs.Counting.{maximal-count}
+use Rattle.foundation.specs.MaximalCount.{maximal-count}
 use Rattle.model.specs.declared.Operator.{Operator}
 use Rattle.model.specs.declared.Operator.the-variants.{Whenever, AsLongAs, WheneverNot, Unless}
 use Rattle.model.specs.declared.Access.{Access}

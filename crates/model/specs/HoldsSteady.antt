@@ -46,8 +46,8 @@ rule-marks-length [] = refl
 rule-marks-length (r ∷ rs) = ap (λ (n : ℕ). suc (suc n)) (rule-marks-length rs) ∙ omega arith
 
 -- one set of facts is a part of the other
-abbrev pub Part : (Fact → Bool) → (Fact → Bool) → Type 0
-Part S Q = (x : Fact) → S x ≡ true → Q x ≡ true
+abbrev pub Subset : (Fact → Bool) → (Fact → Bool) → Type 0
+Subset S Q = (x : Fact) → S x ≡ true → Q x ≡ true
 
 module _ (base : Base) where
   abbrev marks : List ℕ
@@ -115,7 +115,7 @@ module _ (base : Base) where
 
   -- ---- from more facts no less is derived
 
-  holds-mono : (S Q : Fact → Bool) → Part S Q → (t : ℕ) (p : Pattern) → holding S t p ≡ true →
+  holds-mono : (S Q : Fact → Bool) → Subset S Q → (t : ℕ) (p : Pattern) → holding S t p ≡ true →
       holding Q t p ≡ true
   holds-mono S Q h t p =
       let x : Rule → Fact = λ r. fact r (p .access) t in
@@ -124,7 +124,7 @@ module _ (base : Base) where
       or-mono (anyb (fits p) (live t (base .authorizations))) (anyb s (base .rules)) (anyb q (base .rules))
       (any-mono s q (base .rules) (λ r. and-mono (derivesFor base p r) (S (x r)) (Q (x r)) (h (x r))))
 
-  derives-mono : (L S Q : Fact → Bool) → Part S Q → Part (derived L S) (derived L Q)
+  derives-mono : (L S Q : Fact → Bool) → Subset S Q → Subset (derived L S) (derived L Q)
   derives-mono L S Q h x =
       let r = x .rule in
       let p = rightOf r (x .access) in
@@ -136,7 +136,7 @@ module _ (base : Base) where
       (λ u. right-mono (holding S u) (holding Q u) (holding L u) p (holds-mono S Q h u)) (r .operator) s
       (x .at))
 
-  pub round-mono : (k : ℕ) (L S Q : Fact → Bool) → Part S Q → Part (stage k L S) (stage k L Q)
+  pub round-mono : (k : ℕ) (L S Q : Fact → Bool) → Subset S Q → Subset (stage k L S) (stage k L Q)
   round-mono k L S Q h x e =
       let n = stratum (base .rules) (x .rule) in
       cases (ltb n k)

@@ -13,7 +13,7 @@ use Rattle.foundation.specs.Tests.{and-intro}
 use Rattle.foundation.specs.Lists.{each, length-each}
 use Rattle.foundation.specs.Bytes.{le, bytesOf, records, le-bytes, eqList, eqList-eq, eqList-refl}
 use Rattle.foundation.specs.BytesFacts.{Bytes, mem-bytes, byte-kept, number-kept, zeros-kept}
-use Rattle.foundation.specs.Records.{length-records}
+use Rattle.foundation.specs.ByteRecords.{length-records}
 use Rattle.foundation.specs.BytesFacts.{body-kept, behind-at, record-in}
 use Rattle.model.specs.Base.{Base}
 use Rattle.model.specs.Encoding.{size, mark, privilegeBytes, authorizationBytes, ruleBytes, entry}

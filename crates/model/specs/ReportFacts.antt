@@ -70,8 +70,8 @@ fieldTests a =
 at-most : (low high n : ℕ) → between low high n ≡ true → n ≤ high
 at-most low high n e = true-le n high (and-true (leb low n) (leb n high) e .1)
 
-pub fits : (a : Authorization) → authorizationIn a ≡ true → Fits (a .head)
-fits a e =
+pub head-fits : (a : Authorization) → authorizationIn a ≡ true → Fits (a .head)
+head-fits a e =
     let t : (x : Bool) → Mem x (fieldTests a) → x ≡ true = conjunct (fieldTests a) e in
     let label = at-most 1 lastLabel (a .head .label) (t _ (inl refl)) in
     let grantor = at-most 1 1023 (a .head .grantor) (t _ (inr (inl refl))) in
@@ -88,7 +88,7 @@ fits a e =
 pub row-width : (a : Authorization) → authorizationIn a ≡ true → length (reportRow a) ≡ 44
 unfolding reportRow
 row-width a e =
-    let f = fits a e in
+    let f = head-fits a e in
     simp length-append (omega (
       arith,
       aligned-width 5 (decimal (a .head .label)) (f .label),

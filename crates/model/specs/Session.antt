@@ -105,7 +105,7 @@ bytesAfter input = turns (lines input) (encode emptyBase)
 -- ---- one line of text over lent bytes, its reply as text in a lent buffer
 
 -- 0 or why nothing was written, how many bytes were, and the base and the buffer after it
-pub record Written : Type 0 where
+pub record WrittenText : Type 0 where
   pub refusal : ℕ
   pub count : ℕ
   pub lent : List ℕ
@@ -122,7 +122,7 @@ replyLine s line = let x = byteTurn s (readLine line) in printReply (x .reply) (
 -- 13: the buffer has fewer than 16 bytes, whatever the line says, or fewer than the text has; nothing lent is
 -- altered then. So no request is carried out whose reply cannot be told: only WHEN's can be longer, and WHEN
 -- changes nothing.
-unfoldable pub textAnswer : List ℕ → List ℕ → List ℕ → Written
+unfoldable pub textAnswer : List ℕ → List ℕ → List ℕ → WrittenText
 textAnswer s line out =
     let text = replyLine s line in
     let n = length text in

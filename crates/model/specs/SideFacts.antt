@@ -1,5 +1,6 @@
 -- What is looked for and what is given: the laws of `fits`, `standsFor`, `derivesFor`, `rightOf`, `feeds` and
--- `links`. Who looks into these otherwise says so on an `unfolding` line.
+-- `links`. The equation of each says all of it (`fits-eq`, `right-eq` and so on). Outside `model` and `laws`
+-- the six are used through these laws, and opened only to compute cases.
 use mathlib.Core.Path.{_≡_, refl, sym, ap, _∙_}
 use mathlib.Core.Logic.{_↔_}
 use Prim.Native.Nat.{ℕ}
@@ -14,6 +15,17 @@ use Rattle.model.specs.Stratification.{isStar, meets, fitsOption, feeds,
 use Rattle.model.specs.Rules.{Pattern, fits, fitsGrantor, standsOn, standsFor, derivesFor, rightOf}
 use Rattle.model.specs.Rules.{asked}
 
+-- what is looked for has that access, that sign, and a grantor and an option that fit
+pub fits-eq : (p : Pattern) (h : Head) → fits p h
+    ≡ eqb (h .subject) (p .access .subject)
+    && eqb (h .mode) (p .access .mode)
+    && eqb (h .object) (p .access .object)
+    && Bool·beq (h .negative) (p .negative)
+    && fitsGrantor (p .grantor) (h .grantor)
+    && fitsOption (p .option) (h .option)
+unfolding fits
+fits-eq p h = refl
+
 -- an authorization with the head h is what is looked for
 pub fits-is : (p : Pattern) (h : Head) → (fits p h ≡ true)
     ↔ ((eqb (h .subject) (p .access .subject) ≡ true)
@@ -22,22 +34,28 @@ pub fits-is : (p : Pattern) (h : Head) → (fits p h ≡ true)
     × (Bool·beq (h .negative) (p .negative) ≡ true)
     × (fitsGrantor (p .grantor) (h .grantor) ≡ true)
     × (fitsOption (p .option) (h .option) ≡ true))
-unfolding fits
-fits-is p h = and-six
+fits-is p h = rw (fits-eq p h) (and-six
     (eqb (h .subject) (p .access .subject)) (eqb (h .mode) (p .access .mode))
     (eqb (h .object) (p .access .object))
     (Bool·beq (h .negative) (p .negative)) (fitsGrantor (p .grantor) (h .grantor))
-    (fitsOption (p .option) (h .option))
+    (fitsOption (p .option) (h .option)))
+
+-- a rule stands for the accesses that its left side fits, its stars fitting any
+pub stands-eq : (b : Base) (r : Rule) (x : Access) → standsFor b r x
+    ≡ (isStar (r .left .subject) || eqb (r .left .subject) (x .subject))
+    && (isStar (r .left .mode) || eqb (r .left .mode) (x .mode))
+    && standsOn b r (x .object)
+unfolding standsFor
+stands-eq b r x = refl
 
 -- x is on the left of a rule that r stands for
 pub stands-is : (b : Base) (r : Rule) (x : Access) → (standsFor b r x ≡ true)
     ↔ ((isStar (r .left .subject) || eqb (r .left .subject) (x .subject) ≡ true)
     × (isStar (r .left .mode) || eqb (r .left .mode) (x .mode) ≡ true)
     × (standsOn b r (x .object) ≡ true))
-unfolding standsFor
-stands-is b r x = and-three
+stands-is b r x = rw (stands-eq b r x) (and-three
     (isStar (r .left .subject) || eqb (r .left .subject) (x .subject))
-    (isStar (r .left .mode) || eqb (r .left .mode) (x .mode)) (standsOn b r (x .object))
+    (isStar (r .left .mode) || eqb (r .left .mode) (x .mode)) (standsOn b r (x .object)))
 
 -- a rule that names its object stands for accesses to that one
 pub stands-named : (b : Base) (r : Rule) (x : Access) → isStar (r .left .object) ≡ false →
@@ -45,8 +63,7 @@ pub stands-named : (b : Base) (r : Rule) (x : Access) → isStar (r .left .objec
     ≡ (isStar (r .left .subject) || eqb (r .left .subject) (x .subject))
     && (isStar (r .left .mode) || eqb (r .left .mode) (x .mode))
     && eqb (r .left .object) (x .object)
-unfolding standsFor
-stands-named b r x e = rw e
+stands-named b r x e = rw (stands-eq b r x, e)
 
 -- one with starred objects for accesses to those that its author owns or administers, and no others
 pub stands-starred : (b : Base) (r : Rule) (x : Access) → isStar (r .left .object) ≡ true →
@@ -54,15 +71,22 @@ pub stands-starred : (b : Base) (r : Rule) (x : Access) → isStar (r .left .obj
     ≡ (isStar (r .left .subject) || eqb (r .left .subject) (x .subject))
     && (isStar (r .left .mode) || eqb (r .left .mode) (x .mode))
     && controls b (x .object) (r .author)
-unfolding standsFor
-stands-starred b r x e = rw e
+stands-starred b r x e = rw (stands-eq b r x, e)
 
 -- of a base only owners and administrators are looked at
 pub stands-same : (b c : Base) (r : Rule) (x : Access) →
     controls b (x .object) (r .author) ≡ controls c (x .object) (r .author) →
     standsFor b r x ≡ standsFor c r x
-unfolding standsFor
-stands-same b c r x e = rw e
+stands-same b c r x e = rw (stands-eq b r x, stands-eq c r x, e)
+
+-- what r derives has the access that it stands for, its left side's sign, its author as grantor, no option
+pub derives-eq : (b : Base) (p : Pattern) (r : Rule) → derivesFor b p r
+    ≡ standsFor b r (p .access)
+    && Bool·beq (r .left .negative) (p .negative)
+    && fitsGrantor (p .grantor) (r .author)
+    && fitsOption (p .option) false
+unfolding derivesFor
+derives-eq b p r = refl
 
 -- what r derives is what is looked for
 pub derives-is : (b : Base) (p : Pattern) (r : Rule) → (derivesFor b p r ≡ true)
@@ -70,16 +94,47 @@ pub derives-is : (b : Base) (p : Pattern) (r : Rule) → (derivesFor b p r ≡ t
     × (Bool·beq (r .left .negative) (p .negative) ≡ true)
     × (fitsGrantor (p .grantor) (r .author) ≡ true)
     × (fitsOption (p .option) false ≡ true))
-unfolding derivesFor
-derives-is b p r = and-four (standsFor b r (p .access)) (Bool·beq (r .left .negative) (p .negative))
-    (fitsGrantor (p .grantor) (r .author)) (fitsOption (p .option) false)
+derives-is b p r = rw (derives-eq b p r) (and-four (standsFor b r (p .access))
+    (Bool·beq (r .left .negative) (p .negative))
+    (fitsGrantor (p .grantor) (r .author)) (fitsOption (p .option) false))
 
 -- a rule that derives what is looked for stands for its access
 pub derives-stands : (b : Base) (p : Pattern) (r : Rule) → derivesFor b p r ≡ true →
     standsFor b r (p .access) ≡ true
 derives-stands b p r e = derives-is b p r .0 e .0
 
+-- ---- the right side
+
+-- what r looks for where it stands for x: its right side, of which x gives what is starred
+pub right-eq : (r : Rule) (x : Access) → rightOf r x ≡ record {
+  access = record {
+    subject = pick (isStar (r .right .subject)) (x .subject) (r .right .subject);
+    mode = pick (isStar (r .right .mode)) (x .mode) (r .right .mode);
+    object = pick (isStar (r .right .object)) (x .object) (r .right .object);
+  };
+  negative = r .right .negative;
+  grantor = r .grantor;
+  option = r .option;
+}
+unfolding rightOf
+right-eq r x = refl
+
+-- it has the right side's sign
+pub right-sign : (r : Rule) (x : Access) → rightOf r x .negative ≡ r .right .negative
+right-sign r x = ap (λ (p : Pattern). p .negative) (right-eq r x)
+
 -- ---- feeding
+
+-- q feeds r if the sign of its left side is that of r's right, the sides meet, and author and option fit
+pub feeds-eq : (q r : Rule) → feeds q r
+    ≡ Bool·beq (q .left .negative) (r .right .negative)
+    && meets (q .left .object) (r .right .object)
+    && meets (q .left .subject) (r .right .subject)
+    && meets (q .left .mode) (r .right .mode)
+    && fitsGrantor (r .grantor) (q .author)
+    && fitsOption (r .option) false
+unfolding feeds
+feeds-eq q r = refl
 
 pub feeds-is : (q r : Rule) → (feeds q r ≡ true)
     ↔ ((Bool·beq (q .left .negative) (r .right .negative) ≡ true)
@@ -88,11 +143,10 @@ pub feeds-is : (q r : Rule) → (feeds q r ≡ true)
     × (meets (q .left .mode) (r .right .mode) ≡ true)
     × (fitsGrantor (r .grantor) (q .author) ≡ true)
     × (fitsOption (r .option) false ≡ true))
-unfolding feeds
-feeds-is q r = and-six
+feeds-is q r = rw (feeds-eq q r) (and-six
     (Bool·beq (q .left .negative) (r .right .negative)) (meets (q .left .object) (r .right .object))
     (meets (q .left .subject) (r .right .subject)) (meets (q .left .mode) (r .right .mode))
-    (fitsGrantor (r .grantor) (q .author)) (fitsOption (r .option) false)
+    (fitsGrantor (r .grantor) (q .author)) (fitsOption (r .option) false))
 
 -- a number of a left side that fits that of a right side, its star standing for z, meets it
 fit-meets : (n m z : ℕ) → isStar n || eqb n (pick (isStar m) z m) ≡ true → meets n m ≡ true
@@ -137,14 +191,23 @@ feeds-fit b q r x e s = let w = feeds-is q r .0 e in derives-is b (rightOf r x) 
 
 -- ---- links
 
+-- q links to r if it derives denials, r's right side is positive, and the sides meet
+pub links-eq : (q r : Rule) → links q r
+    ≡ q .left .negative
+    && not (r .right .negative)
+    && meets (q .left .object) (r .right .object)
+    && meets (q .left .subject) (r .right .subject)
+    && meets (q .left .mode) (r .right .mode)
+unfolding links
+links-eq q r = refl
+
 pub links-is : (q r : Rule) → (links q r ≡ true)
     ↔ ((q .left .negative ≡ true)
     × (not (r .right .negative) ≡ true)
     × (meets (q .left .object) (r .right .object) ≡ true)
     × (meets (q .left .subject) (r .right .subject) ≡ true)
     × (meets (q .left .mode) (r .right .mode) ≡ true))
-unfolding links
-links-is q r = (
+links-is q r = rw (links-eq q r) (
   (λ e. let w = and-three (n && m && o) u v .0 e in
       let d = and-three n m o .0 (w .0) in
       (d .0, d .1, d .2, w .1, w .2)),

@@ -35,7 +35,8 @@ refused-append {A} front rest refuse a up = cases (eqb (firstNumber front) 0)
     by : ℕ → A
     by n = elim (eqb n 0) [ true ↦ a | false ↦ refuse n ]
 
-replied : (yes? : Bool) → refusalNumber (mayReply yes?) ≡ 0
+-- yes and no are no refusals
+pub replied : (yes? : Bool) → refusalNumber (mayReply yes?) ≡ 0
 replied true = refl
 replied false = refl
 

@@ -150,10 +150,14 @@ authorsMay b =
     (b .rules)
 
 -- 01: "a star for subject or mode is on both sides of a rule or neither"; 02: for the object likewise
-abbrev pub starsMatch : Base → Bool
-starsMatch b = allb (λ r. Bool·beq (isStar (r .left .subject)) (isStar (r .right .subject))
+abbrev pub starsMeet : Rule → Bool
+starsMeet r =
+    Bool·beq (isStar (r .left .subject)) (isStar (r .right .subject))
     && Bool·beq (isStar (r .left .mode)) (isStar (r .right .mode))
-    && Bool·beq (isStar (r .left .object)) (isStar (r .right .object))) (b .rules)
+    && Bool·beq (isStar (r .left .object)) (isStar (r .right .object))
+
+abbrev pub starsMatch : Base → Bool
+starsMatch b = allb starsMeet (b .rules)
 
 -- 01: "a denial on the right isn't marked transferable"
 abbrev pub rightDenialsPlain : Base → Bool

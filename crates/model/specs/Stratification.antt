@@ -8,7 +8,7 @@ use mathlib.Core.Bool.{Bool, true, false, not, _&&_, _||_, Bool·beq}
 use mathlib.Core.List.{List}
 use lib.Dec.{eqb}
 use Rattle.foundation.specs.Tests.{le-true, cases, le-false, or-intro-left, or-true-right}
-use Rattle.foundation.specs.Totals.{count, count-le}
+use Rattle.foundation.specs.BitMasks.{asBit, bit-le}
 use Rattle.foundation.specs.Graph.{heavy, cyclic, rank}
 use Rattle.model.specs.declared.Rule.{Rule}
 use Rattle.model.specs.declared.Operator.{Operator}
@@ -80,7 +80,7 @@ precedes q r = feeds q r || links q r
 -- what the step from q to r counts in a rank: one if r is a rule with WHENEVERNOT or UNLESS, and, 02, "the
 -- link counts one"
 unfoldable pub weight : Rule → Rule → ℕ
-weight q r = count (negates r) + count (links q r)
+weight q r = asBit (negates r) + asBit (links q r)
 
 -- 01: "A circle of feeding with a WHENEVERNOT or UNLESS in it is forbidden"; 02: "a circle with such a link
 -- is forbidden"
@@ -104,20 +104,20 @@ feeds-precedes q r e = precedes-either q r ∙ or-intro-left (feeds q r) (links 
 pub links-precedes : (q r : Rule) → links q r ≡ true → precedes q r ≡ true
 links-precedes q r e = precedes-either q r ∙ or-true-right (feeds q r) (links q r) e
 
-pub weight-is : (q r : Rule) → weight q r ≡ count (negates r) + count (links q r)
+pub weight-is : (q r : Rule) → weight q r ≡ asBit (negates r) + asBit (links q r)
 unfolding weight
 weight-is q r = refl
 
 pub light : (q r : Rule) → weight q r ≤ 2
-light q r = omega (arith, weight-is q r, count-le (negates r), count-le (links q r))
+light q r = omega (arith, weight-is q r, bit-le (negates r), bit-le (links q r))
 
 -- a step counts exactly if it leads to a rule with WHENEVERNOT or UNLESS, or is a link
 pub heavy-either : (q r : Rule) → heavy weight q r ≡ negates r || links q r
 heavy-either q r = cases (negates r)
-    (λ e. le-true 1 (weight q r) (omega (arith, weight-is q r, ap count e)) ∙ rw e)
+    (λ e. le-true 1 (weight q r) (omega (arith, weight-is q r, ap asBit e)) ∙ rw e)
     (λ e. cases (links q r)
-    (λ l. le-true 1 (weight q r) (omega (arith, weight-is q r, ap count l)) ∙ rw (e, l))
-    (λ l. le-false 1 (weight q r) (omega (arith, weight-is q r, ap count e, ap count l)) ∙ rw (e, l)))
+    (λ l. le-true 1 (weight q r) (omega (arith, weight-is q r, ap asBit l)) ∙ rw (e, l))
+    (λ l. le-false 1 (weight q r) (omega (arith, weight-is q r, ap asBit e, ap asBit l)) ∙ rw (e, l)))
 
 pub negates-heavy : (q r : Rule) → negates r ≡ true → heavy weight q r ≡ true
 negates-heavy q r e = heavy-either q r ∙ or-intro-left (negates r) (links q r) e

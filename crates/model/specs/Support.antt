@@ -23,7 +23,8 @@ sameObjectAndMode h k = eqb (h .object) (k .object) && eqb (h .mode) (k .mode)
 
 -- 01: "every line but the last is positive and transferable; each one's subject is the next one's granter;
 -- granted-at rises strictly": `earlier` may stand directly before `later` in a chain. Its laws are
--- `supports-rises`, `supports-object` and `supports-mode`, and `supports-is` for all its tests.
+-- `supports-rises`, `supports-object` and `supports-mode`, and `supports-eq` and `supports-is` for all its
+-- tests.
 unfoldable pub supports : Head → Head → Bool
 supports earlier later =
     sameObjectAndMode earlier later
@@ -82,6 +83,16 @@ pub data Chain (root : Head → Bool) (heads : List Head) : Head → Type 0 wher
   then : {k h : Head} → Chain root heads k → Mem k heads → supports k h ≡ true → Chain root heads h
 
 -- ---- the laws of `supports`
+
+-- all its tests, as one
+pub supports-eq : (k h : Head) → supports k h
+    ≡ sameObjectAndMode k h
+    && not (k .negative)
+    && k .option
+    && eqb (k .subject) (h .grantor)
+    && ltb (k .granted) (h .granted)
+unfolding supports
+supports-eq k h = refl
 
 module _ (k h : Head) (s : supports k h ≡ true) where
   abbrev tests : List Bool

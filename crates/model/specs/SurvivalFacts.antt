@@ -1,20 +1,20 @@
--- What an accepted request takes out of an authorization (`takes`) is what its giver takes back or loses with
--- the administration of the object: `taken`.
+-- The laws of `takes`: what it is by kind (`takes-eq`), and that what an accepted request takes out of an
+-- authorization is what its giver takes back or loses with the administration of the object (`taken`).
 use mathlib.Core.Path.{_≡_, refl, sym, ap, _∙_}
 use mathlib.Core.Logic.{_⊎_, inl, inr, _↔_, ⊎-elim}
 use Prim.Native.Nat.{ℕ, _≤_}
-use mathlib.Core.Bool.{Bool, true, not, _&&_, false≢true}
+use mathlib.Core.Bool.{Bool, true, false, not, _&&_, false≢true}
 use mathlib.Core.List.{List, [], _∷_}
 use lib.Dec.{eqb}
 use Rattle.foundation.specs.Tests.{cases, must-fail, le-true, eq-true, true-eq, not-false, not-true, and-true}
-use Rattle.foundation.specs.Tests.{and-intro}
+use Rattle.foundation.specs.Tests.{pick, and-intro}
 use Rattle.foundation.specs.Lists.{anyb, any-false, conjunction, conjunct}
 use Rattle.foundation.specs.Intervals.{inInterval, inInterval-true}
 use Rattle.model.specs.declared.Head.{Head}
 use Rattle.model.specs.declared.Authorization.{Authorization}
 use Rattle.model.specs.declared.Request.{Request}
 use Rattle.model.specs.Base.{Base}
-use Rattle.model.specs.Requests.{REVOKE, REVOKEP, REVOKEN, REVOKEADM, takes}
+use Rattle.model.specs.Requests.{REVOKE, REVOKEP, REVOKEN, REVOKEADM, is, names, takes}
 use Rattle.model.specs.Step.{notPermitted}
 use Rattle.model.specs.StepFacts.{Accepted}
 use Rattle.model.specs.SupportFacts.{live-mem}
@@ -22,6 +22,15 @@ use Rattle.model.specs.Survival.{TakesBack, label, grant, denial, LosesA
 use Rattle.model.specs.Survival.{Stands}
 
 module _ (q : Request) (h : Head) (t : ℕ) where
+  -- by label, by what is named and the interval, or by object and grantor
+  pub takes-eq : takes q h t
+      ≡ pick (is q (REVOKE ∷ [])) (eqb (h .label) (q .label))
+      (pick (is q (REVOKEP ∷ REVOKEN ∷ [])) (names q h && inInterval (q .interval) t)
+      (pick (is q (REVOKEADM ∷ [])) (eqb (h .object) (q .object) && eqb (h .grantor) (q .subject))
+      false))
+  unfolding takes
+  takes-eq = refl
+
   -- what REVOKEP and REVOKEN compare, with their test of the sign
   abbrev compared : Bool → List Bool
   compared sign =

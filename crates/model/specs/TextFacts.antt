@@ -45,7 +45,7 @@ leads-zero (c ∷ d ∷ s) e = cases (eqb c 48) (λ p. absurd (false≢true (rw 
 -- ---- the digits of n
 
 -- s is n in at most k digits, with none of them 0 in front of others; for k = 0 it is 0 with no digit
-record Written (k n : ℕ) (s : List ℕ) : Type 0 where
+record DigitsOf (k n : ℕ) (s : List ℕ) : Type 0 where
   value : valueFrom 0 s ≡ n
   all : allb isDigit s ≡ true
   most : length s ≤ k
@@ -60,7 +60,7 @@ last n = (48 + n % 10) ∷ []
 last-digit : (n : ℕ) → allb isDigit (last n) ≡ true
 last-digit n = rw (le-true 48 (48 + n % 10) (omega arith), le-true (48 + n % 10) 57 (omega arith))
 
-written-none : (n : ℕ) → n < 1 → Written 0 n []
+written-none : (n : ℕ) → n < 1 → DigitsOf 0 n []
 written-none n h = record {
   value = omega arith;
   all = refl;
@@ -70,7 +70,7 @@ written-none n h = record {
   plain = refl;
 }
 
-written-one : (k n : ℕ) → n < 10 → Written (suc k) n (last n)
+written-one : (k n : ℕ) → n < 10 → DigitsOf (suc k) n (last n)
 written-one k n h = record {
   value = omega arith;
   all = last-digit n;
@@ -80,7 +80,7 @@ written-one k n h = record {
   plain = refl;
 }
 
-written-more : (k n : ℕ) (s : List ℕ) → 10 ≤ n → Written k (n / 10) s → Written (suc k) n (s ++ last n)
+written-more : (k n : ℕ) (s : List ℕ) → 10 ≤ n → DigitsOf k (n / 10) s → DigitsOf (suc k) n (s ++ last n)
 written-more k n s h w =
     let long = length-append s (last n) in
     let first = w .leading (omega arith) in
@@ -93,7 +93,7 @@ written-more k n s h w =
       plain = leads-zero (s ++ last n) (leads-append s (last n) first);
     }
 
-digits-written : (k n : ℕ) → n < 10 ^ k → Written k n (digits k n)
+digits-written : (k n : ℕ) → n < 10 ^ k → DigitsOf k n (digits k n)
 digits-written zero n h = written-none n h
 digits-written (suc k) n h =
     let less : n < 10 * 10 ^ k = rw (pow-succ' 10 k) at h in
@@ -105,7 +105,7 @@ digits-written (suc k) n h =
 -- ---- reading back
 
 -- what is written in one to ten digits is read, up to the last instant
-written-back : (k n : ℕ) (s : List ℕ) → 1 ≤ k → k ≤ 10 → n ≤ lastInstant → Written k n s → number s ≡ some n
+written-back : (k n : ℕ) (s : List ℕ) → 1 ≤ k → k ≤ 10 → n ≤ lastInstant → DigitsOf k n s → number s ≡ some n
 written-back k n s a b h w =
     rw (
       w .all,

@@ -10,11 +10,11 @@ use lib.Dec.{eqb, ltb}
 use lib.ListN.{length, getD, List·getD-eq-default}
 use Rattle.foundation.specs.Tests.{pick, cases, agree, true-eq, eq-true, ne-false, true-le, false-le, le-true}
 use Rattle.foundation.specs.Tests.{le-false, or-false, or-assoc}
-use Rattle.foundation.specs.Masks.{bit}
+use Rattle.foundation.specs.BitMasks.{bit}
 use Rattle.words.specs.Bits.{bit-or}
 use Rattle.outlines.specs.Coordinates.{Apart}
-use Rattle.outlines.specs.Masks.{controlledBy, Controlled}
-use Rattle.masks.proofs.Bits.{no-bit}
+use Rattle.outlines.specs.LeftMasks.{controlledBy, Controlled}
+use Rattle.masks.proofs.SingleBits.{no-bit}
 use Rattle.outlines.proofs.MaskWords.{gather-turn}
 
 -- ---- one word

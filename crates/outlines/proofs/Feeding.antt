@@ -12,20 +12,22 @@ use lib.ListN.{getD}
 use Rattle.foundation.specs.Tests.{pick, cases, false-eq, ne-false, true-le, or-true}
 use Rattle.foundation.specs.Tests.{or-false}
 use Rattle.foundation.specs.Tests.{and-true, and-false}
-use Rattle.foundation.specs.Masks.{asBit, bit, bit-le}
+use Rattle.foundation.specs.BitMasks.{asBit, bit, bit-le}
 use Rattle.words.specs.Bits.{bit-and, bit-or}
 use Rattle.model.specs.declared.Rule.{Rule}
 use Rattle.model.specs.Stratification.{isStar, meets, feeds, links, precedes, fitsOption}
 use Rattle.model.specs.Stratification.{precedes-either}
 use Rattle.model.specs.Rules.{fitsGrantor}
+use Rattle.model.specs.SideFacts.{feeds-eq, links-eq}
 use Rattle.encoding.specs.Format.{rulesIn, ruleAt}
-use Rattle.rules.specs.Strata.{feedersOf}
-use Rattle.outlines.specs.Coordinates.{Numbered, Chart}
+use Rattle.rules.specs.RankTables.{feedersOf}
+use Rattle.outlines.specs.Coordinates.{HasCoordinates, Chart}
 use Rattle.outlines.specs.Outline.{codeIn}
-use Rattle.outlines.specs.Masks.{objectCode, subjectCode, modeCodeOf, signCode, Placed}
-use Rattle.outlines.specs.Standing.{star-is, code-small, subject-is, mode-is, sign-is, under, rule-bit}
+use Rattle.outlines.specs.LeftMasks.{objectCode, subjectCode, modeCodeOf, signCode, CodesPlaced}
+use Rattle.outlines.specs.StandingRules.{star-is, code-small, subject-is, mode-is, sign-is, under}
+use Rattle.outlines.specs.StandingRules.{rule-bit}
 use Rattle.outlines.specs.Feed.{Outlined, rightModeWord, meetingWord, linkersWord, precedersOf}
-use Rattle.masks.proofs.Bits.{no-bit}
+use Rattle.masks.proofs.SingleBits.{no-bit}
 use Rattle.masks.proofs.BitWalk.{and-last, same-bits}
 
 -- q's left side has the sign g, and its object, subject and mode meet r's right side
@@ -36,16 +38,8 @@ meetsRight g q r =
     && meets (q .left .subject) (r .right .subject)
     && meets (q .left .mode) (r .right .mode)
 
-feeds-parts : (q r : Rule) →
-    feeds q r
-    ≡ meetsRight (r .right .negative) q r && fitsGrantor (r .grantor) (q .author)
-    && fitsOption (r .option) false
-unfolding feeds
-feeds-parts q r = refl
-
 links-parts : (q r : Rule) → links q r ≡ not (r .right .negative) && meetsRight true q r
-unfolding links
-links-parts q r = signs (q .left .negative) (not (r .right .negative))
+links-parts q r = links-eq q r ∙ signs (q .left .negative) (not (r .right .negative))
     (meets (q .left .object) (r .right .object)) (meets (q .left .subject) (r .right .subject))
     (meets (q .left .mode) (r .right .mode))
   where
@@ -86,7 +80,7 @@ guarded true a b c = refl
 guarded false a b c = refl
 
 -- of the rules w those of m, where m has the rules that meet a right side's number v; all of them for a star
-narrow-meets : {field : Rule → ℕ} {n : ℕ} {body U : List ℕ} {size : ℕ} → Numbered field n body U size →
+narrow-meets : {field : Rule → ℕ} {n : ℕ} {body U : List ℕ} {size : ℕ} → HasCoordinates field n body U size →
     n ≤ 64 → (u v w m q code : ℕ) (a : Bool) → code ≡ codeIn U v →
     (isStar v ≡ false → bit q m ≡ ltb q n && (isStar u || eqb u v)) → bit q w ≡ ltb q n && a →
     bit q (pick (eqb code 255) w (bitAnd w m)) ≡ ltb q n && (a && meets u v)
@@ -153,7 +147,7 @@ module _ {n : ℕ} {body left right sides : List ℕ} (o : Outlined n body left 
           .mode,
     )))
 
-    pub right-placed : Placed right i
+    pub right-placed : CodesPlaced right i
     right-placed = record {
       object = code-small (o .charted .objects) (o .well-formed .few) (rule i .right .object)
           (o .rights i h .object);
@@ -273,7 +267,7 @@ module _ {n : ℕ} {body left right sides : List ℕ} (o : Outlined n body left 
         && fitsOption (rule i .option) false) (own-bit f e q)
         ∙ guarded (ltb q n) (meetsRight (rule i .right .negative) (rule q) (rule i))
         (fitsGrantor (rule i .grantor) (rule q .author)) (fitsOption (rule i .option) false)
-        ∙ ap (λ (b : Bool). ltb q n && b) (sym (feeds-parts (rule q) (rule i)))
+        ∙ ap (λ (b : Bool). ltb q n && b) (sym (feeds-eq (rule q) (rule i)))
         ∙ sym (rule-bit n body (λ p. feeds p (rule i)) q))
 
     linkers-bit : (q : ℕ) → bit q (linkersWord left right sides i) ≡ ltb q n && links (rule q) (rule i)

@@ -1,4 +1,4 @@
-pub mod Numbering
+pub mod CoordinateTurns
 pub mod SideCodes
 pub mod MaskWords
 pub mod Masking

@@ -9,11 +9,11 @@ use native.Mathlib.Omega.{arith}
 use lib.Dec.{eqb, leb, ltb}
 use Rattle.foundation.specs.Tests.{pick, cases, agree, true-eq, false-eq, le-true, le-false, true-le}
 use Rattle.foundation.specs.Tests.{or-false}
-use Rattle.foundation.specs.Masks.{bit}
-use Rattle.outlines.specs.Masks.{objectCode, subjectCode, modeCodeOf, signCode}
-use Rattle.outlines.specs.Masks.{objectWord, subjectWord, modeWord, inWord, Placed}
+use Rattle.foundation.specs.BitMasks.{bit}
+use Rattle.outlines.specs.LeftMasks.{objectCode, subjectCode, modeCodeOf, signCode}
+use Rattle.outlines.specs.LeftMasks.{objectWord, subjectWord, modeWord, inWord, CodesPlaced}
 use Rattle.outlines.specs.Feed.{rightModeWord}
-use Rattle.masks.proofs.Bits.{no-bit}
+use Rattle.masks.proofs.SingleBits.{no-bit}
 
 -- four tests one after the other
 pub four-joined : (x t a b d e : Bool) →
@@ -73,7 +73,7 @@ pub in-word : (sides : List ℕ) (i w o s m g : ℕ) → o ≡ objectWord (objec
 unfolding inWord
 in-word sides i w o s m g a b d e = rw (a, b, d, e)
 
-module _ (sides : List ℕ) (r : ℕ) (p : Placed sides r) where
+module _ (sides : List ℕ) (r : ℕ) (p : CodesPlaced sides r) where
   -- the words of the object, of the subject, and of the mode
   pub object-cases : ((objectCode sides r ≡ 255) × (objectWord (objectCode sides r) ≡ 151))
       ⊎ ((objectCode sides r < 65) × (objectWord (objectCode sides r) ≡ objectCode sides r))

@@ -12,10 +12,11 @@ use Rattle.foundation.specs.Tests.{cases, agree, true-eq, eq-true, le-true}
 use Rattle.foundation.specs.Tests.{le-false}
 use Rattle.foundation.specs.Tests.{true-le, and-true, and-intro, or-false, or-cases}
 use Rattle.foundation.specs.Tests.{or-intro-left, or-true-right}
-use Rattle.foundation.specs.Masks.{bit}
-use Rattle.outlines.specs.Masks.{objectCode, subjectCode, modeCodeOf, signCode}
-use Rattle.outlines.specs.Masks.{objectWord, subjectWord, modeWord, inWord, Placed, Written}
-use Rattle.outlines.specs.Standing.{under}
+use Rattle.foundation.specs.BitMasks.{bit}
+use Rattle.outlines.specs.LeftMasks.{objectCode, subjectCode, modeCodeOf, signCode}
+use Rattle.outlines.specs.LeftMasks.{objectWord, subjectWord, modeWord, inWord, CodesPlaced}
+use Rattle.outlines.specs.LeftMasks.{WrittenMasks}
+use Rattle.outlines.specs.StandingRules.{under}
 use Rattle.outlines.proofs.MaskWords.{object-cases, subject-cases, mode-cases}
 
 module _ (sides : List ℕ) (r : ℕ) where
@@ -64,7 +65,7 @@ module _ (sides : List ℕ) (r : ℕ) where
   word-sign w z = or-true-right (eqb w object || eqb w subject || eqb w mode) (eqb w (146 + sign))
       (eq-true w (146 + sign) z)
 
-  module _ (p : Placed sides r) where
+  module _ (p : CodesPlaced sides r) where
     -- the words of objects, of subjects, and of modes are apart from the others
     not-object : (w : ℕ) → 65 ≤ w → (w ≡ 151 → ⊥) → w ≡ object → ⊥
     not-object w h k z = ⊎-elim (λ a. omega arith) (λ a. omega arith) (object-cases sides r p)
@@ -193,7 +194,8 @@ and-or : (t p q : Bool) → (t && p) || (t && q) ≡ t && (p || q)
 and-or true p q = refl
 and-or false p q = refl
 
-module _ (n subjects : ℕ) (sides : List ℕ) (placed : (r : ℕ) → r < n → Placed sides r) (few : subjects ≤ 65)
+module _ (n subjects : ℕ) (sides : List ℕ) (placed : (r : ℕ) → r < n → CodesPlaced sides r)
+    (few : subjects ≤ 65)
     (l₀ l₁ l₂ l₃ : List ℕ)
     (gathered : (w r : ℕ) → bit r (getD l₀ w 0) ≡ ltb r n && inWord sides r w)
     (first : (w r : ℕ) → bit r (getD l₁ w 0)
@@ -252,7 +254,7 @@ module _ (n subjects : ℕ) (sides : List ℕ) (placed : (r : ℕ) → r < n →
       ∙ two w 150 r
   mode-word m (suc (suc g)) r h k = absurd (omega arith)
 
-  pub written : Written n subjects sides l₃
+  pub written : WrittenMasks n subjects sides l₃
   written = record {
     sided = record {
       subject = λ s r z h. subject-word s r h

@@ -15,7 +15,8 @@ use Rattle.model.specs.declared.Access.{Access}
 use Rattle.model.specs.Ranges.{isMode}
 use Rattle.model.specs.Stratification.{isStar}
 use Rattle.reach.specs.Net.{turned}
-use Rattle.outlines.specs.Coordinates.{Numbered, Apart, Chart, Charted, coordinate, subjectOf, objectOf}
+use Rattle.outlines.specs.Coordinates.{HasCoordinates, Apart, Chart, Charted, coordinate, subjectOf}
+use Rattle.outlines.specs.Coordinates.{objectOf}
 use Rattle.outlines.specs.Coordinates.{known}
 use Rattle.outlines.specs.Coordinates.{modeOf, pairOf}
 use Rattle.outlines.specs.Outline.{codeIn, modeCode}
@@ -36,11 +37,12 @@ coordinate-cases U own v h = cases (eqb (getD U v 0) 0)
     (λ q. absurd (omega (arith, rw (e, q) at h))))
     (λ e. let z = false-eq (getD U v 0) 0 e in inl (omega arith, rw e))
 
-pub numbered-apart : {field : Rule → ℕ} {n : ℕ} {body U : List ℕ} {size : ℕ} → Numbered field n body U size →
+pub numbered-apart : {field : Rule → ℕ} {n : ℕ} {body U : List ℕ} {size : ℕ} → HasCoordinates field n body U
+    size →
     n ≤ 64 → Apart U
 numbered-apart m few = record { below = λ v. omega (arith, m .below v, m .few); apart = m .apart }
 
-module _ {field : Rule → ℕ} {n : ℕ} {body U : List ℕ} {size : ℕ} (m : Numbered field n body U size)
+module _ {field : Rule → ℕ} {n : ℕ} {body U : List ℕ} {size : ℕ} (m : HasCoordinates field n body U size)
     (few : n ≤ 64) (own : ℕ) where
   pub coordinate-one : (v w : ℕ) → coordinate U own v < size → coordinate U own v ≡ coordinate U own w → v ≡ w
   coordinate-one v w h e =

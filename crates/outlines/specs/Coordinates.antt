@@ -7,6 +7,7 @@ use Prim.Native.Nat.{ℕ, zero, suc, _+_, _*_, _-_, _≤_, _<_}
 use lib.Dec.{eqb, ltb}
 use lib.ListN.{length, getD}
 use Rattle.foundation.specs.Tests.{pick}
+unfoldable pub use Rattle.foundation.specs.CoordinateTables.{coordinate}
 use Rattle.model.specs.declared.Rule.{Rule}
 use Rattle.model.specs.declared.Side.{Side}
 use Rattle.model.specs.declared.Access.{Access}
@@ -51,7 +52,7 @@ namedIn field (suc n) body =
     pick (isStar (field (ruleAt body n))) (namedIn field n body) (suc (namedIn field n body))
 
 -- U has coordinates, below `size`, of what a field of the first n rules names
-pub record Numbered (field : Rule → ℕ) (n : ℕ) (body U : List ℕ) (size : ℕ) : Type 0 where
+pub record HasCoordinates (field : Rule → ℕ) (n : ℕ) (body U : List ℕ) (size : ℕ) : Type 0 where
   pub some : 0 < size
   pub few : size ≤ suc n
   -- coordinate 0, and at most one for each rule that names something
@@ -69,11 +70,11 @@ pub record Apart (U : List ℕ) : Type 0 where
   pub below : (v : ℕ) → getD U v 0 < 65
   pub apart : (v w : ℕ) → 0 < getD U v 0 → getD U v 0 ≡ getD U w 0 → v ≡ w
 
-abbrev pub rightSubject : Rule → ℕ
-rightSubject r = r .right .subject
+abbrev pub subjectOnRight : Rule → ℕ
+subjectOnRight r = r .right .subject
 
-abbrev pub rightObject : Rule → ℕ
-rightObject r = r .right .object
+abbrev pub objectOnRight : Rule → ℕ
+objectOnRight r = r .right .object
 
 -- ---- accesses
 
@@ -86,12 +87,8 @@ pub record Chart : Type 0 where
 
 -- the tables are those of the rules
 pub record Charted (n : ℕ) (body : List ℕ) (C : Chart) : Type 0 where
-  pub subjects : Numbered rightSubject n body (C .subjects) (C .width)
-  pub objects : Numbered rightObject n body (C .objects) (C .height)
-
--- the coordinate of v: that of the table, else 0 of the own one; 255 where v has none
-unfoldable pub coordinate : List ℕ → ℕ → ℕ → ℕ
-coordinate U own v = pick (eqb (getD U v 0) 0) (pick (eqb v own) 0 255) (getD U v 0)
+  pub subjects : HasCoordinates subjectOnRight n body (C .subjects) (C .width)
+  pub objects : HasCoordinates objectOnRight n body (C .objects) (C .height)
 
 abbrev pub modeOf : Access → ℕ
 modeOf x = x .mode - 1

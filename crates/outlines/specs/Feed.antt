@@ -1,5 +1,5 @@
 -- Which rule precedes which, and feeds which, from the masks: what the tables are that this is read from
--- (`Outlined`), and the table of it (`Fed`).
+-- (`Outlined`), and the table of it (`FeedTable`).
 use mathlib.Core.Path.{_≡_}
 use mathlib.Core.Bool.{Bool, true, false, not, _&&_}
 use mathlib.Core.List.{List}
@@ -8,16 +8,16 @@ use lib.Bits.{bitAnd, bitOr}
 use lib.Dec.{eqb}
 use lib.ListN.{getD}
 use Rattle.foundation.specs.Tests.{pick}
-use Rattle.foundation.specs.Masks.{bit, maskOf}
+use Rattle.foundation.specs.BitMasks.{bit, maskOf}
 use Rattle.model.specs.declared.Rule.{Rule}
 use Rattle.model.specs.declared.OptionTerm.{OptionTerm}
 use Rattle.model.specs.declared.OptionTerm.the-variants.{With, Without, Either}
 use Rattle.model.specs.Stratification.{isStar, feeds, precedes}
 use Rattle.encoding.specs.Format.{rulesIn, ruleAt}
-use Rattle.rules.specs.Strata.{Holds}
+use Rattle.rules.specs.RankTables.{RuleTable}
 use Rattle.outlines.specs.Coordinates.{WellFormed, Chart, Charted}
 use Rattle.outlines.specs.Outline.{RightSides, LeftSides}
-use Rattle.outlines.specs.Masks.{Written}
+use Rattle.outlines.specs.LeftMasks.{WrittenMasks}
 
 -- an option that fits any
 abbrev pub isEither : OptionTerm → Bool
@@ -36,7 +36,7 @@ pub record Outlined (n : ℕ) (body left right sides : List ℕ) : Type 0 where
   pub charted : Charted n body chart
   pub rights : RightSides (chart .subjects) (chart .objects) n body right
   pub lefts : LeftSides (chart .subjects) (chart .objects) n body sides
-  pub masks : Written n (chart .width) sides left
+  pub masks : WrittenMasks n (chart .width) sides left
 
 -- the word of what a right side's mode meets, with a sign: of the sign alone for a star
 abbrev pub rightModeWord : ℕ → ℕ → ℕ
@@ -61,9 +61,9 @@ abbrev pub precedersOf : List Rule → Rule → ℕ
 precedersOf rules r = maskOf (λ q. precedes q r) rules
 
 -- the table
-pub record Fed (n : ℕ) (body : List ℕ) (choosy : ℕ) (feed : List ℕ) : Type 0 where
+pub record FeedTable (n : ℕ) (body : List ℕ) (choosy : ℕ) (feed : List ℕ) : Type 0 where
   -- the rules that precede each rule
-  pub preceders : Holds n body (precedersOf (rulesIn n body)) feed
+  pub preceders : RuleTable n body (precedersOf (rulesIn n body)) feed
   -- the choosy rules that each rule feeds
   pub onward : (i c : ℕ) → i < n → c < n →
       bit c (getD feed (64 + i) 0) ≡ bit c choosy && feeds (ruleAt body i) (ruleAt body c)

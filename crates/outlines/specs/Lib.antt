@@ -1,8 +1,8 @@
 pub mod Coordinates
 pub mod CoordinateFacts
 pub mod Outline
-pub mod Aims
-pub mod Needed
-pub mod Masks
-pub mod Standing
+pub mod RuleAims
+pub mod NeededAccesses
+pub mod LeftMasks
+pub mod StandingRules
 pub mod Feed

@@ -6,7 +6,7 @@ use Prim.Native.Nat.{ℕ, _+_, _*_, _-_, _<_}
 use lib.Dec.{eqb, ltb}
 use lib.ListN.{getD}
 use Rattle.foundation.specs.Tests.{pick}
-use Rattle.foundation.specs.Masks.{asBit, bit}
+use Rattle.foundation.specs.BitMasks.{asBit, bit}
 use Rattle.model.specs.declared.Rule.{Rule}
 use Rattle.model.specs.declared.Side.{Side}
 use Rattle.model.specs.declared.Access.{Access}
@@ -47,7 +47,7 @@ LeftSides U O n body sides = (i : ℕ) → i < n → Coded U O (ruleAt body i .l
 -- ---- masks
 
 -- the masks have, for each access that has a place, the rules that stand for it in the base, by sign
-abbrev pub Stands : Base → ℕ → List ℕ → Chart → Access → List ℕ → Type 0
-Stands b n body C asked left = (x : Access) → known C asked x ≡ true → (r : ℕ) → r < 64 → (g : Bool) →
+abbrev pub StandingMasks : Base → ℕ → List ℕ → Chart → Access → List ℕ → Type 0
+StandingMasks b n body C asked left = (x : Access) → known C asked x ≡ true → (r : ℕ) → r < 64 → (g : Bool) →
     bit r (standing left (objectOf C asked x) (subjectOf C asked x) (modeOf x + 8 * asBit g))
     ≡ ltb r n && (standsFor b (ruleAt body r) x && Bool·beq (ruleAt body r .left .negative) g)

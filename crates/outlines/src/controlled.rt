@@ -4,12 +4,12 @@ ghost use mathlib.Core.Bool.{true, _&&_, _||_};
 ghost use Prim.Native.Nat.{ℕ, _*_, _≤_, _<_};
 ghost use lib.Dec.{eqb};
 ghost use lib.ListN.{length, getD};
-ghost use Rattle.foundation.specs.Masks.{bit};
+ghost use Rattle.foundation.specs.BitMasks.{bit};
 ghost use Rattle.model.specs.Soundness.{soundBytes};
 ghost use Rattle.outlines.specs.Coordinates.{Apart};
-ghost use Rattle.outlines.specs.Masks.{controlledBy, Controlled};
+ghost use Rattle.outlines.specs.LeftMasks.{controlledBy, Controlled};
 use crate::left::put_word;
-use crate::left::wide;
+use crate::left::usize_of;
 use encoding::rule_at;
 use lookup::controls;
 use model::RULE_BYTES;
@@ -69,7 +69,7 @@ fn join_each(s: &[u8], body: &[u8], n: usize, objects: &[u8], left: &mut [u64; 1
     let starred = left[151];
     let mut v = 0;
     while v < 130 {
-        join_controlled(s, body, n, starred, v, wide(objects[v]), left);
+        join_controlled(s, body, n, starred, v, usize_of(objects[v]), left);
         v += 1;
     }
 }

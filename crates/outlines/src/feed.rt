@@ -6,15 +6,16 @@ ghost use lib.Bits.{bitAnd, bitOr};
 ghost use lib.Dec.{eqb, ltb};
 ghost use lib.ListN.{length, getD};
 ghost use Rattle.foundation.specs.Tests.{pick};
-ghost use Rattle.foundation.specs.Masks.{bit, maskOf};
+ghost use Rattle.foundation.specs.BitMasks.{bit, maskOf};
 ghost use Rattle.model.specs.Rules.{fitsGrantor};
 ghost use Rattle.model.specs.Stratification.{fitsOption};
 ghost use Rattle.encoding.specs.Format.{rulesIn, ruleAt};
-ghost use Rattle.rules.specs.Strata.{feedersOf, Holds};
-ghost use Rattle.outlines.specs.Masks.{Placed};
-ghost use Rattle.outlines.specs.Feed.{rightModeWord, meetingWord, linkersWord, isChoosy, Outlined, Fed};
+ghost use Rattle.rules.specs.RankTables.{feedersOf, RuleTable};
+ghost use Rattle.outlines.specs.LeftMasks.{CodesPlaced};
+ghost use Rattle.outlines.specs.Feed.{rightModeWord, meetingWord, linkersWord, isChoosy, Outlined};
+ghost use Rattle.outlines.specs.Feed.{FeedTable};
 use crate::left::put_word;
-use crate::left::wide;
+use crate::left::usize_of;
 use encoding::rule_at;
 use masks::hand_on;
 use model::OptionTerm;
@@ -128,12 +129,12 @@ fn meet_object(left: &[u64; 152], f: u64, code: usize) -> u64
 
 // The rules whose left side has a sign and meets the right side of rule i in object, subject and mode.
 fn meeting(left: &[u64; 152], right: &[u8; 256], i: usize, sign: usize) -> u64
-    requires { ⌜ (i < 64) × (sign < 2) × Placed (now right) i ⌝ }
+    requires { ⌜ (i < 64) × (sign < 2) × CodesPlaced (now right) i ⌝ }
     ensures { λ x. ⌜ x ≡ meetingWord (now (left .entry)) (now (right .entry)) i sign ⌝ }
 {
-    let w = right_mode_word(wide(right[4 * i + 2]), sign);
-    let f = meet_subject(left, left[w], wide(right[4 * i + 1]));
-    meet_object(left, f, wide(right[4 * i]))
+    let w = right_mode_word(usize_of(right[4 * i + 2]), sign);
+    let f = meet_subject(left, left[w], usize_of(right[4 * i + 1]));
+    meet_object(left, f, usize_of(right[4 * i]))
 }
 
 // The rules that feed rule i.
@@ -148,7 +149,7 @@ fn feeders(
     requires { ⌜ (i < n) × Outlined n (now body) (now left) (now right) (now sides) ⌝ }
     ensures { λ x. ⌜ x ≡ feedersOf (rulesIn n (now (body .entry))) (ruleAt (now (body .entry)) i) ⌝ }
 {
-    let f = meeting(left, right, i, wide(sides[4 * i + 3]) / 2);
+    let f = meeting(left, right, i, usize_of(sides[4 * i + 3]) / 2);
     narrowed(body, n, f, rule_at(body, i * RULE_BYTES))
 }
 
@@ -162,7 +163,7 @@ fn draw_feeders(
     feed: &mut [u64; 128],
 )
     requires { ⌜ Outlined n (now body) (now left) (now right) (now sides) ⌝ }
-    ensures { λ _. ⌜ Holds n (now (body .entry)) (feedersOf (rulesIn n (now (body .entry))))
+    ensures { λ _. ⌜ RuleTable n (now (body .entry)) (feedersOf (rulesIn n (now (body .entry))))
         (now (feed .exit))
         × ((k : ℕ) → n ≤ k → getD (now (feed .exit)) k 0 ≡ getD (now (feed .entry)) k 0) ⌝ }
 {
@@ -191,10 +192,10 @@ fn draw_fed(choosy: u64, feed: &mut [u64; 128])
 
 // The rules that link to rule i: those with a denial on the left, where the right side is positive.
 fn linkers(left: &[u64; 152], right: &[u8; 256], sides: &[u8; 256], i: usize) -> u64
-    requires { ⌜ (i < 64) × Placed (now right) i ⌝ }
+    requires { ⌜ (i < 64) × CodesPlaced (now right) i ⌝ }
     ensures { λ x. ⌜ x ≡ linkersWord (now (left .entry)) (now (right .entry)) (now (sides .entry)) i ⌝ }
 {
-    if wide(sides[4 * i + 3]) / 2 == 0 {
+    if usize_of(sides[4 * i + 3]) / 2 == 0 {
         return meeting(left, right, i, 1);
     }
     0
@@ -208,7 +209,7 @@ fn draw_linkers(
     sides: &[u8; 256],
     feed: &mut [u64; 128],
 )
-    requires { ⌜ (n ≤ 64) × ((i : ℕ) → i < n → Placed (now right) i) ⌝ }
+    requires { ⌜ (n ≤ 64) × ((i : ℕ) → i < n → CodesPlaced (now right) i) ⌝ }
     ensures { λ _. ⌜ ((w : ℕ) → getD (now (feed .exit)) w 0
         ≡ pick (ltb w n) (bitOr (getD (now (feed .entry)) w 0)
         (linkersWord (now (left .entry)) (now (right .entry)) (now (sides .entry)) w))
@@ -234,7 +235,7 @@ pub fn draw_feed(
 )
     requires { ⌜ Outlined n (now body) (now left) (now right) (now sides)
         × ((k : ℕ) → getD (now feed) k 0 ≡ 0) ⌝ }
-    ensures { λ _. ⌜ Fed n (now (body .entry)) choosy (now (feed .exit)) ⌝ }
+    ensures { λ _. ⌜ FeedTable n (now (body .entry)) choosy (now (feed .exit)) ⌝ }
 {
     draw_feeders(body, n, left, right, sides, feed);
     draw_fed(choosy, feed);

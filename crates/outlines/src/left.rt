@@ -5,11 +5,11 @@ ghost use Prim.Native.Nat.{ℕ, _+_, _*_, _≤_, _<_};
 ghost use lib.Dec.{eqb, leb, ltb};
 ghost use lib.ListN.{length, getD};
 ghost use Rattle.foundation.specs.Tests.{pick};
-ghost use Rattle.foundation.specs.Masks.{bit};
+ghost use Rattle.foundation.specs.BitMasks.{bit};
 ghost use Rattle.model.specs.Encoding.{decode};
 ghost use Rattle.model.specs.Soundness.{soundBytes};
-ghost use Rattle.outlines.specs.Masks.{objectWord, subjectWord, modeWord, inWord};
-ghost use Rattle.outlines.specs.Masks.{Placed, Written, Owned};
+ghost use Rattle.outlines.specs.LeftMasks.{objectWord, subjectWord, modeWord, inWord};
+ghost use Rattle.outlines.specs.LeftMasks.{CodesPlaced, WrittenMasks, Owned};
 use encoding::rule_at;
 use lookup::stands_on;
 use model::Access;
@@ -24,8 +24,8 @@ fn put_mask(left: &mut [u64], at: usize, i: u32)
     left[at] = left[at] | (1 << i);
 }
 
-// A byte as an index.
-pub fn wide(x: u8) -> usize
+// A byte as a number of the size of an index.
+pub fn usize_of(x: u8) -> usize
     ensures { λ r. ⌜ (r ≡ x) × (r < 256) ⌝ }
 {
     x as usize
@@ -79,20 +79,21 @@ fn put_four(left: &mut [u64], i: u32, a: usize, b: usize, d: usize, e: usize)
 
 // Puts rule i into its words.
 fn put_masks(left: &mut [u64; 152], sides: &[u8; 256], i: usize)
-    requires { ⌜ (i < 64) × Placed (now sides) i ⌝ }
+    requires { ⌜ (i < 64) × CodesPlaced (now sides) i ⌝ }
     ensures { λ _. ⌜ ((w r : ℕ) → bit r (getD (now (left .exit)) w 0)
         ≡ bit r (getD (now (left .entry)) w 0) || (eqb r i && inWord (now (sides .entry)) i w)) ⌝ }
 {
-    let sign = wide(sides[4 * i + 3]) % 2;
-    let object = object_word(wide(sides[4 * i]));
-    let subject = subject_word(wide(sides[4 * i + 1]));
-    let mode = mode_word(wide(sides[4 * i + 2]), sign);
+    let sign = usize_of(sides[4 * i + 3]) % 2;
+    let object = object_word(usize_of(sides[4 * i]));
+    let subject = subject_word(usize_of(sides[4 * i + 1]));
+    let mode = mode_word(usize_of(sides[4 * i + 2]), sign);
     put_four(left, i as u32, object, subject, mode, 146 + sign);
 }
 
 // Puts each rule into its words.
 fn gather(left: &mut [u64; 152], sides: &[u8; 256], n: usize)
-    requires { ⌜ (n ≤ 64) × ((r : ℕ) → r < n → Placed (now sides) r) × ((w : ℕ) → getD (now left) w 0 ≡ 0) ⌝ }
+    requires { ⌜ (n ≤ 64) × ((r : ℕ) → r < n → CodesPlaced (now sides) r)
+        × ((w : ℕ) → getD (now left) w 0 ≡ 0) ⌝ }
     ensures { λ _. ⌜ ((w r : ℕ) → bit r (getD (now (left .exit)) w 0)
         ≡ ltb r n && inWord (now (sides .entry)) r w) ⌝ }
 {
@@ -118,9 +119,9 @@ fn spread(left: &mut [u64], from: usize, to: usize, rules: u64)
 
 // The masks of the left sides as written, by coordinate from 1 on, by mode and by sign.
 pub fn draw_masks(sides: &[u8; 256], n: usize, subjects: usize, left: &mut [u64; 152])
-    requires { ⌜ (n ≤ 64) × (subjects ≤ 65) × ((r : ℕ) → r < n → Placed (now sides) r)
+    requires { ⌜ (n ≤ 64) × (subjects ≤ 65) × ((r : ℕ) → r < n → CodesPlaced (now sides) r)
         × ((w : ℕ) → getD (now left) w 0 ≡ 0) ⌝ }
-    ensures { λ _. ⌜ Written n subjects (now (sides .entry)) (now (left .exit)) ⌝ }
+    ensures { λ _. ⌜ WrittenMasks n subjects (now (sides .entry)) (now (left .exit)) ⌝ }
 {
     gather(left, sides, n);
     let any = left[148];

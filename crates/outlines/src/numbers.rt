@@ -2,7 +2,8 @@
 ghost use mathlib.Core.Path.{_≡_};
 ghost use Prim.Native.Nat.{ℕ, _<_};
 ghost use lib.ListN.{length, getD};
-ghost use Rattle.outlines.specs.Coordinates.{WellFormed, Added, Numbered, rightSubject, rightObject};
+ghost use Rattle.outlines.specs.Coordinates.{WellFormed, Added, HasCoordinates, subjectOnRight};
+ghost use Rattle.outlines.specs.Coordinates.{objectOnRight};
 use crate::Sizes;
 use encoding::rule_at;
 use model::RULE_BYTES;
@@ -28,8 +29,8 @@ pub fn number_sides(
 ) -> Sizes
     requires { ⌜ WellFormed n (now body) × ((v : ℕ) → getD (now subjects) v 0 ≡ 0)
         × ((v : ℕ) → getD (now objects) v 0 ≡ 0) ⌝ }
-    ensures { λ r. ⌜ Numbered rightSubject n (now (body .entry)) (now (subjects .exit)) (r .subjects)
-        × Numbered rightObject n (now (body .entry)) (now (objects .exit)) (r .objects) ⌝ }
+    ensures { λ r. ⌜ HasCoordinates subjectOnRight n (now (body .entry)) (now (subjects .exit)) (r .subjects)
+        × HasCoordinates objectOnRight n (now (body .entry)) (now (objects .exit)) (r .objects) ⌝ }
 {
     let mut s = 1;
     let mut o = 1;

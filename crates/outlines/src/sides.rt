@@ -3,11 +3,11 @@ ghost use mathlib.Core.Path.{_≡_};
 ghost use Prim.Native.Nat.{ℕ, _+_, _*_, _/_, _≤_, _<_};
 ghost use lib.Dec.{eqb};
 ghost use lib.ListN.{length, getD};
-ghost use Rattle.foundation.specs.Masks.{asBit};
 ghost use Rattle.foundation.specs.Tests.{pick};
 ghost use Rattle.outlines.specs.Coordinates.{WellFormed, Ranged};
 ghost use Rattle.outlines.specs.Outline.{modeCode, Coded, RightSides, LeftSides};
 use encoding::rule_at;
+use fields::as_bit;
 use model::RULE_BYTES;
 use model::Side;
 
@@ -52,16 +52,6 @@ fn put_side(
     codes[4 * i + 3] = signs;
 }
 
-// 1 where a test passes, else 0.
-fn one_if(b: bool) -> u8
-    ensures { λ r. ⌜ r ≡ asBit b ⌝ }
-{
-    if b {
-        return 1;
-    }
-    0
-}
-
 // The codes of the right sides. What is behind the last rule stays.
 pub fn draw_right(
     body: &[u8],
@@ -100,7 +90,7 @@ pub fn draw_left(
     while i < n {
         let r = rule_at(body, i * RULE_BYTES);
         let side = r.left;
-        let signs = one_if(side.negative) + 2 * one_if(r.right.negative);
+        let signs = as_bit(side.negative) + 2 * as_bit(r.right.negative);
         put_side(sides, i, side, subjects, objects, signs);
         i += 1;
     }

@@ -13,25 +13,25 @@ use Rattle.cover.specs.declared.Want.{Want}
 use Rattle.cover.specs.Cover.{covers, coveredBy}
 use Rattle.encoding.specs.Format.{authorizationsIn}
 use Rattle.foundation.specs.Tests.{or-swap}
-use Rattle.foundation.specs.Records.{length-records}
+use Rattle.foundation.specs.ByteRecords.{length-records}
 use Rattle.pieces.specs.declared.Put.{Put}
 use Rattle.pieces.specs.declared.Put.the-variants.{Full, Lines}
-use Rattle.pieces.specs.Building.{Body, Holds, Makes, Result}
+use Rattle.pieces.specs.Building.{BuiltBody, AnyBody, Makes, Result}
 
 -- ---- what is built in the end
 
-pub body-count : {k : ℕ} {ys : List Authorization} {out sorted : List ℕ} → Body k ys out sorted →
+pub body-count : {k : ℕ} {ys : List Authorization} {out sorted : List ℕ} → BuiltBody k ys out sorted →
     k ≡ length ys
 body-count {k} {ys} {out} b =
     sym (length-records 24 authorizationOf k out) ∙ ap (λ (x : List Authorization). length x) (b .records)
 
-pub body-result : {m : ℕ} {ys : List Authorization} {out sorted : List ℕ} → Body m ys out sorted →
+pub body-result : {m : ℕ} {ys : List Authorization} {out sorted : List ℕ} → BuiltBody m ys out sorted →
     Result m ys out
 body-result b = record { count = body-count b; fits = b .fits; records = b .records; clean = b .clean }
 
 -- by what was answered
 pub makes-lines : (ys : List Authorization) (r : Put) (out sorted : List ℕ) (k : ℕ) → r ≡ Lines k →
-    Makes ys r out sorted → Body k ys out sorted
+    Makes ys r out sorted → BuiltBody k ys out sorted
 makes-lines ys r out sorted k e m = subst (λ (x : Put). Makes ys x out sorted) e m
 
 pub makes-full : (ys : List Authorization) (r : Put) (out sorted : List ℕ) → r ≡ Full →
@@ -40,13 +40,13 @@ pub makes-full : (ys : List Authorization) (r : Put) (out sorted : List ℕ) →
 makes-full ys r out sorted e m = subst (λ (x : Put). Makes ys x out sorted) e m
 
 -- a body that is what it is, under the name of its own authorizations
-pub body-own : {k : ℕ} {ys : List Authorization} {out sorted : List ℕ} → Body k ys out sorted →
-    Holds k out sorted
-body-own {k} {ys} {out} {sorted} b = subst (λ (x : List Authorization). Body k x out sorted)
+pub body-own : {k : ℕ} {ys : List Authorization} {out sorted : List ℕ} → BuiltBody k ys out sorted →
+    AnyBody k out sorted
+body-own {k} {ys} {out} {sorted} b = subst (λ (x : List Authorization). BuiltBody k x out sorted)
     (sym (b .records)) b
 
 -- nothing
-pub body-none : (out sorted : List ℕ) → Body 0 [] out sorted
+pub body-none : (out sorted : List ℕ) → BuiltBody 0 [] out sorted
 body-none out sorted = record { fits = omega arith; records = refl; clean = refl; same = λ w t. refl }
 
 -- ---- placing
@@ -69,13 +69,13 @@ length-placed p xs ys =
 
 -- how many there are with xs
 pub placed-count : {k : ℕ} (m p : ℕ) (xs : List Authorization) (s : List ℕ) {out sorted : List ℕ} →
-    Body k (placed p xs (authorizationsIn m s)) out sorted → k ≡ m + length xs
+    BuiltBody k (placed p xs (authorizationsIn m s)) out sorted → k ≡ m + length xs
 placed-count {k} m p xs s b =
     body-count b ∙ length-placed p xs (authorizationsIn m s)
     ∙ ap (λ (n : ℕ). n + length xs) (length-records 24 authorizationOf m s)
 
 pub placed-more : {k : ℕ} (m p : ℕ) (xs : List Authorization) (s : List ℕ) {out sorted : List ℕ} →
-    Body k (placed p xs (authorizationsIn m s)) out sorted → m ≤ k
+    BuiltBody k (placed p xs (authorizationsIn m s)) out sorted → m ≤ k
 placed-more m p xs s b = omega (arith, placed-count m p xs s b)
 
 -- one after the other

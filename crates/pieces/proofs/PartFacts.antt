@@ -24,7 +24,7 @@ use Rattle.model.specs.Support.{supports-rises}
 use Rattle.pieces.specs.Cuts.{cutTakes, CutOrdered, behindAll, takenOf}
 use Rattle.pieces.proofs.CutFacts.{taken-is, taken-gap}
 use Rattle.pieces.proofs.BodyFacts.{covered-placed}
-use Rattle.pieces.specs.Parts.{mayGrant, piecesTo, partsOf}
+use Rattle.pieces.specs.CutParts.{mayGrant, piecesTo, partsOf}
 
 -- that is what the cut leaves
 pub parts-left : (c : Cut) (root : Bool) (ys : List Authorization) (x : Authorization) → CutOrdered c →

@@ -17,9 +17,9 @@ use Rattle.foundation.specs.Lists.{placed}
 use Rattle.pieces.specs.declared.Stretch.{Stretch}
 use Rattle.pieces.specs.declared.Put.{Put}
 use Rattle.pieces.specs.Stretches.{maximalTo}
-use Rattle.pieces.specs.Building.{Body, Holds, Makes}
+use Rattle.pieces.specs.Building.{BuiltBody, AnyBody, Makes}
 use Rattle.pieces.proofs.BodyFacts.{body-count, body-own, placed-none, placed-then, length-placed}
-use Rattle.pieces.specs.Parts.{mayGrant, piecesTo, partsOf}
+use Rattle.pieces.specs.CutParts.{mayGrant, piecesTo, partsOf}
 use Rattle.pieces.proofs.PartFacts.{covered-pieces, pieces-same, pieces-past, pieces-end, pieces-next}
 use Rattle.pieces.proofs.PartFacts.{pieces-off}
 
@@ -29,7 +29,7 @@ pub record Putting (root : Bool) (ys all : List Authorization) (h : Head) (b k p
     (out sorted : List ℕ) :
     Type 0 where
   pub place : p ≤ k
-  pub body : Holds k out sorted
+  pub body : AnyBody k out sorted
   pub final : placed p (piecesTo root ys h t b) (authorizationsIn k out) ≡ all
   pub same : (u : ℕ) → coveredBy (wantOf h) (authorizationsIn k out) u ≡ coveredBy (wantOf h) ys u
 
@@ -39,11 +39,11 @@ module _ (root : Bool) (ys all : List Authorization) (h : Head) (b k p t : ℕ) 
   zs = authorizationsIn k out
 
   -- none is left
-  done : piecesTo root ys h t b ≡ [] → Body k all out sorted
-  done e = subst (λ (x : List Authorization). Body k x out sorted)
+  done : piecesTo root ys h t b ≡ [] → BuiltBody k all out sorted
+  done e = subst (λ (x : List Authorization). BuiltBody k x out sorted)
       (sym (placed-none p zs) ∙ ap (λ (x : List Authorization). placed p x zs) (sym e) ∙ g .final) (g .body)
 
-  pub putting-past : b ≤ t → Body k all out sorted
+  pub putting-past : b ≤ t → BuiltBody k all out sorted
   putting-past l = done (pieces-past root ys h t b l)
 
   -- the search goes to the copy
@@ -55,7 +55,7 @@ module _ (root : Bool) (ys all : List Authorization) (h : Head) (b k p t : ℕ) 
 
   module _ (on : ℕ) (l : t ≤ b) (e : on ≡ first (mayGrant root (wantOf h) (authorizationsIn k sorted)) t b)
     where
-      pub putting-end : b ≤ on → Body k all out sorted
+      pub putting-end : b ≤ on → BuiltBody k all out sorted
       putting-end j = done (pieces-end root ys (authorizationsIn k sorted) h t b on sorted-same l e j)
 
       module _ (j : on < b) where
@@ -76,7 +76,7 @@ module _ (root : Bool) (ys all : List Authorization) (h : Head) (b k p t : ℕ) 
 
           -- it goes in
           pub putting-next : (out' sorted' : List ℕ) →
-              Body (k + 1) (placed p (authorization h (interval on (off - 1)) ∷ []) zs) out' sorted' →
+              BuiltBody (k + 1) (placed p (authorization h (interval on (off - 1)) ∷ []) zs) out' sorted' →
               Putting root ys all h b (k + 1) (p + 1) off out' sorted'
           putting-next out' sorted' i =
               let x = authorization h (interval on (off - 1)) in
@@ -125,7 +125,7 @@ module _ (taken : Stretch) (root : Bool) (ys : List Authorization) (x : Authoriz
   -- The second goes in behind the first: it is what it would be without, since the first supports none of it
   pub parts-then : (m k a : ℕ) (out sorted out' sorted' : List ℕ) (r : Put) → length ys ≡ m → pos ≤ m →
       a ≡ max (x .interval .start) (taken .to) →
-      Body k (placed pos (piecesTo root ys (x .head) (x .interval .start) b) ys) out sorted →
+      BuiltBody k (placed pos (piecesTo root ys (x .head) (x .interval .start) b) ys) out sorted →
       Makes (placed (pos + (k - m)) (piecesTo root (authorizationsIn k out) (x .head) a
       (x .interval .end + 1))
       (authorizationsIn k out)) r out' sorted' →

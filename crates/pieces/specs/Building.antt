@@ -17,15 +17,15 @@ use Rattle.pieces.specs.declared.Put.the-variants.{Full, Lines}
 -- The k authorizations of the body `out` are ys, and its bytes are theirs alone. `sorted` has k that cover
 -- the same:
 -- its order makes a look quick, and nothing is said of it.
-pub record Body (k : ℕ) (ys : List Authorization) (out sorted : List ℕ) : Type 0 where
+pub record BuiltBody (k : ℕ) (ys : List Authorization) (out sorted : List ℕ) : Type 0 where
   pub fits : k ≤ 1024
   pub records : authorizationsIn k out ≡ ys
   pub clean : Clean k ys out
   pub same : (w : Want) (t : ℕ) → coveredBy w (authorizationsIn k sorted) t ≡ coveredBy w ys t
 
 -- the m authorizations that it has, whichever they are
-abbrev pub Holds : ℕ → List ℕ → List ℕ → Type 0
-Holds m out sorted = Body m (authorizationsIn m out) out sorted
+abbrev pub AnyBody : ℕ → List ℕ → List ℕ → Type 0
+AnyBody m out sorted = BuiltBody m (authorizationsIn m out) out sorted
 
 -- both bodies have room for the most there can be
 abbrev pub Room : List ℕ → List ℕ → Type 0
@@ -34,7 +34,7 @@ Room out sorted = (24576 ≤ length out) × (24576 ≤ length sorted)
 -- what a change that is to make ys of a body answers and leaves
 abbrev pub Makes : List Authorization → Put → List ℕ → List ℕ → Type 0
 Makes ys Full out sorted = 1024 < length ys
-Makes ys (Lines k) out sorted = Body k ys out sorted
+Makes ys (Lines k) out sorted = BuiltBody k ys out sorted
 
 -- ---- what is built in the end
 

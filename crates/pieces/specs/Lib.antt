@@ -2,4 +2,4 @@ pub mod Stretches
 pub mod Cuts
 pub mod Nearest
 pub mod Building
-pub mod Parts
+pub mod CutParts

@@ -1,16 +1,15 @@
 // From where on, and up to where, the grantor of an authorization may grant. A body in rising start makes a
-// look
-// quick; in any other order it is right too.
+// look quick; in any other order it is right too.
 ghost use mathlib.Core.Path.{_≡_};
 ghost use mathlib.Core.Bool.{not};
-ghost use Prim.Native.Nat.{_+_, _*_, _≤_, min, max};
+ghost use Prim.Native.Nat.{_+_, _*_, _≤_, max};
 ghost use lib.ListN.{length, drop};
 ghost use Rattle.model.specs.Encoding.{authorizationOf};
 ghost use Rattle.cover.specs.First.{first};
 ghost use Rattle.cover.specs.Cover.{coveredBy};
 ghost use Rattle.encoding.specs.Format.{authorizationsIn};
 ghost use Rattle.pieces.specs.Nearest.{nearOf};
-ghost use Rattle.pieces.specs.Parts.{mayGrant};
+ghost use Rattle.pieces.specs.CutParts.{mayGrant};
 use cover::Want;
 use model::AUTHORIZATION_BYTES;
 
@@ -22,16 +21,6 @@ pub fn later(x: u64, y: u64) -> u64
         return y;
     }
     x
-}
-
-// The earlier of two instants.
-pub fn earlier(x: u64, y: u64) -> u64
-    ensures { λ r. ⌜ r ≡ min x y ⌝ }
-{
-    if x < y {
-        return x;
-    }
-    y
 }
 
 // The first instant from a on that the authorization at a place covers, if it is wanted and that is before d;
@@ -81,7 +70,7 @@ pub fn granting_from(s: &[u8], n: usize, root: bool, w: Want, a: u64, b: u64) ->
 }
 
 // The first at which it may not.
-pub fn gap_from(s: &[u8], n: usize, root: bool, w: Want, a: u64, b: u64) -> u64
+pub fn granting_gap_from(s: &[u8], n: usize, root: bool, w: Want, a: u64, b: u64) -> u64
     requires { ⌜ (n * 24 ≤ length (now s)) × (a ≤ b) ⌝ }
     ensures { λ r. ⌜ r ≡ first (λ t. not (mayGrant root w (authorizationsIn n (now (s .entry))) t)) a b ⌝ }
 {

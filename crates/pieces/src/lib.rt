@@ -4,18 +4,18 @@ ghost use mathlib.Core.List.{_∷_, []};
 ghost use Prim.Native.Nat.{_+_, _≤_, _<_};
 ghost use Rattle.encoding.specs.Format.{authorizationsIn};
 ghost use Rattle.foundation.specs.Lists.{placed};
-ghost use Rattle.pieces.specs.Building.{Body, Holds, Room, Makes};
-ghost use Rattle.pieces.specs.Parts.{piecesTo, partsOf};
+ghost use Rattle.pieces.specs.Building.{BuiltBody, AnyBody, Room, Makes};
+ghost use Rattle.pieces.specs.CutParts.{piecesTo, partsOf};
 
 mod cuts;
 mod granting;
 
 use cover::Want;
 pub use cuts::taken;
+use fields::lesser;
 use foundation::Interval;
-pub use granting::earlier;
-use granting::gap_from;
 use granting::granting_from;
+use granting::granting_gap_from;
 use granting::later;
 use model::Authorization;
 use model::Head;
@@ -59,13 +59,13 @@ pub enum Put {
 // one record.
 fn put_piece(out: &mut [u8], sorted: &mut [u8], m: usize, pos: usize, a: Authorization)
     requires { ⌜ (pos ≤ m) × (m < 1024) × Room (now out) (now sorted) ⌝ }
-    requires { ⌜ Holds m (now out) (now sorted) ⌝ }
-    ensures { λ _. ⌜ Body (m + 1) (placed pos (a ∷ []) (authorizationsIn m (now (out .entry))))
+    requires { ⌜ AnyBody m (now out) (now sorted) ⌝ }
+    ensures { λ _. ⌜ BuiltBody (m + 1) (placed pos (a ∷ []) (authorizationsIn m (now (out .entry))))
         (now (out .exit)) (now (sorted .exit)) ⌝ }
 {
     encoding::insert_authorization(out, m, pos, a);
     let i = a.interval;
-    let p = encoding::place_of(sorted, m, i.start);
+    let p = encoding::insertion_index(sorted, m, i.start);
     encoding::insert_authorization(sorted, m, p, a);
 }
 
@@ -81,7 +81,7 @@ fn put_part(
     b: u64,
 ) -> Put
     requires { ⌜ (pos ≤ m) × (b ≤ 4294967296) × Room (now out) (now sorted) ⌝ }
-    requires { ⌜ Holds m (now out) (now sorted) ⌝ }
+    requires { ⌜ AnyBody m (now out) (now sorted) ⌝ }
     ensures { λ r. ⌜ Makes
         (placed pos (piecesTo root (authorizationsIn m (now (out .entry))) h a b)
         (authorizationsIn m (now (out .entry))))
@@ -105,7 +105,7 @@ fn put_part(
         if 1024 <= k {
             return Put::Full;
         }
-        let off = gap_from(sorted, k, root, w, on, b);
+        let off = granting_gap_from(sorted, k, root, w, on, b);
         let x = Authorization {
             head: h,
             interval: Interval {
@@ -133,7 +133,7 @@ pub fn put_pieces(
     taken: Stretch,
 ) -> Put
     requires { ⌜ (pos ≤ m) × Room (now out) (now sorted) ⌝ }
-    requires { ⌜ Holds m (now out) (now sorted) ⌝ }
+    requires { ⌜ AnyBody m (now out) (now sorted) ⌝ }
     ensures { λ r. ⌜ Makes
         (placed pos (partsOf taken root (authorizationsIn m (now (out .entry))) x)
         (authorizationsIn m (now (out .entry))))
@@ -143,7 +143,7 @@ pub fn put_pieces(
     let i = x.interval;
     let start = i.start as u64;
     let e = i.end as u64 + 1;
-    let b = earlier(e, taken.from);
+    let b = lesser(e, taken.from);
     let a = later(start, taken.to);
     let Put::Lines(k) = put_part(out, sorted, m, pos, h, root, start, b) else {
         return Put::Full;

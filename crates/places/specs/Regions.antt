@@ -10,11 +10,11 @@ use native.Mathlib.Omega.{arith}
 use lib.Count.{ones}
 use lib.Dec.{eqb}
 use Rattle.foundation.specs.Tests.{pick, cases, eq-true, true-eq, false-eq}
-use Rattle.foundation.specs.Masks.{bit}
+use Rattle.foundation.specs.BitMasks.{bit}
 use Rattle.places.specs.declared.Grid.{Grid}
 use Rattle.places.specs.declared.Region.{Region}
 use Rattle.places.specs.declared.Point.{Point}
-use Rattle.places.specs.Numbering.{rank, rank-below, rank-same, parted}
+use Rattle.places.specs.ReachedNumbers.{rank, rank-below, rank-same, parted}
 
 -- a code that names nothing
 abbrev pub free : ℕ → Bool

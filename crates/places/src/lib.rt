@@ -3,10 +3,9 @@
 ghost use mathlib.Core.Path.{_≡_};
 ghost use mathlib.Core.Bool.{true, _||_};
 ghost use Prim.Native.Nat.{ℕ, suc, _+_, _*_, _≤_, _<_};
-ghost use Rattle.foundation.specs.Totals.{count};
 ghost use lib.ListN.{length, getD};
-ghost use Rattle.places.specs.Numbering.{used, before, rank, codeOf};
-ghost use Rattle.foundation.specs.Masks.{bit};
+ghost use Rattle.places.specs.ReachedNumbers.{used, before, rank, codeOf};
+ghost use Rattle.foundation.specs.BitMasks.{asBit, bit};
 ghost use Rattle.foundation.specs.Tests.{pick};
 ghost use Rattle.places.specs.Regions.{free, modeSize, sizeOf, Within, indexIn};
 
@@ -35,7 +34,7 @@ pub struct Point {
 // One more where something is needed.
 fn counted(n: u16, x: u16) -> u16
     requires { ⌜ n < 65535 ⌝ }
-    ensures { λ r. ⌜ r ≡ n + count (used x) ⌝ }
+    ensures { λ r. ⌜ r ≡ n + asBit (used x) ⌝ }
 {
     if x == 0 {
         return n;
@@ -45,7 +44,7 @@ fn counted(n: u16, x: u16) -> u16
 
 // 1 where something is needed, else 0.
 fn step_of(x: u16) -> usize
-    ensures { λ r. ⌜ r ≡ count (used x) ⌝ }
+    ensures { λ r. ⌜ r ≡ asBit (used x) ⌝ }
 {
     if x == 0 {
         return 0;
@@ -100,7 +99,7 @@ pub fn list_pairs(need: &[u16], subjects: u32, codes: &mut [u16])
 }
 
 // The low byte of a word, and its high byte.
-fn both_signs(x: u16) -> u32
+fn either_sign(x: u16) -> u32
     ensures { λ r. ⌜ ((k : ℕ) → k < 8 → bit k r ≡ bit k x || bit (8 + k) x) ⌝ }
 {
     let y = x as u32;
@@ -119,7 +118,7 @@ pub fn modes_of(need: &[u16]) -> u32
         all = all | need[j];
         j += 1;
     }
-    both_signs(all)
+    either_sign(all)
 }
 
 // How many modes below m are reached. Mostly all are, and counting bits takes longer than to see that.

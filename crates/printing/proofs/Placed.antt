@@ -51,16 +51,16 @@ printed-front {t = t} {a = a} p =
 
 -- ---- by what a reply is
 
-abbrev replyText : List ℕ → Reply → List ℕ
-replyText list r = printReply r (runsOf r list)
+abbrev textOfReply : List ℕ → Reply → List ℕ
+textOfReply list r = printReply r (runsOf r list)
 
 -- the text fits a buffer, and its runs are in the list
-abbrev Ready : List ℕ → List ℕ → Reply → Type 0
-Ready out list r = (length (replyText list r) ≤ length out) × RunsIn r list
+abbrev ReplyReady : List ℕ → List ℕ → Reply → Type 0
+ReplyReady out list r = (length (textOfReply list r) ≤ length out) × RunsIn r list
 
-pub ready : (out list : List ℕ) {r r₁ : Reply} → r ≡ r₁ → Ready out list r → Ready out list r₁
-ready out list e w = subst (Ready out list) e w
+pub ready : (out list : List ℕ) {r r₁ : Reply} → r ≡ r₁ → ReplyReady out list r → ReplyReady out list r₁
+ready out list e w = subst (ReplyReady out list) e w
 
 pub printed-reply : {n : ℕ} {a b : List ℕ} {r r₁ : Reply} (list : List ℕ) → r ≡ r₁ →
-    Printed 0 (replyText list r₁) a b n → Printed 0 (replyText list r) a b n
-printed-reply list e p = printed-as (ap (replyText list) (sym e)) p
+    Printed 0 (textOfReply list r₁) a b n → Printed 0 (textOfReply list r) a b n
+printed-reply list e p = printed-as (ap (textOfReply list) (sym e)) p

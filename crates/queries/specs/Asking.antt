@@ -13,29 +13,29 @@ use lib.ListN.{length, getD, replicate, take, length-take, List·getD-eq-default
 use lib.Seq.{getD-take}
 use Rattle.foundation.specs.Tests.{not-true, pick, and-true, cases, true-le, false-le}
 use Rattle.foundation.specs.Intervals.{inInterval}
-use Rattle.foundation.specs.Masks.{bit}
+use Rattle.foundation.specs.BitMasks.{bit}
 use Rattle.model.specs.declared.Access.{Access}
 use Rattle.model.specs.Base.{Base}
 use Rattle.model.specs.Ranges.{isSubject, isMode, isObject}
 use Rattle.model.specs.Answers.{accessIn}
 use Rattle.model.specs.Rules.{may}
 use Rattle.encoding.specs.Format.{ruleAt}
-use Rattle.questions.specs.Operators.{lasting}
+use Rattle.questions.specs.OperatorSteps.{lasting}
 use Rattle.reach.specs.Net.{Formed, has}
 use Rattle.places.specs.declared.Grid.{Grid}
 use Rattle.tables.specs.declared.Frame.{Frame}
 use Rattle.tables.specs.declared.Place.{Place}
-use Rattle.tables.specs.Layout.{roomOf}
-use Rattle.masks.specs.Masks.{RulesIn, Needed}
-use Rattle.scan.specs.Runs.{Reached}
+use Rattle.tables.specs.TableLayout.{roomOf}
+use Rattle.masks.specs.RuleMasks.{RulesIn, Needed}
+use Rattle.scan.specs.Runs.{ScannedTo}
 use Rattle.outlines.specs.Coordinates.{Chart, modeOf, pairOf}
 use Rattle.outlines.specs.CoordinateFacts.{pair-below}
-use Rattle.outlines.specs.Needed.{needed}
-use Rattle.grounding.specs.Turns.{prepared}
+use Rattle.outlines.specs.NeededAccesses.{needed}
+use Rattle.grounding.specs.RuleTurns.{prepared}
 use Rattle.engine.specs.declared.Query.{Query}
 use Rattle.engine.specs.declared.Found.{Found}
 use Rattle.queries.specs.Bounds.{bits-few}
-use Rattle.outlines.specs.Masks.{Owned}
+use Rattle.outlines.specs.LeftMasks.{Owned}
 use Rattle.queries.specs.Drawing.{RulesDrawn, Blank, ownOf, Outline, chart-small, net-formed}
 use Rattle.queries.specs.Drawing.{own-known, own-pair, Mapped}
 use Rattle.queries.specs.Drawing.{map-gridded, needed-low, needed-in, asked-needed, Arranged}
@@ -52,7 +52,7 @@ lastAsked one t = pick one t 4294967295
 pub record Answers (one : Bool) (t : ℕ) (base : Base) (x : Access) (r : Found) (old new : List ℕ) : Type 0
   where
     pub yes : one ≡ true → r .yes ≡ may base x t
-    pub listed : one ≡ false → Reached (may base x) 4294967295 old 4294967296 (r .track) new
+    pub listed : one ≡ false → ScannedTo (may base x) 4294967295 old 4294967296 (r .track) new
 
 -- where it is looked from: for WHEN from the first instant on
 pub record WalkStart (one : Bool) (t : ℕ) (body : List ℕ) (lasts from : ℕ) : Type 0 where
@@ -70,8 +70,8 @@ finds-answers one t q base x r old new to from listing f = record {
   listed = λ e.
       let z : q .to ≡ 4294967295 = to ∙ ap (λ (b : Bool). pick b t 4294967295) e in
       let y : suc (q .to) ≡ 4294967296 = omega arith in
-      subst (λ (u : ℕ). Reached (may base x) u old 4294967296 (r .track) new) z
-      (subst (λ (v : ℕ). Reached (may base x) (q .to) old v (r .track) new) y
+      subst (λ (u : ℕ). ScannedTo (may base x) u old 4294967296 (r .track) new) z
+      (subst (λ (v : ℕ). ScannedTo (may base x) (q .to) old v (r .track) new) y
       (f .listed (listing ∙ ap not e)));
 }
 

@@ -13,17 +13,17 @@ use lib.Dec.{eqb, leb}
 use lib.ListN.{getD}
 use Rattle.foundation.specs.Tests.{pick, cases, true-le, false-le}
 use Rattle.foundation.specs.Lists.{all-mem}
-use Rattle.foundation.specs.Masks.{bit}
+use Rattle.foundation.specs.BitMasks.{bit}
 use Rattle.model.specs.Stratification.{isStar}
 use Rattle.encoding.specs.Format.{ruleAt}
 use Rattle.places.specs.declared.Grid.{Grid}
 use Rattle.places.specs.declared.Region.{Region}
 use Rattle.places.specs.Regions.{free, outerSize, sizeOf}
-use Rattle.tables.specs.Layout.{regionAt, roomOf, whole}
-use Rattle.outlines.specs.Coordinates.{WellFormed, Chart, Charted, namedIn, rightSubject, rightObject}
+use Rattle.tables.specs.TableLayout.{regionAt, roomOf, wholeRegion}
+use Rattle.outlines.specs.Coordinates.{WellFormed, Chart, Charted, namedIn, subjectOnRight, objectOnRight}
 use Rattle.outlines.specs.Outline.{RightSides, LeftSides}
-use Rattle.outlines.specs.Standing.{star-is}
-use Rattle.queries.specs.Reached.{below, in-below, many, subjectOnly, objectOnly, named, starred}
+use Rattle.outlines.specs.StandingRules.{star-is}
+use Rattle.queries.specs.Reached.{numbersBelow, in-below, many, subjectOnly, objectOnly, named, starred}
 use Rattle.queries.specs.Reached.{kinds-all, pairsMost, Codes}
 
 -- ---- numbers
@@ -75,14 +75,14 @@ pairs-top : (m : ℕ) → m ≤ 64 → pairsBy m ≤ 12 * 1452
 pairs-top m h = let l : m * m ≤ 64 * 64 = mul-le-mul h h in omega arith
 
 fields-top : (m : ℕ) → m ≤ 64 → roomBy 2 m ≤ 12 * 16416
-unfolding below
+unfolding numbersBelow
 fields-top m h = true-le (roomBy 2 m) (12 * 16416)
-    (all-mem (λ k. leb (roomBy 2 k) (12 * 16416)) (below 65) refl m (in-below 65 m (omega arith)))
+    (all-mem (λ k. leb (roomBy 2 k) (12 * 16416)) (numbersBelow 65) refl m (in-below 65 m (omega arith)))
 
 bits-top : (m : ℕ) → m ≤ 64 → roomBy 0 m ≤ 12 * 15032
-unfolding below
+unfolding numbersBelow
 bits-top m h = true-le (roomBy 0 m) (12 * 15032)
-    (all-mem (λ k. leb (roomBy 0 k) (12 * 15032)) (below 65) refl m (in-below 65 m (omega arith)))
+    (all-mem (λ k. leb (roomBy 0 k) (12 * 15032)) (numbersBelow 65) refl m (in-below 65 m (omega arith)))
 
 -- ---- sizes of regions
 
@@ -92,8 +92,8 @@ module _ (g : Grid) (modes : ones (g .modes) ≤ 8) where
   region-size b = mul-le-mul-left (outerSize g b)
       (cases (free (b .mode)) (λ m. rw m modes) (λ m. rw m (omega arith)))
 
-  whole-size : sizeOf g whole ≤ g .pairs * 8
-  whole-size = region-size whole
+  whole-size : sizeOf g wholeRegion ≤ g .pairs * 8
+  whole-size = region-size wholeRegion
 
   -- the tables of rules
   module _ (S O : ℕ → Bool) (n : ℕ) (codes : List ℕ) (rules : ℕ)
@@ -114,7 +114,7 @@ module _ (g : Grid) (modes : ones (g .modes) ≤ 8) where
         (λ e. rw e (omega arith))
 
     taken-more : (c : ℕ) → taken (suc c) ≡ taken c + own c
-    unfolding below
+    unfolding numbersBelow
     taken-more c = cases (S c)
         (λ s. cases (O c) (λ o. rw (s, o) (omega arith)) (λ o. rw (s, o) (omega arith)))
         (λ s. cases (O c) (λ o. rw (s, o) (omega arith)) (λ o. rw (s, o) (omega arith)))
@@ -151,10 +151,10 @@ module _ (g : Grid) (modes : ones (g .modes) ≤ 8) where
 module _ (body : List ℕ) where
   -- rule r stars its subject, its object
   abbrev pub subjectStar : ℕ → Bool
-  subjectStar r = isStar (rightSubject (ruleAt body r))
+  subjectStar r = isStar (subjectOnRight (ruleAt body r))
 
   abbrev pub objectStar : ℕ → Bool
-  objectStar r = isStar (rightObject (ruleAt body r))
+  objectStar r = isStar (objectOnRight (ruleAt body r))
 
   -- how many of the first n name a subject only, an object only, both, neither
   abbrev pub subjectsOnly : ℕ → ℕ
@@ -169,8 +169,8 @@ module _ (body : List ℕ) where
   abbrev pub noneNamed : ℕ → ℕ
   noneNamed = many (starred subjectStar objectStar)
 
-  subjects-named : (n : ℕ) → namedIn rightSubject n body ≡ subjectsOnly n + bothNamed n
-  unfolding namedIn below
+  subjects-named : (n : ℕ) → namedIn subjectOnRight n body ≡ subjectsOnly n + bothNamed n
+  unfolding namedIn numbersBelow
   subjects-named zero = refl
   subjects-named (suc n) =
       let i = subjects-named n in
@@ -178,8 +178,8 @@ module _ (body : List ℕ) where
       (λ s. rw s (omega arith))
       (λ s. cases (objectStar n) (λ o. rw (s, o) (omega arith)) (λ o. rw (s, o) (omega arith)))
 
-  objects-named : (n : ℕ) → namedIn rightObject n body ≡ objectsOnly n + bothNamed n
-  unfolding namedIn below
+  objects-named : (n : ℕ) → namedIn objectOnRight n body ≡ objectsOnly n + bothNamed n
+  unfolding namedIn numbersBelow
   objects-named zero = refl
   objects-named (suc n) =
       let i = objects-named n in
@@ -238,14 +238,14 @@ module _ {n : ℕ} {body : List ℕ} (C : Chart) (well-formed : WellFormed n bod
       all-room : (k : ℕ) (codes : List ℕ) →
           ((c : ℕ) → c < n → free (getD codes (4 * c + 1) 0) ≡ subjectStar body c) →
           ((c : ℕ) → c < n → free (getD codes (4 * c) 0) ≡ objectStar body c) →
-          12 * (k * sizeOf g whole + roomOf g codes rules 64)
+          12 * (k * sizeOf g wholeRegion + roomOf g codes rules 64)
           ≤ 8 * roomBy k (subjectsOnly body n + objectsOnly body n + bothNamed body n)
       all-room k codes s o =
           let a : ℕ = subjectsOnly body n in
           let b : ℕ = objectsOnly body n in
           let c : ℕ = bothNamed body n in
           let u : ℕ = noneNamed body n in
-          joined k u (g .pairs) (a * g .objects + b * g .subjects + c) (sizeOf g whole)
+          joined k u (g .pairs) (a * g .objects + b * g .subjects + c) (sizeOf g wholeRegion)
           (roomOf g codes rules 64) (roomBy k (a + b + c)) (whole-size g (w .modes))
           (room-few g (w .modes) (subjectStar body) (objectStar body) n codes rules s o low (well-formed
           .few))
@@ -257,7 +257,7 @@ module _ {n : ℕ} {body : List ℕ} (C : Chart) (well-formed : WellFormed n bod
 
       -- the tables of the rules that look at some authorizations only, and the two of all places
       pub fields-few : (right : List ℕ) → RightSides (C .subjects) (C .objects) n body right →
-          2 * sizeOf g whole + roomOf g right rules 64 ≤ 131328
+          2 * sizeOf g wholeRegion + roomOf g right rules 64 ≤ 131328
       fields-few right codes =
           let m : ℕ = subjectsOnly body n + objectsOnly body n + bothNamed body n in
           let s = right-codes right codes in

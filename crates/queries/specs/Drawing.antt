@@ -14,31 +14,31 @@ use lib.Dec.{eqb, ltb}
 use lib.ListN.{length, getD}
 use Rattle.foundation.specs.Tests.{pick, cases, true-eq, eq-true, false-eq, le-true, true-le, and-true}
 use Rattle.foundation.specs.Tests.{and-false}
-use Rattle.foundation.specs.Masks.{bit, maskOf}
+use Rattle.foundation.specs.BitMasks.{bit, maskOf}
 use Rattle.model.specs.declared.Access.{Access}
 use Rattle.model.specs.Base.{Base}
 use Rattle.model.specs.Rules.{standsOn}
 use Rattle.encoding.specs.Format.{rulesIn, ruleAt}
-use Rattle.questions.specs.Operators.{lasting}
+use Rattle.questions.specs.OperatorSteps.{lasting}
 use Rattle.words.specs.Bits.{bit-and}
 use Rattle.words.specs.Fields as fields
 use Rattle.reach.specs.Net.{Closed, Formed, Only, standing}
 use Rattle.places.specs.declared.Grid.{Grid}
-use Rattle.places.specs.Numbering.{used, before, before-le, before-onto, codeOf}
+use Rattle.places.specs.ReachedNumbers.{used, before, before-le, before-onto, codeOf}
 use Rattle.places.specs.Regions.{sizeOf}
 use Rattle.tables.specs.declared.Frame.{Frame}
-use Rattle.tables.specs.Layout.{Laid, Small, ruleTables, allTables, roomOf, whole}
-use Rattle.masks.specs.Masks.{PairCode, RulesIn, Needed}
+use Rattle.tables.specs.TableLayout.{TablesLaid, SmallGrid, ruleTables, allTables, roomOf, wholeRegion}
+use Rattle.masks.specs.RuleMasks.{PairCode, RulesIn, Needed}
 use Rattle.outlines.specs.Coordinates.{WellFormed, Chart, Charted, coordinate}
 use Rattle.outlines.specs.Coordinates.{known, modeOf, pairOf}
 use Rattle.outlines.specs.CoordinateFacts.{known-is}
 use Rattle.outlines.specs.Outline.{RightSides, LeftSides}
-use Rattle.outlines.specs.Masks.{Masked, Owned}
-use Rattle.outlines.specs.Standing.{rule-bit}
-use Rattle.outlines.specs.Aims.{formed, both-bits}
-use Rattle.outlines.specs.Feed.{isChoosy, Fed}
-use Rattle.outlines.specs.Needed.{needed, needed-both}
-use Rattle.grounding.specs.Turns.{prepared}
+use Rattle.outlines.specs.LeftMasks.{Masked, Owned}
+use Rattle.outlines.specs.StandingRules.{rule-bit}
+use Rattle.outlines.specs.RuleAims.{formed, both-bits}
+use Rattle.outlines.specs.Feed.{isChoosy, FeedTable}
+use Rattle.outlines.specs.NeededAccesses.{needed, needed-both}
+use Rattle.grounding.specs.RuleTurns.{prepared}
 use Rattle.queries.specs.declared.Extent.{Extent}
 use Rattle.engine.specs.Drawn.{Drawn}
 use Rattle.queries.specs.Reached.{pairs-within}
@@ -83,7 +83,7 @@ pub record RulesDrawn (holder : Base) (n : ℕ) (C : Chart) (body left feed side
     pub behind : (k : ℕ) → n ≤ k / 4 → getD right k 0 ≡ 0
     pub lefts : LeftSides (C .subjects) (C .objects) n body sides
     pub masks : Masked holder n C body sides left
-    pub fed : Fed n body choosy feed
+    pub fed : FeedTable n body choosy feed
     pub choosy-is : choosy ≡ maskOf isChoosy (rulesIn n body)
 
 -- a table as it is made
@@ -215,7 +215,7 @@ pub record Mapped (C : Chart) (left right need number codes : List ℕ) (g : Gri
 module _ {holder : Base} {n : ℕ} {C : Chart} {x : Access} {body left feed sides right : List ℕ} {choosy : ℕ}
     (o : Outline holder n C x body left feed sides right choosy) {need number codes : List ℕ} {g : Grid}
     (m : Mapped C left right need number codes g) where
-  pub map-small : Small g
+  pub map-small : SmallGrid g
   map-small =
       let s = chart-small C (o .rules .well-formed .few) (o .rules .charted) in
       record {
@@ -300,11 +300,11 @@ pub record Arranged (n : ℕ) (body sides right first starts : List ℕ) (choosy
     Frame) :
     Type 0 where
   pub chosen : f .choosy ≡ bitAnd choosy rules
-  pub count : f .fields ≡ 2 * sizeOf (f .grid) whole + roomOf (f .grid) right (f .choosy) 64
-  pub laid : Laid (allTables (f .grid) right (f .choosy) first) 0 (f .fields)
+  pub count : f .fields ≡ 2 * sizeOf (f .grid) wholeRegion + roomOf (f .grid) right (f .choosy) 64
+  pub laid : TablesLaid (allTables (f .grid) right (f .choosy) first) 0 (f .fields)
   pub lasts-is : (r : ℕ) → bit r lasts ≡ bit r rules && lasting (ruleAt body r .operator)
   pub total-is : total ≡ roomOf (f .grid) sides lasts 64
-  pub starts-laid : Laid (ruleTables (f .grid) sides lasts starts) 0 total
+  pub starts-laid : TablesLaid (ruleTables (f .grid) sides lasts starts) 0 total
 
 -- the frame with fields of another width
 abbrev pub sized : Frame → ℕ → Frame

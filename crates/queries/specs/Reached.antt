@@ -15,34 +15,33 @@ use Rattle.foundation.specs.Tests.{le-false, and-true, not-true, must-fail}
 use Rattle.foundation.specs.Lists.{Mem, anyb, keepIf, each, any-mem, mem-any, mem-left, mem-right, append-mem}
 use Rattle.foundation.specs.Lists.{mem-map, map-mem, mem-each, each-mem, length-each, keepIf-mem, kept}
 use Rattle.foundation.specs.Closure.{size, size-le, size-mono, size-less}
-use Rattle.foundation.specs.Totals.{count}
-use Rattle.foundation.specs.Masks.{bit}
+use Rattle.foundation.specs.BitMasks.{asBit, bit}
 use Rattle.words.specs.Bits.{no-bits}
-use Rattle.reach.specs.Net.{Net, standing, turned, aimPair, Carried, Only}
-use Rattle.places.specs.Numbering.{used, before, before-step, before-none, parted}
+use Rattle.reach.specs.Net.{Net, standing, turned, aimPair, ClosedUnderRules, Only}
+use Rattle.places.specs.ReachedNumbers.{used, before, before-step, before-none, parted}
 
 -- ---- counting
 
-unfoldable pub below : ℕ → List ℕ
-below zero = []
-below (suc n) = n ∷ below n
+unfoldable pub numbersBelow : ℕ → List ℕ
+numbersBelow zero = []
+numbersBelow (suc n) = n ∷ numbersBelow n
 
-pub in-below : (n m : ℕ) → m < n → Mem m (below n)
-unfolding below
+pub in-below : (n m : ℕ) → m < n → Mem m (numbersBelow n)
+unfolding numbersBelow
 in-below zero m h = absurd (omega arith)
 in-below (suc n) m h = cases (leb (suc m) n)
     (λ e. inr (in-below n m (true-le (suc m) n e)))
     (λ e. let l = false-le (suc m) n e in inl (omega arith))
 
-pub below-in : (n m : ℕ) → Mem m (below n) → m < n
-unfolding below
+pub below-in : (n m : ℕ) → Mem m (numbersBelow n) → m < n
+unfolding numbersBelow
 below-in zero m i = absurd (i .lower)
 below-in (suc n) m (inl e) = omega arith
 below-in (suc n) m (inr i) = let l = below-in n m i in omega arith
 
 -- those below n that pass a test, and how many they are
 abbrev pub passing : (ℕ → Bool) → ℕ → List ℕ
-passing t n = keepIf t (below n)
+passing t n = keepIf t (numbersBelow n)
 
 abbrev pub many : (ℕ → Bool) → ℕ → ℕ
 many t n = length (passing t n)
@@ -57,13 +56,13 @@ module _ (need l : List ℕ) (h : (j : ℕ) → used (getD need j 0) ≡ true �
       let m : (y : ℕ) → Mem y l → leb (suc k) y ≡ true → leb k y ≡ true =
       (λ y n e. let g = true-le (suc k) y e in le-true k y (omega arith)) in
       cases (used (getD need k 0))
-      (λ e. let c : count (used (getD need k 0)) ≡ 1 = rw e in
+      (λ e. let c : asBit (used (getD need k 0)) ≡ 1 = rw e in
       omega (
         arith,
         size-less (leb (suc k)) (leb k) l m k (h k e) (le-false (suc k) k (omega arith))
             (le-true k k (omega arith)),
       ))
-      (λ e. let c : count (used (getD need k 0)) ≡ 0 = rw e in
+      (λ e. let c : asBit (used (getD need k 0)) ≡ 0 = rw e in
       omega (arith, size-mono (leb (suc k)) (leb k) l m))
 
   used-few : before need (length need) ≤ length l
@@ -115,7 +114,7 @@ module _ (S O : ℕ → Bool) where
 
   -- each rule is of one kind
   pub kinds-all : (n : ℕ) → many subjectOnly n + many objectOnly n + many named n + many starred n ≡ n
-  unfolding below
+  unfolding numbersBelow
   kinds-all zero = refl
   kinds-all (suc n) =
       let i = kinds-all n in
@@ -212,7 +211,7 @@ module _ (n W H : ℕ) (S O : ℕ → Bool) (right : List ℕ) (codes : Codes n 
   subject-listed : (s : ℕ) → Mem s subjects → s < W
   subject-listed s m =
       let w = map-mem subjectAt (passing (subjectOnly S O) n) s m in
-      let k = kept (subjectOnly S O) (below n) (w .0) (w .1) in
+      let k = kept (subjectOnly S O) (numbersBelow n) (w .0) (w .1) in
       let e = and-true (not (S (w .0))) (O (w .0)) (k .1) in
       omega (
         arith,
@@ -223,7 +222,7 @@ module _ (n W H : ℕ) (S O : ℕ → Bool) (right : List ℕ) (codes : Codes n 
   object-listed : (o : ℕ) → Mem o objects → o < H
   object-listed o m =
       let w = map-mem objectAt (passing (objectOnly S O) n) o m in
-      let k = kept (objectOnly S O) (below n) (w .0) (w .1) in
+      let k = kept (objectOnly S O) (numbersBelow n) (w .0) (w .1) in
       let e = and-true (S (w .0)) (not (O (w .0))) (k .1) in
       omega (
         arith,
@@ -233,7 +232,7 @@ module _ (n W H : ℕ) (S O : ℕ → Bool) (right : List ℕ) (codes : Codes n 
 
   rule-low : (q : ℕ) → Mem q (passing (named S O) n) → (objectAt q < H) × (subjectAt q < W)
   rule-low q m =
-      let k = kept (named S O) (below n) q m in
+      let k = kept (named S O) (numbersBelow n) q m in
       let e = and-true (not (S q)) (not (O q)) (k .1) in
       let l = below-in n q (k .0) in (
         codes .object-low q l (not-true (O q) (e .1)),
@@ -306,7 +305,7 @@ module _ (n W H : ℕ) (S O : ℕ → Bool) (right : List ℕ) (codes : Codes n 
       (append-mem j fromAsked (each (passing (named S O) n) fromRule) m)
 
   by-test : (t : ℕ → Bool) (r : ℕ) → r < n → t r ≡ true → Mem r (passing t n)
-  by-test t r h e = keepIf-mem t (below n) r (in-below n r h) e
+  by-test t r h e = keepIf-mem t (numbersBelow n) r (in-below n r h) e
 
   aimed : (j r : ℕ) → (w : Open j) → Mem j candidates → r < n →
       Mem (turned (objectAt r) (w .object) * W + turned (subjectAt r) (w .subject)) candidates
@@ -347,7 +346,7 @@ module _ (n W H : ℕ) (S O : ℕ → Bool) (right : List ℕ) (codes : Codes n 
     abbrev net : Net
     net = record { left = left; right = right; subjects = W }
 
-    carried : Carried net isCandidate
+    carried : ClosedUnderRules net isCandidate
     unfolding aimPair
     carried j k r e h b =
         let m = is-in j e in

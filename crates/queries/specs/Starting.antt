@@ -12,9 +12,9 @@ use lib.ListN.{length, getD, replicate, length-replicate}
 use Rattle.foundation.specs.Tests.{cases, true-eq, false-eq, le-true, and-true, and-intro, and-false, or-none}
 use Rattle.foundation.specs.Lists.{Mem, kept}
 use Rattle.foundation.specs.Intervals.{interval, inInterval, maximal}
-use Rattle.foundation.specs.Masks.{bit}
-use Rattle.foundation.specs.Records.{length-records, record-mem}
-use Rattle.foundation.specs.Counting.{maximal-count}
+use Rattle.foundation.specs.BitMasks.{bit}
+use Rattle.foundation.specs.ByteRecords.{length-records, record-mem}
+use Rattle.foundation.specs.MaximalCount.{maximal-count}
 use Rattle.model.specs.declared.Access.{Access}
 use Rattle.model.specs.declared.Authorization.{Authorization}
 use Rattle.model.specs.declared.Rule.{Rule}
@@ -26,37 +26,37 @@ use Rattle.model.specs.Means.{allMarks}
 use Rattle.model.specs.HoldsMarks.{may-steady, all-marks-length}
 use Rattle.encoding.specs.Format.{rulesIn, ruleAt, authorizationsIn}
 use Rattle.laws.specs.Narrowing.{narrowed, narrowed-stratified}
-use Rattle.questions.specs.Numbering.{Numbering}
-use Rattle.questions.specs.Operators.{lasting}
+use Rattle.questions.specs.RuleNumbers.{Numbering}
+use Rattle.questions.specs.OperatorSteps.{lasting}
 use Rattle.derivation.specs.Carried.{Carried}
 use Rattle.words.specs.Fields.{fieldOf}
-use Rattle.masks.specs.Masks.{Needed, clear-fields}
+use Rattle.masks.specs.RuleMasks.{Needed, clear-fields}
 use Rattle.relevance.specs.declared.Chosen.{Chosen}
 use Rattle.relevance.specs.Chosen.{authorizationAt}
 use Rattle.relevance.specs.Needed as choice
-use Rattle.relevance.specs.Needed.{Placed, Choice, choice-picks, cellOf, isNeeded, isChosen}
+use Rattle.relevance.specs.Needed.{HeadInRange, Choice, choice-picks, cellOf, isNeeded, isChosen}
 use Rattle.relevance.specs.Forgotten.{during}
 use Rattle.tables.specs.declared.Frame.{Frame}
 use Rattle.tables.specs.declared.Place.{Place}
-use Rattle.scan.specs.Runs.{Reached}
+use Rattle.scan.specs.Runs.{ScannedTo}
 use Rattle.outlines.specs.Coordinates.{WellFormed, Chart}
-use Rattle.outlines.specs.Needed.{needed}
-use Rattle.grounding.specs.Steps.{brokenIn, brokenAt}
+use Rattle.outlines.specs.NeededAccesses.{needed}
+use Rattle.grounding.specs.RuleSteps.{brokenIn, brokenAt}
 use Rattle.grounding.specs.Meaning.{placeOf}
-use Rattle.grounding.specs.Turns.{Prepared, prepared, turnIn}
+use Rattle.grounding.specs.RuleTurns.{Prepared, prepared, turnIn}
 use Rattle.engine.specs.declared.Query.{Query}
 use Rattle.engine.specs.declared.Found.{Found}
 use Rattle.engine.specs.Drawn.{SamePowers, Drawn, mappingOf}
 use Rattle.queries.specs.Drawing.{ownOf, own-coordinate, Outline, chart-small, Mapped, Arranged, sized}
 use Rattle.queries.specs.Drawing.{fields-small, total-small, drawn}
-use Rattle.engine.specs.Narrowed.{
+use Rattle.engine.specs.NarrowedBase.{
   Both,
   ruleMatters,
   selected-rules,
   chosen-lines,
   kept-line,
 }
-use Rattle.engine.specs.Narrowed.{narrowed-may}
+use Rattle.engine.specs.NarrowedBase.{narrowed-may}
 use Rattle.engine.specs.Going.{chartOf}
 use Rattle.engine.specs.Posed.{Posed, Walks, Finds}
 
@@ -75,7 +75,7 @@ pub record Bodies (holder : Base) (lines : List ℕ) (total : ℕ) (body : List 
     pub number : Rule → ℕ
     pub numbering : Numbering (base .rules) number (ruleAt body)
     pub lines-in : (a : Authorization) → Mem a (base .authorizations) →
-        Placed (a .head) × (a .interval .start ≤ a .interval .end)
+        HeadInRange (a .head) × (a .interval .start ≤ a .interval .end)
     pub powers : SamePowers base holder
 
 -- MAY says yes in few intervals, up to whichever instant
@@ -101,7 +101,7 @@ module _ {holder : Base} {n : ℕ} {C : Chart} {x : Access} {body left feed side
     (o : Outline holder n C x body left feed sides right choosy) where
   pub choice-ready : {lines : List ℕ} {total : ℕ} {base : Base} → Bodies holder lines total body n base →
       (need which : List ℕ) → length need ≡ C .height * C .width → total ≤ length which →
-      choice.Ready lines total (C .subjects) (C .objects) (C .width) need which
+      choice.ChoiceReady lines total (C .subjects) (C .objects) (C .width) need which
   choice-ready {lines} {total} {base} b need which size room =
       let s = chart-small C (o .rules .well-formed .few) (o .rules .charted) in
       record {
@@ -184,7 +184,7 @@ placeIn C x number =
     }
 
 -- what is asked: no rule that looks back has to look behind the first instant
-pub record Asked (C : Chart) (x : Access) (body number : List ℕ) (lasts : ℕ) (q : Query) : Type 0 where
+pub record QueryPosed (C : Chart) (x : Access) (body number : List ℕ) (lasts : ℕ) (q : Query) : Type 0 where
   pub own : q .own ≡ ownOf C x
   pub place : q .place ≡ placeIn C x number
   pub forward : q .from ≤ q .to
@@ -209,7 +209,7 @@ pub record Tabled (holder : Base) (n : ℕ) (C : Chart) (p : Prepared) (rules la
     pub arranged : Arranged n (p .body) (p .sides) (p .right) (p .first) (p .starts) choosy rules lasts total
         (p .frame)
     pub matters : needed C (ownOf C x) (p .need) x ≡ true
-    pub asked : Asked C x (p .body) (p .number) lasts q
+    pub asked : QueryPosed C x (p .body) (p .number) lasts q
 
 abbrev pub withWidth : Prepared → ℕ → Prepared
 withWidth p k = prepared (p .body) (p .left) (p .feed) (p .sides) (p .right) (p .need) (p .codes) (p .number)
@@ -320,7 +320,7 @@ module _ {holder : Base} {C : Chart} {p : Prepared} {lasts total : ℕ} {q : Que
         λ i u. sym (less-may tables-drawn b x (t .matters) u) i in
         record {
           last = w .last ∙ sym (less-may tables-drawn b x (t .matters) (q .to));
-          listed = λ l. subst (λ (f : ℕ → Bool). Reached f (q .to) old (suc (q .to)) (r .track) new) same
+          listed = λ l. subst (λ (f : ℕ → Bool). ScannedTo f (q .to) old (suc (q .to)) (r .track) new) same
               (w .listed l);
         }
 
@@ -450,6 +450,7 @@ ground-begun {lines} {total} {n} {rules} {lasts} {bits} {q} {C} {p} g entry whic
 
 pub ground-ready : {lines : List ℕ} {total n rules lasts bits : ℕ} {q : Query} {C : Chart} {p : Prepared}
     {base : Base} {x : Access} → Ground lines total n rules lasts bits q C p base x → (which : List ℕ) →
-    total ≤ length which → choice.Ready lines total (C .subjects) (C .objects) (C .width) (p .need) which
+    total ≤ length which → choice.ChoiceReady lines total (C .subjects) (C .objects) (C .width) (p .need)
+    which
 ground-ready {p = p} g which room =
     choice-ready (g .tabled .outline) (g .bodies) (p .need) which (g .tabled .mapped .size) room

@@ -7,7 +7,7 @@ ghost use Rattle.model.specs.Answers.{accessIn};
 ghost use Rattle.model.specs.Encoding.{decode};
 ghost use Rattle.model.specs.Rules.{may, when};
 ghost use Rattle.model.specs.Soundness.{soundBytes};
-ghost use Rattle.scan.specs.Runs.{Reached};
+ghost use Rattle.scan.specs.Runs.{ScannedTo};
 ghost use Rattle.scan.specs.Listing.{Filling, Listing};
 ghost use Rattle.queries.specs.Starting.{Bodies};
 use crate::outlining::with_outline;
@@ -67,7 +67,7 @@ fn track_of(
         × (accessIn x ≡ true) × (soundBytes (now s) ≡ true) ⌝ }
     ensures { λ r. ⌜ ((base : Base) →
         Bodies (decode (now (s .entry))) (now (lines .entry)) total (now (body .entry)) n base →
-        Reached (may base x) 4294967295 (now (list .entry)) 4294967296 r (now (list .exit))) ⌝ }
+        ScannedTo (may base x) 4294967295 (now (list .entry)) 4294967296 r (now (list .exit))) ⌝ }
 {
     if (n == 0) & (total <= 64) {
         return walk_directly(lines, total, x, list);

@@ -6,7 +6,7 @@ ghost use Prim.Native.Nat.{ℕ, _*_, _^_, _≤_, _<_};
 ghost use lib.ListN.{length};
 ghost use Rattle.model.specs.Base.{Base};
 ghost use Rattle.model.specs.declared.Access.{Access};
-ghost use Rattle.grounding.specs.Turns.{prepared};
+ghost use Rattle.grounding.specs.RuleTurns.{prepared};
 ghost use Rattle.engine.specs.Posed.{Finds};
 ghost use Rattle.engine.specs.Going.{chartOf};
 ghost use Rattle.queries.specs.Starting.{Begun, Fresh, Sized, Ground};

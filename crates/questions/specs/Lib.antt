@@ -1,4 +1,4 @@
-pub mod Numbering
-pub mod Operators
+pub mod RuleNumbers
+pub mod OperatorSteps
 pub mod Table
 pub mod FromMarkToMark

@@ -17,7 +17,7 @@ use Rattle.model.specs.Stratification.{stratified}
 use Rattle.model.specs.Rules.{Fact, fact, standsFor, rightOf, rightHolds, operate, holdsBy, holds}
 use Rattle.model.specs.RightFacts.{right-cong}
 use Rattle.model.specs.HoldsLaws.{derived, holding, holds-law, derived-law}
-use Rattle.questions.specs.Operators.{lasting, sense, operate-first, operate-step}
+use Rattle.questions.specs.OperatorSteps.{lasting, sense, operate-first, operate-step}
 
 -- ---- tables
 

@@ -12,9 +12,9 @@ use lib.Bits.{bitAnd, and-le-l}
 use lib.Dec.{eqb, ltb}
 use lib.ListN.{getD}
 use Rattle.foundation.specs.Tests.{pick, cases, and-true, and-intro, true-eq, false-eq, true-le, false-le}
-use Rattle.foundation.specs.Masks.{bit, mask-test}
+use Rattle.foundation.specs.BitMasks.{bit, mask-test}
 use Rattle.words.specs.Bits.{less, bit-less, power-only, no-bits}
-use Rattle.reach.specs.Net.{turned, aimPair, aimBits, Coded, Formed, Led}
+use Rattle.reach.specs.Net.{turned, aimPair, aimBits, CodedRight, Formed, Led}
 
 -- a code that is no star is below the count, and so is where it leads
 turned-below : (code own n : ℕ) → ((eqb code 255 ≡ true → ⊥) → code < n) → own < n → turned code own < n

@@ -13,19 +13,19 @@ use lib.Dec.{eqb, leb, ltb}
 use lib.ListN.{length, getD, set, length-set}
 use Rattle.foundation.specs.Tests.{pick, cases, true-eq, false-eq, or-cases, or-intro-left, or-true-right}
 use Rattle.foundation.specs.Tests.{and-intro, and-true, eq-true, true-le, false-le}
-use Rattle.foundation.specs.Masks.{bit}
+use Rattle.foundation.specs.BitMasks.{bit}
 use Rattle.words.specs.Bits.{bit-or, bit-less, less}
 use Rattle.words.specs.Sums.{sum-set}
 use Rattle.reach.specs.Net.{Net, has, standing, aimPair, aimBits, Followed, ClosedBut, Closed}
-use Rattle.reach.specs.Net.{Within, Carried}
-use Rattle.reach.specs.Reach.{remaining, Grown, Kept, Stepped}
+use Rattle.reach.specs.Net.{OnlyWhere, ClosedUnderRules}
+use Rattle.reach.specs.Reach.{remaining, Grown, KeepsWithin, ReachStep}
 use Rattle.reach.proofs.Tables.{has-set, sum-small, set-small, past}
 
 -- ---- one more is needed
 
 -- a store where P holds
-set-within : (P : ℕ → Bool) (l : List ℕ) (p v : ℕ) → p < length l → P p ≡ true → Within P l →
-    Within P (set l p v)
+set-within : (P : ℕ → Bool) (l : List ℕ) (p v : ℕ) → p < length l → P p ≡ true → OnlyWhere P l →
+    OnlyWhere P (set l p v)
 set-within P l p v h e w j k f = cases (eqb j p)
     (λ y. ap P (true-eq j p y) ∙ e)
     (λ y. w j k (sym (has-set l p v j k h ∙ rw y) ∙ f))
@@ -97,7 +97,7 @@ module _ (need todo : List ℕ) (p bits : ℕ) (h : p < length need) (g : p < le
   }
 
   -- neither table has anything new but at p
-  pub ask-kept : (P : ℕ → Bool) → P p ≡ true → Kept P need todo need′ todo′
+  pub ask-kept : (P : ℕ → Bool) → P p ≡ true → KeepsWithin P need todo need′ todo′
   ask-kept P e n t = (
     set-within P need p (bitOr old bits) h e n,
     set-within P todo p (bitOr was (less bits old)) g e t,
@@ -158,7 +158,7 @@ pub none-set : (k : ℕ) → bit k 0 ≡ true → ⊥
 none-set k e = false≢true (sym (rw (zero-div (2 ^ k))) ∙ e)
 
 -- where nothing is, P need hold nowhere
-pub none-within : (P : ℕ → Bool) (l : List ℕ) → ((i : ℕ) → getD l i 0 ≡ 0) → Within P l
+pub none-within : (P : ℕ → Bool) (l : List ℕ) → ((i : ℕ) → getD l i 0 ≡ 0) → OnlyWhere P l
 none-within P l z j k e = absurd (none-set k (ap (bit k) (sym (z j)) ∙ e))
 
 -- ---- what is closed
@@ -193,7 +193,7 @@ module _ (net : Net) (n t n′ t′ : List ℕ) (p k y : ℕ) (g : Grown n t n�
     Followed net p k r n′)
     (lower : y < getD t′ p 0)
     (others : (i : ℕ) → bit i (getD t′ p 0) ≡ true → (i ≡ k → ⊥) → bit i y ≡ true)
-    (stays : (P : ℕ → Bool) → Carried net P → Kept P n t n′ t′)
+    (stays : (P : ℕ → Bool) → ClosedUnderRules net P → KeepsWithin P n t n′ t′)
     (fewer : (i : ℕ) → bit i y ≡ true → bit i (getD t′ p 0) ≡ true) where
   abbrev after : List ℕ
   after = set t′ p y
@@ -214,7 +214,7 @@ module _ (net : Net) (n t n′ t′ : List ℕ) (p k y : ℕ) (g : Grown n t n�
       (λ x. closed-grown net g c j i e (λ z. f (still j i (λ a b.
       false≢true (sym x ∙ and-intro (eqb j p) (eqb i k) (eq-true j p a) (eq-true i k b))) z)))
 
-  within : (P : ℕ → Bool) → Carried net P → Kept P n t n′ after
+  within : (P : ℕ → Bool) → ClosedUnderRules net P → KeepsWithin P n t n′ after
   within P c a b =
       let w = stays P c a b in (
         w .0,
@@ -224,7 +224,7 @@ module _ (net : Net) (n t n′ t′ : List ℕ) (p k y : ℕ) (g : Grown n t n�
             (λ x. sym (has-set t′ p y j i h ∙ rw x) ∙ e)),
       )
 
-  pub step-law : Stepped net n t n′ after
+  pub step-law : ReachStep net n t n′ after
   step-law = record {
     more = g .more;
     closed = closed;

@@ -10,7 +10,7 @@ use lib.Bits.{bitAnd}
 use lib.Dec.{eqb, ltb}
 use lib.ListN.{getD}
 use Rattle.foundation.specs.Tests.{pick}
-use Rattle.foundation.specs.Masks.{bit}
+use Rattle.foundation.specs.BitMasks.{bit}
 
 -- `left` has the rules that stand on an object, 65 words, on a subject, 65, and on a mode with a sign, 16
 -- (what is behind those is not looked at); `right` four numbers a rule: object, subject and mode of its right
@@ -40,7 +40,7 @@ aimBits right r m =
     (signs % 2 + 256 * (signs / 2)) * 2 ^ turned (getD right (4 * r + 2) 0) m
 
 -- the codes of rule r: coordinates below the counts, or stars
-pub record Coded (right : List ℕ) (objects subjects r : ℕ) : Type 0 where
+pub record CodedRight (right : List ℕ) (objects subjects r : ℕ) : Type 0 where
   pub object : (eqb (getD right (4 * r) 0) 255 ≡ true → ⊥) → getD right (4 * r) 0 < objects
   pub subject : (eqb (getD right (4 * r + 1) 0) 255 ≡ true → ⊥) → getD right (4 * r + 1) 0 < subjects
   pub mode : (eqb (getD right (4 * r + 2) 0) 255 ≡ true → ⊥) → getD right (4 * r + 2) 0 < 8
@@ -53,7 +53,7 @@ pub record Formed (right : List ℕ) (subjects size : ℕ) : Type 0 where
   pub some : 0 < subjects
   pub low : subjects ≤ 65
   pub few : objects ≤ 65
-  pub codes : (r : ℕ) → r < 64 → Coded right objects subjects r
+  pub codes : (r : ℕ) → r < 64 → CodedRight right objects subjects r
 
 -- from an object, a subject and a mode rule r leads to one of `size` pairs and to a mode
 pub record Led (right : List ℕ) (subjects size o s m r : ℕ) : Type 0 where
@@ -83,15 +83,15 @@ Closed net need = (j k : ℕ) → has need j k ≡ true → (r : ℕ) → r < 64
 -- ---- no more than that
 
 -- all that is needed, or to do, is at pairs where P holds
-abbrev pub Within : (ℕ → Bool) → List ℕ → Type 0
-Within P l = (j k : ℕ) → has l j k ≡ true → P j ≡ true
+abbrev pub OnlyWhere : (ℕ → Bool) → List ℕ → Type 0
+OnlyWhere P l = (j k : ℕ) → has l j k ≡ true → P j ≡ true
 
 -- from where P holds, the rules that stand there lead to where it holds
-abbrev pub Carried : Net → (ℕ → Bool) → Type 0
-Carried net P = (j k r : ℕ) → P j ≡ true → r < 64 →
+abbrev pub ClosedUnderRules : Net → (ℕ → Bool) → Type 0
+ClosedUnderRules net P = (j k r : ℕ) → P j ≡ true → r < 64 →
     bit r (standing (net .left) (j / net .subjects) (j % net .subjects) k) ≡ true →
     P (aimPair (net .right) (net .subjects) r (j / net .subjects) (j % net .subjects)) ≡ true
 
 -- what is needed is only at the pair asked about and where rules lead from there
 abbrev pub Only : Net → ℕ → List ℕ → Type 0
-Only net pair need = (P : ℕ → Bool) → P pair ≡ true → Carried net P → Within P need
+Only net pair need = (P : ℕ → Bool) → P pair ≡ true → ClosedUnderRules net P → OnlyWhere P need

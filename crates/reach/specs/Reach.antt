@@ -6,7 +6,7 @@ use mathlib.Core.List.{List}
 use Prim.Native.Nat.{ℕ, _+_, _*_, _-_, _≤_, _<_}
 use lib.ListN.{length}
 use Rattle.words.specs.Sums.{sum}
-use Rattle.reach.specs.Net.{Net, has, ClosedBut, Within, Carried}
+use Rattle.reach.specs.Net.{Net, has, ClosedBut, OnlyWhere, ClosedUnderRules}
 
 -- what is left: bits that are not needed count twice, bits to do once
 abbrev pub remaining : List ℕ → List ℕ → ℕ
@@ -22,14 +22,15 @@ pub record Grown (need todo need′ todo′ : List ℕ) : Type 0 where
   pub todos : length todo′ ≡ length todo
 
 -- if both tables were only where P holds, they still are
-abbrev pub Kept : (ℕ → Bool) → List ℕ → List ℕ → List ℕ → List ℕ → Type 0
-Kept P need todo need′ todo′ = Within P need → Within P todo → Within P need′ × Within P todo′
+abbrev pub KeepsWithin : (ℕ → Bool) → List ℕ → List ℕ → List ℕ → List ℕ → Type 0
+KeepsWithin P need todo need′ todo′ = OnlyWhere P need → OnlyWhere P todo → OnlyWhere P need′
+    × OnlyWhere P todo′
 
 -- one bit is no longer to do
-pub record Stepped (net : Net) (need todo need′ todo′ : List ℕ) : Type 0 where
+pub record ReachStep (net : Net) (need todo need′ todo′ : List ℕ) : Type 0 where
   pub more : (j k : ℕ) → has need j k ≡ true → has need′ j k ≡ true
   pub closed : ClosedBut net need todo → ClosedBut net need′ todo′
-  pub within : (P : ℕ → Bool) → Carried net P → Kept P need todo need′ todo′
+  pub within : (P : ℕ → Bool) → ClosedUnderRules net P → KeepsWithin P need todo need′ todo′
   pub less : remaining need′ todo′ < remaining need todo
   pub needs : length need′ ≡ length need
   pub todos : length todo′ ≡ length todo

@@ -4,10 +4,10 @@ ghost use mathlib.Core.Path.{_≡_};
 ghost use mathlib.Core.Bool.{Bool, true};
 ghost use Prim.Native.Nat.{ℕ, _+_, _*_, _/_, _%_, _≤_, _<_};
 ghost use lib.ListN.{length, getD};
-ghost use Rattle.foundation.specs.Masks.{bit};
+ghost use Rattle.foundation.specs.BitMasks.{bit};
 ghost use Rattle.reach.specs.Net.{Net, standing, turned, aimPair, aimBits, Led, Formed, has, Closed};
 ghost use Rattle.reach.specs.Net.{Only};
-ghost use Rattle.reach.specs.Reach.{Grown, Kept, Stepped};
+ghost use Rattle.reach.specs.Reach.{Grown, KeepsWithin, ReachStep};
 use words::next_bit;
 
 // The place that rules lead on from: the coordinates of its object, subject and mode, and how many subjects
@@ -40,20 +40,13 @@ fn aim_pair(right: &[u8; 256], r: usize, at: Origin) -> usize
     o * at.subjects + s
 }
 
-// A number below 4 as a word of 16 bits.
-fn wide(x: u8) -> u16
-    ensures { λ r. ⌜ r ≡ x ⌝ }
-{
-    x as u16
-}
-
 // What rule r needs there, seen from a mode.
 fn aim_bits(right: &[u8; 256], r: usize, mode: usize) -> u16
     requires { ⌜ (r < 64) × (turned (getD (now right) (4 * r + 2) 0) mode < 8)
         × (getD (now right) (4 * r + 3) 0 < 4) ⌝ }
     ensures { λ b. ⌜ b ≡ aimBits (now (right .entry)) r mode ⌝ }
 {
-    let signs = wide(right[4 * r + 3]);
+    let signs = fields::u16_of(right[4 * r + 3]);
     let m = turn(right[4 * r + 2], mode);
     (signs % 2 + 256 * (signs / 2)) << m
 }
@@ -64,7 +57,7 @@ fn ask(need: &mut [u16], todo: &mut [u16], pair: usize, bits: u16)
     ensures { λ _. ⌜ Grown (now (need .entry)) (now (todo .entry)) (now (need .exit)) (now (todo .exit))
         × ((b : ℕ) → bit b bits ≡ true → has (now (need .exit)) pair b ≡ true)
         × ((P : ℕ → Bool) → P pair ≡ true →
-        Kept P (now (need .entry)) (now (todo .entry)) (now (need .exit)) (now (todo .exit))) ⌝ }
+        KeepsWithin P (now (need .entry)) (now (todo .entry)) (now (need .exit)) (now (todo .exit))) ⌝ }
 {
     let old = need[pair];
     need[pair] = old | bits;
@@ -82,7 +75,7 @@ fn follow(right: &[u8; 256], rules: u64, at: Origin, need: &mut [u16], todo: &mu
         ≡ true)
         × ((P : ℕ → Bool) → ((r : ℕ) → r < 64 → bit r rules ≡ true →
         P (aimPair (now (right .entry)) (at .subjects) r (at .object) (at .subject)) ≡ true) →
-        Kept P (now (need .entry)) (now (todo .entry)) (now (need .exit)) (now (todo .exit))) ⌝ }
+        KeepsWithin P (now (need .entry)) (now (todo .entry)) (now (need .exit)) (now (todo .exit))) ⌝ }
 {
     let mut r = next_bit(rules, 0);
     while r < 64 {
@@ -130,7 +123,7 @@ fn step(
 )
     requires { ⌜ Formed (now right) subjects (length (now need)) × (length (now todo) ≡ length (now need))
         × (pair < length (now need)) × (0 < getD (now todo) pair 0) ⌝ }
-    ensures { λ _. ⌜ Stepped
+    ensures { λ _. ⌜ ReachStep
         (record { left = now (left .entry); right = now (right .entry); subjects = subjects })
         (now (need .entry)) (now (todo .entry)) (now (need .exit)) (now (todo .exit)) ⌝ }
 {

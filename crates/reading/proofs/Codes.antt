@@ -9,12 +9,12 @@ use Rattle.foundation.specs.Tests.{cases, pick, and-true}
 use Rattle.foundation.specs.Lists.{allb}
 use Rattle.foundation.specs.Bytes.{eqList}
 use Rattle.model.specs.Text.{oneOf}
-use Rattle.reading.specs.Fields.{told}
+use Rattle.reading.specs.LineFields.{told}
 
 -- the number of the first of these words that s is, or 0
-abbrev pub codeOf : List (List ℕ × ℕ) → List ℕ → ℕ
-codeOf [] s = 0
-codeOf (w ∷ ws) s = let r = codeOf ws s in pick (eqList s (w .0)) (w .1) r
+abbrev pub wordCode : List (List ℕ × ℕ) → List ℕ → ℕ
+wordCode [] s = 0
+wordCode (w ∷ ws) s = let r = wordCode ws s in pick (eqList s (w .0)) (w .1) r
 
 module _ {A : Type 0} (f : ℕ → A) where
   -- what a number other than 0 stands for
@@ -26,7 +26,7 @@ module _ {A : Type 0} (f : ℕ → A) where
 
   pub one-of-codes : (ws : List (List ℕ × ℕ)) (s : List ℕ) →
       allb (λ (w : List ℕ × ℕ). not (eqb (w .1) 0)) ws ≡ true →
-      oneOf (meaning ws) s ≡ decoded (codeOf ws s)
+      oneOf (meaning ws) s ≡ decoded (wordCode ws s)
   one-of-codes [] s e = refl
   one-of-codes (w ∷ ws) s e =
       let p = and-true (not (eqb (w .1) 0)) (allb (λ (w : List ℕ × ℕ). not (eqb (w .1) 0)) ws) e in

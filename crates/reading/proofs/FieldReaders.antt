@@ -13,7 +13,7 @@ use lib.Seq.{drop-cons, drop-drop}
 use Rattle.foundation.specs.Tests.{cases, pick, le-true, le-false, true-le, false-le, ne-false, true-eq}
 use Rattle.foundation.specs.Tests.{false-eq}
 use Rattle.model.specs.Text.{space, split, extend, field, read, whole, Line, orUnreadable}
-use Rattle.reading.specs.Fields.{fieldsLeft, fieldLength, part, told, reading, Reads, Bounded}
+use Rattle.reading.specs.LineFields.{fieldsLeft, fieldLength, part, told, reading, Reads, Bounded}
 
 -- ---- the first field
 

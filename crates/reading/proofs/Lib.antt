@@ -1,5 +1,5 @@
--- `FieldReaders` has the laws of the fields from a place on, `Numbers` those of digits, and `Codes` those of
--- fixed words.
+-- `FieldReaders` has the laws of the fields from a place on, `DigitValues` those of digits, and `Codes` those
+-- of fixed words.
 pub mod Codes
 pub mod FieldReaders
-pub mod Numbers
+pub mod DigitValues

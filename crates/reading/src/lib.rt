@@ -1,7 +1,7 @@
 // One line of text read as a request or a question.
 ghost use mathlib.Core.Path.{_≡_};
 ghost use Rattle.model.specs.Text.{readLine};
-ghost use Rattle.reading.specs.Lines.{lineOf};
+ghost use Rattle.reading.specs.ParsedLines.{lineOf};
 
 mod lines;
 mod places;
@@ -13,7 +13,7 @@ use lines::when_line;
 use model::Access;
 use model::Question;
 use model::Request;
-use places::field_at;
+use places::field_bounds;
 
 // What a line asks.
 pub enum Asked {
@@ -35,7 +35,7 @@ pub fn read_line(s: &[u8]) -> Parsed
     if 96 < s.len() {
         return Parsed::Unreadable;
     }
-    let first = field_at(s, 0);
+    let first = field_bounds(s, 0);
     let from = first.from;
     let to = first.to;
     let word = &s[from..to];

@@ -8,16 +8,16 @@ ghost use lib.ListN.{length, drop};
 ghost use Rattle.foundation.specs.Tests.{pick};
 ghost use Rattle.model.specs.Text.{field, number, instant, term, option, optionTerm, sign, operator};
 ghost use Rattle.model.specs.Text.{oneOf, grammar, side};
-ghost use Rattle.reading.specs.Fields.{fieldsLeft, fieldLength, Reads, Bounded};
-ghost use Rattle.reading.specs.Lines.{readerFor};
-use crate::words::instant_of;
-use crate::words::kind_of;
-use crate::words::number_of;
-use crate::words::operator_of;
-use crate::words::option_of;
-use crate::words::option_term_of;
-use crate::words::sign_of;
-use crate::words::term_of;
+ghost use Rattle.reading.specs.LineFields.{fieldsLeft, fieldLength, Reads, Bounded};
+ghost use Rattle.reading.specs.ParsedLines.{readerFor};
+use crate::words::read_instant;
+use crate::words::read_kind;
+use crate::words::read_number;
+use crate::words::read_operator;
+use crate::words::read_option;
+use crate::words::read_option_term;
+use crate::words::read_sign;
+use crate::words::read_term;
 use model::OptionTerm;
 use model::SideTerms;
 use model::Term;
@@ -74,7 +74,7 @@ fn end_of(s: &[u8], at: usize) -> usize
 }
 
 // The field at a place; where none is left, an empty one.
-pub fn field_at(s: &[u8], at: usize) -> Bounds
+pub fn field_bounds(s: &[u8], at: usize) -> Bounds
     ensures { λ r. ⌜ Bounded (now (s .entry)) at (r .from) (r .to) ⌝ }
 {
     if s.len() < at {
@@ -100,10 +100,10 @@ pub fn number_at(s: &[u8], at: usize) -> NumberAt
     ensures { λ r. ⌜ Reads (now (s .entry)) (field number (fieldsLeft (now (s .entry)) at)) (r .value)
         (r .next) ⌝ }
 {
-    let f = field_at(s, at);
+    let f = field_bounds(s, at);
     let from = f.from;
     let to = f.to;
-    let n = number_of(&s[from..to]);
+    let n = read_number(&s[from..to]);
     NumberAt {
         value: n.value,
         next: behind(s, to, n.known),
@@ -116,10 +116,10 @@ pub fn instant_at(s: &[u8], at: usize) -> NumberAt
     ensures { λ r. ⌜ Reads (now (s .entry)) (field instant (fieldsLeft (now (s .entry)) at)) (r .value)
         (r .next) ⌝ }
 {
-    let f = field_at(s, at);
+    let f = field_bounds(s, at);
     let from = f.from;
     let to = f.to;
-    let n = instant_of(&s[from..to]);
+    let n = read_instant(&s[from..to]);
     NumberAt {
         value: n.value,
         next: behind(s, to, n.known),
@@ -132,10 +132,10 @@ pub fn term_at(s: &[u8], at: usize) -> TermAt
     ensures { λ r. ⌜ Reads (now (s .entry)) (field term (fieldsLeft (now (s .entry)) at)) (r .value)
         (r .next) ⌝ }
 {
-    let f = field_at(s, at);
+    let f = field_bounds(s, at);
     let from = f.from;
     let to = f.to;
-    let n = term_of(&s[from..to]);
+    let n = read_term(&s[from..to]);
     let value = n.value;
     TermAt {
         value: value,
@@ -149,10 +149,10 @@ pub fn option_at(s: &[u8], at: usize) -> FlagAt
     ensures { λ r. ⌜ Reads (now (s .entry)) (field option (fieldsLeft (now (s .entry)) at)) (r .value)
         (r .next) ⌝ }
 {
-    let f = field_at(s, at);
+    let f = field_bounds(s, at);
     let from = f.from;
     let to = f.to;
-    let n = option_of(&s[from..to]);
+    let n = read_option(&s[from..to]);
     FlagAt {
         value: n.value,
         next: behind(s, to, n.known),
@@ -165,10 +165,10 @@ fn sign_at(s: &[u8], at: usize) -> FlagAt
     ensures { λ r. ⌜ Reads (now (s .entry)) (field sign (fieldsLeft (now (s .entry)) at)) (r .value)
         (r .next) ⌝ }
 {
-    let f = field_at(s, at);
+    let f = field_bounds(s, at);
     let from = f.from;
     let to = f.to;
-    let n = sign_of(&s[from..to]);
+    let n = read_sign(&s[from..to]);
     FlagAt {
         value: n.value,
         next: behind(s, to, n.known),
@@ -181,10 +181,10 @@ pub fn option_term_at(s: &[u8], at: usize) -> OptionAt
     ensures { λ r. ⌜ Reads (now (s .entry)) (field optionTerm (fieldsLeft (now (s .entry)) at))
         (r .value) (r .next) ⌝ }
 {
-    let f = field_at(s, at);
+    let f = field_bounds(s, at);
     let from = f.from;
     let to = f.to;
-    let n = option_term_of(&s[from..to]);
+    let n = read_option_term(&s[from..to]);
     let value = n.value;
     OptionAt {
         value: value,
@@ -198,10 +198,10 @@ pub fn operator_at(s: &[u8], at: usize) -> NumberAt
     ensures { λ r. ⌜ Reads (now (s .entry)) (field operator (fieldsLeft (now (s .entry)) at)) (r .value)
         (r .next) ⌝ }
 {
-    let f = field_at(s, at);
+    let f = field_bounds(s, at);
     let from = f.from;
     let to = f.to;
-    let n = operator_of(&s[from..to]);
+    let n = read_operator(&s[from..to]);
     NumberAt {
         value: n.value,
         next: behind(s, to, n.known),
@@ -214,10 +214,10 @@ pub fn kind_at(s: &[u8], at: usize) -> NumberAt
     ensures { λ r. ⌜ Reads (now (s .entry)) (field (oneOf grammar) (fieldsLeft (now (s .entry)) at))
         (readerFor (r .value)) (r .next) ⌝ }
 {
-    let f = field_at(s, at);
+    let f = field_bounds(s, at);
     let from = f.from;
     let to = f.to;
-    let n = kind_of(&s[from..to]);
+    let n = read_kind(&s[from..to]);
     NumberAt {
         value: n.value,
         next: behind(s, to, n.known),

@@ -9,8 +9,8 @@ ghost use Rattle.foundation.specs.Bytes.{eqList};
 ghost use Rattle.model.specs.Text.{isDigit, valueFrom, leadingZero, number, instant, term, option};
 ghost use Rattle.model.specs.Text.{optionTerm};
 ghost use Rattle.model.specs.Text.{sign, operator, oneOf, grammar};
-ghost use Rattle.reading.specs.Fields.{told};
-ghost use Rattle.reading.specs.Lines.{readerFor};
+ghost use Rattle.reading.specs.LineFields.{told};
+ghost use Rattle.reading.specs.ParsedLines.{readerFor};
 use model::ADDRULE;
 use model::DENY;
 use model::DROPRULE;
@@ -87,7 +87,7 @@ fn leading_zero(s: &[u8]) -> bool
 }
 
 // A number: 1 to 10 digits with no leading zero, up to the last instant.
-pub fn number_of(s: &[u8]) -> KnownNumber
+pub fn read_number(s: &[u8]) -> KnownNumber
     ensures { λ r. ⌜ number (now (s .entry)) ≡ told (r .known) (r .value) ⌝ }
 {
     if !((1 <= s.len()) & (s.len() <= 10)) {
@@ -110,7 +110,7 @@ pub fn number_of(s: &[u8]) -> KnownNumber
 }
 
 // A number, or `inf` for the last instant.
-pub fn instant_of(s: &[u8]) -> KnownNumber
+pub fn read_instant(s: &[u8]) -> KnownNumber
     ensures { λ r. ⌜ instant (now (s .entry)) ≡ told (r .known) (r .value) ⌝ }
 {
     if fields::same(s, b"inf") {
@@ -119,11 +119,11 @@ pub fn instant_of(s: &[u8]) -> KnownNumber
             value: 4294967295,
         };
     }
-    number_of(s)
+    read_number(s)
 }
 
 // A number, or `*` for any.
-pub fn term_of(s: &[u8]) -> KnownTerm
+pub fn read_term(s: &[u8]) -> KnownTerm
     ensures { λ r. ⌜ term (now (s .entry)) ≡ told (r .known) (r .value) ⌝ }
 {
     if fields::same(s, b"*") {
@@ -132,7 +132,7 @@ pub fn term_of(s: &[u8]) -> KnownTerm
             value: Term::Any,
         };
     }
-    let n = number_of(s);
+    let n = read_number(s);
     KnownTerm {
         known: n.known,
         value: Term::Number(n.value),
@@ -140,7 +140,7 @@ pub fn term_of(s: &[u8]) -> KnownTerm
 }
 
 // The grant option: `y` or `n`.
-pub fn option_of(s: &[u8]) -> KnownFlag
+pub fn read_option(s: &[u8]) -> KnownFlag
     ensures { λ r. ⌜ option (now (s .entry)) ≡ told (r .known) (r .value) ⌝ }
 {
     let with = fields::same(s, b"y");
@@ -151,7 +151,7 @@ pub fn option_of(s: &[u8]) -> KnownFlag
 }
 
 // A sign, whether it is that of a denial: `-`, or not: `+`.
-pub fn sign_of(s: &[u8]) -> KnownFlag
+pub fn read_sign(s: &[u8]) -> KnownFlag
     ensures { λ r. ⌜ sign (now (s .entry)) ≡ told (r .known) (r .value) ⌝ }
 {
     let positive = fields::same(s, b"+");
@@ -162,7 +162,7 @@ pub fn sign_of(s: &[u8]) -> KnownFlag
 }
 
 // The option of a rule's right side: `y`, `n` or `*`.
-pub fn option_term_of(s: &[u8]) -> KnownOption
+pub fn read_option_term(s: &[u8]) -> KnownOption
     ensures { λ r. ⌜ optionTerm (now (s .entry)) ≡ told (r .known) (r .value) ⌝ }
 {
     if fields::same(s, b"y") {
@@ -184,20 +184,20 @@ pub fn option_term_of(s: &[u8]) -> KnownOption
 }
 
 // A code if the field is that word, else another.
-fn coded(s: &[u8], word: &[u8], code: u32, other: u32) -> u32
+fn code_if(s: &[u8], word: &[u8], code: u32, other: u32) -> u32
     ensures { λ r. ⌜ r ≡ pick (eqList (now (s .entry)) (now (word .entry))) code other ⌝ }
 {
     if fields::same(s, word) { code } else { other }
 }
 
 // An operator's word, by its number.
-pub fn operator_of(s: &[u8]) -> KnownNumber
+pub fn read_operator(s: &[u8]) -> KnownNumber
     ensures { λ r. ⌜ operator (now (s .entry)) ≡ told (r .known) (r .value) ⌝ }
 {
-    let k = coded(s, b"UNLESS", 4, 0);
-    let k = coded(s, b"WHENEVERNOT", 3, k);
-    let k = coded(s, b"ASLONGAS", 2, k);
-    let k = coded(s, b"WHENEVER", 1, k);
+    let k = code_if(s, b"UNLESS", 4, 0);
+    let k = code_if(s, b"WHENEVERNOT", 3, k);
+    let k = code_if(s, b"ASLONGAS", 2, k);
+    let k = code_if(s, b"WHENEVER", 1, k);
     KnownNumber {
         known: k != 0,
         value: k,
@@ -205,21 +205,21 @@ pub fn operator_of(s: &[u8]) -> KnownNumber
 }
 
 // A request's word, by the number of its kind.
-pub fn kind_of(s: &[u8]) -> KnownNumber
+pub fn read_kind(s: &[u8]) -> KnownNumber
     ensures { λ r. ⌜ oneOf grammar (now (s .entry)) ≡ told (r .known) (readerFor (r .value)) ⌝ }
 {
-    let k = coded(s, b"REVOKEREF", REVOKEREF, 0);
-    let k = coded(s, b"GRANTREF", GRANTREF, k);
-    let k = coded(s, b"REVOKEADM", REVOKEADM, k);
-    let k = coded(s, b"GRANTADM", GRANTADM, k);
-    let k = coded(s, b"DROPRULE", DROPRULE, k);
-    let k = coded(s, b"ADDRULE", ADDRULE, k);
-    let k = coded(s, b"REVOKEN", REVOKEN, k);
-    let k = coded(s, b"REVOKEP", REVOKEP, k);
-    let k = coded(s, b"REVOKE", REVOKE, k);
-    let k = coded(s, b"DENY", DENY, k);
-    let k = coded(s, b"GRANT", GRANT, k);
-    let k = coded(s, b"NEW", NEW, k);
+    let k = code_if(s, b"REVOKEREF", REVOKEREF, 0);
+    let k = code_if(s, b"GRANTREF", GRANTREF, k);
+    let k = code_if(s, b"REVOKEADM", REVOKEADM, k);
+    let k = code_if(s, b"GRANTADM", GRANTADM, k);
+    let k = code_if(s, b"DROPRULE", DROPRULE, k);
+    let k = code_if(s, b"ADDRULE", ADDRULE, k);
+    let k = code_if(s, b"REVOKEN", REVOKEN, k);
+    let k = code_if(s, b"REVOKEP", REVOKEP, k);
+    let k = code_if(s, b"REVOKE", REVOKE, k);
+    let k = code_if(s, b"DENY", DENY, k);
+    let k = code_if(s, b"GRANT", GRANT, k);
+    let k = code_if(s, b"NEW", NEW, k);
     KnownNumber {
         known: k != 0,
         value: k,

@@ -2,7 +2,7 @@
 use mathlib.Core.Path.{_≡_, sym, ap, _∙_}
 use mathlib.Core.Bool.{Bool, true, false, not}
 use mathlib.Core.List.{List, [], _∷_, _++_}
-use Prim.Native.Nat.{ℕ, suc, _+_, _-_, _*_, _/_, _≤_, _<_}
+use Prim.Native.Nat.{ℕ, suc, _+_, _-_, _*_, _/_, _≤_, _<_, min}
 use native.Mathlib.Omega.{arith}
 use lib.Dec.{ltb}
 use lib.ListN.{length, take, drop, length-drop}
@@ -17,13 +17,13 @@ use Rattle.model.specs.Answers.{Answer, answering, refusing}
 use Rattle.encoding.specs.Format.{countsOf}
 use Rattle.records.specs.declared.Body.{Body}
 use Rattle.records.specs.Records.{bodyOf, widthOf, rows, pageOf, paged, pageAnswer, recordsAnswer}
-use Rattle.records.specs.Pages.{bytesOf, numbersOf, countOf, startOf, joined, least}
+use Rattle.records.specs.Pages.{recordBytes, numbersOf, recordCount, recordStart, joinedNumbers}
 use Rattle.records.proofs.StoredRows.{stored, rows-stored, rows-length}
-use Rattle.records.proofs.Joined.{take-least, least-right, page-joined}
+use Rattle.records.proofs.CopiedRecords.{take-least, page-joined}
 
 module _ (s : List ℕ) (b : Body) (first : ℕ) (list : List ℕ) where
   abbrev count : ℕ
-  count = countOf (countsOf s) b
+  count = recordCount (countsOf s) b
 
   abbrev given : Answer
   given = paged (rows (decode s) b) (widthOf b) first list
@@ -49,7 +49,7 @@ module _ (s : List ℕ) (b : Body) (first : ℕ) (list : List ℕ) where
     full l = λ k. over (inside k) (le-false (suc (length list)) (widthOf b) (omega arith) k)
 
     abbrev room : ℕ
-    room = least (length list / widthOf b) (count - first)
+    room = min (length list / widthOf b) (count - first)
 
     -- the page as the bytes have it
     page-stored : pageOf (rows (decode s) b) (widthOf b) first list ≡ take room (drop first (stored s b))
@@ -59,46 +59,47 @@ module _ (s : List ℕ) (b : Body) (first : ℕ) (list : List ℕ) where
         let l : length (drop first all) ≡ count - first =
         length-drop first all ∙ ap (λ (n : ℕ). n - first) (rows-length s b) in
         take-least q (drop first all)
-        ∙ (λ k. take (least q (l k)) (drop first (rows-stored s b k)))
+        ∙ (λ k. take (min q (l k)) (drop first (rows-stored s b k)))
 
     pub written : widthOf b ≤ length list → (k from : ℕ) → k ≡ room →
-        from ≡ startOf (countsOf s) b + bytesOf b * first →
-        answering (Runs k) (joined (bytesOf b) (numbersOf b) k (drop from s) ++ drop (widthOf b * k) list)
+        from ≡ recordStart (countsOf s) b + recordBytes b * first →
+        answering (Runs k) (joinedNumbers (recordBytes b) (numbersOf b) k (drop from s)
+        ++ drop (widthOf b * k) list)
         ≡ pageAnswer s b first list
     written l k from e a =
         let w = widthOf b in
-        let t = drop (startOf (countsOf s) b) s in
-        let r = least-right (length list / w) (count - first) in
+        let t = drop (recordStart (countsOf s) b) s in
         let many : length (pageOf (rows (decode s) b) w first list) ≡ room =
         ap length page-stored
         ∙ length-take-le room (drop first (stored s b))
-        (rw (length-drop first (stored s b), ← rows-stored s b, rows-length s b) r) in
+        (rw (length-drop first (stored s b), ← rows-stored s b, rows-length s b) (omega arith)) in
         let cells : each (pageOf (rows (decode s) b) w first list) (λ r. r)
-        ≡ joined (bytesOf b) (numbersOf b) room (drop from s) =
+        ≡ joinedNumbers (recordBytes b) (numbersOf b) room (drop from s) =
         ap (λ (p : List (List ℕ)). each p (λ r. r)) page-stored
-        ∙ page-joined (bytesOf b) (numbersOf b) first room count t (omega arith)
-        ∙ ap (joined (bytesOf b) (numbersOf b) room)
-        (drop-drop (bytesOf b * first) (startOf (countsOf s) b) s ∙ ap (λ (n : ℕ). drop n s) (sym a)) in
+        ∙ page-joined (recordBytes b) (numbersOf b) first room count t (omega arith)
+        ∙ ap (joinedNumbers (recordBytes b) (numbersOf b) room)
+        (drop-drop (recordBytes b * first) (recordStart (countsOf s) b) s ∙ ap (λ (n : ℕ). drop n s) (sym a))
+        in
         (λ i. answering (Runs (e i))
-        (joined (bytesOf b) (numbersOf b) (e i) (drop from s) ++ drop (w * e i) list))
+        (joinedNumbers (recordBytes b) (numbersOf b) (e i) (drop from s) ++ drop (w * e i) list))
         ∙ sym (λ i. answering (Runs (many i)) (cells i ++ drop (w * many i) list))
         ∙ sym (full l)
 
-module _ (s : List ℕ) (body first : ℕ) (list : List ℕ) where
+module _ (s : List ℕ) (source first : ℕ) (list : List ℕ) where
   abbrev over-all : Bool → Bool → Answer
   over-all sound? past? =
       refusedOr (row 2 (not sound?) ∷ row 3 past? ∷ []) (refusing list)
-      (pageAnswer s (bodyOf body) first list)
+      (pageAnswer s (bodyOf source) first list)
 
-  pub unsound : soundBytes s ≡ false → recordsAnswer s body first list ≡ refusing list 2
+  pub unsound : soundBytes s ≡ false → recordsAnswer s source first list ≡ refusing list 2
   unfolding recordsAnswer
-  unsound e = ap (λ (g : Bool). over-all g (ltb 5 body)) e
+  unsound e = ap (λ (g : Bool). over-all g (ltb 5 source)) e
 
-  pub no-body : soundBytes s ≡ true → 5 < body → recordsAnswer s body first list ≡ refusing list 3
+  pub no-body : soundBytes s ≡ true → 5 < source → recordsAnswer s source first list ≡ refusing list 3
   unfolding recordsAnswer
-  no-body e h = λ k. over-all (e k) (le-true 6 body h k)
+  no-body e h = λ k. over-all (e k) (le-true 6 source h k)
 
-  pub of-body : soundBytes s ≡ true → body ≤ 5 →
-      recordsAnswer s body first list ≡ pageAnswer s (bodyOf body) first list
+  pub of-body : soundBytes s ≡ true → source ≤ 5 →
+      recordsAnswer s source first list ≡ pageAnswer s (bodyOf source) first list
   unfolding recordsAnswer
-  of-body e h = λ k. over-all (e k) (le-false 6 body (omega arith) k)
+  of-body e h = λ k. over-all (e k) (le-false 6 source (omega arith) k)

@@ -7,7 +7,7 @@ use native.Mathlib.Nat.{mul-add, mul-le-mul-left}
 use native.Mathlib.Omega.{arith}
 use lib.ListN.{length, drop}
 use Rattle.foundation.specs.Bytes.{le, records}
-use Rattle.foundation.specs.Records.{length-records}
+use Rattle.foundation.specs.ByteRecords.{length-records}
 use Rattle.model.specs.Encoding.{decode, privilegeOf, authorizationOf, ruleOf}
 use Rattle.model.specs.Soundness.{soundBytes}
 use Rattle.model.specs.SoundnessFacts.{sound-tests, sound-bytes}
@@ -16,30 +16,30 @@ use Rattle.encoding.specs.Format.{countsOf, administratorsAt, referrersAt, auth
 use Rattle.encoding.proofs.FormatFacts.{decoded-objects, decoded-administrators, decoded-referrers}
 use Rattle.encoding.proofs.FormatFacts.{decoded-authorizations, decoded-rules, decoded-lengths}
 use Rattle.encoding.proofs.FormatFacts.{decoded-counts}
-use Rattle.encoding.proofs.Contents.{Within, within}
+use Rattle.encoding.proofs.Contents.{CountsWithin, within}
 use Rattle.records.specs.declared.Body.{Body}
 use Rattle.records.specs.declared.Body.the-variants.{Heading, Objects, Administrators, Referrers}
 use Rattle.records.specs.declared.Body.the-variants.{Authorizations, Rules}
 use Rattle.records.specs.Records.{privilegeNumbers, authorizationNumbers, ruleNumbers, headingNumbers}
 use Rattle.records.specs.Records.{widthOf, rows}
-use Rattle.records.specs.Pages.{bytesOf, numbersOf, countOf, startOf}
-use Rattle.records.proofs.Joined.{map-records}
+use Rattle.records.specs.Pages.{recordBytes, numbersOf, recordCount, recordStart}
+use Rattle.records.proofs.CopiedRecords.{map-records}
 
 -- each record of a body is as many numbers as the body's are wide
-pub wide : (b : Body) (s : List ℕ) → length (numbersOf b s) ≡ widthOf b
-wide Heading s = refl
-wide Objects s = refl
-wide Administrators s = refl
-wide Referrers s = refl
-wide Authorizations s = refl
-wide Rules s = refl
+pub width-is : (b : Body) (s : List ℕ) → length (numbersOf b s) ≡ widthOf b
+width-is Heading s = refl
+width-is Objects s = refl
+width-is Administrators s = refl
+width-is Referrers s = refl
+width-is Authorizations s = refl
+width-is Rules s = refl
 
-pub counts-within : (s : List ℕ) → soundBytes s ≡ true → Within (countsOf s)
+pub counts-within : (s : List ℕ) → soundBytes s ≡ true → CountsWithin (countsOf s)
 counts-within s e =
     within (countsOf s) (sym (decoded-counts s) ∙ sound-tests (decode s) (sound-bytes s e .1) .counts)
 
-module _ (c : Counts) (h : Within c) where
-  pub count-most : (b : Body) → countOf c b ≤ 1024
+module _ (c : Counts) (h : CountsWithin c) where
+  pub count-most : (b : Body) → recordCount c b ≤ 1024
   count-most Heading = omega arith
   count-most Objects = omega arith
   count-most Administrators = omega arith
@@ -48,7 +48,7 @@ module _ (c : Counts) (h : Within c) where
   count-most Rules = omega arith
 
   -- a body ends within the bytes
-  pub body-fits : (b : Body) → startOf c b + bytesOf b * countOf c b ≤ 27936
+  pub body-fits : (b : Body) → recordStart c b + recordBytes b * recordCount c b ≤ 27936
   body-fits Heading = omega arith
   body-fits Objects = omega arith
   body-fits Administrators = omega arith
@@ -57,16 +57,17 @@ module _ (c : Counts) (h : Within c) where
   body-fits Rules = omega arith
 
   -- and so do k records behind m others
-  pub page-fits : (b : Body) (m k : ℕ) → m + k ≤ countOf c b →
-      startOf c b + bytesOf b * m + bytesOf b * k ≤ 27936
+  pub page-fits : (b : Body) (m k : ℕ) → m + k ≤ recordCount c b →
+      recordStart c b + recordBytes b * m + recordBytes b * k ≤ 27936
   page-fits b m k l =
-      let f : bytesOf b * (m + k) ≤ bytesOf b * countOf c b = mul-le-mul-left (bytesOf b) l in
-      omega (arith, mul-add (bytesOf b) m k, body-fits b)
+      let f : recordBytes b * (m + k) ≤ recordBytes b * recordCount c b = mul-le-mul-left (recordBytes b) l in
+      omega (arith, mul-add (recordBytes b) m k, body-fits b)
 
 module _ (s : List ℕ) where
   -- the records of a body as the bytes have them
   abbrev pub stored : Body → List (List ℕ)
-  stored b = records (bytesOf b) (numbersOf b) (countOf (countsOf s) b) (drop (startOf (countsOf s) b) s)
+  stored b = records (recordBytes b) (numbersOf b) (recordCount (countsOf s) b)
+      (drop (recordStart (countsOf s) b) s)
 
   heading-stored : headingNumbers (decode s) ≡ numbersOf Heading s
   unfolding decode
@@ -92,7 +93,8 @@ module _ (s : List ℕ) where
   rows-stored Rules = mapped ruleNumbers 28 ruleOf (countsOf s .rules) (rulesAt (countsOf s))
       (decode s .rules) (decoded-rules s)
 
-  pub rows-length : (b : Body) → length (rows (decode s) b) ≡ countOf (countsOf s) b
+  pub rows-length : (b : Body) → length (rows (decode s) b) ≡ recordCount (countsOf s) b
   rows-length b =
       ap length (rows-stored b)
-      ∙ length-records (bytesOf b) (numbersOf b) (countOf (countsOf s) b) (drop (startOf (countsOf s) b) s)
+      ∙ length-records (recordBytes b) (numbersOf b) (recordCount (countsOf s) b)
+      (drop (recordStart (countsOf s) b) s)

@@ -1,9 +1,7 @@
 -- Where the records of a body stand in the bytes, and a page of them as it is copied.
 use Prim.Native.Nat.{ℕ, zero, suc, _-_}
 use mathlib.Core.List.{List, [], _∷_, _++_}
-use lib.Dec.{leb}
 use lib.ListN.{length, drop, replicate}
-use Rattle.foundation.specs.Tests.{pick}
 use Rattle.foundation.specs.Bytes.{le}
 use Rattle.model.specs.Encoding.{privilegeOf, authorizationOf, ruleOf}
 use Rattle.encoding.specs.declared.Counts.{Counts}
@@ -11,17 +9,17 @@ use Rattle.encoding.specs.Format.{administratorsAt, referrersAt, authorizations
 use Rattle.records.specs.declared.Body.{Body}
 use Rattle.records.specs.declared.Body.the-variants.{Heading, Objects, Administrators, Referrers}
 use Rattle.records.specs.declared.Body.the-variants.{Authorizations, Rules}
-use Rattle.records.specs.declared.Place.{Place}
+use Rattle.records.specs.declared.Layout.{Layout}
 use Rattle.records.specs.Records.{privilegeNumbers, authorizationNumbers, ruleNumbers, widthOf}
 
 -- how many bytes a record of the body takes
-abbrev pub bytesOf : Body → ℕ
-bytesOf Heading = 32
-bytesOf Objects = 4
-bytesOf Administrators = 4
-bytesOf Referrers = 4
-bytesOf Authorizations = 24
-bytesOf Rules = 28
+abbrev pub recordBytes : Body → ℕ
+recordBytes Heading = 32
+recordBytes Objects = 4
+recordBytes Administrators = 4
+recordBytes Referrers = 4
+recordBytes Authorizations = 24
+recordBytes Rules = 28
 
 -- the numbers of the record that the bytes begin with
 abbrev pub numbersOf : Body → List ℕ → List ℕ
@@ -38,29 +36,31 @@ numbersOf Rules s = ruleNumbers (ruleOf s)
 abbrev pub padded : List ℕ → List ℕ
 padded ns = ns ++ replicate (15 - length ns) 0
 
-abbrev pub countOf : Counts → Body → ℕ
-countOf c Heading = 1
-countOf c Objects = c .objects
-countOf c Administrators = c .administrators
-countOf c Referrers = c .referrers
-countOf c Authorizations = c .authorizations
-countOf c Rules = c .rules
+abbrev pub recordCount : Counts → Body → ℕ
+recordCount c Heading = 1
+recordCount c Objects = c .objects
+recordCount c Administrators = c .administrators
+recordCount c Referrers = c .referrers
+recordCount c Authorizations = c .authorizations
+recordCount c Rules = c .rules
 
-abbrev pub startOf : Counts → Body → ℕ
-startOf c Heading = 0
-startOf c Objects = 32
-startOf c Administrators = administratorsAt c
-startOf c Referrers = referrersAt c
-startOf c Authorizations = authorizationsAt c
-startOf c Rules = rulesAt c
+abbrev pub recordStart : Counts → Body → ℕ
+recordStart c Heading = 0
+recordStart c Objects = 32
+recordStart c Administrators = administratorsAt c
+recordStart c Referrers = referrersAt c
+recordStart c Authorizations = authorizationsAt c
+recordStart c Rules = rulesAt c
 
-abbrev pub placeOf : Counts → Body → Place
-placeOf c b = record { count = countOf c b; at = startOf c b; bytes = bytesOf b; width = widthOf b }
+abbrev pub layoutOf : Counts → Body → Layout
+layoutOf c b = record {
+  count = recordCount c b;
+  at = recordStart c b;
+  bytes = recordBytes b;
+  width = widthOf b;
+}
 
 -- the numbers of n records, each so many bytes wide, one after the other
-abbrev pub joined : ℕ → (List ℕ → List ℕ) → ℕ → List ℕ → List ℕ
-joined bytes f zero s = []
-joined bytes f (suc n) s = f s ++ joined bytes f n (drop bytes s)
-
-abbrev pub least : ℕ → ℕ → ℕ
-least a b = pick (leb a b) a b
+abbrev pub joinedNumbers : ℕ → (List ℕ → List ℕ) → ℕ → List ℕ → List ℕ
+joinedNumbers bytes f zero s = []
+joinedNumbers bytes f (suc n) s = f s ++ joinedNumbers bytes f n (drop bytes s)

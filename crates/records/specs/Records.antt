@@ -98,12 +98,13 @@ paged all width first list =
 
 -- of a sound base
 unfoldable pub pageAnswer : List ℕ → Body → ℕ → List ℕ → Answer
-pageAnswer s body first list =
-    let all = rows (decode s) body in
-    refusedOr (pageRows all (widthOf body) first list) (refusing list) (paged all (widthOf body) first list)
+pageAnswer s source first list =
+    let all = rows (decode s) source in
+    refusedOr (pageRows all (widthOf source) first list) (refusing list)
+    (paged all (widthOf source) first list)
 
 -- 2: no sound base. 3: no such body, too
 unfoldable pub recordsAnswer : List ℕ → ℕ → ℕ → List ℕ → Answer
-recordsAnswer s body first list =
-    refusedOr (row 2 (not (soundBytes s)) ∷ row 3 (ltb 5 body) ∷ []) (refusing list)
-    (pageAnswer s (bodyOf body) first list)
+recordsAnswer s source first list =
+    refusedOr (row 2 (not (soundBytes s)) ∷ row 3 (ltb 5 source) ∷ []) (refusing list)
+    (pageAnswer s (bodyOf source) first list)

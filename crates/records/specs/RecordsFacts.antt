@@ -46,18 +46,18 @@ module _ (list : List ℕ) (a : Answer) (t : Told list a) where
   by-page false true n = (inr (inr (inl refl)), refl)
   by-page false false n = t n
 
-pub records-refuses : (s : List ℕ) (body first : ℕ) (list : List ℕ) →
-    refusalNumber (recordsAnswer s body first list .reply) ≢ 0 →
-    Mem (refusalNumber (recordsAnswer s body first list .reply)) (2 ∷ 3 ∷ 13 ∷ [])
-    × (recordsAnswer s body first list .lent ≡ list)
+pub records-refuses : (s : List ℕ) (source first : ℕ) (list : List ℕ) →
+    refusalNumber (recordsAnswer s source first list .reply) ≢ 0 →
+    Mem (refusalNumber (recordsAnswer s source first list .reply)) (2 ∷ 3 ∷ 13 ∷ [])
+    × (recordsAnswer s source first list .lent ≡ list)
 unfolding recordsAnswer pageAnswer
-records-refuses s body first list =
-    let b = bodyOf body in
+records-refuses s source first list =
+    let b = bodyOf source in
     let all = rows (decode s) b in
     by-front list (pageAnswer s b first list)
     (by-page list (paged all (widthOf b) first list) (λ n. absurd (n refl))
     (ltb (length all) first) (ltb (length list) (widthOf b)))
-    (soundBytes s) (ltb 5 body)
+    (soundBytes s) (ltb 5 source)
 
 -- ---- a whole body
 
@@ -78,7 +78,9 @@ width-most Authorizations = omega arith
 width-most Rules = omega arith
 
 -- no body of a base whose counts hold is more numbers
-pub body-most : (b : Base) → countsHold b ≡ true → (body : Body) → widthOf body * length (rows b body) ≤ 10240
+pub body-most : (b : Base) → countsHold b ≡ true → (source : Body) → widthOf source * length
+    (rows b source)
+    ≤ 10240
 body-most b e Heading = omega arith
 body-most b e Objects = omega (arith, counts-fit b e, length-map (b .objects) privilegeNumbers)
 body-most b e Administrators = omega (arith, counts-fit b e, length-map (b .administrators) privilegeNumbers)
@@ -88,14 +90,15 @@ body-most b e Authorizations =
 body-most b e Rules = omega (arith, counts-fit b e, length-map (b .rules) ruleNumbers)
 
 -- from the first record on, a list of 10,240 numbers is given all of them
-pub whole-body : (s : List ℕ) (body : ℕ) (list : List ℕ) → soundBytes s ≡ true → body ≤ 5 →
+pub whole-body : (s : List ℕ) (source : ℕ) (list : List ℕ) → soundBytes s ≡ true → source ≤ 5 →
     10240 ≤ length list →
-    let all = rows (decode s) (bodyOf body) in
-    recordsAnswer s body 0 list
-    ≡ answering (Runs (length all)) (each all (λ r. r) ++ drop (widthOf (bodyOf body) * length all) list)
+    let all = rows (decode s) (bodyOf source) in
+    recordsAnswer s source 0 list
+    ≡ answering (Runs (length all)) (each all (λ r. r) ++ drop (widthOf (bodyOf source) * length all)
+    list)
 unfolding recordsAnswer pageAnswer
-whole-body s body list e h l =
-    let b = bodyOf body in
+whole-body s source list e h l =
+    let b = bodyOf source in
     let w = widthOf b in
     let all = rows (decode s) b in
     let m = body-most (decode s) (sound-tests (decode s) (sound-bytes s e .1) .counts) b in
@@ -103,7 +106,7 @@ whole-body s body list e h l =
     let q : length all * w ≤ length list = omega (arith, mul-comm w (length all), m) in
     let fits : length all ≤ length list / w = le-div-iff-mul-le p .1 q in
     let room = width-most b in
-    (λ k. refusedOr (row 2 (not (e k)) ∷ row 3 (le-false 6 body (omega arith) k) ∷ []) (refusing list)
+    (λ k. refusedOr (row 2 (not (e k)) ∷ row 3 (le-false 6 source (omega arith) k) ∷ []) (refusing list)
     (refusedOr (row 3 (le-false (suc (length all)) 0 (omega arith) k)
     ∷ row 13 (le-false (suc (length list)) w (omega arith) k) ∷ []) (refusing list) (paged all w 0 list)))
     ∙ (λ k. let page = take-all (length list / w) all fits k in

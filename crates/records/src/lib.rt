@@ -20,7 +20,7 @@ pub enum Body {
 
 // Where the records of a body stand: how many, from which byte on, how many bytes each; and how many numbers
 // a record is.
-pub struct Place {
+pub struct Layout {
     pub count: usize,
     pub at: usize,
     pub bytes: usize,
@@ -43,15 +43,15 @@ fn body_of(n: u32) -> Body
 
 // The records of a body over bytes of any length, from a record on as many as the lent list has room for, as
 // numbers at its front. The reply is how many.
-pub fn records(s: &[u8], body: u32, first: u32, list: &mut [u32]) -> Reply
+pub fn records(s: &[u8], source: u32, first: u32, list: &mut [u32]) -> Reply
     ensures { λ r. ⌜ answering r (now (list .exit))
-        ≡ recordsAnswer (now (s .entry)) body first (now (list .entry)) ⌝ }
+        ≡ recordsAnswer (now (s .entry)) source first (now (list .entry)) ⌝ }
 {
     if !soundness::is_sound(s) {
         return Reply::Refused(2);
     }
-    if 5 < body {
+    if 5 < source {
         return Reply::Refused(3);
     }
-    page::page(s, body_of(body), first as usize, list)
+    page::page(s, body_of(source), first as usize, list)
 }

@@ -2,22 +2,12 @@
 ghost use mathlib.Core.Path.{_≡_};
 ghost use Prim.Native.Nat.{_+_, _≤_};
 ghost use lib.ListN.{length, drop};
-ghost use Rattle.model.specs.Encoding.{asBit};
 ghost use Rattle.records.specs.Records.{optionNumber};
-ghost use Rattle.records.specs.Pages.{padded, bytesOf, numbersOf};
+ghost use Rattle.records.specs.Pages.{padded, recordBytes, numbersOf};
 ghost use Rattle.records.specs.declared.Body.the-variants.{Heading, Objects, Authorizations, Rules};
 use crate::Body;
+use fields::as_bit;
 use model::OptionTerm;
-
-// 1 or 0.
-fn bit(b: bool) -> u32
-    ensures { λ r. ⌜ r ≡ asBit b ⌝ }
-{
-    if b {
-        return 1;
-    }
-    0
-}
 
 // The option of a rule's right side.
 fn option_number(o: OptionTerm) -> u32
@@ -31,7 +21,7 @@ fn option_number(o: OptionTerm) -> u32
 }
 
 // The heading at a place: the clock, the last label, and how many records each body has.
-fn heading_at(s: &[u8], at: usize) -> [u32; 15]
+fn heading_numbers(s: &[u8], at: usize) -> [u32; 15]
     requires { ⌜ at + 32 ≤ length (now s) ⌝ }
     ensures { λ r. ⌜ r ≡ padded (numbersOf Heading (drop at (now (s .entry)))) ⌝ }
 {
@@ -62,7 +52,7 @@ fn heading_at(s: &[u8], at: usize) -> [u32; 15]
 }
 
 // The object with a subject at a place.
-fn privilege_at(s: &[u8], at: usize) -> [u32; 15]
+fn privilege_numbers(s: &[u8], at: usize) -> [u32; 15]
     requires { ⌜ at + 4 ≤ length (now s) ⌝ }
     ensures { λ r. ⌜ r ≡ padded (numbersOf Objects (drop at (now (s .entry)))) ⌝ }
 {
@@ -87,7 +77,7 @@ fn privilege_at(s: &[u8], at: usize) -> [u32; 15]
 }
 
 // The authorization at a place.
-fn authorization_at(s: &[u8], at: usize) -> [u32; 15]
+fn authorization_numbers(s: &[u8], at: usize) -> [u32; 15]
     requires { ⌜ at + 24 ≤ length (now s) ⌝ }
     ensures { λ r. ⌜ r ≡ padded (numbersOf Authorizations (drop at (now (s .entry)))) ⌝ }
 {
@@ -100,8 +90,8 @@ fn authorization_at(s: &[u8], at: usize) -> [u32; 15]
         h.subject as u32,
         h.object as u32,
         h.mode as u32,
-        bit(h.negative),
-        bit(h.option),
+        as_bit(h.negative) as u32,
+        as_bit(h.option) as u32,
         h.granted,
         i.start,
         i.end,
@@ -114,7 +104,7 @@ fn authorization_at(s: &[u8], at: usize) -> [u32; 15]
 }
 
 // The rule at a place.
-fn rule_at(s: &[u8], at: usize) -> [u32; 15]
+fn rule_numbers(s: &[u8], at: usize) -> [u32; 15]
     requires { ⌜ at + 28 ≤ length (now s) ⌝ }
     ensures { λ r. ⌜ r ≡ padded (numbersOf Rules (drop at (now (s .entry)))) ⌝ }
 {
@@ -130,12 +120,12 @@ fn rule_at(s: &[u8], at: usize) -> [u32; 15]
         left.subject as u32,
         left.mode as u32,
         left.object as u32,
-        bit(left.negative),
+        as_bit(left.negative) as u32,
         encoding::operator_number(operator) as u32,
         right.subject as u32,
         right.mode as u32,
         right.object as u32,
-        bit(right.negative),
+        as_bit(right.negative) as u32,
         r.grantor as u32,
         option_number(option),
         i.start,
@@ -144,16 +134,16 @@ fn rule_at(s: &[u8], at: usize) -> [u32; 15]
 }
 
 // The record of a body at a place.
-pub fn numbers_at(s: &[u8], at: usize, body: Body) -> [u32; 15]
-    requires { ⌜ at + bytesOf body ≤ length (now s) ⌝ }
-    ensures { λ r. ⌜ r ≡ padded (numbersOf body (drop at (now (s .entry)))) ⌝ }
+pub fn numbers_at(s: &[u8], at: usize, source: Body) -> [u32; 15]
+    requires { ⌜ at + recordBytes source ≤ length (now s) ⌝ }
+    ensures { λ r. ⌜ r ≡ padded (numbersOf source (drop at (now (s .entry)))) ⌝ }
 {
-    match body {
-        Body::Heading => heading_at(s, at),
-        Body::Objects => privilege_at(s, at),
-        Body::Administrators => privilege_at(s, at),
-        Body::Referrers => privilege_at(s, at),
-        Body::Authorizations => authorization_at(s, at),
-        Body::Rules => rule_at(s, at),
+    match source {
+        Body::Heading => heading_numbers(s, at),
+        Body::Objects => privilege_numbers(s, at),
+        Body::Administrators => privilege_numbers(s, at),
+        Body::Referrers => privilege_numbers(s, at),
+        Body::Authorizations => authorization_numbers(s, at),
+        Body::Rules => rule_numbers(s, at),
     }
 }

@@ -2,15 +2,15 @@
 ghost use mathlib.Core.Path.{_≡_};
 ghost use mathlib.Core.Bool.{true};
 ghost use mathlib.Core.List.{_++_};
-ghost use Prim.Native.Nat.{_+_, _*_, _≤_};
+ghost use Prim.Native.Nat.{_+_, _*_, _≤_, min};
 ghost use lib.ListN.{length, drop};
 ghost use lib.Seq.{paste};
 ghost use Rattle.model.specs.Soundness.{soundBytes};
 ghost use Rattle.model.specs.Answers.{answering};
 ghost use Rattle.records.specs.Records.{widthOf, pageAnswer};
-ghost use Rattle.records.specs.Pages.{bytesOf, placeOf, joined, numbersOf, least};
+ghost use Rattle.records.specs.Pages.{recordBytes, layoutOf, joinedNumbers, numbersOf};
 use crate::Body;
-use crate::Place;
+use crate::Layout;
 use crate::numbers::numbers_at;
 use encoding::Counts;
 use model::AUTHORIZATION_BYTES;
@@ -19,41 +19,41 @@ use model::RULE_BYTES;
 use model::Reply;
 
 // Where the records of a body stand.
-fn place_of(c: Counts, body: Body) -> Place
-    ensures { λ r. ⌜ r ≡ placeOf c body ⌝ }
+fn layout_of(c: Counts, source: Body) -> Layout
+    ensures { λ r. ⌜ r ≡ layoutOf c source ⌝ }
 {
-    match body {
-        Body::Heading => Place {
+    match source {
+        Body::Heading => Layout {
             count: 1,
             at: 0,
             bytes: 32,
             width: 7,
         },
-        Body::Objects => Place {
+        Body::Objects => Layout {
             count: c.objects as usize,
             at: 32,
             bytes: PRIVILEGE_BYTES,
             width: 2,
         },
-        Body::Administrators => Place {
+        Body::Administrators => Layout {
             count: c.administrators as usize,
             at: encoding::administrators_at(c),
             bytes: PRIVILEGE_BYTES,
             width: 2,
         },
-        Body::Referrers => Place {
+        Body::Referrers => Layout {
             count: c.referrers as usize,
             at: encoding::referrers_at(c),
             bytes: PRIVILEGE_BYTES,
             width: 2,
         },
-        Body::Authorizations => Place {
+        Body::Authorizations => Layout {
             count: c.authorizations as usize,
             at: encoding::authorizations_at(c),
             bytes: AUTHORIZATION_BYTES,
             width: 10,
         },
-        Body::Rules => Place {
+        Body::Rules => Layout {
             count: c.rules as usize,
             at: encoding::rules_at(c),
             bytes: RULE_BYTES,
@@ -75,17 +75,19 @@ fn put(from: &[u32; 15], k: usize, list: &mut [u32], to: usize)
 }
 
 // Copies k records that stand from a place on to the front of the list.
-fn fill(s: &[u8], body: Body, bytes: usize, width: usize, from: usize, k: usize, list: &mut [u32])
-    requires { ⌜ (bytes ≡ bytesOf body) × (width ≡ widthOf body)
-        × (from + bytesOf body * k ≤ length (now s)) × (widthOf body * k ≤ length (now list)) ⌝ }
-    ensures { λ _. ⌜ now (list .exit) ≡ joined (bytesOf body) (numbersOf body) k (drop from (now (s .entry)))
-        ++ drop (widthOf body * k) (now (list .entry)) ⌝ }
+fn fill(s: &[u8], source: Body, bytes: usize, width: usize, from: usize, k: usize, list: &mut [u32])
+    requires { ⌜ (bytes ≡ recordBytes source) × (width ≡ widthOf source)
+        × (from + recordBytes source * k ≤ length (now s)) × (widthOf source * k ≤ length (now list))
+        ⌝ }
+    ensures { λ _. ⌜ now (list .exit) ≡ joinedNumbers (recordBytes source) (numbersOf source) k
+        (drop from (now (s .entry)))
+        ++ drop (widthOf source * k) (now (list .entry)) ⌝ }
 {
     let mut at = from;
     let mut to = 0;
     let mut i = 0;
     while i < k {
-        let numbers = numbers_at(s, at, body);
+        let numbers = numbers_at(s, at, source);
         put(&numbers, width, list, to);
         at += bytes;
         to += width;
@@ -95,7 +97,7 @@ fn fill(s: &[u8], body: Body, bytes: usize, width: usize, from: usize, k: usize,
 
 // The lesser number.
 fn least_of(a: usize, b: usize) -> usize
-    ensures { λ r. ⌜ r ≡ least a b ⌝ }
+    ensures { λ r. ⌜ r ≡ min a b ⌝ }
 {
     if a <= b {
         return a;
@@ -104,12 +106,12 @@ fn least_of(a: usize, b: usize) -> usize
 }
 
 // The records of a body from the first on, as many as the list has room for.
-pub fn page(s: &[u8], body: Body, first: usize, list: &mut [u32]) -> Reply
+pub fn page(s: &[u8], source: Body, first: usize, list: &mut [u32]) -> Reply
     requires { ⌜ soundBytes (now s) ≡ true ⌝ }
     ensures { λ r. ⌜ answering r (now (list .exit))
-        ≡ pageAnswer (now (s .entry)) body first (now (list .entry)) ⌝ }
+        ≡ pageAnswer (now (s .entry)) source first (now (list .entry)) ⌝ }
 {
-    let p = place_of(encoding::counts_of(s), body);
+    let p = layout_of(encoding::counts_of(s), source);
     let bytes = p.bytes;
     let width = p.width;
     if p.count < first {
@@ -119,6 +121,6 @@ pub fn page(s: &[u8], body: Body, first: usize, list: &mut [u32]) -> Reply
         return Reply::Refused(13);
     }
     let k = least_of(list.len() / width, p.count - first);
-    fill(s, body, bytes, width, p.at + bytes * first, k, list);
+    fill(s, source, bytes, width, p.at + bytes * first, k, list);
     Reply::Runs(k as u32)
 }

@@ -5,7 +5,7 @@ use Prim.Native.Nat.{ℕ, _+_, _*_, _≤_}
 use native.Mathlib.Omega.{arith}
 use lib.ListN.{length, take, drop}
 use lib.Seq.{drop-at, length-take-le}
-use Rattle.foundation.specs.Records.{records-split, records-copy}
+use Rattle.foundation.specs.ByteRecords.{records-split, records-copy}
 use Rattle.fields.specs.Field.{splice}
 use Rattle.fields.proofs.ByteLaws.{splice-join}
 use Rattle.model.specs.declared.Rule.{Rule}

@@ -16,7 +16,7 @@ use Rattle.model.specs.Stratification.{stratified}
 use Rattle.model.specs.StratificationFacts.{label-free}
 use Rattle.model.specs.Step.{namesObject, noObject, noLabel, notPermitted, alreadyThere, notHeld}
 use Rattle.model.specs.Step.{anyObject, leftObject, rightObject, notStratified}
-use Rattle.lookup.specs.Numbers.{hasLabel, ofOther, labelled, ofOtherAuthor}
+use Rattle.lookup.specs.NarrowedNumbers.{hasLabel, ofOther, labelled, ofOtherAuthor}
 
 abbrev oneOf : ℕ → List ℕ → Bool
 oneOf k kinds = anyb (λ j. eqb k j) kinds

@@ -1,4 +1,4 @@
-pub mod Tests
+pub mod JoinedTests
 pub mod ByKind
 pub mod Added
 pub mod AskedFacts

@@ -5,42 +5,41 @@ use mathlib.Core.Path.{_≡_}
 use mathlib.Core.Logic.{_≢_}
 use Prim.Native.Nat.{ℕ}
 use mathlib.Core.Bool.{Bool, _&&_}
-use mathlib.Core.List.{List, [], _∷_, _++_}
+use mathlib.Core.List.{List, [], _∷_}
 use lib.Dec.{eqb}
 use Rattle.foundation.specs.Tests.{pick}
 use Rattle.model.specs.declared.Request.{Request}
 use Rattle.model.specs.Base.{Base}
 use Rattle.model.specs.Means.{plainly}
-use Rattle.model.specs.Step.{Row, row, firstNumber, outOfRange, behindClock, badInterval, noObject, noLabel}
-use Rattle.model.specs.Step.{notPermitted, barred, notSupported, earliestGap, alreadyThere, notHeld}
-use Rattle.model.specs.Step.{notStratified}
+use Rattle.model.specs.Step.{Row, firstNumber, earliestGap, table}
 use Rattle.refusals.specs.declared.Early.{Early}
 use Rattle.refusals.specs.declared.Early.the-variants.{Passed, Number, Uncovered}
+
+-- the rows that stand before the one numbered n, and those behind it
+abbrev rowsBefore : ℕ → List Row → List Row
+rowsBefore n [] = []
+rowsBefore n (r ∷ rest) = pick (eqb (r .number) n) [] (r ∷ rowsBefore n rest)
+
+abbrev rowsBehind : ℕ → List Row → List Row
+rowsBehind n [] = []
+rowsBehind n (r ∷ rest) = pick (eqb (r .number) n) rest (rowsBehind n rest)
 
 module _ (b : Base) (q : Request) where
   -- the rows before row 9
   abbrev pub rowsBeforeCover : List Row
-  rowsBeforeCover =
-      (row 3 (outOfRange q)
-      ∷ row 4 (behindClock b q)
-      ∷ row 5 (badInterval q)
-      ∷ row 6 (noObject b q)
-      ∷ row 7 (noLabel b q)
-      ∷ row 8 (notPermitted b q)
-      ∷ row 14 (barred b q)
-      ∷ [])
+  rowsBeforeCover = rowsBefore 9 (table plainly b q)
 
   -- the rows between row 9 and row 12
   abbrev pub rowsBehindCover : List Row
-  rowsBehindCover = row 10 (alreadyThere b q) ∷ row 11 (notHeld b q) ∷ []
+  rowsBehindCover = rowsBefore 12 (rowsBehind 9 (table plainly b q))
 
   -- the rows before row 12
   abbrev pub rowsBeforeStrata : List Row
-  rowsBeforeStrata = rowsBeforeCover ++ (row 9 (notSupported plainly b q) ∷ rowsBehindCover)
+  rowsBeforeStrata = rowsBefore 12 (table plainly b q)
 
   -- the table without its last row, 13
   abbrev pub earlyRows : List Row
-  earlyRows = rowsBeforeStrata ++ (row 12 (notStratified b q) ∷ [])
+  earlyRows = rowsBefore 13 (table plainly b q)
 
   -- what an answer says where n is the number of the first row that applies
   abbrev pub saysOf : ℕ → Early → Type 0

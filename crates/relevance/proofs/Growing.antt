@@ -27,7 +27,7 @@ after-le ms m = go (next-is m 4294967296 ms)
 
 module _ (ms : List ℕ) (from to width : ℕ) where
   -- `count` instants, and the one that comes next
-  pub record Grown (marks : List ℕ) (count t : ℕ) : Type 0 where
+  pub record MarksGrown (marks : List ℕ) (count t : ℕ) : Type 0 where
     pub full : length marks ≡ 63
     pub few : count ≤ width
     pub start : count ≡ 0 → t ≡ from
@@ -37,7 +37,8 @@ module _ (ms : List ℕ) (from to width : ℕ) where
     pub within : (i : ℕ) → i < count → getD marks i 0 ≤ to
     pub bounded : t ≤ 4294967296
 
-  pub grown-start : (marks : List ℕ) → length marks ≡ 63 → from ≤ to → to < 4294967296 → Grown marks 0 from
+  pub grown-start : (marks : List ℕ) → length marks ≡ 63 → from ≤ to → to < 4294967296 → MarksGrown marks 0
+      from
   grown-start marks l h b = record {
     full = l;
     few = omega arith;
@@ -70,7 +71,8 @@ module _ (ms : List ℕ) (from to width : ℕ) where
         whole = λ h. omega arith;
       }
 
-  module _ (room : width ≤ 63) (marks : List ℕ) (count t : ℕ) (g : Grown marks count t) (h : count < width)
+  module _ (room : width ≤ 63) (marks : List ℕ) (count t : ℕ) (g : MarksGrown marks count t)
+      (h : count < width)
       (l : t ≤ to) where
     here : getD (set marks count t) count 0 ≡ t
     here = getD-set-same marks count t 0 (omega (arith, g .full))
@@ -99,7 +101,7 @@ module _ (ms : List ℕ) (from to width : ℕ) where
         (λ e. let j : i ≡ count = omega (arith, false-le (suc i) count e) in
         omega (arith, ap (λ (n : ℕ). getD (set marks count t) n 0) j, here))
 
-    pub grown-turn : (t' : ℕ) → t' ≡ after ms t → Grown (set marks count t) (count + 1) t'
+    pub grown-turn : (t' : ℕ) → t' ≡ after ms t → MarksGrown (set marks count t) (count + 1) t'
     grown-turn t' e = record {
       full = length-set marks count t ∙ g .full;
       few = omega arith;
@@ -112,7 +114,7 @@ module _ (ms : List ℕ) (from to width : ℕ) where
       bounded = omega (arith, after-le ms t);
     }
 
-  module _ (marks : List ℕ) (count t : ℕ) (g : Grown marks count t) (h : from ≤ to) (b : to < 4294967296)
+  module _ (marks : List ℕ) (count t : ℕ) (g : MarksGrown marks count t) (h : from ≤ to) (b : to < 4294967296)
       (w : 1 ≤ width) (stop : ltb count width && leb t to ≡ false) where
     some : 1 ≤ count
     some = cases (leb count 0)

@@ -1,5 +1,5 @@
 -- `Nearness` has marks by their distance, and the order in which marks are looked at; `Growing` a window that
--- is being filled; `Keeping` numbers that are kept by a test.
+-- is being filled; `KeptNumbers` numbers that are kept by a test.
 pub mod Nearness
 pub mod Growing
-pub mod Keeping
+pub mod KeptNumbers

@@ -4,29 +4,29 @@ use mathlib.Core.Path.{_≡_, refl, sym, ap, _∙_, subst}
 use mathlib.Core.Bool.{Bool, true, false, _&&_, false≢true}
 use mathlib.Core.Logic.{inl, inr}
 use mathlib.Core.List.{List, [], _∷_, _++_}
-use Prim.Native.Nat.{ℕ, zero, suc, _+_, _*_, _-_, _^_, _≤_, _<_}
+use Prim.Native.Nat.{ℕ, zero, suc, _+_, _*_, _-_, _^_, _≤_, _<_, min}
 use native.Mathlib.Nat.{zero-div}
 use native.Mathlib.Omega.{arith}
 use lib.Dec.{leb, ltb}
 use native.Mathlib.Numerals.{add-one}
 use lib.ListN.{length, drop, getD, drop-of-length-le}
 use lib.Seq.{drop-drop}
-use Rattle.foundation.specs.Tests.{pick, cases, le-true, le-false, true-le, false-le}
+use Rattle.foundation.specs.Tests.{cases, le-true, le-false, true-le, false-le}
 use Rattle.foundation.specs.Tests.{and-false, and-true}
 use Rattle.foundation.specs.Marks.{next, next-above}
-use Rattle.foundation.specs.Masks.{bit}
+use Rattle.foundation.specs.BitMasks.{bit}
 use Rattle.marks.specs.Least.{Found, next-is, NextMark, next-mark}
-use Rattle.marks.specs.Marks.{sooner, next-append, next-nil}
+use Rattle.marks.specs.NextMarks.{sooner, next-append, next-nil}
 use Rattle.model.specs.declared.Authorization.{Authorization}
 use Rattle.model.specs.declared.Rule.{Rule}
 use Rattle.model.specs.Encoding.{ruleOf}
 use Rattle.model.specs.Means.{marksOf, ruleMarks, marks}
 use Rattle.encoding.specs.Format.{rulesIn}
-use Rattle.foundation.specs.Records.{record-nth, length-records}
+use Rattle.foundation.specs.ByteRecords.{record-nth, length-records}
 use Rattle.relevance.specs.Chosen.{authorizationAt, picked, picked-none, picked-more}
 use Rattle.relevance.specs.Chosen.{selectedFrom, selected}
 use Rattle.relevance.specs.Distance.{edge, lineEdges, ruleEdges, Away, reached}
-use Rattle.relevance.specs.Ahead.{Stands, NearAt, Standing}
+use Rattle.relevance.specs.Ahead.{IsNext, NearAt, Standing}
 use Rattle.relevance.specs.declared.ahead.Near.{Near}
 
 -- ---- sooner is a least number
@@ -183,15 +183,15 @@ line-turn s which ends t d i a h e =
 -- ---- rules, from the first to the last
 
 -- the marks of the needed rules from the r-th on, and what is found so far, lead to the mark looked for
-unfoldable pub Left : List ℕ → ℕ → ℕ → Bool → ℕ → ℕ → ℕ → Type 0
-Left body k needed ends t best r =
+unfoldable pub MarksLeft : List ℕ → ℕ → ℕ → Bool → ℕ → ℕ → ℕ → Type 0
+MarksLeft body k needed ends t best r =
     next t (ruleEdges ends (selectedFrom needed r (drop r (rulesIn k body)))) best
     ≡ next t (ruleEdges ends (selected needed (rulesIn k body))) 4294967296
 
 module _ (body : List ℕ) (k needed : ℕ) (ends : Bool) (t : ℕ) where
   pub left-start : (r : ℕ) → ((j : ℕ) → j < r → bit j needed ≡ false) →
-      Left body k needed ends t 4294967296 r
-  unfolding Left
+      MarksLeft body k needed ends t 4294967296 r
+  unfolding MarksLeft
   left-start r h =
       ap (λ (rs : List Rule). next t (ruleEdges ends rs) 4294967296)
       (sym (skip-to needed (rulesIn k body) 0 r (omega arith) (λ j l g. h j g)))
@@ -199,9 +199,9 @@ module _ (body : List ℕ) (k needed : ℕ) (ends : Bool) (t : ℕ) where
   pub left-turn : (best more r r' : ℕ) (q : Rule) → r < k → bit r needed ≡ true →
       q ≡ ruleOf (drop (r * 28) body) →
       more ≡ sooner t (edge ends (q .interval)) best → suc r ≤ r' →
-      ((j : ℕ) → suc r ≤ j → j < r' → bit j needed ≡ false) → Left body k needed ends t best r →
-      Left body k needed ends t more r'
-  unfolding Left
+      ((j : ℕ) → suc r ≤ j → j < r' → bit j needed ≡ false) → MarksLeft body k needed ends t best r →
+      MarksLeft body k needed ends t more r'
+  unfolding MarksLeft
   left-turn best more r r' q h b e f l none i =
       let rs = rulesIn k body in
       let ms = ruleEdges ends (selectedFrom needed (suc r) (drop (suc r) rs)) in
@@ -216,9 +216,9 @@ module _ (body : List ℕ) (k needed : ℕ) (ends : Bool) (t : ℕ) where
       ∙ ap (λ (xs : List Rule). next t (ruleEdges ends xs) best) (sym here)
       ∙ i
 
-  pub left-end : (best r : ℕ) → k ≤ r → Left body k needed ends t best r →
+  pub left-end : (best r : ℕ) → k ≤ r → MarksLeft body k needed ends t best r →
       best ≡ next t (ruleEdges ends (selected needed (rulesIn k body))) 4294967296
-  unfolding Left
+  unfolding MarksLeft
   left-end best r h i =
       let rs = rulesIn k body in
       let l = length-records 28 ruleOf k body in
@@ -237,24 +237,33 @@ pub reached-near : (t d : ℕ) → d < 4294967295 - t → reached t d ≡ t + 1 
 unfolding reached
 reached-near t d h = rw (le-true (suc d) (4294967295 - t) h)
 
+min-left : (a b : ℕ) → a ≤ b → min a b ≡ a
+min-left a b h = omega arith
+
+min-right : (a b : ℕ) → b ≤ a → min a b ≡ b
+min-right a b h = omega arith
+
 -- the lesser distance is that of the sooner mark, a being the distance of m
 pub closer : (t best a m : ℕ) → t < 4294967296 → Away t m a →
-    reached t (pick (ltb best a) best a) ≡ sooner t m (reached t best)
+    reached t (min best a) ≡ sooner t m (reached t best)
 unfolding reached
 closer t best a m ht w = let hm = w .bounded in cases (leb m t)
     (λ e. let h = true-le m t e in
     let f = w .far h in
     cases (ltb best a)
-    (λ l. rw l (sym (sooner-past t m (reached t best) h)))
+    (λ l. let k = true-le (suc best) a l in
+    ap (reached t) (min-left best a (omega arith)) ∙ sym (sooner-past t m (reached t best) h))
     (λ l. let k = false-le (suc best) a l in
-    rw l (reached-none t a (omega arith)
-    ∙ sym (sooner-past t m (reached t best) h ∙ reached-none t best (omega arith)))))
+    ap (reached t) (min-right best a (omega arith)) ∙ reached-none t a (omega arith)
+    ∙ sym (sooner-past t m (reached t best) h ∙ reached-none t best (omega arith))))
     (λ e. let h = false-le m t e in
     let f = w .near h in
     cases (ltb best a)
     (λ l. let k = true-le (suc best) a l in
-    rw l (sym (sooner-high t m (reached t best) (some best m (omega arith) hm))))
-    (λ l. let k = false-le (suc best) a l in rw l (here h f (omega arith))))
+    ap (reached t) (min-left best a (omega arith))
+    ∙ sym (sooner-high t m (reached t best) (some best m (omega arith) hm)))
+    (λ l. let k = false-le (suc best) a l in
+    ap (reached t) (min-right best a (omega arith)) ∙ here h f (omega arith)))
   where
     some : (d m : ℕ) → t + 1 + d < m → m ≤ 4294967296 → reached t d ≤ m
     some d m h l = omega (arith, reached-near t d (omega arith))
@@ -306,49 +315,33 @@ rule-kinds t (x ∷ xs) d =
     ap (λ (k : ℕ). sooner t s (sooner t e k)) (rule-kinds t xs d)
     ∙ ap (sooner t s) (next-first t e fs (next t (ruleEdges true xs) d))
 
-abbrev pub low : ℕ → ℕ → ℕ
-low a b = pick (ltb a b) a b
-
-low-le : (a b : ℕ) → (low a b ≤ a) × (low a b ≤ b)
-low-le a b = cases (ltb a b)
-    (λ e. rw e (omega arith, omega (arith, true-le (suc a) b e)))
-    (λ e. rw e (omega (arith, false-le (suc a) b e), omega arith))
-
-low-left : (a b : ℕ) → a ≤ b → low a b ≡ a
-low-left a b h = cases (ltb a b)
-    (λ e. rw e)
-    (λ e. rw e (omega (arith, false-le (suc a) b e)))
-
-low-right : (a b : ℕ) → b ≤ a → low a b ≡ b
-low-right a b h = rw (le-false (suc a) b (omega arith))
-
 -- a mark that is sooner than the lesser of two
-sooner-least : (t m x d : ℕ) → sooner t m (low x d) ≡ low (sooner t m x) d
+sooner-least : (t m x d : ℕ) → sooner t m (min x d) ≡ min (sooner t m x) d
 sooner-least t m x d = cases (leb m t)
     (λ e. let h = true-le m t e in
-    sooner-past t m (low x d) h ∙ sym (ap (λ (k : ℕ). low k d) (sooner-past t m x h)))
+    sooner-past t m (min x d) h ∙ sym (ap (λ (k : ℕ). min k d) (sooner-past t m x h)))
     (λ e. let h = false-le m t e in cases (ltb m x)
     (λ f. let l = true-le (suc m) x f in
     let q : sooner t m x ≡ m = sooner-low t m x h l in
     cases (ltb m d)
     (λ g. let k = true-le (suc m) d g in
-    sooner-low t m (low x d) h (above l k) ∙ sym (ap (λ (n : ℕ). low n d) q ∙ low-left m d (omega arith)))
+    sooner-low t m (min x d) h (above l k) ∙ sym (ap (λ (n : ℕ). min n d) q ∙ min-left m d (omega arith)))
     (λ g. let k = false-le (suc m) d g in
-    let p : low x d ≡ d = low-right x d (omega arith) in
+    let p : min x d ≡ d = min-right x d (omega arith) in
     ap (sooner t m) p ∙ sooner-high t m d (omega arith)
-    ∙ sym (ap (λ (n : ℕ). low n d) q ∙ low-right m d (omega arith))))
+    ∙ sym (ap (λ (n : ℕ). min n d) q ∙ min-right m d (omega arith))))
     (λ f. let l = false-le (suc m) x f in
-    sooner-high t m (low x d) (omega (arith, low-le x d))
-    ∙ sym (ap (λ (n : ℕ). low n d) (sooner-high t m x (omega arith)))))
+    sooner-high t m (min x d) (omega arith)
+    ∙ sym (ap (λ (n : ℕ). min n d) (sooner-high t m x (omega arith)))))
   where
-    above : m < x → m < d → m < low x d
-    above h l = cases (ltb x d) (λ e. rw e h) (λ e. rw e l)
+    above : m < x → m < d → m < min x d
+    above h l = omega arith
 
 -- marks are looked at from d on, or by themselves
 next-least-of : (t : ℕ) (ms : List ℕ) (d : ℕ) → d ≤ 4294967296 →
-    next t ms d ≡ low (next t ms 4294967296) d
+    next t ms d ≡ min (next t ms 4294967296) d
 unfolding next
-next-least-of t [] d h = sym (low-right 4294967296 d h)
+next-least-of t [] d h = sym (min-right 4294967296 d h)
 next-least-of t (m ∷ ms) d h =
     ap (sooner t m) (next-least-of t ms d h) ∙ sooner-least t m (next t ms 4294967296) d
 
@@ -383,41 +376,36 @@ next-stands t m (x ∷ ms) h l =
 
 module _ (xs : List Authorization) (rs : List Rule) (t : ℕ) (n : Near) (w : NearAt xs rs t n) where
   abbrev least-rule : ℕ
-  least-rule = low (n .rules .starts) (n .rules .ends)
+  least-rule = min (n .rules .starts) (n .rules .ends)
 
   abbrev least-end : ℕ
-  least-end = low (n .lines .ends) least-rule
+  least-end = min (n .lines .ends) least-rule
 
   -- the next mark is the least of the four
-  pub least-mark : low (n .lines .starts) least-end ≡ next t (marks xs rs) 4294967296
+  pub least-mark : min (n .lines .starts) least-end ≡ next t (marks xs rs) 4294967296
   least-mark =
       let a : ℕ = next t (ruleEdges true rs) 4294967296 in
       let b : ℕ = next t (ruleEdges false rs) a in
       let c : ℕ = next t (lineEdges true xs) b in
       let p : b ≡ least-rule =
       next-least-of t (ruleEdges false rs) a (next-bounded t (ruleEdges true rs))
-      ∙ ap (λ (k : ℕ). low k a) (sym (w .rule-starts)) ∙ ap (low (n .rules .starts)) (sym (w .rule-ends)) in
+      ∙ ap (λ (k : ℕ). min k a) (sym (w .rule-starts)) ∙ ap (min (n .rules .starts)) (sym (w .rule-ends)) in
       let u : a ≤ 4294967296 = next-bounded t (ruleEdges true rs) in
       let q : c ≡ least-end =
       next-least-of t (lineEdges true xs) b
-      (omega (arith, low-le (n .rules .starts) (n .rules .ends), w .rule-ends))
-      ∙ ap (λ (k : ℕ). low k b) (sym (w .line-ends)) ∙ ap (low (n .lines .ends)) p in
-      let r : next t (lineEdges false xs) c ≡ low (n .lines .starts) least-end =
+      (omega (arith, w .rule-ends))
+      ∙ ap (λ (k : ℕ). min k b) (sym (w .line-ends)) ∙ ap (min (n .lines .ends)) p in
+      let r : next t (lineEdges false xs) c ≡ min (n .lines .starts) least-end =
       next-least-of t (lineEdges false xs) c
-      (omega (
-        arith,
-        low-le (n .lines .ends) least-rule,
-        low-le (n .rules .starts) (n .rules .ends),
-        w .rule-ends,
-      ))
-      ∙ ap (λ (k : ℕ). low k c) (sym (w .line-starts)) ∙ ap (low (n .lines .starts)) q in
+      (omega (arith, w .rule-ends))
+      ∙ ap (λ (k : ℕ). min k c) (sym (w .line-starts)) ∙ ap (min (n .lines .starts)) q in
       sym (next-append t (marksOf xs) (ruleMarks rs) 4294967296
       ∙ ap (next t (marksOf xs)) (rule-kinds t rs 4294967296)
       ∙ line-kinds t xs b
       ∙ r)
 
   -- what is promised of it
-  pub promised : (m : ℕ) → m ≡ low (n .lines .starts) least-end →
+  pub promised : (m : ℕ) → m ≡ min (n .lines .starts) least-end →
       (m ≡ next t (marks xs rs) 4294967296) × NextMark xs rs t m × Standing xs rs m n
   promised m e =
       let f : m ≡ next t (marks xs rs) 4294967296 = e ∙ least-mark in
@@ -433,5 +421,5 @@ module _ (xs : List Authorization) (rs : List Rule) (t : ℕ) (n : Near) (w : Ne
         },
       )
     where
-      stands : t < m → (ms : List ℕ) (k : ℕ) → k ≡ next t ms 4294967296 → Stands m ms k
+      stands : t < m → (ms : List ℕ) (k : ℕ) → k ≡ next t ms 4294967296 → IsNext m ms k
       stands h ms k q l = q ∙ next-stands t m ms (omega arith) (omega arith)

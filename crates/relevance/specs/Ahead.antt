@@ -10,8 +10,8 @@ use Rattle.relevance.specs.Distance.{lineEdges, ruleEdges}
 use Rattle.relevance.specs.declared.ahead.Near.{Near}
 
 -- k is the next mark behind t, if it lies behind it
-abbrev pub Stands : ℕ → List ℕ → ℕ → Type 0
-Stands t ms k = t < k → k ≡ next t ms 4294967296
+abbrev pub IsNext : ℕ → List ℕ → ℕ → Type 0
+IsNext t ms k = t < k → k ≡ next t ms 4294967296
 
 module _ (xs : List Authorization) (rs : List Rule) (t : ℕ) (n : Near) where
   -- the next mark of each kind behind t
@@ -24,7 +24,7 @@ module _ (xs : List Authorization) (rs : List Rule) (t : ℕ) (n : Near) where
 
   -- the same of those that lie behind t
   pub record Standing : Type 0 where
-    pub line-starts : Stands t (lineEdges false xs) (n .lines .starts)
-    pub line-ends : Stands t (lineEdges true xs) (n .lines .ends)
-    pub rule-starts : Stands t (ruleEdges false rs) (n .rules .starts)
-    pub rule-ends : Stands t (ruleEdges true rs) (n .rules .ends)
+    pub line-starts : IsNext t (lineEdges false xs) (n .lines .starts)
+    pub line-ends : IsNext t (lineEdges true xs) (n .lines .ends)
+    pub rule-starts : IsNext t (ruleEdges false rs) (n .rules .starts)
+    pub rule-ends : IsNext t (ruleEdges true rs) (n .rules .ends)

@@ -8,7 +8,7 @@ use lib.ListN.{length, take, drop, getD}
 use lib.Seq.{take-suc, drop-nil}
 use Rattle.foundation.specs.Tests.{pick}
 use Rattle.foundation.specs.Lists.{keepIf}
-use Rattle.foundation.specs.Masks.{bit}
+use Rattle.foundation.specs.BitMasks.{bit}
 use Rattle.model.specs.declared.Authorization.{Authorization}
 use Rattle.model.specs.Encoding.{authorizationOf}
 use Rattle.model.specs.Means.{marks}

@@ -7,9 +7,10 @@ use mathlib.Core.List.{List, [], _∷_}
 use Prim.Native.Nat.{ℕ, _+_, _*_, _-_, _≤_, _<_}
 use lib.Dec.{eqb, leb}
 use lib.ListN.{length, getD}
-use Rattle.foundation.specs.Tests.{pick, and-true, true-le}
+use Rattle.foundation.specs.Tests.{and-true, true-le}
 use Rattle.foundation.specs.Lists.{keepIf, conjunct}
-use Rattle.foundation.specs.Masks.{bit}
+use Rattle.foundation.specs.BitMasks.{bit}
+use Rattle.foundation.specs.CoordinateTables.{coordinate}
 use Rattle.foundation.specs.declared.Interval.{Interval}
 use Rattle.model.specs.declared.Access.{Access}
 use Rattle.model.specs.declared.Authorization.{Authorization}
@@ -21,10 +22,6 @@ use Rattle.relevance.specs.declared.choice.Cell.{Cell}
 use native.Mathlib.Omega.{arith}
 use Rattle.relevance.specs.Chosen.{authorizationAt, picked, Picks, number-inside}
 use Rattle.relevance.specs.Forgotten.{during}
-
--- the coordinate of v by a table U, 0 for the one that is asked about and 255 for one that has none
-abbrev pub coordinate : List ℕ → ℕ → ℕ → ℕ
-coordinate U own v = pick (eqb (getD U v 0) 0) (pick (eqb v own) 0 255) (getD U v 0)
 
 abbrev pub cellOf : List ℕ → List ℕ → Access → Head → Cell
 cellOf subjects objects x h = record {
@@ -52,13 +49,13 @@ isChosen asked subjects objects x stride need a =
     during (asked .start) (asked .end) a && isNeeded subjects objects x stride need a
 
 -- what a sound base says of an authorization, as far as the tables need it
-pub record Placed (h : Head) : Type 0 where
+pub record HeadInRange (h : Head) : Type 0 where
   pub subject : h .subject < 1024
   pub object : h .object < 130
   pub some : 1 ≤ h .mode
   pub mode : h .mode ≤ 8
 
-pub placed-in : (a : Authorization) → authorizationIn a ≡ true → Placed (a .head)
+pub placed-in : (a : Authorization) → authorizationIn a ≡ true → HeadInRange (a .head)
 placed-in a e =
     let h = a .head in
     let t = conjunct (isLabel (h .label) ∷ isSubject (h .grantor) ∷ isSubject (h .subject)
@@ -75,7 +72,7 @@ placed-in a e =
     }
 
 -- coordinates that are both there have their place in the table
-pub record Charted (c : Cell) (stride : ℕ) (need : List ℕ) : Type 0 where
+pub record CellInTable (c : Cell) (stride : ℕ) (need : List ℕ) : Type 0 where
   pub narrow : stride ≤ 256
   pub object : c .object ≤ 255
   pub subject : c .subject ≤ 255
@@ -83,10 +80,11 @@ pub record Charted (c : Cell) (stride : ℕ) (need : List ℕ) : Type 0 where
       need
 
 -- the bytes hold the authorizations, the tables have room for their places, and the list for their numbers
-pub record Ready (s : List ℕ) (total : ℕ) (subjects objects : List ℕ) (stride : ℕ) (need which : List ℕ) :
+pub record ChoiceReady (s : List ℕ) (total : ℕ) (subjects objects : List ℕ) (stride : ℕ)
+    (need which : List ℕ) :
     Type 0 where
   pub bytes : total * 24 ≤ length s
-  pub placed : (i : ℕ) → i < total → Placed (authorizationAt s i .head)
+  pub placed : (i : ℕ) → i < total → HeadInRange (authorizationAt s i .head)
   pub narrow : stride ≤ 256
   pub columns : (v : ℕ) → getD subjects v 0 < stride
   pub rows : (v : ℕ) → (getD objects v 0 + 1) * stride ≤ length need

@@ -12,11 +12,11 @@ ghost use Rattle.encoding.specs.Format.{rulesIn};
 ghost use Rattle.marks.specs.Least.{NextMark};
 ghost use Rattle.relevance.specs.Chosen.{Picks, picked, selected, Matters};
 ghost use Rattle.relevance.specs.Distance.{lineEdges, ruleEdges};
-ghost use Rattle.relevance.specs.Ahead.{Stands, NearAt, Standing};
+ghost use Rattle.relevance.specs.Ahead.{IsNext, NearAt, Standing};
 use crate::Chosen;
-use crate::distance::lesser;
 use crate::distance::nearest_line;
 use crate::distance::nearest_rule;
+use fields::lesser;
 
 // The next start, and the next instant behind an end; 2^32 where there is none.
 pub struct Edges {
@@ -44,7 +44,7 @@ pub fn nothing_near() -> Near
 // The next mark of one kind of n authorizations: the known one, if it is above t.
 fn line_ahead(lines: &[u8], which: &[u16], n: usize, ends: bool, t: u32, known: u64) -> u64
     requires { ⌜ Picks (now lines) (now which) n
-        × Stands t (lineEdges ends (picked (now lines) (now which) n)) known ⌝ }
+        × IsNext t (lineEdges ends (picked (now lines) (now which) n)) known ⌝ }
     ensures { λ r. ⌜ r
         ≡ next t (lineEdges ends (picked (now (lines .entry)) (now (which .entry)) n)) 4294967296 ⌝ }
 {
@@ -57,7 +57,7 @@ fn line_ahead(lines: &[u8], which: &[u16], n: usize, ends: bool, t: u32, known: 
 // The same of the rules of k that are needed.
 fn rule_ahead(body: &[u8], k: usize, needed: u64, ends: bool, t: u32, known: u64) -> u64
     requires { ⌜ (k * 28 ≤ length (now body)) × (k ≤ 64)
-        × Stands t (ruleEdges ends (selected needed (rulesIn k (now body)))) known ⌝ }
+        × IsNext t (ruleEdges ends (selected needed (rulesIn k (now body)))) known ⌝ }
     ensures { λ r. ⌜ r
         ≡ next t (ruleEdges ends (selected needed (rulesIn k (now (body .entry))))) 4294967296 ⌝ }
 {

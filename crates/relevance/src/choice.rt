@@ -4,11 +4,11 @@ ghost use mathlib.Core.Path.{_≡_};
 ghost use Prim.Native.Nat.{_+_, _≤_, _<_};
 ghost use lib.Dec.{eqb};
 ghost use Rattle.foundation.specs.Tests.{pick};
-ghost use Rattle.foundation.specs.Masks.{asBit};
+ghost use Rattle.foundation.specs.BitMasks.{asBit};
 ghost use Rattle.foundation.specs.Intervals.{interval};
 ghost use Rattle.relevance.specs.Chosen.{Picks};
 ghost use Rattle.relevance.specs.Needed.{bothAt, cellOf, neededIn, isChosen};
-ghost use Rattle.relevance.specs.Needed.{Charted, Placed, Ready, Choice};
+ghost use Rattle.relevance.specs.Needed.{CellInTable, HeadInRange, ChoiceReady, Choice};
 ghost use Rattle.relevance.specs.Forgotten.{Forgets};
 use encoding::authorization_at;
 use foundation::Interval;
@@ -54,10 +54,7 @@ pub fn cell_of(h: Head, x: Access, subjects: &[u8; 1024], objects: &[u8; 130]) -
 pub fn sign_of(negative: bool) -> u32
     ensures { λ r. ⌜ r ≡ asBit negative ⌝ }
 {
-    if negative {
-        return 1;
-    }
-    0
+    fields::as_bit(negative) as u32
 }
 
 // Whether mode m is needed with both signs.
@@ -70,7 +67,7 @@ fn both_at(w: u16, m: u32) -> bool
 
 // Whether an authorization is needed, c being its coordinates.
 fn is_needed(h: Head, c: Cell, stride: u32, need: &[u16]) -> bool
-    requires { ⌜ Placed h × Charted c stride (now need) ⌝ }
+    requires { ⌜ HeadInRange h × CellInTable c stride (now need) ⌝ }
     ensures { λ r. ⌜ r ≡ neededIn stride (now (need .entry)) c h ⌝ }
 {
     let s = c.subject;
@@ -106,7 +103,7 @@ fn choose_during(
     need: &[u16],
     which: &mut [u16],
 ) -> usize
-    requires { ⌜ Ready (now lines) total (now subjects) (now objects) stride (now need) (now which) ⌝ }
+    requires { ⌜ ChoiceReady (now lines) total (now subjects) (now objects) stride (now need) (now which) ⌝ }
     ensures { λ r. ⌜ Choice
         (isChosen asked (now (subjects .entry)) (now (objects .entry)) x stride (now (need .entry)))
         (now (lines .entry)) total (now (which .entry)) (now (which .exit)) r ⌝ }
@@ -140,7 +137,7 @@ fn choose_needed(
     need: &[u16],
     which: &mut [u16],
 ) -> usize
-    requires { ⌜ Ready (now lines) total (now subjects) (now objects) stride (now need) (now which) ⌝ }
+    requires { ⌜ ChoiceReady (now lines) total (now subjects) (now objects) stride (now need) (now which) ⌝ }
     ensures { λ r. ⌜ Choice
         (isChosen (interval 0 4294967295) (now (subjects .entry)) (now (objects .entry)) x stride
         (now (need .entry)))
@@ -173,7 +170,7 @@ pub fn choose(
     need: &[u16],
     which: &mut [u16],
 ) -> usize
-    requires { ⌜ Ready (now lines) total (now subjects) (now objects) stride (now need) (now which) ⌝ }
+    requires { ⌜ ChoiceReady (now lines) total (now subjects) (now objects) stride (now need) (now which) ⌝ }
     ensures { λ r. ⌜ Choice
         (isChosen asked (now (subjects .entry)) (now (objects .entry)) x stride (now (need .entry)))
         (now (lines .entry)) total (now (which .entry)) (now (which .exit)) r ⌝ }

@@ -3,31 +3,21 @@
 // that the least distance is all that is looked for.
 ghost use mathlib.Core.Path.{_≡_};
 ghost use Prim.Native.Nat.{_*_, _≤_};
-ghost use lib.Dec.{ltb};
 ghost use lib.ListN.{length};
-ghost use Rattle.foundation.specs.Tests.{pick};
 ghost use Rattle.foundation.specs.Marks.{next};
 ghost use Rattle.encoding.specs.Format.{rulesIn};
-ghost use Rattle.marks.specs.Marks.{sooner};
+ghost use Rattle.marks.specs.NextMarks.{sooner};
 ghost use Rattle.relevance.specs.Chosen.{Picks, picked, selected};
 ghost use Rattle.relevance.specs.Distance.{edge, lineEdges, ruleEdges, Away, reached};
 use encoding::authorization_at;
 use encoding::rule_at;
+use fields::lesser;
 use foundation::Interval;
 use model::AUTHORIZATION_BYTES;
 use model::RULE_BYTES;
 use std::num::wrapping_sub_u32;
 use words::next_bit;
 use words::without_lowest;
-
-pub fn lesser(a: u64, b: u64) -> u64
-    ensures { λ r. ⌜ r ≡ pick (ltb a b) a b ⌝ }
-{
-    if a < b {
-        return a;
-    }
-    b
-}
 
 // The distance of an interval's start, or of the instant behind its end.
 fn distance_of(i: Interval, ends: bool, t: u32) -> u32

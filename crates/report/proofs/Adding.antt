@@ -13,7 +13,7 @@ use Rattle.model.specs.declared.Authorization.{Authorization}
 use Rattle.model.specs.Encoding.{authorizationOf}
 use Rattle.model.specs.Report.{isOn, rowsOn, reportRow}
 use Rattle.fields.specs.Field.{splice}
-use Rattle.foundation.specs.Records.{rest, rest-step}
+use Rattle.foundation.specs.ByteRecords.{rest, rest-step}
 use Rattle.printing.specs.Print.{Printed}
 
 -- what an authorization adds to the sheet

@@ -19,7 +19,7 @@ pub record Lines (s : List ℕ) (n : ℕ) : Type 0 where
   pub ranges : allb authorizationIn (authorizationsIn n s) ≡ true
 
 -- a text at the front of the page, if the page has room for it
-abbrev pub filled : List ℕ → List ℕ → Counting
-filled text page =
+abbrev pub sheetFilled : List ℕ → List ℕ → Counting
+sheetFilled text page =
     let n = length text in
     refusedOr (row 13 (ltb (length page) n) ∷ []) (declining page) (counting (Count n) (text ++ drop n page))

@@ -11,7 +11,7 @@ ghost use Rattle.model.specs.Counting.{counting};
 ghost use Rattle.model.specs.Report.{isOn, rowsOn, reportRow, reportAnswer};
 ghost use Rattle.encoding.specs.Format.{authorizationsIn};
 ghost use Rattle.printing.specs.Print.{Printed};
-ghost use Rattle.report.specs.Sheet.{Lines, filled};
+ghost use Rattle.report.specs.Sheet.{Lines, sheetFilled};
 use columns::put_row;
 use model::AUTHORIZATION_BYTES;
 use model::Authorization;
@@ -78,7 +78,7 @@ fn put_rows(lines: &[u8], n: usize, object: u32, page: &mut [u8])
 fn fill_page(lines: &[u8], n: usize, object: u32, page: &mut [u8]) -> Counted
     requires { ⌜ Lines (now lines) n ⌝ }
     ensures { λ r. ⌜ counting r (now (page .exit))
-        ≡ filled (rowsOn object (authorizationsIn n (now (lines .entry)))) (now (page .entry)) ⌝ }
+        ≡ sheetFilled (rowsOn object (authorizationsIn n (now (lines .entry)))) (now (page .entry)) ⌝ }
 {
     let need = 44 * count_on(lines, n, object);
     if page.len() < need {

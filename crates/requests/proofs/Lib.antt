@@ -1,3 +1,3 @@
-pub mod Keeping
-pub mod Replies
+pub mod KindNumbers
+pub mod EffectReplies
 pub mod RoomFacts

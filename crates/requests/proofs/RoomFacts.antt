@@ -21,7 +21,7 @@ use Rattle.model.specs.Step.{effect, countsHold, full}
 use Rattle.laws.specs.AuthorizationsAfter.{newAuthorization, granted-authorizations, same-authorizations}
 use Rattle.laws.specs.Privileges.{changed}
 use Rattle.edits.proofs.Kept.{length-insertAt}
-use Rattle.effects.specs.Effects.{firstIndex}
+use Rattle.effects.specs.EffectRecords.{firstIndex}
 use Rattle.effects.proofs.PrivilegePlaces.{insert-place}
 use Rattle.effects.proofs.Dropping.{kept-length}
 

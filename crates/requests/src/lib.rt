@@ -11,8 +11,8 @@ ghost use Rattle.model.specs.Soundness.{soundBytes};
 ghost use Rattle.model.specs.Answers.{answering, request};
 ghost use Rattle.model.specs.Means.{plainly};
 ghost use Rattle.model.specs.Step.{effect};
-ghost use Rattle.effects.specs.Effects.{Allowed};
-ghost use Rattle.revocation.specs.Carried.{Passed, Carried};
+ghost use Rattle.effects.specs.EffectRecords.{Allowed};
+ghost use Rattle.revocation.specs.CarriedOut.{PassesEarly, CarriedOut};
 ghost use Rattle.requests.specs.KeepingKinds.{keepingKinds};
 
 mod room;
@@ -72,8 +72,8 @@ fn done(s: &[u8], q: Request) -> Reply
 
 // A request that withdraws no instants, once the rows before 13 let it pass.
 fn add_or_drop(s: &mut [u8], q: Request) -> Reply
-    requires { ⌜ Passed (now s) q × (withdraws q ≡ false) ⌝ }
-    ensures { λ r. ⌜ Carried (now (s .entry)) q r (now (s .exit)) ⌝ }
+    requires { ⌜ PassesEarly (now s) q × (withdraws q ≡ false) ⌝ }
+    ensures { λ r. ⌜ CarriedOut (now (s .entry)) q r (now (s .exit)) ⌝ }
 {
     if no_room(s, q) {
         return Reply::Refused(13);
@@ -84,8 +84,8 @@ fn add_or_drop(s: &mut [u8], q: Request) -> Reply
 
 // A request that the rows before 13 let pass: row 13, then the effect.
 fn carry_out(s: &mut [u8], q: Request) -> Reply
-    requires { ⌜ Passed (now s) q ⌝ }
-    ensures { λ r. ⌜ Carried (now (s .entry)) q r (now (s .exit)) ⌝ }
+    requires { ⌜ PassesEarly (now s) q ⌝ }
+    ensures { λ r. ⌜ CarriedOut (now (s .entry)) q r (now (s .exit)) ⌝ }
 {
     let k = q.kind;
     match k {

@@ -23,7 +23,7 @@ use Rattle.laws.specs.RequestFacts.{request-accepted, request-refused, request-
 use Rattle.refusals.specs.declared.Early.the-variants.{Number, Uncovered}
 use Rattle.refusals.specs.Early.{earlyRows, earlyIs}
 use Rattle.refusals.proofs.EarlyFacts.{early-numbered, refusal-early}
-use Rattle.revocation.specs.Carried.{Passed, Carried}
+use Rattle.revocation.specs.CarriedOut.{PassesEarly, CarriedOut}
 
 -- ---- on sound bytes
 
@@ -71,7 +71,7 @@ unsound-answered s q e = sym (request-unsound s q e)
 
 -- ---- past the rows before 13
 
-module _ (s : List ℕ) (q : Request) (p : Passed s q) where
+module _ (s : List ℕ) (q : Request) (p : PassesEarly s q) where
   -- none of the rows before 13 applies
   pub passed-row : (r : Row) → Mem r (earlyRows (decode s) q) → r .given ≡ false
   passed-row = first-none (earlyRows (decode s) q) (early-numbered (decode s) q) (p .early)
@@ -96,5 +96,5 @@ module _ (s : List ℕ) (q : Request) (p : Passed s q) where
   carried-answered false f r s′ e h =
       (λ i. answering (e i) (h i)) ∙ accepts s q (p .sound) (room-refusal false f)
 
-  pub passed-answered : (r : Reply) (s′ : List ℕ) → Carried s q r s′ → answering r s′ ≡ request s q
+  pub passed-answered : (r : Reply) (s′ : List ℕ) → CarriedOut s q r s′ → answering r s′ ≡ request s q
   passed-answered r s′ c = carried-answered (full plainly (decode s) q) refl r s′ (c .reply) (c .bytes)

@@ -49,16 +49,16 @@ use Rattle.pieces.specs.declared.Put.the-variants.{Full, Lines}
 use Rattle.pieces.specs.Cuts.{spared, CutOf}
 use Rattle.pieces.specs.Building.{Result, Built}
 use Rattle.withdrawal.proofs.Link.{withdrawn-is}
-use Rattle.effects.specs.Effects.{Allowed, dropsBy}
-use Rattle.effects.proofs.AllowedEffects.{Holds, holds, after-fits}
+use Rattle.effects.specs.EffectRecords.{Allowed, dropsBy}
+use Rattle.effects.proofs.AllowedEffects.{HoldsBase, holds, after-fits}
 use Rattle.effects.proofs.Dropping.{kept-length}
 use Rattle.effects.proofs.Changes.{administrator-there}
 use Rattle.lookup.proofs.SoundBodies.{Fitting, lent, objects-lent, administrators-lent, authorizations-lent}
-use Rattle.revocation.specs.Carried.{Passed, Carried}
+use Rattle.revocation.specs.CarriedOut.{PassesEarly, CarriedOut}
 use Rattle.revocation.proofs.CarriedFacts.{passed-row, passed-accepted}
 use Rattle.revocation.proofs.Revoked.{object-most, subject-most, withdrawal-full}
 
-pub passed-sound : (s : List ℕ) (q : Request) → Passed s q → Sound (decode s)
+pub passed-sound : (s : List ℕ) (q : Request) → PassesEarly s q → Sound (decode s)
 passed-sound s q p = sound-tests (decode s) (sound-bytes s (p .sound) .1)
 
 -- ---- the bodies as they are lent
@@ -92,18 +92,18 @@ module _ (s : List ℕ) (q : Request) (b : Sound (decode s)) (n : Counts) (en : 
 -- ---- by what was built
 
 -- m authorizations remain, built in `out`, and row 13 lets the request pass
-pub record Left (s : List ℕ) (q : Request) (m : ℕ) (out : List ℕ) : Type 0 where
+pub record AuthorizationsLeft (s : List ℕ) (q : Request) (m : ℕ) (out : List ℕ) : Type 0 where
   pub result : Result m (effect plainly (decode s) q .authorizations) out
   pub room : full plainly (decode s) q ≡ false
   pub fits : (a : Authorization) → Mem a (effect plainly (decode s) q .authorizations) → AuthorizationFits a
 
-module _ (s : List ℕ) (q : Request) (p : Passed s q) (w : withdraws q ≡ true) (r : Put) (out : List ℕ)
+module _ (s : List ℕ) (q : Request) (p : PassesEarly s q) (w : withdraws q ≡ true) (r : Put) (out : List ℕ)
     (b : Built (effect plainly (decode s) q .authorizations) r out) where
   abbrev after : Base
   after = effect plainly (decode s) q
 
   -- too many: row 13
-  pub carried-full : r ≡ Full → Carried s q (Refused 13) s
+  pub carried-full : r ≡ Full → CarriedOut s q (Refused 13) s
   carried-full e =
       let h : 1024 < length (effect plainly (decode s) q .authorizations) =
       subst (λ (x : Put). Built (after .authorizations) x out) e b in
@@ -114,7 +114,7 @@ module _ (s : List ℕ) (q : Request) (p : Passed s q) (w : withdraws q ≡ true
         bytes = ap (λ (x : Bool). pick x s (encode after)) (sym f);
       }
 
-  pub lines-left : (m : ℕ) → r ≡ Lines m → Left s q m out
+  pub lines-left : (m : ℕ) → r ≡ Lines m → AuthorizationsLeft s q m out
   lines-left m e =
       let l : Result m (effect plainly (decode s) q .authorizations) out =
       subst (λ (x : Put). Built (after .authorizations) x out) e b in
@@ -126,8 +126,9 @@ module _ (s : List ℕ) (q : Request) (p : Passed s q) (w : withdraws q ≡ true
       record { result = l; room = f; fits = after-fits withdrawalKinds s q a .authorizations }
 
 -- the bytes of the effect
-pub carried-done : (s : List ℕ) (q : Request) → withdraws q ≡ true → (m : ℕ) (out : List ℕ) → Left s q m out →
-    (s′ : List ℕ) → s′ ≡ encode (effect plainly (decode s) q) → Carried s q (Done 0 m) s′
+pub carried-done : (s : List ℕ) (q : Request) → withdraws q ≡ true → (m : ℕ) (out : List ℕ) →
+    AuthorizationsLeft s q m out →
+    (s′ : List ℕ) → s′ ≡ encode (effect plainly (decode s) q) → CarriedOut s q (Done 0 m) s′
 carried-done s q w m out l s′ e =
     let after = effect plainly (decode s) q in
     let n = sym (is-apart q withdrawalKinds labelKinds refl w) in
@@ -140,7 +141,7 @@ carried-done s q w m out l s′ e =
 -- ---- the authorizations put into the bytes t, and the clock set
 
 module _ (t : List ℕ) (W : Written t) (s : List ℕ) (q : Request) (m : ℕ) (out : List ℕ)
-    (l : Left s q m out) where
+    (l : AuthorizationsLeft s q m out) where
   abbrev ys : List Authorization
   ys = effect plainly (decode s) q .authorizations
 
@@ -154,7 +155,8 @@ module _ (t : List ℕ) (W : Written t) (s : List ℕ) (q : Request) (m : ℕ) (
   )
 
   module _ (t₁ : List ℕ) (e₁ : t₁ ≡ encode (withAuthorizations (authorizationsIn m out) (decode t))) where
-    pub replaced-holds : Holds (withAuthorizations (effect plainly (decode s) q .authorizations) (decode t))
+    pub replaced-holds : HoldsBase (withAuthorizations (effect plainly (decode s) q .authorizations)
+        (decode t))
         t₁
     replaced-holds = holds (withAuthorizations ys (decode t)) t₁
         (fits-authorizations ys (decode t) (W .fits) (omega (arith, l .result .count, l .result .fits))
@@ -218,7 +220,7 @@ copied s t n e f =
     let l : 0 + length (take n s) ≡ length t = omega (arith, ap length a) in
     (λ i. a i ++ drop (l i) t) ∙ ap (λ (x : List ℕ). s ++ x) (drop-length t) ∙ append-nil s
 
-module _ (s : List ℕ) (q : Request) (p : Passed s q) (k : is q (REVOKEADM ∷ []) ≡ true) where
+module _ (s : List ℕ) (q : Request) (p : PassesEarly s q) (k : is q (REVOKEADM ∷ []) ≡ true) where
   abbrev old : Base
   old = decode s
 
@@ -242,7 +244,8 @@ module _ (s : List ℕ) (q : Request) (p : Passed s q) (k : is q (REVOKEADM ∷ 
       ≡ encode (withAdministrators (without (q .object) (q .subject) (decode s .administrators)) (decode s)))
     where
       pub removed-holds :
-          Holds (withAdministrators (without (q .object) (q .subject) (decode s .administrators)) (decode s))
+          HoldsBase (withAdministrators (without (q .object) (q .subject) (decode s .administrators))
+          (decode s))
           s₁
       removed-holds =
           let W = written-sound s (p .sound) in
@@ -267,7 +270,7 @@ module _ (s : List ℕ) (q : Request) (p : Passed s q) (k : is q (REVOKEADM ∷ 
         abbrev stay : Rule → Bool
         stay r = not (dropsBy (refers (decode s) (q .object) (q .subject)) false q r)
 
-        pub dropped : Holds (withRules
+        pub dropped : HoldsBase (withRules
             (keepIf (λ r. not (dropsBy (refers (decode s) (q .object) (q .subject)) false q r))
             (decode s .rules))
             (withAdministrators (without (q .object) (q .subject) (decode s .administrators)) (decode s))) s₂

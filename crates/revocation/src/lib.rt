@@ -10,7 +10,7 @@ ghost use Rattle.model.specs.Step.{outOfRange, badInterval, effect};
 ghost use Rattle.edits.specs.Edits.{Written};
 ghost use Rattle.pieces.specs.Cuts.{CutOf, CutOrdered};
 ghost use Rattle.pieces.specs.Building.{Room, Built};
-ghost use Rattle.revocation.specs.Carried.{Passed, Carried};
+ghost use Rattle.revocation.specs.CarriedOut.{PassesEarly, CarriedOut};
 use model::BASE_BYTES;
 use model::BODY_BYTES;
 use model::REVOKE;
@@ -93,8 +93,8 @@ fn cut_of(q: Request) -> Cut
 
 // The authorizations that the request leaves, built in `out`. `roots` is a base with the owners and
 // administrators that there are after it.
-fn remaining(roots: &[u8], s: &[u8], q: Request, out: &mut [u8], sorted: &mut [u8]) -> Put
-    requires { ⌜ Passed (now s) q × (withdraws q ≡ true) × Written (now roots)
+fn build_remaining(roots: &[u8], s: &[u8], q: Request, out: &mut [u8], sorted: &mut [u8]) -> Put
+    requires { ⌜ PassesEarly (now s) q × (withdraws q ≡ true) × Written (now roots)
         × Room (now out) (now sorted) ⌝ }
     requires { ⌜ (decode (now roots) .objects ≡ objectsAfter q (decode (now s) .objects))
         × (decode (now roots) .administrators ≡ administratorsAfter q (decode (now s) .administrators)) ⌝ }
@@ -121,12 +121,12 @@ fn remaining(roots: &[u8], s: &[u8], q: Request, out: &mut [u8], sorted: &mut [u
 
 // REVOKE, REVOKEP and REVOKEN.
 pub fn revoke(s: &mut [u8], q: Request) -> Reply
-    requires { ⌜ Passed (now s) q × (is q (REVOKE ∷ REVOKEP ∷ REVOKEN ∷ []) ≡ true) ⌝ }
-    ensures { λ r. ⌜ Carried (now (s .entry)) q r (now (s .exit)) ⌝ }
+    requires { ⌜ PassesEarly (now s) q × (is q (REVOKE ∷ REVOKEP ∷ REVOKEN ∷ []) ≡ true) ⌝ }
+    ensures { λ r. ⌜ CarriedOut (now (s .entry)) q r (now (s .exit)) ⌝ }
 {
     let mut out = [0u8; BODY_BYTES];
     let mut sorted = [0u8; BODY_BYTES];
-    let Put::Lines(m) = remaining(s, s, q, &mut out, &mut sorted) else {
+    let Put::Lines(m) = build_remaining(s, s, q, &mut out, &mut sorted) else {
         return Reply::Refused(13);
     };
     edits::replace_authorizations(s, &out, m);
@@ -140,15 +140,15 @@ pub fn revoke(s: &mut [u8], q: Request) -> Reply
 // REVOKEADM: the privilege, the rules and the authorizations. What remains of these is asked of a copy of the
 // base without the privilege, so that 13 leaves the base alone.
 pub fn revoke_administrator(s: &mut [u8], q: Request) -> Reply
-    requires { ⌜ Passed (now s) q × (is q (REVOKEADM ∷ []) ≡ true) ⌝ }
-    ensures { λ r. ⌜ Carried (now (s .entry)) q r (now (s .exit)) ⌝ }
+    requires { ⌜ PassesEarly (now s) q × (is q (REVOKEADM ∷ []) ≡ true) ⌝ }
+    ensures { λ r. ⌜ CarriedOut (now (s .entry)) q r (now (s .exit)) ⌝ }
 {
     let mut after = [0u8; BASE_BYTES];
     fields::copy(&mut after, 0, s, BASE_BYTES);
     effects::remove_administrator(&mut after, q);
     let mut out = [0u8; BODY_BYTES];
     let mut sorted = [0u8; BODY_BYTES];
-    let Put::Lines(n) = remaining(&after, s, q, &mut out, &mut sorted) else {
+    let Put::Lines(n) = build_remaining(&after, s, q, &mut out, &mut sorted) else {
         return Reply::Refused(13);
     };
     let refers = lookup::refers(s, q.object, q.subject);

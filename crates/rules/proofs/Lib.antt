@@ -1,2 +1,2 @@
-pub mod Rounds
-pub mod Edges
+pub mod RankRounds
+pub mod EdgeFacts

@@ -9,7 +9,7 @@ use Rattle.foundation.specs.Tests.{pick}
 use Rattle.model.specs.declared.Rule.{Rule}
 use Rattle.model.specs.Stratification.{precedes}
 use Rattle.encoding.specs.Format.{ruleAt}
-use Rattle.rules.specs.Strata.{countOf}
+use Rattle.rules.specs.RankTables.{countOf}
 
 -- what the step from q to r counts, and one more; 0 if r does not look at q
 abbrev pub stepOf : Bool → Rule → Rule → ℕ
@@ -20,7 +20,7 @@ abbrev pub edgeAt : List ℕ → ℕ → ℕ → ℕ
 edgeAt edges j e = getD edges (j * 65 + e) 0
 
 -- the first c bytes of row j are the edges from the rules before the i-th
-pub record Row (every : Bool) (i : ℕ) (s : List ℕ) (j : ℕ) (edges : List ℕ) (c : ℕ) : Type 0 where
+pub record EdgeRow (every : Bool) (i : ℕ) (s : List ℕ) (j : ℕ) (edges : List ℕ) (c : ℕ) : Type 0 where
   pub few : c ≤ i
   pub inside : (e : ℕ) → e < c → edgeAt edges j e / 3 < i
   pub steps : (e : ℕ) → e < c → stepOf every (ruleAt s (edgeAt edges j e / 3)) (ruleAt s j)
@@ -29,8 +29,8 @@ pub record Row (every : Bool) (i : ℕ) (s : List ℕ) (j : ℕ) (edges : List �
       (e : ℕ) × (e < c) × (edgeAt edges j e / 3 ≡ q)
 
 -- the rows of n rules, each with its count
-abbrev pub Edges : Bool → ℕ → List ℕ → List ℕ → List ℕ → Type 0
-Edges every n s edges counts = (j : ℕ) → j < n → Row every n s j edges (getD counts j 0)
+abbrev pub EdgeRows : Bool → ℕ → List ℕ → List ℕ → List ℕ → Type 0
+EdgeRows every n s edges counts = (j : ℕ) → j < n → EdgeRow every n s j edges (getD counts j 0)
 
 -- the edges come from the first n rules
 abbrev pub Inside : ℕ → List ℕ → List ℕ → Type 0

@@ -1,2 +1,2 @@
-pub mod Strata
+pub mod RankTables
 pub mod Edges

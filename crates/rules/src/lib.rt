@@ -52,7 +52,7 @@ pub fn feeds(q: Rule, r: Rule) -> bool
     }
     let sign = alike(q.left.negative, r.right.negative);
     let subject = meets(q.left.subject, r.right.subject);
-    let mode = meets(fields::wide(q.left.mode), fields::wide(r.right.mode));
+    let mode = meets(fields::u16_of(q.left.mode), fields::u16_of(r.right.mode));
     let o = r.option;
     let option = fits_option(o, false);
     sign & object & subject & mode & ((r.grantor == 0) | (r.grantor == q.author)) & option
@@ -67,7 +67,7 @@ pub fn links(q: Rule, r: Rule) -> bool
         return false;
     }
     let subject = meets(q.left.subject, r.right.subject);
-    let mode = meets(fields::wide(q.left.mode), fields::wide(r.right.mode));
+    let mode = meets(fields::u16_of(q.left.mode), fields::u16_of(r.right.mode));
     q.left.negative & !r.right.negative & object & subject & mode
 }
 

@@ -8,35 +8,27 @@ ghost use Prim.Native.Nat.{ℕ, suc, _+_, _*_, _-_, _/_, _≤_, _<_, max};
 ghost use lib.Dec.{eqb};
 ghost use lib.ListN.{length, getD, set};
 ghost use Rattle.foundation.specs.Tests.{pick};
-ghost use Rattle.foundation.specs.Totals.{count};
+ghost use Rattle.foundation.specs.BitMasks.{asBit};
 ghost use Rattle.model.specs.Stratification as model;
 ghost use Rattle.model.specs.Circles.{circular};
 ghost use Rattle.model.specs.declared.Rule.{Rule};
-ghost use Rattle.rules.specs.Strata.{Holds, ownOf, raised, Ranked, Stratified, Same};
+ghost use Rattle.rules.specs.RankTables.{RuleTable, ownCount, raised, RanksFound, Stratified};
+ghost use Rattle.rules.specs.RankTables.{SameBelow};
 ghost use Rattle.encoding.specs.Format.{rulesIn};
-ghost use Rattle.rules.specs.Edges.{stepOf, Row, Edges, Inside, bestOf};
+ghost use Rattle.rules.specs.Edges.{stepOf, EdgeRow, EdgeRows, Inside, bestOf};
 use crate::feeds;
 use crate::links;
 use crate::negates;
 use encoding::rule_at;
+use fields::as_bit;
 use model::RULE_BYTES;
 use model::Rule;
 
 // Whether a rule counts by itself.
 fn counts(r: Rule, every: bool) -> bool
-    ensures { λ x. ⌜ x ≡ ownOf every r ⌝ }
+    ensures { λ x. ⌜ x ≡ ownCount every r ⌝ }
 {
     every | negates(r)
-}
-
-// One for a test that passes.
-fn one(b: bool) -> u8
-    ensures { λ x. ⌜ x ≡ count b ⌝ }
-{
-    if b {
-        return 1;
-    }
-    0
 }
 
 // What the step from q to r counts, and one more; 0 if r does not look at q.
@@ -51,7 +43,7 @@ fn step(q: Rule, r: Rule, every: bool) -> u8
     if every {
         return 2;
     }
-    1 + one(negates(r)) + one(linked)
+    1 + as_bit(negates(r)) + as_bit(linked)
 }
 
 // Puts the edge from the i-th rule behind c others, if the step is one; how many they are then.
@@ -70,7 +62,7 @@ fn put_edge(edges: &mut [u8; 4225], at: usize, c: usize, i: usize, step: u8) -> 
 // Puts the edges into the j-th of n rules in its row, and leaves the rows before it; how many they are.
 fn put_row(s: &[u8], n: usize, every: bool, j: usize, edges: &mut [u8; 4225]) -> usize
     requires { ⌜ (n * 28 ≤ length (now s)) × (n ≤ 65) × (j < n) × (length (now edges) ≡ 4225) ⌝ }
-    ensures { λ c. ⌜ Row every n (now (s .entry)) j (now (edges .exit)) c
+    ensures { λ c. ⌜ EdgeRow every n (now (s .entry)) j (now (edges .exit)) c
         × (length (now (edges .exit)) ≡ 4225)
         × ((k : ℕ) → k < j * 65 → getD (now (edges .exit)) k 0 ≡ getD (now (edges .entry)) k 0) ⌝ }
 {
@@ -94,7 +86,7 @@ fn put_row(s: &[u8], n: usize, every: bool, j: usize, edges: &mut [u8; 4225]) ->
 fn put_edges(s: &[u8], n: usize, every: bool, edges: &mut [u8; 4225], counts: &mut [u8; 65])
     requires { ⌜ (n * 28 ≤ length (now s)) × (n ≤ 65) × (length (now edges) ≡ 4225)
         × (length (now counts) ≡ 65) ⌝ }
-    ensures { λ _. ⌜ Edges every n (now (s .entry)) (now (edges .exit)) (now (counts .exit)) ⌝ }
+    ensures { λ _. ⌜ EdgeRows every n (now (s .entry)) (now (edges .exit)) (now (counts .exit)) ⌝ }
 {
     let mut j = 0;
     while j < n {
@@ -107,11 +99,11 @@ fn put_edges(s: &[u8], n: usize, every: bool, edges: &mut [u8; 4225], counts: &m
 fn put_own(s: &[u8], n: usize, every: bool, own: &mut [u16; 65])
     requires { ⌜ (n * 28 ≤ length (now s)) × (n ≤ 65) × (length (now own) ≡ 65) ⌝ }
     ensures { λ _. ⌜ (length (now (own .exit)) ≡ 65)
-        × Holds n (now (s .entry)) (λ r. count (ownOf every r)) (now (own .exit)) ⌝ }
+        × RuleTable n (now (s .entry)) (λ r. asBit (ownCount every r)) (now (own .exit)) ⌝ }
 {
     let mut i = 0;
     while i < n {
-        own[i] = one(counts(rule_at(s, i * RULE_BYTES), every)) as u16;
+        own[i] = as_bit(counts(rule_at(s, i * RULE_BYTES), every)) as u16;
         i += 1;
     }
 }
@@ -155,9 +147,10 @@ fn rank_round(
         × (length (now out) ≡ 65) ⌝ }
     ensures { λ _. ⌜ (length (now (out .exit)) ≡ 65)
         × ((every : Bool) (s : List ℕ) (f : Rule → ℕ) →
-        Edges every n s (now (edges .entry)) (now (counts .entry)) →
-        Holds n s (λ r. count (ownOf every r)) (now (own .entry)) → Holds n s f (now (old .entry)) →
-        Holds n s (raised every (rulesIn n s) f) (now (out .exit))) ⌝ }
+        EdgeRows every n s (now (edges .entry)) (now (counts .entry)) →
+        RuleTable n s (λ r. asBit (ownCount every r)) (now (own .entry)) → RuleTable n s f
+        (now (old .entry)) →
+        RuleTable n s (raised every (rulesIn n s) f) (now (out .exit))) ⌝ }
 {
     let mut j = 0;
     while j < n {
@@ -169,8 +162,8 @@ fn rank_round(
 // Whether two tables are equal in the first n places.
 fn same_ranks(a: &[u16], b: &[u16], n: usize) -> bool
     requires { ⌜ (n ≤ length (now a)) × (n ≤ length (now b)) ⌝ }
-    ensures { λ r. ⌜ (r ≡ true → Same n (now (a .entry)) (now (b .entry)))
-        × (Same n (now (a .entry)) (now (b .entry)) → r ≡ true) ⌝ }
+    ensures { λ r. ⌜ (r ≡ true → SameBelow n (now (a .entry)) (now (b .entry)))
+        × (SameBelow n (now (a .entry)) (now (b .entry)) → r ≡ true) ⌝ }
 {
     let mut i = 0;
     while i < n {
@@ -187,7 +180,7 @@ fn same_ranks(a: &[u16], b: &[u16], n: usize) -> bool
 // such a circle.
 fn rank(s: &[u8], n: usize, every: bool, ranks: &mut [u16; 65]) -> bool
     requires { ⌜ (n * 28 ≤ length (now s)) × (n ≤ 65) ⌝ }
-    ensures { λ r. ⌜ Ranked every n (now (s .entry)) (now (ranks .exit)) r ⌝ }
+    ensures { λ r. ⌜ RanksFound every n (now (s .entry)) (now (ranks .exit)) r ⌝ }
 {
     let mut edges = [0u8; 4225];
     let mut counts = [0u8; 65];

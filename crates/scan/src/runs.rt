@@ -7,7 +7,7 @@ ghost use lib.ListN.{length, getD};
 ghost use Rattle.foundation.specs.Intervals.{maximal};
 ghost use Rattle.windows.specs.Windows.{Rising};
 ghost use Rattle.scan.specs.Filled.{withPair, filled};
-ghost use Rattle.scan.specs.Runs.{Reached, Asked, Answered};
+ghost use Rattle.scan.specs.Runs.{ScannedTo, AskedAt, Answered};
 use crate::Track;
 
 // Puts an interval behind the first c of the list, if there is room for it.
@@ -24,8 +24,8 @@ fn put_run(list: &mut [u32], c: usize, from: u32, to: u32)
 // What is known once it is asked at t, and the answer is `yes`.
 pub fn note(list: &mut [u32], w: Track, t: u32, yes: bool) -> Track
     requires { ⌜ (w .inside ≡ true → yes ≡ false → (0 < t) × (w .count < 1152)) ⌝ }
-    ensures { λ r. ⌜ ((f : ℕ → Bool) (e : ℕ) (lent : List ℕ) → Reached f e lent t w (now (list .entry)) →
-        yes ≡ f t → t ≤ e → Asked f e lent t r (now (list .exit))) ⌝ }
+    ensures { λ r. ⌜ ((f : ℕ → Bool) (e : ℕ) (lent : List ℕ) → ScannedTo f e lent t w (now (list .entry)) →
+        yes ≡ f t → t ≤ e → AskedAt f e lent t r (now (list .exit))) ⌝ }
     ensures { λ r. ⌜ r .count ≤ w .count + 1 ⌝ }
 {
     if yes & !w.inside {
@@ -52,8 +52,8 @@ pub fn note_word(list: &mut [u32], w: Track, marks: &[u32; 63], count: usize, ye
     requires { ⌜ (1 ≤ count) × (count ≤ 63) × Rising count (now marks)
         × (w .inside ≡ true → 0 < getD (now marks) 0 0) × (w .count ≤ 1089) ⌝ }
     ensures { λ r. ⌜ ((f : ℕ → Bool) (e : ℕ) (lent : List ℕ) (m : ℕ) →
-        Reached f e lent (getD (now (marks .entry)) 0 0) w (now (list .entry)) →
-        Answered f e count (now (marks .entry)) m yes → Reached f e lent m r (now (list .exit))) ⌝ }
+        ScannedTo f e lent (getD (now (marks .entry)) 0 0) w (now (list .entry)) →
+        Answered f e count (now (marks .entry)) m yes → ScannedTo f e lent m r (now (list .exit))) ⌝ }
 {
     let mut r = w;
     let mut i = 0;
@@ -67,7 +67,7 @@ pub fn note_word(list: &mut [u32], w: Track, marks: &[u32; 63], count: usize, ye
 // How many intervals there are, once the last instant, e, has been asked about.
 pub fn finish(list: &mut [u32], w: Track, e: u32) -> usize
     requires { ⌜ (w .inside ≡ true → w .count < 1089) ⌝ }
-    ensures { λ r. ⌜ ((f : ℕ → Bool) (lent : List ℕ) → Reached f e lent (suc e) w (now (list .entry)) →
+    ensures { λ r. ⌜ ((f : ℕ → Bool) (lent : List ℕ) → ScannedTo f e lent (suc e) w (now (list .entry)) →
         (r ≡ length (maximal 0 e f)) × (now (list .exit) ≡ filled (maximal 0 e f) lent)) ⌝ }
 {
     if w.inside {

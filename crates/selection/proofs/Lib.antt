@@ -1,2 +1,2 @@
-pub mod Selected
+pub mod SelectedLoop
 pub mod Seen

@@ -8,8 +8,8 @@ use native.Mathlib.Omega.{arith}
 use lib.ListN.{length, drop, getD}
 use Rattle.foundation.specs.Tests.{pick}
 use Rattle.foundation.specs.Lists.{Mem}
-use Rattle.foundation.specs.Masks.{bit}
-use Rattle.foundation.specs.Records.{length-records, place-zero, place-step}
+use Rattle.foundation.specs.BitMasks.{bit}
+use Rattle.foundation.specs.ByteRecords.{length-records, place-zero, place-step}
 use Rattle.model.specs.declared.Rule.{Rule}
 use Rattle.model.specs.Encoding.{ruleOf}
 use Rattle.encoding.specs.Format.{rulesIn, ruleAt}

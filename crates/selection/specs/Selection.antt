@@ -1,6 +1,6 @@
 -- The places of the rules of a mask.
 use Prim.Native.Nat.{ℕ, zero, suc, _+_}
-use Rattle.foundation.specs.Masks.{asBit, bit}
+use Rattle.foundation.specs.BitMasks.{asBit, bit}
 
 -- how many bits of a mask lie below r: at which place of the selected rules rule r stands
 abbrev pub position : ℕ → ℕ → ℕ

@@ -3,10 +3,10 @@ ghost use mathlib.Core.Path.{_≡_};
 ghost use mathlib.Core.Bool.{true, false};
 ghost use Prim.Native.Nat.{ℕ, _*_, _≤_, _<_};
 ghost use lib.ListN.{length, getD};
-ghost use Rattle.foundation.specs.Masks.{bit};
+ghost use Rattle.foundation.specs.BitMasks.{bit};
 ghost use Rattle.model.specs.Stratification.{stratified, stratum};
 ghost use Rattle.encoding.specs.Format.{rulesIn, ruleAt};
-ghost use Rattle.masks.specs.Masks.{RulesIn};
+ghost use Rattle.masks.specs.RuleMasks.{RulesIn};
 ghost use Rattle.relevance.specs.Chosen.{selected};
 ghost use Rattle.laws.specs.Plain.{Plain};
 ghost use Rattle.selection.specs.Selection.{position};
@@ -34,7 +34,7 @@ fn select(body: &[u8], n: usize, needed: u64, few: &mut [u8; 1792]) -> usize
 }
 
 // Puts the first ranks in the places of the rules of a mask.
-fn spread(ranks: &[u16; 65], needed: u64, strata: &mut [u16; 65])
+fn spread_strata(ranks: &[u16; 65], needed: u64, strata: &mut [u16; 65])
     requires { ⌜ length (now strata) ≡ 65 ⌝ }
     ensures { λ _. ⌜ ((r : ℕ) → r < 64 → bit r needed ≡ true → getD (now (strata .exit)) r 0
         ≡ getD (now (ranks .entry)) (position needed r) 0) ⌝ }
@@ -81,6 +81,6 @@ pub fn strata_of(body: &[u8], n: usize, needed: u64, strata: &mut [u16; 65])
     let k = select(body, n, needed, &mut few);
     rules::stratify(&few, k, &mut ranks);
     let mut placed = [0u16; 65];
-    spread(&ranks, needed, &mut placed);
+    spread_strata(&ranks, needed, &mut placed);
     *strata = placed;
 }

@@ -8,10 +8,10 @@ use lib.ListN.{length, take, drop}
 use lib.Seq.{drop-drop, drop-length, take-add}
 use Rattle.foundation.specs.Tests.{cases, true-eq, false-eq}
 use Rattle.serving.specs.declared.steps.Stepped.{Stepped}
-use Rattle.serving.specs.Turns.{Kept}
-use Rattle.serving.specs.Stream.{Feeds, feeds-then}
+use Rattle.serving.specs.LineTurns.{LineKept}
+use Rattle.serving.specs.Stream.{FedUpTo, feeds-then}
 use Rattle.serving.proofs.StreamFacts.{feeds-none}
-use Rattle.serving.specs.Steps.{Steps}
+use Rattle.serving.specs.PieceSteps.{Steps}
 
 -- what the borrow checker says of a buffer whose end came back: it is the end that was lent, behind the same
 -- front
@@ -22,20 +22,21 @@ end-back out ys n h =
     rw (drop-drop (length out - n) n out, whole, drop-length out, append-nil ys)
 
 -- of the piece all from `from` up to the place that g has come to is fed
-pub record Stands (s pending piece : List ℕ) (from : ℕ) (g : Stepped) (s′ line′ out : List ℕ) : Type 0 where
-  pub left : List ℕ
-  pub kept : Kept left (g .len) line′
-  pub feeds : Feeds s pending (drop from piece) (drop (g .at) piece) (take (g .n) out) s′ left
+pub record PieceFedTo (s pending piece : List ℕ) (from : ℕ) (g : Stepped) (s′ line′ out : List ℕ) : Type 0
+  where
+    pub left : List ℕ
+    pub kept : LineKept left (g .len) line′
+    pub feeds : FedUpTo s pending (drop from piece) (drop (g .at) piece) (take (g .n) out) s′ left
 
 module _ {s pending piece : List ℕ} {from : ℕ} where
-  pub stands-none : {len : ℕ} {line : List ℕ} (out : List ℕ) → Kept pending len line →
-      Stands s pending piece from (record { n = 0; len = len; at = from }) s line out
+  pub stands-none : {len : ℕ} {line : List ℕ} (out : List ℕ) → LineKept pending len line →
+      PieceFedTo s pending piece from (record { n = 0; len = len; at = from }) s line out
   stands-none out k = record { left = pending; kept = k; feeds = feeds-none s pending (drop from piece) }
 
   pub stands-then : {g r : Stepped} {s′ line′ out s″ line″ out′ : List ℕ} →
-      (a : Stands s pending piece from g s′ line′ out) →
+      (a : PieceFedTo s pending piece from g s′ line′ out) →
       Steps s′ (a .left) piece (g .at) r s″ line″ (drop (g .n) out′) → take (g .n) out′ ≡ take (g .n) out →
-      Stands s pending piece from (record { n = g .n + r .n; len = r .len; at = r .at }) s″ line″ out′
+      PieceFedTo s pending piece from (record { n = g .n + r .n; len = r .len; at = r .at }) s″ line″ out′
   stands-then {g} {r} {out′ = out′} a k e = record {
     left = k .left;
     kept = k .kept;

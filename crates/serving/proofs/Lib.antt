@@ -3,5 +3,5 @@ pub mod Walk
 pub mod Behind
 pub mod PieceFacts
 pub mod ReplyFacts
-pub mod StepFacts
+pub mod PieceStepFacts
 pub mod StreamFacts

@@ -11,33 +11,34 @@ use lib.Seq.{take-all, length-take-le}
 use Rattle.foundation.specs.Tests.{cases, true-eq}
 use Rattle.model.specs.Text.{newline, extend, split, printReply}
 use Rattle.model.specs.Session.{ByteTurn, byteTurn}
-use Rattle.serving.specs.Turns.{Turned, Kept}
-use Rattle.serving.specs.Pieces.{ends, before, behind, kept-reads}
+use Rattle.serving.specs.LineTurns.{Turned, LineKept}
+use Rattle.serving.specs.Pieces.{ends, beforeNewline, behindNewline, kept-reads}
 
 -- ---- the first line of some bytes
 
 -- without a newline all is before it
-pub before-all : (s : List ℕ) → ends s ≡ false → before s ≡ s
+pub before-all : (s : List ℕ) → ends s ≡ false → beforeNewline s ≡ s
 before-all [] e = refl
 before-all (c ∷ s) e = cases (eqb c newline)
     (λ p. absurd (true≢false (rw p at e)))
     (λ p. rw p (ap (λ (r : List ℕ). c ∷ r) (before-all s (rw p at e))))
 
 -- with one, it stands between the two parts, and the first part has none
-pub before-behind : (s : List ℕ) → ends s ≡ true → s ≡ before s ++ (newline ∷ behind s)
+pub before-behind : (s : List ℕ) → ends s ≡ true → s ≡ beforeNewline s ++ (newline ∷ behindNewline s)
 before-behind [] e = absurd (false≢true e)
 before-behind (c ∷ s) e = cases (eqb c newline)
     (λ p. rw p (ap (λ (b : ℕ). b ∷ s) (true-eq c newline p)))
     (λ p. rw p (ap (λ (r : List ℕ). c ∷ r) (before-behind s (rw p at e))))
 
-pub before-none : (s : List ℕ) → ends (before s) ≡ false
+pub before-none : (s : List ℕ) → ends (beforeNewline s) ≡ false
 before-none [] = refl
 before-none (c ∷ s) = cases (eqb c newline)
     (λ p. rw p)
     (λ p. rw p (rw p (before-none s)))
 
 -- they are the first line and those behind it
-pub split-ended : (s : List ℕ) → ends s ≡ true → split newline s ≡ before s ∷ split newline (behind s)
+pub split-ended : (s : List ℕ) → ends s ≡ true → split newline s ≡ beforeNewline s ∷ split newline
+    (behindNewline s)
 split-ended [] e = absurd (false≢true e)
 split-ended (c ∷ s) e = cases (eqb c newline)
     (λ p. rw p)
@@ -53,7 +54,7 @@ split-whole (c ∷ s) e = cases (eqb c newline)
 
 -- so that the answer to what is kept is the answer to the line
 pub kept-turned : {pending : List ℕ} {len : ℕ} {line s : List ℕ} {n : ℕ} {out s′ : List ℕ} →
-    Kept pending len line →
+    LineKept pending len line →
     Turned s (take len line) n out s′ → Turned s pending n out s′
 kept-turned {s = s} k t =
     let e = ap (byteTurn s) (kept-reads k) in
@@ -65,11 +66,11 @@ kept-turned {s = s} k t =
     }
 
 -- at the start nothing is kept
-pub kept-none : (line : List ℕ) → length line ≡ 97 → Kept [] 0 line
+pub kept-none : (line : List ℕ) → length line ≡ 97 → LineKept [] 0 line
 kept-none line h = record { count = refl; front = refl; size = h }
 
 -- whatever the first bytes are, there is a line of which they are kept
-pub kept-front : {len : ℕ} {line : List ℕ} → len ≤ 97 → length line ≡ 97 → Kept (take len line) len line
+pub kept-front : {len : ℕ} {line : List ℕ} → len ≤ 97 → length line ≡ 97 → LineKept (take len line) len line
 kept-front {len} {line} h z =
     let l = length-take-le len line (omega arith) in
     record { count = omega arith; front = sym (take-all 97 (take len line) (omega arith)); size = z }

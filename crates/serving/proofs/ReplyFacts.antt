@@ -11,7 +11,7 @@ use Rattle.model.specs.Text.{Line, order, asksMay, asksWhen, unreadable, newlin
 use Rattle.model.specs.Session.{byteTurn}
 use Rattle.laws.specs.RequestFacts.{request-sound}
 use Rattle.printing.specs.Print.{longestReply}
-use Rattle.serving.specs.Turns.{Turned}
+use Rattle.serving.specs.LineTurns.{Turned}
 use Rattle.serving.specs.Replies.{PrintedLine, turnText}
 
 -- a newline behind a reply

@@ -7,9 +7,9 @@ use lib.Dec.{eqb}
 use lib.Seq.{append-snoc}
 use Rattle.foundation.specs.Tests.{cases}
 use Rattle.model.specs.Text.{newline}
-use Rattle.serving.specs.Turns.{turnOf, replyText}
+use Rattle.serving.specs.LineTurns.{turnOf, replyText}
 use Rattle.serving.specs.Pieces.{ends}
-use Rattle.serving.specs.Stream.{printed, feed, finish, ending, feed-append, Feeds}
+use Rattle.serving.specs.Stream.{printed, feed, finish, ending, feed-append, FedUpTo}
 
 -- ---- one line of a piece
 
@@ -33,10 +33,10 @@ feed-line s pending l e =
       append-nil (replyText s (pending ++ l)),
     )
 
-pub feeds-none : (s pending input : List ℕ) → Feeds s pending input input [] s pending
+pub feeds-none : (s pending input : List ℕ) → FedUpTo s pending input input [] s pending
 feeds-none s pending input = record { done = []; parts = refl; fed = refl }
 
-module _ {s pending input rest text s′ left : List ℕ} (f : Feeds s pending input rest text s′ left) where
+module _ {s pending input rest text s′ left : List ℕ} (f : FedUpTo s pending input rest text s′ left) where
   through : rest ≡ [] → f .done ≡ input
   through e = sym (append-nil (f .done)) ∙ ap (λ (v : List ℕ). f .done ++ v) (sym e) ∙ f .parts
 
@@ -45,7 +45,7 @@ module _ {s pending input rest text s′ left : List ℕ} (f : Feeds s pending i
   feeds-all e = ap (feed s pending) (sym (through e)) ∙ f .fed
 
   -- input that comes behind it is still to be fed
-  pub feeds-more : (more : List ℕ) → rest ≡ [] → Feeds s pending (input ++ more) more text s′ left
+  pub feeds-more : (more : List ℕ) → rest ≡ [] → FedUpTo s pending (input ++ more) more text s′ left
   feeds-more more e = record {
     done = f .done;
     parts = ap (λ (v : List ℕ). v ++ more) (through e);

@@ -10,14 +10,14 @@ use lib.Dec.{eqb}
 use lib.ListN.{length, take, drop, set, getD, length-set, length-append}
 use lib.Seq.{take-all, take-append-le, take-suc-set, drop-cons, drop-length, append-snoc}
 use Rattle.model.specs.Text.{newline}
-use Rattle.serving.specs.Turns.{Kept}
-use Rattle.serving.specs.Pieces.{ends, before, behind, Took}
+use Rattle.serving.specs.LineTurns.{LineKept}
+use Rattle.serving.specs.Pieces.{ends, beforeNewline, behindNewline, Took}
 
 -- ---- one byte more of a line
 
 -- of a line that is too long already no more is kept
-pub kept-full : (p : List ℕ) (len : ℕ) (line : List ℕ) (c : ℕ) → 97 ≤ len → Kept p len line →
-    Kept (p ++ (c ∷ [])) len line
+pub kept-full : (p : List ℕ) (len : ℕ) (line : List ℕ) (c : ℕ) → 97 ≤ len → LineKept p len line →
+    LineKept (p ++ (c ∷ [])) len line
 kept-full p len line c h k =
     let l = length-append p (c ∷ []) in
     let long : 97 ≤ length p = omega (arith, k .count) in
@@ -27,8 +27,8 @@ kept-full p len line c h k =
       size = k .size;
     }
 
-pub kept-more : (p : List ℕ) (len : ℕ) (line : List ℕ) (c : ℕ) → len < 97 → Kept p len line →
-    Kept (p ++ (c ∷ [])) (len + 1) (set line len c)
+pub kept-more : (p : List ℕ) (len : ℕ) (line : List ℕ) (c : ℕ) → len < 97 → LineKept p len line →
+    LineKept (p ++ (c ∷ [])) (len + 1) (set line len c)
 kept-more p len line c h k =
     let l = length-append p (c ∷ []) in
     let all : length p ≡ len = omega (arith, k .count) in
@@ -43,19 +43,20 @@ kept-more p len line c h k =
 -- ---- the walk
 
 -- from i on the same line is to be ended as from `from` on, and what is kept is the bytes up to there
-pub record Walks (len : ℕ) (line₀ piece : List ℕ) (from n i : ℕ) (line : List ℕ) : Type 0 where
+pub record LineWalk (len : ℕ) (line₀ piece : List ℕ) (from n i : ℕ) (line : List ℕ) : Type 0 where
   pub low : from ≤ i
   pub high : i ≤ length piece
   pub few : n ≤ 97
   pub size : length line ≡ 97
   pub end : ends (drop i piece) ≡ ends (drop from piece)
-  pub rest : behind (drop i piece) ≡ behind (drop from piece)
-  pub kept : (pending : List ℕ) → Kept pending len line₀ →
-      (p : List ℕ) × Kept p n line × (p ++ before (drop i piece) ≡ pending ++ before (drop from piece))
+  pub rest : behindNewline (drop i piece) ≡ behindNewline (drop from piece)
+  pub kept : (pending : List ℕ) → LineKept pending len line₀ →
+      (p : List ℕ) × LineKept p n line × (p ++ beforeNewline (drop i piece) ≡ pending ++ beforeNewline
+      (drop from piece))
 
 pub walk-start : (len : ℕ) (line piece : List ℕ) (from : ℕ) → from ≤ length piece → len ≤ 97 →
     length line ≡ 97 →
-    Walks len line piece from len from line
+    LineWalk len line piece from len from line
 walk-start len line piece from h f z = record {
   low = omega arith;
   high = h;
@@ -67,62 +68,62 @@ walk-start len line piece from h f z = record {
 }
 
 module _ {len : ℕ} {line₀ piece : List ℕ} {from n i : ℕ} {line : List ℕ}
-    (w : Walks len line₀ piece from n i line) where
+    (w : LineWalk len line₀ piece from n i line) where
   -- a byte that is no newline is one more of the line
   pub walk-byte : (n′ : ℕ) (line′ : List ℕ) → i < length piece → eqb (getD piece i 0) newline ≡ false →
-      ((p : List ℕ) → Kept p n line → Kept (p ++ (getD piece i 0 ∷ [])) n′ line′) → n′ ≤ 97 →
+      ((p : List ℕ) → LineKept p n line → LineKept (p ++ (getD piece i 0 ∷ [])) n′ line′) → n′ ≤ 97 →
       length line′ ≡ 97 →
-      Walks len line₀ piece from n′ (i + 1) line′
+      LineWalk len line₀ piece from n′ (i + 1) line′
   walk-byte n′ line′ h e more f z =
       let c = getD piece i 0 in
       let d = drop-cons piece i 0 h in
-      let b : before (drop i piece) ≡ c ∷ before (drop (suc i) piece) = rw (d, e) in
+      let b : beforeNewline (drop i piece) ≡ c ∷ beforeNewline (drop (suc i) piece) = rw (d, e) in
       record {
         low = omega (arith, w .low);
         high = omega arith;
         few = f;
         size = z;
         end = rw add-one (sym (ap ends d ∙ rw e) ∙ w .end);
-        rest = rw add-one (sym (ap behind d ∙ rw e) ∙ w .rest);
+        rest = rw add-one (sym (ap behindNewline d ∙ rw e) ∙ w .rest);
         kept = λ pending k. let g = w .kept pending k in (
           g .0 ++ (c ∷ []),
           more (g .0) (g .1),
-          rw add-one (append-snoc (g .0) c (before (drop (suc i) piece))
+          rw add-one (append-snoc (g .0) c (beforeNewline (drop (suc i) piece))
               ∙ ap (λ (r : List ℕ). g .0 ++ r) (sym b) ∙ g .2),
         );
       }
 
   -- at a newline the line is ended
   pub walk-ended : i < length piece → eqb (getD piece i 0) newline ≡ true →
-      (pending : List ℕ) → Kept pending len line₀ →
+      (pending : List ℕ) → LineKept pending len line₀ →
       Took pending piece from (record { len = n; at = i + 1; ended = true }) line
   walk-ended h e pending k =
       let d = drop-cons piece i 0 h in
       let g = w .kept pending k in
-      let b : before (drop i piece) ≡ [] = rw (d, e) in
-      let same : g .0 ≡ pending ++ before (drop from piece) =
+      let b : beforeNewline (drop i piece) ≡ [] = rw (d, e) in
+      let same : g .0 ≡ pending ++ beforeNewline (drop from piece) =
       sym (append-nil (g .0)) ∙ ap (λ (r : List ℕ). g .0 ++ r) (sym b) ∙ g .2 in
       record {
         ended = sym (ap ends d ∙ rw e) ∙ w .end;
-        rest = rw add-one (sym (ap behind d ∙ rw e) ∙ w .rest);
-        kept = subst (λ (p : List ℕ). Kept p n line) same (g .1);
+        rest = rw add-one (sym (ap behindNewline d ∙ rw e) ∙ w .rest);
+        kept = subst (λ (p : List ℕ). LineKept p n line) same (g .1);
         within = omega arith;
         further = λ q. omega (arith, w .low);
         whole = λ q. absurd (true≢false q);
       }
 
   -- at the end of the piece it is not
-  pub walk-whole : i ≡ length piece → (pending : List ℕ) → Kept pending len line₀ →
+  pub walk-whole : i ≡ length piece → (pending : List ℕ) → LineKept pending len line₀ →
       Took pending piece from (record { len = n; at = i; ended = false }) line
   walk-whole h pending k =
       let d : drop i piece ≡ [] = rw (h, drop-length piece) in
       let g = w .kept pending k in
-      let same : g .0 ≡ pending ++ before (drop from piece) =
-      sym (append-nil (g .0)) ∙ ap (λ (r : List ℕ). g .0 ++ before r) (sym d) ∙ g .2 in
+      let same : g .0 ≡ pending ++ beforeNewline (drop from piece) =
+      sym (append-nil (g .0)) ∙ ap (λ (r : List ℕ). g .0 ++ beforeNewline r) (sym d) ∙ g .2 in
       record {
         ended = sym (ap ends d) ∙ w .end;
-        rest = d ∙ sym (ap behind d) ∙ w .rest;
-        kept = subst (λ (p : List ℕ). Kept p n line) same (g .1);
+        rest = d ∙ sym (ap behindNewline d) ∙ w .rest;
+        kept = subst (λ (p : List ℕ). LineKept p n line) same (g .1);
         within = w .high;
         further = λ q. absurd (false≢true q);
         whole = λ q. h;

@@ -1,5 +1,5 @@
-pub mod Turns
+pub mod LineTurns
 pub mod Replies
 pub mod Pieces
 pub mod Stream
-pub mod Steps
+pub mod PieceSteps

@@ -11,7 +11,7 @@ use lib.Seq.{take-all, length-take-le}
 use Rattle.foundation.specs.Tests.{cases, pick, le-false, true-le, false-le}
 use Rattle.foundation.specs.Lists.{anyb}
 use Rattle.model.specs.Text.{newline, unreadable, readLine}
-use Rattle.serving.specs.Turns.{Kept}
+use Rattle.serving.specs.LineTurns.{LineKept}
 use Rattle.serving.specs.declared.taking.Reached.{Reached}
 
 -- ---- the first line of some bytes
@@ -21,21 +21,21 @@ abbrev pub ends : List ℕ → Bool
 ends s = anyb (λ c. eqb c newline) s
 
 -- the bytes before the first newline, or all
-abbrev pub before : List ℕ → List ℕ
-before [] = []
-before (c ∷ s) = let r = before s in pick (eqb c newline) [] (c ∷ r)
+abbrev pub beforeNewline : List ℕ → List ℕ
+beforeNewline [] = []
+beforeNewline (c ∷ s) = let r = beforeNewline s in pick (eqb c newline) [] (c ∷ r)
 
 -- the bytes behind the first newline, or none
-abbrev pub behind : List ℕ → List ℕ
-behind [] = []
-behind (c ∷ s) = let r = behind s in pick (eqb c newline) s r
+abbrev pub behindNewline : List ℕ → List ℕ
+behindNewline [] = []
+behindNewline (c ∷ s) = let r = behindNewline s in pick (eqb c newline) s r
 
 -- a piece was taken from `from` on up to the end of a line, or to its own: where it has come to, and what is
 -- kept of that line
 pub record Took (pending piece : List ℕ) (from : ℕ) (r : Reached) (line′ : List ℕ) : Type 0 where
   pub ended : r .ended ≡ ends (drop from piece)
-  pub rest : drop (r .at) piece ≡ behind (drop from piece)
-  pub kept : Kept (pending ++ before (drop from piece)) (r .len) line′
+  pub rest : drop (r .at) piece ≡ behindNewline (drop from piece)
+  pub kept : LineKept (pending ++ beforeNewline (drop from piece)) (r .len) line′
   pub within : r .at ≤ length piece
   pub further : r .ended ≡ true → from < r .at
   pub whole : r .ended ≡ false → r .at ≡ length piece
@@ -55,6 +55,6 @@ front-reads s = cases (leb (length s) 96)
     let l = length-take-le 97 s (omega arith) in
     too-long (take 97 s) (omega arith) ∙ sym (too-long s h))
 
-pub kept-reads : {pending : List ℕ} {len : ℕ} {line : List ℕ} → Kept pending len line →
+pub kept-reads : {pending : List ℕ} {len : ℕ} {line : List ℕ} → LineKept pending len line →
     readLine (take len line) ≡ readLine pending
 kept-reads {pending} k = ap readLine (k .front) ∙ front-reads pending

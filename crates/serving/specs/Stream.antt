@@ -1,5 +1,5 @@
 -- A session whose input comes in pieces: wherever it is cut, there are the bytes of the base and the line
--- that is not ended yet (`Feeds`). At the end of the input the text is that of the session over all of it
+-- that is not ended yet (`FedUpTo`). At the end of the input the text is that of the session over all of it
 -- (`stream-session`).
 use mathlib.Core.Path.{_≡_, refl, sym, ap, _∙_}
 use Prim.Native.Nat.{ℕ}
@@ -12,21 +12,21 @@ use Rattle.model.specs.Encoding.{encode}
 use Rattle.model.specs.Text.{newline, extend, split, closed, printReply}
 use Rattle.model.specs.Session.{session, byteTranscript, byteSession, turns, bytesAfter}
 use Rattle.laws.specs.SessionFacts.{session-bytes}
-use Rattle.serving.specs.Turns.{turnOf, replyText}
+use Rattle.serving.specs.LineTurns.{turnOf, replyText}
 
 -- what a piece has led to: the text that was printed, the bytes of the base, and the line that is not ended
 -- yet
-pub record Fed : Type 0 where
+pub record FeedResult : Type 0 where
   pub text : List ℕ
   pub lent : List ℕ
   pub pending : List ℕ
 
 -- behind a text
-abbrev pub printed : List ℕ → Fed → Fed
+abbrev pub printed : List ℕ → FeedResult → FeedResult
 printed text f = record { text = text ++ f .text; lent = f .lent; pending = f .pending }
 
 -- a piece, on the bytes s, behind the bytes of a line: each newline ends a line, which is answered
-abbrev pub feed : List ℕ → List ℕ → List ℕ → Fed
+abbrev pub feed : List ℕ → List ℕ → List ℕ → FeedResult
 feed s pending [] = record { text = []; lent = s; pending = pending }
 feed s pending (c ∷ w) =
     let answered = printed (replyText s pending) (feed (turnOf s pending .lent) [] w) in
@@ -44,14 +44,14 @@ finishBytes s [] = s
 finishBytes s (c ∷ p) = turnOf s (c ∷ p) .lent
 
 -- all that is printed if the input ends there
-abbrev pub ending : Fed → List ℕ
+abbrev pub ending : FeedResult → List ℕ
 ending f = f .text ++ finish (f .lent) (f .pending)
 
 -- ---- where the input is cut is of no account
 
-printed-twice : (a b : List ℕ) (f : Fed) → printed a (printed b f) ≡ printed (a ++ b) f
+printed-twice : (a b : List ℕ) (f : FeedResult) → printed a (printed b f) ≡ printed (a ++ b) f
 printed-twice a b f =
-    ap {B = Fed} (λ (t : List ℕ). record { text = t; lent = f .lent; pending = f .pending })
+    ap {B = FeedResult} (λ (t : List ℕ). record { text = t; lent = f .lent; pending = f .pending })
     (sym (append-assoc a b (f .text)))
 
 pub feed-append : (s pending v w : List ℕ) →
@@ -66,14 +66,14 @@ feed-append s pending (c ∷ v) w = cases (eqb c newline)
 
 -- all of `input` but `rest` was fed: `text` was printed, the bytes are s′, and `left` is the line that is not
 -- ended
-pub record Feeds (s pending input rest text s′ left : List ℕ) : Type 0 where
+pub record FedUpTo (s pending input rest text s′ left : List ℕ) : Type 0 where
   pub done : List ℕ
   pub parts : done ++ rest ≡ input
   pub fed : feed s pending done ≡ record { text = text; lent = s′; pending = left }
 
 pub feeds-then : {s pending input middle text s′ left rest text′ s″ left′ : List ℕ} →
-    Feeds s pending input middle text s′ left → Feeds s′ left middle rest text′ s″ left′ →
-    Feeds s pending input rest (text ++ text′) s″ left′
+    FedUpTo s pending input middle text s′ left → FedUpTo s′ left middle rest text′ s″ left′ →
+    FedUpTo s pending input rest (text ++ text′) s″ left′
 feeds-then {s} {pending} {rest = rest} {text′ = text′} f g = record {
   done = f .done ++ g .done;
   parts = append-assoc (f .done) (g .done) rest ∙ ap (λ (v : List ℕ). f .done ++ v) (g .parts) ∙ f .parts;

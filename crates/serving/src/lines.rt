@@ -5,8 +5,8 @@ ghost use mathlib.Core.List.{List};
 ghost use Prim.Native.Nat.{ℕ, _+_, _≤_};
 ghost use lib.ListN.{length, take, drop};
 ghost use Rattle.model.specs.Soundness.{soundBytes};
-ghost use Rattle.serving.specs.Turns.{Kept};
-ghost use Rattle.serving.specs.Steps.{Steps};
+ghost use Rattle.serving.specs.LineTurns.{LineKept};
+ghost use Rattle.serving.specs.PieceSteps.{Steps};
 use crate::steps::Stepped;
 use crate::steps::serve_piece_step;
 use model::REPLY_BYTES;
@@ -22,7 +22,7 @@ fn serve_behind(
     requires { ⌜ (soundBytes (now s) ≡ true) × (g .n + 24001 ≤ length (now out))
         × (g .at ≤ length (now piece))
         × (g .len ≤ 97) × (length (now line) ≡ 97) ⌝ }
-    ensures { λ r. ⌜ ((pending : List ℕ) → Kept pending (g .len) (now (line .entry)) →
+    ensures { λ r. ⌜ ((pending : List ℕ) → LineKept pending (g .len) (now (line .entry)) →
         Steps (now (s .entry)) pending (now (piece .entry)) (g .at) r (now (s .exit)) (now (line .exit))
         (drop (g .n) (now (out .exit))))
         × (r .len ≤ 97) × (length (now (line .exit)) ≡ 97)
@@ -44,7 +44,7 @@ pub fn serve_lines(
 ) -> Stepped
     requires { ⌜ (soundBytes (now s) ≡ true) × (24001 ≤ length (now out)) × (from ≤ length (now piece))
         × (len ≤ 97) × (length (now line) ≡ 97) ⌝ }
-    ensures { λ r. ⌜ ((pending : List ℕ) → Kept pending len (now (line .entry)) →
+    ensures { λ r. ⌜ ((pending : List ℕ) → LineKept pending len (now (line .entry)) →
         Steps (now (s .entry)) pending (now (piece .entry)) from r (now (s .exit)) (now (line .exit))
         (now (out .exit)))
         × (r .len ≤ 97) × (length (now (line .exit)) ≡ 97)

@@ -5,9 +5,9 @@ ghost use mathlib.Core.List.{List};
 ghost use Prim.Native.Nat.{ℕ, _≤_};
 ghost use lib.ListN.{length, take};
 ghost use Rattle.model.specs.Soundness.{soundBytes};
-ghost use Rattle.serving.specs.Turns.{Kept, Turned};
+ghost use Rattle.serving.specs.LineTurns.{LineKept, Turned};
 ghost use Rattle.serving.specs.Stream.{finish, finishBytes};
-ghost use Rattle.serving.specs.Steps.{Steps};
+ghost use Rattle.serving.specs.PieceSteps.{Steps};
 use crate::taking::take_line;
 use crate::turns::serve_line;
 
@@ -40,7 +40,7 @@ pub fn serve_piece_step(
 ) -> Stepped
     requires { ⌜ (soundBytes (now s) ≡ true) × (24001 ≤ length (now out)) × (from ≤ length (now piece))
         × (len ≤ 97) × (length (now line) ≡ 97) ⌝ }
-    ensures { λ r. ⌜ ((pending : List ℕ) → Kept pending len (now (line .entry)) →
+    ensures { λ r. ⌜ ((pending : List ℕ) → LineKept pending len (now (line .entry)) →
         Steps (now (s .entry)) pending (now (piece .entry)) from r (now (s .exit)) (now (line .exit))
         (now (out .exit)))
         × (r .len ≤ 97) × (length (now (line .exit)) ≡ 97)
@@ -67,7 +67,7 @@ pub fn serve_piece_step(
 pub fn serve_end(s: &mut [u8], line: &[u8; 97], len: usize, out: &mut [u8]) -> usize
     requires { ⌜ (soundBytes (now s) ≡ true) × (24001 ≤ length (now out)) × (len ≤ 97)
         × (length (now line) ≡ 97) ⌝ }
-    ensures { λ n. ⌜ ((pending : List ℕ) → Kept pending len (now (line .entry)) →
+    ensures { λ n. ⌜ ((pending : List ℕ) → LineKept pending len (now (line .entry)) →
         (take n (now (out .exit)) ≡ finish (now (s .entry)) pending)
         × (now (s .exit) ≡ finishBytes (now (s .entry)) pending))
         × (n ≤ 24001) × (length (now (out .exit)) ≡ length (now (out .entry)))

@@ -3,7 +3,7 @@ ghost use mathlib.Core.Path.{_≡_};
 ghost use mathlib.Core.List.{List, [], _∷_, _++_};
 ghost use Prim.Native.Nat.{ℕ, _≤_};
 ghost use lib.ListN.{length};
-ghost use Rattle.serving.specs.Turns.{Kept};
+ghost use Rattle.serving.specs.LineTurns.{LineKept};
 ghost use Rattle.serving.specs.Pieces.{Took};
 
 // Where a piece has come to: how many bytes of the line are kept, the place in the piece, and whether a line
@@ -15,10 +15,10 @@ pub struct Reached {
 }
 
 // Keeps one more byte of a line, if it is not too long yet.
-fn keep(line: &mut [u8; 97], len: usize, c: u8) -> usize
+fn keep_byte(line: &mut [u8; 97], len: usize, c: u8) -> usize
     requires { ⌜ (len ≤ 97) × (length (now line) ≡ 97) ⌝ }
-    ensures { λ n. ⌜ ((pending : List ℕ) → Kept pending len (now (line .entry)) →
-        Kept (pending ++ (c ∷ [])) n (now (line .exit))) × (n ≤ 97) × (length (now (line .exit)) ≡ 97) ⌝ }
+    ensures { λ n. ⌜ ((pending : List ℕ) → LineKept pending len (now (line .entry)) →
+        LineKept (pending ++ (c ∷ [])) n (now (line .exit))) × (n ≤ 97) × (length (now (line .exit)) ≡ 97) ⌝ }
 {
     if 97 <= len {
         return len;
@@ -31,7 +31,7 @@ fn keep(line: &mut [u8; 97], len: usize, c: u8) -> usize
 // that they belong to, which tell that it is too long.
 pub fn take_line(line: &mut [u8; 97], len: usize, piece: &[u8], from: usize) -> Reached
     requires { ⌜ (from ≤ length (now piece)) × (len ≤ 97) × (length (now line) ≡ 97) ⌝ }
-    ensures { λ r. ⌜ ((pending : List ℕ) → Kept pending len (now (line .entry)) →
+    ensures { λ r. ⌜ ((pending : List ℕ) → LineKept pending len (now (line .entry)) →
         Took pending (now (piece .entry)) from r (now (line .exit)))
         × (r .len ≤ 97) × (length (now (line .exit)) ≡ 97) ⌝ }
 {
@@ -46,7 +46,7 @@ pub fn take_line(line: &mut [u8; 97], len: usize, piece: &[u8], from: usize) -> 
                 ended: true,
             };
         }
-        n = keep(line, n, c);
+        n = keep_byte(line, n, c);
         i += 1;
     }
     Reached {

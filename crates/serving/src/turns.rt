@@ -9,7 +9,7 @@ ghost use Rattle.model.specs.Text.{order, asksMay, asksWhen, printReply};
 ghost use Rattle.model.specs.Session.{runsOf, byteTurn};
 ghost use Rattle.printing.specs.Print.{RunsFit};
 ghost use Rattle.text.specs.Short.{Short};
-ghost use Rattle.serving.specs.Turns.{Turned};
+ghost use Rattle.serving.specs.LineTurns.{Turned};
 ghost use Rattle.serving.specs.Replies.{PrintedLine, turnText};
 use model::Access;
 use model::Question;
@@ -19,7 +19,7 @@ use reading::Asked;
 use reading::Parsed;
 
 // Prints a reply and a newline at the front of `out`; how many bytes that is.
-fn put_reply(out: &mut [u8], r: Reply, list: &[u32]) -> usize
+fn put_reply_line(out: &mut [u8], r: Reply, list: &[u32]) -> usize
     requires { ⌜ (24001 ≤ length (now out)) × RunsFit r (now list) ⌝ }
     ensures { λ n. ⌜ PrintedLine (printReply r (runsOf r (now (list .entry)))) (now (out .entry))
         (now (out .exit)) n ⌝ }
@@ -30,12 +30,12 @@ fn put_reply(out: &mut [u8], r: Reply, list: &[u32]) -> usize
 }
 
 // The same for a short reply, which has no runs.
-fn put_short(out: &mut [u8], r: Reply) -> usize
+fn put_short_line(out: &mut [u8], r: Reply) -> usize
     requires { ⌜ (24001 ≤ length (now out)) × Short r ⌝ }
     ensures { λ n. ⌜ PrintedLine (printReply r []) (now (out .entry)) (now (out .exit)) n ⌝ }
 {
     let none = [0u32; 0];
-    put_reply(out, r, &none)
+    put_reply_line(out, r, &none)
 }
 
 // Answers a request.
@@ -44,7 +44,7 @@ fn serve_order(s: &mut [u8], q: Request, out: &mut [u8]) -> usize
     ensures { λ n. ⌜ PrintedLine (turnText (now (s .entry)) (order q)) (now (out .entry)) (now (out .exit)) n
         × (now (s .exit) ≡ byteTurn (now (s .entry)) (order q) .lent) ⌝ }
 {
-    put_short(out, requests::step(s, q))
+    put_short_line(out, requests::step(s, q))
 }
 
 // Answers MAY.
@@ -53,7 +53,7 @@ fn serve_may(s: &[u8], q: Question, out: &mut [u8]) -> usize
     ensures { λ n. ⌜ PrintedLine (turnText (now (s .entry)) (asksMay q)) (now (out .entry))
         (now (out .exit)) n ⌝ }
 {
-    put_short(out, answers::may_sound(s, q))
+    put_short_line(out, answers::may_sound(s, q))
 }
 
 // Answers WHEN, with a list of 1,100 pairs.
@@ -64,7 +64,7 @@ fn serve_when(s: &[u8], x: Access, out: &mut [u8]) -> usize
 {
     let mut list = [0u32; 2200];
     let r = answers::when_sound(s, x, &mut list);
-    put_reply(out, r, &list)
+    put_reply_line(out, r, &list)
 }
 
 // Answers one line of a session on a sound base, and prints the reply and a newline at the front of `out`;
@@ -76,7 +76,7 @@ pub fn serve_line(s: &mut [u8], line: &[u8], out: &mut [u8]) -> usize
         × (length (now (out .exit)) ≡ length (now (out .entry))) ⌝ }
 {
     let Parsed::Line(a) = reading::read_line(line) else {
-        return put_short(out, Reply::Refused(1));
+        return put_short_line(out, Reply::Refused(1));
     };
     match a {
         Asked::Order(q) => serve_order(s, q, out),

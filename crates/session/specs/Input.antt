@@ -17,35 +17,37 @@ use Rattle.channel.specs.declared.Channel.{Channel}
 use Rattle.channel.specs.Digests.{digest, digest-twice, digest-none}
 use Rattle.channel.specs.Trace.{Handed, Read, Stopped, read-same}
 use Rattle.serving.specs.declared.steps.Stepped.{Stepped}
-use Rattle.serving.specs.Turns.{Kept}
-use Rattle.serving.specs.Stream.{Fed, feed, finish, finishBytes, ending, Feeds}
+use Rattle.serving.specs.LineTurns.{LineKept}
+use Rattle.serving.specs.Stream.{FeedResult, feed, finish, finishBytes, ending, FedUpTo}
 use Rattle.serving.specs.Stream.{feeds-then, stream-session}
 use Rattle.serving.proofs.StreamFacts.{feeds-none, feeds-all, feeds-more, feeds-front}
 use Rattle.serving.specs.Stream.{stream-base}
-use Rattle.serving.specs.Steps.{Steps}
-use Rattle.session.specs.declared.Going.{Going}
+use Rattle.serving.specs.PieceSteps.{Steps}
+use Rattle.session.specs.declared.InputState.{InputState}
 
 -- a sound base, room for a reply of any length, and of a line at most the first 97 bytes
-abbrev pub Ready : List ℕ → List ℕ → ℕ → List ℕ → Type 0
-Ready s line len out = (soundBytes s ≡ true) × (24001 ≤ length out) × (len ≤ 97) × (length line ≡ 97)
+abbrev pub BuffersReady : List ℕ → List ℕ → ℕ → List ℕ → Type 0
+BuffersReady s line len out = (soundBytes s ≡ true) × (24001 ≤ length out) × (len ≤ 97) × (length line ≡ 97)
 
 -- of `input`, behind the line `pending`, all but `rest` is answered: the bytes of the base are s′, `left` is
 -- the line that is not ended yet, and its first bytes are kept; `text` was handed to be written
-pub record Answers (s pending input rest : List ℕ) (sent len sent′ : ℕ) (s′ line′ : List ℕ) : Type 0 where
-  pub text : List ℕ
-  pub left : List ℕ
-  pub feeds : Feeds s pending input rest text s′ left
-  pub kept : Kept left len line′
-  pub handed : sent′ ≡ digest sent text
+pub record AnsweredUpTo (s pending input rest : List ℕ) (sent len sent′ : ℕ) (s′ line′ : List ℕ) : Type 0
+  where
+    pub text : List ℕ
+    pub left : List ℕ
+    pub feeds : FedUpTo s pending input rest text s′ left
+    pub kept : LineKept left len line′
+    pub handed : sent′ ≡ digest sent text
 
 -- the front of the input is answered, and all of it where every write worked
-pub record Answered (s pending input : List ℕ) (sent : ℕ) (r : Going) (s′ line′ : List ℕ) : Type 0 where
-  pub rest : List ℕ
-  pub answers : Answers s pending input rest sent (r .len) (r .channel .sent) s′ line′
-  pub all : r .channel .ok ≡ true → rest ≡ []
+pub record FrontAnswered (s pending input : List ℕ) (sent : ℕ) (r : InputState) (s′ line′ : List ℕ) : Type 0
+  where
+    pub rest : List ℕ
+    pub answers : AnsweredUpTo s pending input rest sent (r .len) (r .channel .sent) s′ line′
+    pub all : r .channel .ok ≡ true → rest ≡ []
 
 -- the program is through with its input
-pub record Served (s pending input : List ℕ) (r : Channel) (s′ : List ℕ) : Type 0 where
+pub record ProgramDone (s pending input : List ℕ) (r : Channel) (s′ : List ℕ) : Type 0 where
   pub read : Read input r
   pub stopped : Stopped r
   -- the input ended: all of it is answered, and so is its end
@@ -79,8 +81,8 @@ pub record Ran (input : List ℕ) (r : Channel) (s′ : List ℕ) : Type 0 where
 -- ---- laws
 
 module _ {s pending : List ℕ} where
-  pub answers-none : {line : List ℕ} {len : ℕ} (input : List ℕ) (sent : ℕ) → Kept pending len line →
-      Answers s pending input input sent len sent s line
+  pub answers-none : {line : List ℕ} {len : ℕ} (input : List ℕ) (sent : ℕ) → LineKept pending len line →
+      AnsweredUpTo s pending input input sent len sent s line
   answers-none input sent k = record {
     text = [];
     left = pending;
@@ -91,9 +93,9 @@ module _ {s pending : List ℕ} where
 
   -- one part of the input behind the other
   pub answers-then : {input middle rest s′ line′ s″ line″ : List ℕ} {sent len′ sent′ len″ sent″ : ℕ} →
-      (a : Answers s pending input middle sent len′ sent′ s′ line′) →
-      Answers s′ (a .left) middle rest sent′ len″ sent″ s″ line″ →
-      Answers s pending input rest sent len″ sent″ s″ line″
+      (a : AnsweredUpTo s pending input middle sent len′ sent′ s′ line′) →
+      AnsweredUpTo s′ (a .left) middle rest sent′ len″ sent″ s″ line″ →
+      AnsweredUpTo s pending input rest sent len″ sent″ s″ line″
   answers-then {sent = sent} a b = record {
     text = a .text ++ b .text;
     left = b .left;
@@ -105,28 +107,30 @@ module _ {s pending : List ℕ} where
 
   -- a step from the place `at` of a piece on
   pub answers-step : {piece s′ line′ s″ line″ out : List ℕ} {at sent len′ sent′ sent″ : ℕ} {r : Stepped} →
-      (a : Answers s pending piece (drop at piece) sent len′ sent′ s′ line′) →
+      (a : AnsweredUpTo s pending piece (drop at piece) sent len′ sent′ s′ line′) →
       Steps s′ (a .left) piece at r s″ line″ out → sent″ ≡ digest sent′ (take (r .n) out) →
-      Answers s pending piece (drop (r .at) piece) sent (r .len) sent″ s″ line″
+      AnsweredUpTo s pending piece (drop (r .at) piece) sent (r .len) sent″ s″ line″
   answers-step {out = out} {r = r} a k e =
       answers-then a (
       record { text = take (r .n) out; left = k .left; feeds = k .feeds; kept = k .kept; handed = e }
       )
 
   -- no input yet
-  pub answered-none : {line : List ℕ} {g : Going} → Kept pending (g .len) line → g .channel .sent ≡ 0 →
-      Answered s pending [] 0 g s line
+  pub answered-none : {line : List ℕ} {g : InputState} → LineKept pending (g .len) line → g .channel .sent
+      ≡ 0 →
+      FrontAnswered s pending [] 0 g s line
   answered-none {line} {g} k e = record {
     rest = [];
-    answers = subst (λ (n : ℕ). Answers s pending [] [] 0 (g .len) n s line) (sym e) (answers-none [] 0 k);
+    answers = subst (λ (n : ℕ). AnsweredUpTo s pending [] [] 0 (g .len) n s line) (sym e)
+        (answers-none [] 0 k);
     all = λ z. refl;
   }
 
   -- all the input so far, and more of it
-  pub answered-then : {input more s′ line′ s″ line″ : List ℕ} {sent : ℕ} {g r : Going} →
-      (a : Answered s pending input sent g s′ line′) → g .channel .ok ≡ true →
-      Answered s′ (a .answers .left) more (g .channel .sent) r s″ line″ →
-      Answered s pending (input ++ more) sent r s″ line″
+  pub answered-then : {input more s′ line′ s″ line″ : List ℕ} {sent : ℕ} {g r : InputState} →
+      (a : FrontAnswered s pending input sent g s′ line′) → g .channel .ok ≡ true →
+      FrontAnswered s′ (a .answers .left) more (g .channel .sent) r s″ line″ →
+      FrontAnswered s pending (input ++ more) sent r s″ line″
   answered-then {more = more} a e b =
       let f = a .answers in
       record {
@@ -143,12 +147,12 @@ module _ {s pending : List ℕ} where
         all = b .all;
       }
 
-  module _ {input s′ line′ : List ℕ} {g : Going} (w : Read input (g .channel))
-      (a : Answered s pending input 0 g s′ line′) where
+  module _ {input s′ line′ : List ℕ} {g : InputState} (w : Read input (g .channel))
+      (a : FrontAnswered s pending input 0 g s′ line′) where
     -- the end of the input was answered
     pub served-ended : {r : Channel} {s″ : List ℕ} → g .channel .ok ≡ true → g .channel .got ≡ pos 0 →
         s″ ≡ finishBytes s′ (a .answers .left) → Handed (g .channel) (finish s′ (a .answers .left)) r →
-        soundBytes s″ ≡ true → Served s pending input r s″
+        soundBytes s″ ≡ true → ProgramDone s pending input r s″
     served-ended {r} ok over bytes handed sound =
         let f = a .answers in
         let t = finish s′ (f .left) in
@@ -159,8 +163,8 @@ module _ {s pending : List ℕ} where
           read = read-same w (handed .unread);
           stopped = λ p. inl (inl (handed .unread .got ∙ over));
           ended = λ p q. (
-            bytes ∙ ap (λ (x : Fed). finishBytes (x .lent) (x .pending)) (sym e),
-            n ∙ ap (λ (x : Fed). digest 0 (ending x)) (sym e),
+            bytes ∙ ap (λ (x : FeedResult). finishBytes (x .lent) (x .pending)) (sym e),
+            n ∙ ap (λ (x : FeedResult). digest 0 (ending x)) (sym e),
           );
           cut = λ p q. absurd (q (handed .unread .got ∙ over));
           text = f .text ++ t;
@@ -172,7 +176,7 @@ module _ {s pending : List ℕ} where
 
     -- the input did not end
     pub served-cut : (g .channel .ok ≡ true → g .channel .got ≡ pos 0 → ⊥) → Stopped (g .channel) →
-        soundBytes s′ ≡ true → Served s pending input (g .channel) s′
+        soundBytes s′ ≡ true → ProgramDone s pending input (g .channel) s′
     served-cut none stop sound =
         let f = a .answers in
         record {
@@ -180,8 +184,8 @@ module _ {s pending : List ℕ} where
           stopped = stop;
           ended = λ p q. absurd (none p q);
           cut = λ p q. let e = feeds-all (f .feeds) (a .all p) in (
-            ap (λ (x : Fed). x .lent) (sym e),
-            f .handed ∙ ap (λ (x : Fed). digest 0 (x .text)) (sym e),
+            ap (λ (x : FeedResult). x .lent) (sym e),
+            f .handed ∙ ap (λ (x : FeedResult). digest 0 (x .text)) (sym e),
           );
           text = f .text;
           rest = ending (feed s′ (f .left) (a .rest));
@@ -191,7 +195,7 @@ module _ {s pending : List ℕ} where
         }
 
 -- from an empty base and no line on
-pub served-run : {s input s′ : List ℕ} {r : Channel} → s ≡ encode emptyBase → Served s [] input r s′ →
+pub served-run : {s input s′ : List ℕ} {r : Channel} → s ≡ encode emptyBase → ProgramDone s [] input r s′ →
     Ran input r s′
 served-run {s} {input} {s′} {r} z w =
     let e : ending (feed s [] input) ≡ session input = rw z (stream-session input) in

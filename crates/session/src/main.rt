@@ -14,14 +14,14 @@ ghost use lib.ListN.{length};
 ghost use Rattle.model.specs.Encoding.{size};
 ghost use Rattle.model.specs.Soundness.{soundBytes};
 ghost use Rattle.channel.specs.Trace.{arrived, Fetched, Unread, Handed};
-ghost use Rattle.serving.specs.Turns.{Kept};
+ghost use Rattle.serving.specs.LineTurns.{LineKept};
 ghost use Rattle.serving.specs.Stream.{finish, finishBytes};
-ghost use Rattle.session.specs.Input.{Ready, Answered, Served, Ran};
+ghost use Rattle.session.specs.Input.{BuffersReady, FrontAnswered, ProgramDone, Ran};
 use channel::Channel;
 use model::BASE_BYTES;
 
 // How many bytes are kept of the line that is not ended yet, and the channel so far.
-struct Going {
+struct InputState {
     len: usize,
     channel: Channel,
 }
@@ -31,13 +31,13 @@ struct Going {
 fn serve_piece(
     s: &mut [u8],
     line: &mut [u8; 97],
-    from: Going,
+    from: InputState,
     piece: &[u8],
     out: &mut [u8],
-) -> Going
-    requires { ⌜ Ready (now s) (now line) (from .len) (now out) ⌝ }
-    ensures { λ r. ⌜ ((pending : List ℕ) → Kept pending (from .len) (now (line .entry)) →
-        Answered (now (s .entry)) pending (now (piece .entry)) (from .channel .sent) r (now (s .exit))
+) -> InputState
+    requires { ⌜ BuffersReady (now s) (now line) (from .len) (now out) ⌝ }
+    ensures { λ r. ⌜ ((pending : List ℕ) → LineKept pending (from .len) (now (line .entry)) →
+        FrontAnswered (now (s .entry)) pending (now (piece .entry)) (from .channel .sent) r (now (s .exit))
         (now (line .exit)))
         × Unread (from .channel) (r .channel) × (r .len ≤ 97) × (soundBytes (now (s .exit)) ≡ true) ⌝ }
 {
@@ -46,7 +46,7 @@ fn serve_piece(
     while at < piece.len() {
         let r = serving::serve_lines(s, line, g.len, piece, at, out);
         let c = channel::put(g.channel, &out[..r.n]);
-        g = Going {
+        g = InputState {
             len: r.len,
             channel: c,
         };
@@ -60,18 +60,25 @@ fn serve_piece(
 
 // Reads a piece into `buf` and answers its lines. At the end of the input, and where the read fails, there is
 // none.
-fn serve_some(s: &mut [u8], line: &mut [u8; 97], g: Going, buf: &mut [u8], out: &mut [u8]) -> Going
-    requires { ⌜ Ready (now s) (now line) (g .len) (now out)
+fn serve_some(
+    s: &mut [u8],
+    line: &mut [u8; 97],
+    g: InputState,
+    buf: &mut [u8],
+    out: &mut [u8],
+) -> InputState
+    requires { ⌜ BuffersReady (now s) (now line) (g .len) (now out)
         × (g .channel .reads < 18446744073709551615) ⌝ }
-    ensures { λ r. ⌜ ((pending : List ℕ) → Kept pending (g .len) (now (line .entry)) →
-        Answered (now (s .entry)) pending (arrived (r .channel .got) (now (buf .exit))) (g .channel .sent) r
+    ensures { λ r. ⌜ ((pending : List ℕ) → LineKept pending (g .len) (now (line .entry)) →
+        FrontAnswered (now (s .entry)) pending (arrived (r .channel .got) (now (buf .exit)))
+        (g .channel .sent) r
         (now (s .exit)) (now (line .exit)))
         × Fetched (g .channel) (now (buf .exit)) (r .channel) × (r .len ≤ 97)
         × (soundBytes (now (s .exit)) ≡ true) ⌝ }
 {
     let c = channel::fetch(g.channel, buf);
     let n = channel::last_read(c, buf);
-    let h = Going {
+    let h = InputState {
         len: g.len,
         channel: c,
     };
@@ -79,9 +86,9 @@ fn serve_some(s: &mut [u8], line: &mut [u8; 97], g: Going, buf: &mut [u8], out: 
 }
 
 // Answers the line that the end of the input ends.
-fn serve_last(s: &mut [u8], line: &[u8; 97], g: Going, out: &mut [u8]) -> Channel
-    requires { ⌜ Ready (now s) (now line) (g .len) (now out) ⌝ }
-    ensures { λ r. ⌜ ((pending : List ℕ) → Kept pending (g .len) (now (line .entry)) →
+fn serve_last(s: &mut [u8], line: &[u8; 97], g: InputState, out: &mut [u8]) -> Channel
+    requires { ⌜ BuffersReady (now s) (now line) (g .len) (now out) ⌝ }
+    ensures { λ r. ⌜ ((pending : List ℕ) → LineKept pending (g .len) (now (line .entry)) →
         (now (s .exit) ≡ finishBytes (now (s .entry)) pending)
         × Handed (g .channel) (finish (now (s .entry)) pending) r)
         × (soundBytes (now (s .exit)) ≡ true) ⌝ }
@@ -100,11 +107,11 @@ fn serve_input(
     buf: &mut [u8],
     out: &mut [u8],
 ) -> Channel
-    requires { ⌜ Ready (now s) (now line) len (now out) ⌝ }
-    ensures { λ r. ⌜ ((input : List ℕ) × ((pending : List ℕ) → Kept pending len (now (line .entry)) →
-        Served (now (s .entry)) pending input r (now (s .exit)))) ⌝ }
+    requires { ⌜ BuffersReady (now s) (now line) len (now out) ⌝ }
+    ensures { λ r. ⌜ ((input : List ℕ) × ((pending : List ℕ) → LineKept pending len (now (line .entry)) →
+        ProgramDone (now (s .entry)) pending input r (now (s .exit)))) ⌝ }
 {
-    let mut g = Going {
+    let mut g = InputState {
         len: len,
         channel: channel::open(),
     };

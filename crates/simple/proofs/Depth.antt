@@ -16,6 +16,7 @@ use Rattle.model.specs.Base.{Base}
 use Rattle.model.specs.Stratification.{precedes}
 use Rattle.model.specs.Circles.{circular, circular-cyclic}
 use Rattle.model.specs.Rules.{derivesFor, rightOf, asked}
+use Rattle.model.specs.SideFacts.{right-sign}
 use Rattle.model.specs.HoldsLaws.{Fed, fit-precedes, strictly-linked}
 
 module _ (b : Base) where
@@ -81,10 +82,10 @@ module _ (b : Base) where
 
     pub sight-right : (p : Pattern) (r : Rule) → Mem r (b .rules) → derivesFor b p r ≡ true →
         sight (rightOf r (p .access)) < depthFor p r
-    unfolding rightOf
     sight-right p r m d =
         let x = p .access in
         let right = rightOf r x in
         let f = reach-fed right r m (λ q e. fit-precedes b q r x e) in
         rw d (sight-less right (depth r) f
-        (λ n. reach-fed (asked (right .access) true) r m (λ q e. strictly-linked b r x n q e .0)))
+        (λ n. reach-fed (asked (right .access) true) r m
+        (λ q e. strictly-linked b r x (sym (right-sign r x) ∙ n) q e .0)))

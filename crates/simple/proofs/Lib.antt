@@ -1,3 +1,3 @@
 pub mod Depth
-pub mod Places
-pub mod Steps
+pub mod StoredPlaces
+pub mod EngineSteps

@@ -17,7 +17,7 @@ use Rattle.model.specs.Encoding.{decode}
 use Rattle.model.specs.Soundness.{soundBytes}
 
 -- 02: "It serves rule sets in which feeding has no circle of any sort"; "such links count as feeding"
-pub record Served (s : List ℕ) : Type 0 where
+pub record ServedRules (s : List ℕ) : Type 0 where
   pub sound : soundBytes s ≡ true
   pub uncircular : circular (decode s .rules) ≡ false
 

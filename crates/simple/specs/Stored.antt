@@ -18,5 +18,5 @@ rulesFrom s = drop (rulesAt (countsOf s)) s
 abbrev pub lineIn : List ℕ → ℕ → Authorization
 lineIn s i = authorizationOf (drop (i * 24) (linesFrom s))
 
-abbrev pub ruleIn : List ℕ → ℕ → Rule
-ruleIn s i = ruleOf (drop (i * 28) (rulesFrom s))
+abbrev pub storedRule : List ℕ → ℕ → Rule
+storedRule s i = ruleOf (drop (i * 28) (rulesFrom s))

@@ -13,7 +13,7 @@
 ghost use mathlib.Core.Path.{_≡_};
 ghost use Prim.Native.Nat.{_≤_};
 ghost use Rattle.model.specs.Simple.{simpleAnswer};
-ghost use Rattle.simple.specs.Engine.{Served, Listed, heldAt, inForceAt, givenAt, wantedFrom};
+ghost use Rattle.simple.specs.Engine.{ServedRules, Listed, heldAt, inForceAt, givenAt, wantedFrom};
 
 mod sides;
 mod stored;
@@ -61,7 +61,7 @@ pub fn simple_may(s: &[u8], q: Question) -> Reply
 
 // Whether p is held at t: an authorization gives it, or one of the rules does.
 fn held(s: &[u8], p: Pattern, t: u32) -> bool
-    requires { ⌜ Served (now s) ⌝ }
+    requires { ⌜ ServedRules (now s) ⌝ }
     ensures { λ x. ⌜ x ≡ heldAt (now (s .entry)) p t ⌝ }
 {
     if is_granted(s, p, t) {
@@ -81,7 +81,7 @@ fn held(s: &[u8], p: Pattern, t: u32) -> bool
 // Whether p counts as held on a right side at t: it is held, and, if it is no denial itself, no denial of its
 // access is, whoever gave it.
 fn in_force(s: &[u8], p: Pattern, t: u32) -> bool
-    requires { ⌜ Served (now s) ⌝ }
+    requires { ⌜ ServedRules (now s) ⌝ }
     ensures { λ x. ⌜ x ≡ inForceAt (now (s .entry)) p t ⌝ }
 {
     if !held(s, p, t) {
@@ -97,7 +97,7 @@ fn in_force(s: &[u8], p: Pattern, t: u32) -> bool
 // Whether a rule gives p at t: its left side is p, t is in its interval, and its right side is in force, or
 // not, as its operator says, at t or at all instants from the rule's start to t.
 fn gives(s: &[u8], r: Rule, p: Pattern, t: u32) -> bool
-    requires { ⌜ Served (now s) × Listed (now s) r ⌝ }
+    requires { ⌜ ServedRules (now s) × Listed (now s) r ⌝ }
     ensures { λ x. ⌜ x ≡ givenAt (now (s .entry)) r p t ⌝ }
 {
     let i = r.interval;
@@ -116,7 +116,7 @@ fn gives(s: &[u8], r: Rule, p: Pattern, t: u32) -> bool
 
 // Whether p is in force (wanted: true), or not (wanted: false), at every single instant from one to another.
 fn throughout(s: &[u8], p: Pattern, from: u32, to: u32, wanted: bool) -> bool
-    requires { ⌜ Served (now s) × (from ≤ to) ⌝ }
+    requires { ⌜ ServedRules (now s) × (from ≤ to) ⌝ }
     ensures { λ x. ⌜ x ≡ wantedFrom (now (s .entry)) p from to wanted ⌝ }
 {
     for u in from..=to {

@@ -80,7 +80,7 @@ pub fn may_give(s: &[u8], r: Rule, p: Pattern) -> bool
 }
 
 // A number of the right side; its star stands for x.
-fn number_of(n: u16, x: u32) -> u32
+fn number_or(n: u16, x: u32) -> u32
     ensures { λ r. ⌜ r ≡ pick (isStar n) x n ⌝ }
 {
     if n == 0 {
@@ -97,9 +97,9 @@ pub fn right_of(r: Rule, x: Access) -> Pattern
     let o = r.option;
     Pattern {
         access: Access {
-            subject: number_of(right.subject, x.subject),
-            mode: number_of(fields::wide(right.mode), x.mode),
-            object: number_of(right.object, x.object),
+            subject: number_or(right.subject, x.subject),
+            mode: number_or(fields::u16_of(right.mode), x.mode),
+            object: number_or(right.object, x.object),
         },
         negative: right.negative,
         grantor: r.grantor,

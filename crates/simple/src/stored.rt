@@ -6,7 +6,7 @@ ghost use Rattle.model.specs.Encoding.{decode};
 ghost use Rattle.model.specs.Circles as circles;
 ghost use Rattle.model.specs.Soundness.{soundBytes};
 ghost use Rattle.encoding.specs.Format.{countsOf};
-ghost use Rattle.simple.specs.Stored.{lineIn, ruleIn};
+ghost use Rattle.simple.specs.Stored.{lineIn, storedRule};
 use encoding::authorization_at;
 use encoding::authorizations_at;
 use encoding::counts_of;
@@ -46,7 +46,7 @@ pub fn rule_count(s: &[u8]) -> usize
 // The i-th of them.
 pub fn rule(s: &[u8], i: usize) -> Rule
     requires { ⌜ (soundBytes (now s) ≡ true) × (i < countsOf (now s) .rules) ⌝ }
-    ensures { λ r. ⌜ r ≡ ruleIn (now (s .entry)) i ⌝ }
+    ensures { λ r. ⌜ r ≡ storedRule (now (s .entry)) i ⌝ }
 {
     rule_at(s, rules_at(counts_of(s)) + i * RULE_BYTES)
 }

@@ -21,9 +21,9 @@ use Rattle.encoding.specs.Format.{rulesAt, endAt, authorizationClean, ruleClean
 use Rattle.encoding.specs.Format.{formatFits}
 use Rattle.encoding.proofs.FormatFacts.{decoded-objects, decoded-administrators, decoded-referrers}
 use Rattle.encoding.proofs.FormatFacts.{decoded-authorizations, decoded-rules, decoded-counts}
-use Rattle.bodies.specs.Parts.{objectsPart, privilegesPart, authorizationsPart, rulesPart}
-use Rattle.soundness.specs.Parts.{sound-parts}
+use Rattle.bodies.specs.BodyTests.{objectsPart, privilegesPart, authorizationsPart, rulesPart}
 use Rattle.soundness.specs.BodiesAsked.{baseOf, partsHold}
+use Rattle.soundness.proofs.SoundParts.{sound-parts}
 use Rattle.lookup.proofs.SoundBodies.{rest-of}
 
 -- what the format says of the length and the counts

@@ -1,1 +1,2 @@
+pub mod SoundParts
 pub mod Decoded

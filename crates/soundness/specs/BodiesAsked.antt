@@ -8,7 +8,7 @@ use Rattle.model.specs.Stratification.{stratified}
 use Rattle.model.specs.Soundness.{allSupported}
 use Rattle.encoding.specs.declared.Counts.{Counts}
 use Rattle.encoding.specs.Format.{privilegesIn, authorizationsIn, rulesIn}
-use Rattle.bodies.specs.Parts.{objectsPart, privilegesPart, authorizationsPart, rulesPart}
+use Rattle.bodies.specs.BodyTests.{objectsPart, privilegesPart, authorizationsPart, rulesPart}
 
 -- the base with these bodies
 abbrev pub baseOf : ℕ → ℕ → Counts → (objects administrators referrers authorizations rules : List ℕ) → Base

@@ -1,2 +1,2 @@
-pub mod Giving
+pub mod GivingSteps
 pub mod Rooms

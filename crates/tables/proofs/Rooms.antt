@@ -6,11 +6,11 @@ use Prim.Native.Nat.{ℕ, zero, suc, _+_, _-_, _^_, _≤_, _<_}
 use native.Mathlib.Omega.{arith}
 use lib.ListN.{getD}
 use Rattle.foundation.specs.Tests.{cases}
-use Rattle.foundation.specs.Masks.{bit}
+use Rattle.foundation.specs.BitMasks.{bit}
 use Rattle.words.specs.Bits.{bit-inside}
 use Rattle.places.specs.declared.Grid.{Grid}
 use Rattle.places.specs.Regions.{sizeOf}
-use Rattle.tables.specs.Layout.{Laid, regionAt, ruleTables, roomOf}
+use Rattle.tables.specs.TableLayout.{TablesLaid, regionAt, ruleTables, roomOf}
 
 module _ (g : Grid) (codes : List ℕ) (rules : ℕ) where
   pub room-none : roomOf g codes rules 0 ≡ 0
@@ -70,7 +70,7 @@ module _ (g : Grid) (codes : List ℕ) (rules : ℕ) where
       room-mono (suc c) d h,
     )
 
-    pub rules-laid : Laid (ruleTables g codes rules first) from (from + roomOf g codes rules 64)
+    pub rules-laid : TablesLaid (ruleTables g codes rules first) from (from + roomOf g codes rules 64)
     rules-laid = record {
       room = omega arith;
       low = λ c e. omega (arith, starts c (inside c e) e);

@@ -1,2 +1,2 @@
-pub mod Layout
-pub mod Giving
+pub mod TableLayout
+pub mod TableGiving

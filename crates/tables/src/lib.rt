@@ -6,12 +6,14 @@ ghost use mathlib.Core.Logic.{_↔_};
 ghost use Prim.Native.Nat.{ℕ, _+_, _*_, _^_, _≤_, _<_};
 ghost use lib.Dec.{eqb};
 ghost use lib.ListN.{length};
-ghost use Rattle.foundation.specs.Masks.{bit};
+ghost use Rattle.foundation.specs.BitMasks.{bit};
 ghost use Rattle.words.specs.Fields.{fieldOf, joined};
-ghost use Rattle.words.specs.Sums.{Grown};
+ghost use Rattle.words.specs.Sums.{SumGrown};
 ghost use Rattle.places.specs.Regions.{free, sizeOf, indexIn, Within, In};
-ghost use Rattle.tables.specs.Layout.{regionAt, whole, ruleTables, allTables, roomOf, Small, Laid};
-ghost use Rattle.tables.specs.Giving.{tablesOf, Ready, Reaches, Given, rule, takes};
+ghost use Rattle.tables.specs.TableLayout.{regionAt, wholeRegion, ruleTables, allTables, roomOf};
+ghost use Rattle.tables.specs.TableLayout.{SmallGrid, TablesLaid};
+ghost use Rattle.tables.specs.TableGiving.{tablesOf, TablesReady, Reaches, TablesGiven, ruleTable};
+ghost use Rattle.tables.specs.TableGiving.{tableTakes};
 use places::Grid;
 use places::Point;
 use places::Region;
@@ -35,7 +37,7 @@ pub struct Place {
 
 // The region of all places.
 pub fn all_places() -> Region
-    ensures { λ r. ⌜ r ≡ whole ⌝ }
+    ensures { λ r. ⌜ r ≡ wholeRegion ⌝ }
 {
     Region {
         subject: 255,
@@ -74,7 +76,7 @@ fn is_in(b: Region, x: Point) -> bool
 pub fn lay_out(codes: &[u8; 256], rules: u64, g: Grid, from: u32, first: &mut [u32; 64]) -> u32
     requires { ⌜ from + roomOf g (now codes) rules 64 < 4294967296 ⌝ }
     ensures { λ r. ⌜ (r ≡ from + roomOf g (now (codes .entry)) rules 64)
-        × Laid (ruleTables g (now (codes .entry)) rules (now (first .exit))) from r ⌝ }
+        × TablesLaid (ruleTables g (now (codes .entry)) rules (now (first .exit))) from r ⌝ }
 {
     *first = [0; 64];
     let mut n = from;
@@ -90,9 +92,9 @@ pub fn lay_out(codes: &[u8; 256], rules: u64, g: Grid, from: u32, first: &mut [u
 
 // Lays out all tables, those of the rules of a mask behind the first two; how many fields they have.
 pub fn lay_all(right: &[u8; 256], choosy: u64, g: Grid, first: &mut [u32; 64]) -> u32
-    requires { ⌜ Small g ⌝ }
-    ensures { λ r. ⌜ (r ≡ 2 * sizeOf g whole + roomOf g (now (right .entry)) choosy 64)
-        × Laid (allTables g (now (right .entry)) choosy (now (first .exit))) 0 r ⌝ }
+    requires { ⌜ SmallGrid g ⌝ }
+    ensures { λ r. ⌜ (r ≡ 2 * sizeOf g wholeRegion + roomOf g (now (right .entry)) choosy 64)
+        × TablesLaid (allTables g (now (right .entry)) choosy (now (first .exit))) 0 r ⌝ }
 {
     let b = all_places();
     lay_out(right, choosy, g, 2 * places::size_of(g, b), first)
@@ -123,7 +125,7 @@ fn join_in(words: &mut [u64], f: Frame, from: u32, b: Region, p: Place, v: u64) 
     ensures { λ r. ⌜ ((j : ℕ) → fieldOf (f .width) (now (words .exit)) j
         ≡ joined (f .width) (now (words .entry)) (from + indexIn (f .grid) b (p .pair) (p .point)) v j)
         × (length (now (words .exit)) ≡ length (now (words .entry)))
-        × Grown r (now (words .entry)) (now (words .exit)) ⌝ }
+        × SumGrown r (now (words .entry)) (now (words .exit)) ⌝ }
 {
     join_at(words, f.width, number_in(f, from, b, p), v)
 }
@@ -138,11 +140,12 @@ fn give_rule(
     c: u32,
     v: u64,
 ) -> bool
-    requires { ⌜ Ready f (now right) (now first) (length (now words)) × Within (f .grid) (p .pair) (p .point)
+    requires { ⌜ TablesReady f (now right) (now first) (length (now words)) × Within (f .grid) (p .pair)
+        (p .point)
         × (c < 64) × (bit c (f .choosy) ≡ true) × (v < 2 ^ (2 ^ f .width)) ⌝ }
-    ensures { λ r. ⌜ Given (tablesOf f (now (right .entry)) (now (first .entry))) (f .width) (p .pair)
-        (p .point) (rule c) v (now (words .entry)) (now (words .exit))
-        × Grown r (now (words .entry)) (now (words .exit)) ⌝ }
+    ensures { λ r. ⌜ TablesGiven (tablesOf f (now (right .entry)) (now (first .entry))) (f .width) (p .pair)
+        (p .point) (ruleTable c) v (now (words .entry)) (now (words .exit))
+        × SumGrown r (now (words .entry)) (now (words .exit)) ⌝ }
 {
     let i = c as usize;
     let b = region_at(right, i);
@@ -165,12 +168,13 @@ pub fn give(
     takers: u64,
     v: u64,
 ) -> bool
-    requires { ⌜ Ready f (now right) (now first) (length (now words)) × Within (f .grid) (p .pair) (p .point)
+    requires { ⌜ TablesReady f (now right) (now first) (length (now words)) × Within (f .grid) (p .pair)
+        (p .point)
         × (sign < 2) × ((c : ℕ) → bit c takers ≡ true → bit c (f .choosy) ≡ true)
         × (v < 2 ^ (2 ^ f .width)) ⌝ }
-    ensures { λ r. ⌜ Given (tablesOf f (now (right .entry)) (now (first .entry))) (f .width) (p .pair)
-        (p .point) (takes sign takers) v (now (words .entry)) (now (words .exit))
-        × Grown r (now (words .entry)) (now (words .exit)) ⌝ }
+    ensures { λ r. ⌜ TablesGiven (tablesOf f (now (right .entry)) (now (first .entry))) (f .width) (p .pair)
+        (p .point) (tableTakes sign takers) v (now (words .entry)) (now (words .exit))
+        × SumGrown r (now (words .entry)) (now (words .exit)) ⌝ }
 {
     let g = f.grid;
     let b = all_places();

@@ -1,4 +1,4 @@
--- `Lines` has the law of a newline behind a text.
-pub mod Lines
+-- `LineEnd` has the law of a newline behind a text.
+pub mod LineEnd
 pub mod ShortFacts
 pub mod WritingFacts

@@ -4,9 +4,9 @@ use mathlib.Core.List.{List, [], _∷_, _++_}
 use Prim.Native.Nat.{ℕ, _≤_, _<_}
 use lib.ListN.{length, drop}
 use Rattle.model.specs.Text.{Line, newline, readLine}
-use Rattle.model.specs.Session.{byteTurn, Written, shortestBuffer, textAnswer}
+use Rattle.model.specs.Session.{byteTurn, WrittenText, shortestBuffer, textAnswer}
 use Rattle.text.specs.declared.TextReply.{TextReply}
-use Rattle.text.specs.Writing.{written, Wrote, turnText, answering, answerTo, has-room, text-answer}
+use Rattle.text.specs.Writing.{written, Wrote, byteTurnText, answering, answerTo, has-room, text-answer}
 
 -- the same text by another name
 pub wrote-as : {text text′ before after : List ℕ} {w : TextReply} → text ≡ text′ → Wrote text before after w →
@@ -21,9 +21,9 @@ wrote-as {before = before} e p = record {
 -- ---- the answer to what a line says
 
 module _ (s : List ℕ) (l : Line) (out : List ℕ) where
-  module _ (h : shortestBuffer ≤ length out) (room : length (turnText (byteTurn s l)) < length out) where
+  module _ (h : shortestBuffer ≤ length out) (room : length (byteTurnText (byteTurn s l)) < length out) where
     -- the text was written, and the base is left as the definition says
-    pub all-written : {s′ out′ : List ℕ} {w : TextReply} → Wrote (turnText (byteTurn s l)) out out′ w →
+    pub all-written : {s′ out′ : List ℕ} {w : TextReply} → Wrote (byteTurnText (byteTurn s l)) out out′ w →
         s′ ≡ byteTurn s l .lent → written w s′ out′ ≡ answerTo s l out
     all-written p e =
         let q : written _ _ _ ≡ answering s l out =
@@ -31,6 +31,7 @@ module _ (s : List ℕ) (l : Line) (out : List ℕ) where
         q ∙ sym (has-room s l out h room)
 
 -- so what answers what it says answers it
-pub answers-line : {x : Written} (s line out : List ℕ) (l : Line) → l ≡ readLine line → x ≡ answerTo s l out →
+pub answers-line : {x : WrittenText} (s line out : List ℕ) (l : Line) → l ≡ readLine line → x ≡ answerTo s l
+    out →
     x ≡ textAnswer s line out
 answers-line s line out l e w = w ∙ ap (λ (l : Line). answerTo s l out) e ∙ sym (text-answer s line out)

@@ -11,14 +11,14 @@ use Rattle.model.specs.declared.Request.{Request}
 use Rattle.model.specs.declared.Reply.the-variants.{Refused}
 use Rattle.model.specs.Answers.{request, mayAnswer, whenAnswer}
 use Rattle.model.specs.Text.{Line, order, asksMay, asksWhen, unreadable, readLine}
-use Rattle.model.specs.Session.{byteTurn, whenList, Written, shortestBuffer, textAnswer}
+use Rattle.model.specs.Session.{byteTurn, whenList, WrittenText, shortestBuffer, textAnswer}
 use Rattle.printing.specs.Print.{longestReply}
 use Rattle.printing.proofs.Lengths.{reply-most}
 use Rattle.text.specs.Short.{short-length, request-short, may-short, when-fits}
-use Rattle.text.specs.Writing.{turnText, answerTo, too-short, no-room, has-room, text-answer}
+use Rattle.text.specs.Writing.{byteTurnText, answerTo, too-short, no-room, has-room, text-answer}
 
 -- no text of a reply is longer than 24,000 bytes
-pub turn-most : (s : List ℕ) (l : Line) → length (turnText (byteTurn s l)) ≤ longestReply
+pub turn-most : (s : List ℕ) (l : Line) → length (byteTurnText (byteTurn s l)) ≤ longestReply
 turn-most s (order q) = omega (arith, short-length (request s q .reply) [] (request-short s q))
 turn-most s (asksMay q) = omega (arith, short-length (mayAnswer s q) [] (may-short s q))
 turn-most s (asksWhen x) =
@@ -29,7 +29,7 @@ turn-most s unreadable = omega (arith, short-length (Refused 1) [] (omega arith)
 pub suffices : (s line out : List ℕ) → longestReply < length out → textAnswer s line out .refusal ≡ 0
 suffices s line out h =
     let l = readLine line in
-    ap (λ (w : Written). w .refusal)
+    ap (λ (w : WrittenText). w .refusal)
     (text-answer s line out ∙ has-room s l out (omega arith) (omega (arith, turn-most s l)))
 
 -- nor is one of 16 bytes where the line is a request: none is carried out whose reply is not told
@@ -37,7 +37,7 @@ pub request-told : (s line out : List ℕ) (q : Request) → readLine line ≡ o
     shortestBuffer ≤ length out →
     textAnswer s line out .refusal ≡ 0
 request-told s line out q e h =
-    ap (λ (w : Written). w .refusal)
+    ap (λ (w : WrittenText). w .refusal)
     (text-answer s line out ∙ ap (λ (l : Line). answerTo s l out) e
     ∙ has-room s (order q) out h (omega (arith, short-length (request s q .reply) [] (request-short s q))))
 
@@ -48,8 +48,8 @@ refused-untouched s line out =
     let l = readLine line in
     let e = text-answer s line out in
     cases (leb shortestBuffer (length out))
-    (λ a. cases (leb (length out) (length (turnText (byteTurn s l))))
+    (λ a. cases (leb (length out) (length (byteTurnText (byteTurn s l))))
     (λ b. inr (e ∙ no-room s l out (true-le _ _ b)))
-    (λ b. inl (ap (λ (w : Written). w .refusal)
+    (λ b. inl (ap (λ (w : WrittenText). w .refusal)
     (e ∙ has-room s l out (true-le shortestBuffer (length out) a) (false-le _ _ b)))))
     (λ a. inr (e ∙ too-short s l out (false-le shortestBuffer (length out) a)))

@@ -11,11 +11,11 @@ use Rattle.foundation.specs.Tests.{le-true, le-false, or-intro-left, or-true-ri
 use Rattle.model.specs.Step.{Row, row, firstNumber, refusedOr}
 use Rattle.model.specs.StepFacts.{answered, turned-away}
 use Rattle.model.specs.Text.{Line, newline, readLine, printReply}
-use Rattle.model.specs.Session.{ByteTurn, byteTurn, Written, shortestBuffer, textAnswer}
+use Rattle.model.specs.Session.{ByteTurn, byteTurn, WrittenText, shortestBuffer, textAnswer}
 use Rattle.text.specs.declared.TextReply.{TextReply}
 
 -- what a function gives, and the base and the buffer after it
-abbrev pub written : TextReply → List ℕ → List ℕ → Written
+abbrev pub written : TextReply → List ℕ → List ℕ → WrittenText
 written w s out = record { refusal = w .refusal; count = w .count; lent = s; out = out }
 
 -- a text and a newline were written at the front of a buffer
@@ -27,23 +27,24 @@ pub record Wrote (text before after : List ℕ) (w : TextReply) : Type 0 where
 -- ---- the answer to what a line says
 
 -- what is printed of a turn
-abbrev pub turnText : ByteTurn → List ℕ
-turnText x = printReply (x .reply) (x .runs)
+abbrev pub byteTurnText : ByteTurn → List ℕ
+byteTurnText x = printReply (x .reply) (x .runs)
 
 module _ (s : List ℕ) (l : Line) (out : List ℕ) where
   abbrev tooShort : Bool
   tooShort =
-      ltb (length out) shortestBuffer || ltb (length out) (length (turnText (byteTurn s l) ++ (newline ∷ [])))
+      ltb (length out) shortestBuffer || ltb (length out)
+      (length (byteTurnText (byteTurn s l) ++ (newline ∷ [])))
 
   abbrev rows : List Row
   rows = row 13 tooShort ∷ []
 
-  abbrev pub refusing : ℕ → Written
+  abbrev pub refusing : ℕ → WrittenText
   refusing k = record { refusal = k; count = 0; lent = s; out = out }
 
-  abbrev pub answering : Written
+  abbrev pub answering : WrittenText
   answering =
-      let text = turnText (byteTurn s l) ++ (newline ∷ []) in
+      let text = byteTurnText (byteTurn s l) ++ (newline ∷ []) in
       record {
         refusal = 0;
         count = length text;
@@ -52,7 +53,7 @@ module _ (s : List ℕ) (l : Line) (out : List ℕ) where
             text ++ drop (length text) out;
       }
 
-  unfoldable pub answerTo : Written
+  unfoldable pub answerTo : WrittenText
   answerTo = refusedOr rows refusing answering
 
   refused-rows : tooShort ≡ true → answerTo ≡ refusing 13
@@ -67,20 +68,20 @@ module _ (s : List ℕ) (l : Line) (out : List ℕ) where
       (le-true (suc (length out)) 16 h))
 
   -- a buffer that has no room for the text and its newline
-  pub no-room : length out ≤ length (turnText (byteTurn s l)) → answerTo ≡ refusing 13
+  pub no-room : length out ≤ length (byteTurnText (byteTurn s l)) → answerTo ≡ refusing 13
   no-room h =
-      let text = turnText (byteTurn s l) in
+      let text = byteTurnText (byteTurn s l) in
       let long : ltb (length out) (length (text ++ (newline ∷ []))) ≡ true =
       le-true (suc (length out)) (length (text ++ (newline ∷ [])))
       (omega (arith, length-append text (newline ∷ []))) in
       refused-rows (or-true-right (ltb (length out) shortestBuffer) _ long)
 
-  module _ (h : shortestBuffer ≤ length out) (room : length (turnText (byteTurn s l)) < length out) where
+  module _ (h : shortestBuffer ≤ length out) (room : length (byteTurnText (byteTurn s l)) < length out) where
     -- a buffer that has
     pub has-room : answerTo ≡ answering
     unfolding answerTo
     has-room =
-        let text = turnText (byteTurn s l) in
+        let text = byteTurnText (byteTurn s l) in
         let a : ltb (length out) shortestBuffer ≡ false = le-false (suc (length out)) 16 (omega arith) in
         let b : ltb (length out) (length (text ++ (newline ∷ []))) ≡ false =
         le-false (suc (length out)) (length (text ++ (newline ∷ [])))

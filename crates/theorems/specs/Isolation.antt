@@ -33,7 +33,7 @@ use Rattle.model.specs.SupportFacts.{mem-live, live-mem}
 use Rattle.model.specs.Stratification.{isStar}
 use Rattle.model.specs.StratificationFacts.{unlabelled}
 use Rattle.model.specs.Rules.{fits, standsOn, standsFor, rightOf, asked, mayWith, holds, may, when}
-use Rattle.model.specs.SideFacts.{fits-is, stands-is, stands-same}
+use Rattle.model.specs.SideFacts.{fits-eq, fits-is, stands-is, stands-same, right-eq}
 use Rattle.model.specs.Step.{row, refusedOr}
 use Rattle.model.specs.Encoding.{decode}
 use Rattle.model.specs.Soundness.{soundBytes}
@@ -42,7 +42,7 @@ use Rattle.model.specs.Answers.{Answer, answering, refusing, accessIn, mayReply
 use Rattle.model.specs.Text.{asksMay, asksWhen, readLine}
 use Rattle.model.specs.Session.{whenList, replyLine}
 use Rattle.model.specs.Batch.{replyByte, byteFor, batchRefusal, batchBytes, Batched}
-use Rattle.laws.specs.Dependence.{depends-access}
+use Rattle.laws.specs.Dependence.{stands-twin, depends-access}
 use Rattle.laws.specs.Matching.{direct, Bears, Matched, Alike}
 use Rattle.laws.specs.Transfer.{holds-alike}
 
@@ -69,6 +69,9 @@ unstamped a = record {
   };
   interval = a .interval;
 }
+
+fits-unstamped : (p : Pattern) (a : Authorization) → fits p (a .head) ≡ fits p (unstamped a .head)
+fits-unstamped p a = fits-eq p (a .head) ∙ sym (fits-eq p (unstamped a .head))
 
 -- What questions about the block look at: no labels and no times of granting, and of the starred rules those
 -- whose author owns or administers a meter of the block. The others stand for none of its meters.
@@ -224,7 +227,6 @@ module _ (block : ℕ → Bool) where
 
     direct-more : (t : ℕ) (p : Pattern) → block (p .access .object) ≡ true →
         direct b t p ≡ true → direct c t p ≡ true
-    unfolding fits
     direct-more t p h e =
         let m = any-mem (fits p) (live t (b .authorizations)) e in
         let v = live-mem t (b .authorizations) (m .0) (m .1) in
@@ -237,7 +239,8 @@ module _ (block : ℕ → Bool) where
         mem-any (fits p) (live t (c .authorizations)) (w .0 .head)
         (mem-live t (c .authorizations) (w .0) (kept near (c .authorizations) (w .0) (w .1) .0)
         (subst (λ (x : Authorization). inInterval (x .interval) t ≡ true) (w .2) (v .3)))
-        (subst (λ (x : Authorization). fits p (x .head) ≡ true) (w .2) f)
+        (fits-unstamped p (w .0) ∙ ap (λ (x : Authorization). fits p (x .head)) (sym (w .2))
+        ∙ sym (fits-unstamped p a) ∙ f)
 
     -- ---- rules
 
@@ -266,16 +269,14 @@ module _ (block : ℕ → Bool) where
 
     -- which stands for the access there,
     matched : Matched (λ x. block (x .object)) 0 b c
-    unfolding standsFor
     matched r x w =
         let st = sym (stands-same b c r x (controls-same (x .object) (r .author) (w .inside))) ∙ w .stands in
         let v = twin r x w in
-        (v .0, v .1, v .2, subst (λ (q : Rule). standsFor c q x ≡ true) (v .2) st)
+        (v .0, v .1, v .2, sym (stands-twin c r (v .0) (v .2) x) ∙ st)
 
     -- and looks at the block alone
     right-inside : Sound b → Shut b → (r : Rule) (x : Access) → Bears (λ x. block (x .object)) 0 b r x →
         block (rightOf r x .access .object) ≡ true
-    unfolding rightOf
     right-inside s k r x w =
         let z = and-three
         (Bool·beq (isStar (r .left .subject)) (isStar (r .right .subject)))
@@ -284,8 +285,8 @@ module _ (block : ℕ → Bool) where
         (all-mem _ (b .rules) (s .stars) r (w .listed)) in
         let both = beq-eq (isStar (r .left .object)) (isStar (r .right .object)) (z .2) in
         cases (isStar (r .left .object))
-        (λ e. rw (sym both ∙ e) (w .inside))
-        (λ e. rw (sym both ∙ e) (k r (w .listed) e (left-inside r x (w .inside) (w .stands) e)))
+        (λ e. rw (right-eq r x, sym both ∙ e) (w .inside))
+        (λ e. rw (right-eq r x, sym both ∙ e) (k r (w .listed) e (left-inside r x (w .inside) (w .stands) e)))
 
   direct-same : (b c : Base) → Agree b c → (t : ℕ) (p : Pattern) → block (p .access .object) ≡ true →
       direct b t p ≡ direct c t p

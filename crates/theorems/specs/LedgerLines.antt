@@ -33,7 +33,7 @@ use Rattle.model.specs.Answers.{Answer, requests}
 use Rattle.model.specs.Ledger.{Entry, entry, Ledger, emptyLedger, standing, keepEntries, settle, newEntry}
 use Rattle.model.specs.Ledger.{enter}
 use Rattle.model.specs.Ledger.{follow, ledger, linesOf}
-use Rattle.laws.specs.LedgerFacts.{Framed, framed-keep, framed-append, live-lines, keep-lines}
+use Rattle.laws.specs.LedgerFacts.{WithinLast, framed-keep, framed-append, live-lines, keep-lines}
 use Rattle.laws.specs.LedgerFacts.{restrict-settle, keep-all, linesOf-append, linesOf-one}
 use Rattle.model.specs.Kinds.{grantKinds, intervalKinds, withdrawalKinds, is-kinds, is-apart}
 use Rattle.laws.specs.SoundFacts.{all-supported}
@@ -49,12 +49,12 @@ pub record Agrees (b : Base) (a : Ledger) : Type 0 where
   pub administrators : b .administrators ≡ a .administrators
   pub last : b .last ≡ a .last
   pub lines : b .authorizations ≡ linesOf (a .entries)
-  pub framed : Framed (a .entries)
+  pub framed : WithinLast (a .entries)
 
 -- ---- one accepted request
 
 -- entries whose authorizations are all supported lose nothing
-settled : (b : Base) (es : List Entry) → Sound b → Framed es → b .authorizations ≡ linesOf es →
+settled : (b : Base) (es : List Entry) → Sound b → WithinLast es → b .authorizations ≡ linesOf es →
     settle (root b) es ≡ es
 settled b es s f e = keep-all (λ h t. supported (root b) (standing t es) h) es
     (λ t h m. subst (λ (hs : List Head). supported (root b) hs h ≡ true) (same t)
@@ -71,7 +71,7 @@ module _ (b : Base) (a : Ledger) (q : Request) (s : Sound b) (g : Accepted b q) 
   abbrev taken : List Entry
   taken = keepEntries (λ h t. not (takes q h t)) (a .entries)
 
-  taken-framed : Framed taken
+  taken-framed : WithinLast taken
   taken-framed = framed-keep (λ h t. not (takes q h t)) (a .entries) (agrees .framed)
 
   roots : rootIn (objectsAfter q (a .owners)) (administratorsAfter q (a .administrators)) ≡ root after
@@ -90,7 +90,7 @@ module _ (b : Base) (a : Ledger) (q : Request) (s : Sound b) (g : Accepted b q) 
       (and-true (isInstant (q .interval .start)) (isInstant (q .interval .end))
       (interval-in b q g (is-kinds q grantKinds intervalKinds refl e)) .1)
 
-  new-framed : Framed (newEntry a q)
+  new-framed : WithinLast (newEntry a q)
   new-framed = cases (grants q)
       (λ e. rw e ((λ t h. let w = inInterval-true (q .interval) t h in let l = fitting e in omega arith), tt))
       (λ e. rw e tt)
@@ -147,7 +147,7 @@ module _ (b : Base) (a : Ledger) (q : Request) (s : Sound b) (g : Accepted b q) 
 -- ---- a list of requests
 
 -- what a list leaves: bytes that encode a sound base which says what the ledger says
-pub record Left (s : List ℕ) (a : Ledger) : Type 0 where
+pub record MatchesLedger (s : List ℕ) (a : Ledger) : Type 0 where
   pub base : Base
   pub encoded : s ≡ encode base
   pub sound-base : sound base ≡ true
@@ -163,16 +163,16 @@ follow-refused q qs b a n = rw (ne-false (refusal plainly b q) 0 n, follow)
 
 -- from any sound base and a ledger that agrees with it
 pub ledger-from : (qs : List Request) (b : Base) (a : Ledger) → sound b ≡ true → Agrees b a →
-    Left (requests qs (encode b)) (follow qs b a)
+    MatchesLedger (requests qs (encode b)) (follow qs b a)
 ledger-from [] b a s g = record { base = b; encoded = refl; sound-base = s; agrees = g }
 ledger-from (q ∷ qs) b a s g = cases (eqb (refusal plainly b q) 0)
     (λ e. let z = true-eq (refusal plainly b q) 0 e in
-    subst₂ Left (ap (λ (x : Answer). requests qs (x .lent)) (sym (request-accepted b q s z)))
+    subst₂ MatchesLedger (ap (λ (x : Answer). requests qs (x .lent)) (sym (request-accepted b q s z)))
     (sym (follow-accepted q qs b a z))
     (ledger-from qs (effect plainly b q) (enter a q) (effect-sound b q s z)
     (agrees-after b a q (sound-tests b s) (accepted b q z) g)))
     (λ e. let n = false-eq (refusal plainly b q) 0 e in
-    subst₂ Left (ap (λ (x : Answer). requests qs (x .lent)) (sym (request-refused b q s n)))
+    subst₂ MatchesLedger (ap (λ (x : Answer). requests qs (x .lent)) (sym (request-refused b q s n)))
     (sym (follow-refused q qs b a n))
     (ledger-from qs b a s g))
 
@@ -180,7 +180,7 @@ empty-agrees : Agrees emptyBase emptyLedger
 unfolding linesOf
 empty-agrees = record { owners = refl; administrators = refl; last = refl; lines = refl; framed = tt }
 
-pub ledger-left : (qs : List Request) → Left (requests qs (encode emptyBase)) (ledger qs)
+pub ledger-left : (qs : List Request) → MatchesLedger (requests qs (encode emptyBase)) (ledger qs)
 unfolding ledger
 ledger-left qs = ledger-from qs emptyBase emptyLedger empty-sound empty-agrees
 

@@ -23,8 +23,8 @@ use Rattle.model.specs.Held.{ByAuthorization, Held}
 use Rattle.model.specs.HeldFacts.{held, right-held}
 
 -- a right side counts as held at u: it is held and, unless it is a denial itself, no denial of its access is
-abbrev pub Counts : Base → ℕ → Pattern → Type 0
-Counts b u p = Held b u p × ((p .negative ≡ true) ⊎ (Held b u (asked (p .access) true) → ⊥))
+abbrev pub CountsAsHeld : Base → ℕ → Pattern → Type 0
+CountsAsHeld b u p = Held b u p × ((p .negative ≡ true) ⊎ (Held b u (asked (p .access) true) → ⊥))
 
 -- 01: "WHENEVER gives the left side at t if the right is held at t; ASLONGAS if held at all instants from the
 -- rule's start to t; WHENEVERNOT and UNLESS likewise with 'not held'": of a right side that is held where
@@ -37,10 +37,10 @@ Operates Unless Right start t = (u : ℕ) → start ≤ u → u ≤ t → Right 
 
 -- what the operator of a rule asks of its right side at t
 abbrev pub Asks : Base → Rule → Access → ℕ → Type 0
-Asks b r x t = Operates (r .operator) (λ u. Counts b u (rightOf r x)) (r .interval .start) t
+Asks b r x t = Operates (r .operator) (λ u. CountsAsHeld b u (rightOf r x)) (r .interval .start) t
 
 -- a rule of the base gives what is looked for at t
-pub record Gives (b : Base) (t : ℕ) (p : Pattern) : Type 0 where
+pub record RuleGives (b : Base) (t : ℕ) (p : Pattern) : Type 0 where
   pub rule : Rule
   pub listed : Mem rule (b .rules)
   pub left : derivesFor b p rule ≡ true
@@ -75,7 +75,8 @@ module _ (b : Base) (s : stratified (b .rules) ≡ true) where
   derived-is r m x t =
       let f : ℕ → Bool = λ u. holding b u (rightOf r x) in
       let v = operate always (r .operator) f f (r .interval .start) t in
-      let w = operates (r .operator) f (λ u. Counts b u (rightOf r x)) (λ u. right-held b s u (rightOf r x))
+      let w = operates (r .operator) f (λ u. CountsAsHeld b u (rightOf r x))
+      (λ u. right-held b s u (rightOf r x))
       (r .interval .start) t in (
         (λ e. let a = and-true (inInterval (r .interval) t) v (sym (derived-law b s r m x t) ∙ e) in
             (a .0, w .0 (a .1))),
@@ -84,7 +85,7 @@ module _ (b : Base) (s : stratified (b .rules) ≡ true) where
 
 -- THEOREM. 01: "Held means given by a line or by a rule, denied or not"
 pub held-law : (b : Base) → stratified (b .rules) ≡ true → (t : ℕ) (p : Pattern) →
-    Held b t p ↔ (ByAuthorization b t p ⊎ Gives b t p)
+    Held b t p ↔ (ByAuthorization b t p ⊎ RuleGives b t p)
 held-law b s t p =
     let given : Bool = anyb (fits p) (live t (b .authorizations)) in
     let test : Rule → Bool = λ r. derivesFor b p r && derived b (fact r (p .access) t) in (

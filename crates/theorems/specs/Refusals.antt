@@ -4,7 +4,7 @@ use mathlib.Core.Path.{_≡_, refl, sym, ap, _∙_, subst}
 use mathlib.Core.Logic.{_≢_, inl, inr, ⊎-elim}
 use Prim.Native.Nat.{ℕ, suc, _*_, _/_, _≤_}
 use native.Mathlib.Omega.{arith}
-use mathlib.Core.Bool.{Bool, true, false, not}
+use mathlib.Core.Bool.{true, false, not}
 use mathlib.Core.List.{List, [], _∷_, _++_, map}
 use lib.Dec.{ltb, eqb}
 use lib.ListN.{length, drop}
@@ -14,7 +14,7 @@ use Rattle.model.specs.declared.Request.{Request}
 use Rattle.model.specs.declared.Access.{Access}
 use Rattle.model.specs.declared.Question.{Question}
 use Rattle.model.specs.declared.Reply.{Reply}
-use Rattle.model.specs.declared.Reply.the-variants.{Done, Refused, Unsupported, Yes, No, Runs}
+use Rattle.model.specs.declared.Reply.the-variants.{Done, Refused, Unsupported, Runs}
 use Rattle.model.specs.Ranges.{isObject}
 use Rattle.model.specs.Base.{emptyBase, exists}
 use Rattle.model.specs.Rules.{may, when}
@@ -29,6 +29,7 @@ use Rattle.model.specs.Answers.{Answer, answering, refusing, refusalNumber, cre
 use Rattle.model.specs.Answers.{request}
 use Rattle.model.specs.Answers.{mayTable, whenTable, words, mayReply, mayAnswer, whenAnswer}
 use Rattle.model.specs.Simple.{simpleTable, simpleAnswer}
+use Rattle.model.specs.SimpleFacts.{replied}
 use Rattle.model.specs.declared.Counted.the-variants.{Count}
 use Rattle.model.specs.Counting.{Counting, counting, declining, countedRefusal}
 use Rattle.model.specs.Report.{isOn, reportOf, reportTable, reportAnswer}
@@ -84,10 +85,6 @@ request-refuses s q n =
     (answering (accepting (decode s) q after) (encode after)) number
     (reply-refusal (decode s) q) refl n in
     (w .0, ap (λ (a : Answer). a .lent) (w .1))
-
-replied : (yes? : Bool) → refusalNumber (mayReply yes?) ≡ 0
-replied true = refl
-replied false = refl
 
 -- MAY gets nothing that it could alter
 pub may-refuses : (s : List ℕ) (q : Question) → refusalNumber (mayAnswer s q) ≢ 0 →

@@ -13,7 +13,7 @@ use lib.Seq.{length-take-le}
 use Rattle.foundation.specs.Tests.{cases, pick, agree, and-true, and-intro, true-le, eq-true, true-eq}
 use Rattle.foundation.specs.Bytes.{eqList, eqList-eq, eqList-refl}
 use Rattle.model.specs.Text.{newline, space, extend, split, closed, lines}
-use Rattle.serving.specs.Pieces.{ends, before, behind}
+use Rattle.serving.specs.Pieces.{ends, beforeNewline, behindNewline}
 use Rattle.serving.proofs.PieceFacts.{before-all, split-ended, split-whole}
 use Rattle.vectors.specs.declared.lines.Span.{Span}
 use Rattle.model.specs.Base.{emptyBase}
@@ -22,35 +22,36 @@ use Rattle.model.specs.EncodingFacts.{encode-sound, empty-sound, sound-length}
 use Rattle.model.specs.Soundness.{soundBytes}
 use Rattle.model.specs.Answers.{create}
 use Rattle.laws.specs.Created.{created}
-use Rattle.serving.specs.Turns.{Turned}
-use Rattle.vectors.specs.Transcripts.{marked, opens, asks, unmarked, Stage, stage, fresh, stands, next}
-use Rattle.vectors.specs.Transcripts.{agrees, standing, reached, remaining}
+use Rattle.serving.specs.LineTurns.{Turned}
+use Rattle.vectors.specs.Transcripts.{marked, opens, asks, unmarked, TranscriptState, stage, fresh}
+use Rattle.vectors.specs.Transcripts.{stands, nextState}
+use Rattle.vectors.specs.Transcripts.{agrees, countStanding, stateAfter, linesLeft}
 use Rattle.vectors.specs.Said.{next-opens, next-asks, next-other}
 use Rattle.vectors.specs.LinePlaces.{Spans, Leads, Checks}
 
 -- ---- a line, byte by byte
 
 -- the bytes from `from` to i belong to the line, and from i on it goes on
-pub record Walks (text : List ℕ) (from i : ℕ) : Type 0 where
+pub record TextWalk (text : List ℕ) (from i : ℕ) : Type 0 where
   pub low : from ≤ i
   pub high : i ≤ length text
-  pub line : before (drop from text) ≡ take (i - from) (drop from text) ++ before (drop i text)
-  pub rest : behind (drop from text) ≡ behind (drop i text)
+  pub line : beforeNewline (drop from text) ≡ take (i - from) (drop from text) ++ beforeNewline (drop i text)
+  pub rest : behindNewline (drop from text) ≡ behindNewline (drop i text)
 
-pub walk-start : (text : List ℕ) (from : ℕ) → from ≤ length text → Walks text from from
+pub walk-start : (text : List ℕ) (from : ℕ) → from ≤ length text → TextWalk text from from
 walk-start text from h =
     let z : from - from ≡ 0 = omega arith in
     record { low = omega arith; high = h; line = rw z; rest = refl }
 
-module _ {text : List ℕ} {from i : ℕ} (w : Walks text from i) where
+module _ {text : List ℕ} {from i : ℕ} (w : TextWalk text from i) where
   -- a byte that is no newline belongs to the line
-  pub walk-byte : i < length text → eqb (getD text i 0) newline ≡ false → Walks text from (i + 1)
+  pub walk-byte : i < length text → eqb (getD text i 0) newline ≡ false → TextWalk text from (i + 1)
   walk-byte h e =
       let c = getD text i 0 in
       let d = drop-cons text i 0 h in
       let k = i - from in
       let w₁ = w .low in
-      let b : before (drop i text) ≡ c ∷ before (drop (suc i) text) = rw (d, e) in
+      let b : beforeNewline (drop i text) ≡ c ∷ beforeNewline (drop (suc i) text) = rw (d, e) in
       let at : getD (drop from text) k 0 ≡ c =
       getD-drop from text k 0 ∙ ap (λ (j : ℕ). getD text j 0) (omega arith) in
       let more : take (suc k) (drop from text) ≡ take k (drop from text) ++ (c ∷ []) =
@@ -62,8 +63,8 @@ module _ {text : List ℕ} {from i : ℕ} (w : Walks text from i) where
         high = omega arith;
         line = w .line ∙ ap (λ (r : List ℕ). take k (drop from text) ++ r) b
             ∙ rw (add-one i, n, more) (sym (append-snoc (take k (drop from text)) c
-            (before (drop (suc i) text))));
-        rest = w .rest ∙ ap behind d ∙ rw (e, add-one i);
+            (beforeNewline (drop (suc i) text))));
+        rest = w .rest ∙ ap behindNewline d ∙ rw (e, add-one i);
       }
 
   -- at a newline it ends
@@ -71,11 +72,11 @@ module _ {text : List ℕ} {from i : ℕ} (w : Walks text from i) where
       Spans text from (record { end = i; next = i + 1 })
   walk-ended h e =
       let d = drop-cons text i 0 h in
-      let b : before (drop i text) ≡ [] = rw (d, e) in
+      let b : beforeNewline (drop i text) ≡ [] = rw (d, e) in
       let w₁ = w .low in
       record {
         line = sym (w .line ∙ rw (b, append-nil (take (i - from) (drop from text))));
-        rest = sym (w .rest ∙ ap behind d ∙ rw (e, add-one i));
+        rest = sym (w .rest ∙ ap behindNewline d ∙ rw (e, add-one i));
         low = w .low;
         high = w .high;
         within = omega arith;
@@ -86,11 +87,11 @@ module _ {text : List ℕ} {from i : ℕ} (w : Walks text from i) where
   pub walk-whole : i ≡ length text → Spans text from (record { end = i; next = i })
   walk-whole h =
       let d : drop i text ≡ [] = rw (h, drop-length text) in
-      let b : before (drop i text) ≡ [] = rw d in
+      let b : beforeNewline (drop i text) ≡ [] = rw d in
       let w₁ = w .low in
       record {
         line = sym (w .line ∙ rw (b, append-nil (take (i - from) (drop from text))));
-        rest = d ∙ sym (w .rest ∙ ap behind d);
+        rest = d ∙ sym (w .rest ∙ ap behindNewline d);
         low = w .low;
         high = w .high;
         within = w .high;
@@ -141,7 +142,8 @@ module _ (s line : List ℕ) where
   leads-opens s′ out e o q =
       let z : s′ ≡ encode emptyBase = q ∙ created s (sound-length s e) in
       record {
-        stages = ap {B = Stage} (λ (b : List ℕ). stage b []) z ∙ sym (next-opens (stage s []) line o);
+        stages = ap {B = TranscriptState} (λ (b : List ℕ). stage b []) z
+            ∙ sym (next-opens (stage s []) line o);
         few = omega arith;
         sound = ap soundBytes z ∙ encode-sound emptyBase empty-sound;
       }
@@ -150,7 +152,7 @@ module _ (s line : List ℕ) where
       Turned s (unmarked line) n out s′ →
       Leads s line n s′ out
   leads-asks o a t = record {
-    stages = ap₂ {C = Stage} (λ (b w : List ℕ). stage b w) (t .bytes) (t .text)
+    stages = ap₂ {C = TranscriptState} (λ (b w : List ℕ). stage b w) (t .bytes) (t .text)
         ∙ sym (next-asks (stage s []) line o a);
     few = t .few;
     sound = t .sound;
@@ -176,17 +178,17 @@ closed-more p (c ∷ s) = cases (eqb c newline)
     extended p c [] = refl
     extended p c (q ∷ ps) = refl
 
-behind-none : (s : List ℕ) → ends s ≡ false → behind s ≡ []
+behind-none : (s : List ℕ) → ends s ≡ false → behindNewline s ≡ []
 behind-none [] e = refl
 behind-none (c ∷ s) e = cases (eqb c newline)
     (λ p. absurd (true≢false (rw p at e)))
     (λ p. rw p (behind-none s (rw p at e)))
 
 -- a text that has a byte has a first line, and those behind it
-pub lines-front : (s : List ℕ) → 0 < length s → lines s ≡ before s ∷ lines (behind s)
+pub lines-front : (s : List ℕ) → 0 < length s → lines s ≡ beforeNewline s ∷ lines (behindNewline s)
 lines-front [] h = absurd (omega arith)
 lines-front (c ∷ s) h = cases (ends (c ∷ s))
-    (λ e. ap closed (split-ended (c ∷ s) e) ∙ closed-more (before (c ∷ s)) (behind (c ∷ s)))
+    (λ e. ap closed (split-ended (c ∷ s) e) ∙ closed-more (beforeNewline (c ∷ s)) (behindNewline (c ∷ s)))
     (λ e. ap closed (split-whole (c ∷ s) e) ∙ rw (before-all (c ∷ s) e, behind-none (c ∷ s) e))
 
 -- ---- the walk through a transcript
@@ -195,9 +197,10 @@ lines-front (c ∷ s) h = cases (ends (c ∷ s))
 -- the base has the bytes s and n bytes of `out` are owed
 pub record Goes (text s out : List ℕ) (n count at title : ℕ) : Type 0 where
   pub agreed : agrees fresh (lines text) ≡ agrees (stage s (take n out)) (lines (drop at text))
-  pub stood : standing fresh (lines text) ≡ count + standing (stage s (take n out)) (lines (drop at text))
-  pub halted : reached fresh (lines text) ≡ reached (stage s (take n out)) (lines (drop at text))
-  pub left : remaining fresh (lines text) ≡ remaining (stage s (take n out)) (lines (drop at text))
+  pub stood : countStanding fresh (lines text) ≡ count + countStanding (stage s (take n out))
+      (lines (drop at text))
+  pub halted : stateAfter fresh (lines text) ≡ stateAfter (stage s (take n out)) (lines (drop at text))
+  pub left : linesLeft fresh (lines text) ≡ linesLeft (stage s (take n out)) (lines (drop at text))
   pub sound : soundBytes s ≡ true
   pub few : n ≤ 24001
   pub within : at ≤ length text
@@ -228,8 +231,8 @@ stands-owed : (s owed l : List ℕ) → stands (stage s owed) l ≡ stands (stag
 unfolding stands
 stands-owed s owed l = refl
 
-next-base : (s owed l : List ℕ) → next (stage s owed) l ≡ next (stage s []) l
-unfolding next
+next-base : (s owed l : List ℕ) → nextState (stage s owed) l ≡ nextState (stage s []) l
+unfolding nextState
 next-base s owed l = refl
 
 pick-le : (b : Bool) (x y n : ℕ) → x ≤ n → y ≤ n → pick b x y ≤ n
@@ -248,11 +251,12 @@ module _ {text s out : List ℕ} {n count at title : ℕ} (w : Goes text s out n
       let e = stands-owed s (take n out) l ∙ sym st in
       let x = next-base s (take n out) l ∙ sym (k .stages) in
       record {
-        agreed = w .agreed ∙ ap (agrees g) here ∙ rw e (ap (λ (h : Stage). agrees h rest) x);
-        stood = w .stood ∙ ap (λ (ls : List (List ℕ)). count + standing g ls) here
-            ∙ rw e (omega (arith, ap (λ (h : Stage). standing h rest) x));
-        halted = w .halted ∙ ap (reached g) here ∙ rw e (ap (λ (h : Stage). reached h rest) x);
-        left = w .left ∙ ap (remaining g) here ∙ rw e (ap (λ (h : Stage). remaining h rest) x);
+        agreed = w .agreed ∙ ap (agrees g) here ∙ rw e (ap (λ (h : TranscriptState). agrees h rest) x);
+        stood = w .stood ∙ ap (λ (ls : List (List ℕ)). count + countStanding g ls) here
+            ∙ rw e (omega (arith, ap (λ (h : TranscriptState). countStanding h rest) x));
+        halted = w .halted ∙ ap (stateAfter g) here ∙ rw e (ap (λ (h : TranscriptState). stateAfter h rest)
+            x);
+        left = w .left ∙ ap (linesLeft g) here ∙ rw e (ap (λ (h : TranscriptState). linesLeft h rest) x);
         sound = k .sound;
         few = k .few;
         within = hi;
@@ -266,12 +270,13 @@ module _ {text s out : List ℕ} {n count at title : ℕ} (w : Goes text s out n
   goes-wrong st =
       let g = stage s (take n out) in
       let e = stands-owed s (take n out) l ∙ sym st in
-      let r : reached fresh (lines text) ≡ g = w .halted ∙ ap (reached g) here ∙ rw e in
+      let r : stateAfter fresh (lines text) ≡ g = w .halted ∙ ap (stateAfter g) here ∙ rw e in
       record {
         agreed = sym (w .agreed ∙ ap (agrees g) here ∙ rw e);
-        count = sym (w .stood ∙ ap (λ (ls : List (List ℕ)). count + standing g ls) here ∙ rw e (omega arith));
-        owed = sym (ap (λ (h : Stage). h .owed) r);
-        left = sym (w .left ∙ ap (remaining g) here ∙ rw e (sym here));
+        count = sym (w .stood ∙ ap (λ (ls : List (List ℕ)). count + countStanding g ls) here
+            ∙ rw e (omega arith));
+        owed = sym (ap (λ (h : TranscriptState). h .owed) r);
+        left = sym (w .left ∙ ap (linesLeft g) here ∙ rw e (sym here));
         few = w .few;
         within = w .within;
         titled = w .titled;
@@ -286,12 +291,12 @@ pub goes-end : {text s out : List ℕ} {n count at title : ℕ} → Goes text s 
 goes-end {text} {s} {out} {n} {count} {at} w e room =
     let g = stage s (take n out) in
     let none : lines (drop at text) ≡ [] = rw (e, drop-length text) in
-    let r : reached fresh (lines text) ≡ g = w .halted ∙ ap (reached g) none in
+    let r : stateAfter fresh (lines text) ≡ g = w .halted ∙ ap (stateAfter g) none in
     record {
       agreed = sym (w .agreed ∙ ap (agrees g) none ∙ rw (length-take-le n out (omega (arith, w .few))));
-      count = sym (w .stood ∙ ap (λ (ls : List (List ℕ)). count + standing g ls) none ∙ omega arith);
-      owed = sym (ap (λ (h : Stage). h .owed) r);
-      left = none ∙ sym (w .left ∙ ap (remaining g) none);
+      count = sym (w .stood ∙ ap (λ (ls : List (List ℕ)). count + countStanding g ls) none ∙ omega arith);
+      owed = sym (ap (λ (h : TranscriptState). h .owed) r);
+      left = none ∙ sym (w .left ∙ ap (linesLeft g) none);
       few = w .few;
       within = w .within;
       titled = w .titled;

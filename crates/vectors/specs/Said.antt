@@ -17,23 +17,25 @@ use Rattle.model.specs.Questions.{asDefined}
 use Rattle.model.specs.Text.{newline, space, printReply}
 use Rattle.model.specs.Session.{transcript, byteTranscript}
 use Rattle.laws.specs.SessionFacts.{same-transcript}
-use Rattle.serving.specs.Turns.{turnOf, replyText}
-use Rattle.vectors.specs.Transcripts.{marked, opens, asks, tells, unmarked, Stage, stage, fresh, stands}
-use Rattle.vectors.specs.Transcripts.{next}
+use Rattle.serving.specs.LineTurns.{turnOf, replyText}
+use Rattle.vectors.specs.Transcripts.{marked, opens, asks, tells, unmarked, TranscriptState, stage}
+use Rattle.vectors.specs.Transcripts.{fresh, stands}
+use Rattle.vectors.specs.Transcripts.{nextState}
 use Rattle.vectors.specs.Transcripts.{agrees}
 
 -- ---- a case
 
 -- the lines of the session before the next title
-abbrev pub asked : List (List ℕ) → List (List ℕ)
-asked [] = []
-asked (l ∷ rest) = let more = asked rest in pick (opens l) [] (pick (asks l) (unmarked l ∷ more) more)
+abbrev pub askedLines : List (List ℕ) → List (List ℕ)
+askedLines [] = []
+askedLines (l ∷ rest) = let more = askedLines rest in pick (opens l) []
+    (pick (asks l) (unmarked l ∷ more) more)
 
 -- the replies before it, each with its newline
-abbrev pub told : List (List ℕ) → List ℕ
-told [] = []
-told (l ∷ rest) =
-    let more = told rest in
+abbrev pub toldLines : List (List ℕ) → List ℕ
+toldLines [] = []
+toldLines (l ∷ rest) =
+    let more = toldLines rest in
     pick (opens l) [] (pick (tells l) ((unmarked l ++ (newline ∷ [])) ++ more) more)
 
 -- ---- marks part
@@ -56,7 +58,7 @@ no-bytes : (s : List ℕ) → eqb (length s) 0 ≡ true → s ≡ []
 no-bytes [] e = refl
 no-bytes (c ∷ s) e = absurd (omega (arith, true-eq (length (c ∷ s)) 0 e))
 
-module _ (g : Stage) (l : List ℕ) where
+module _ (g : TranscriptState) (l : List ℕ) where
   stands-told : tells l ≡ true → stands g l ≡ true → unmarked l ++ (newline ∷ []) ≡ g .owed
   unfolding stands
   stands-told t e = eqList-eq (unmarked l ++ (newline ∷ [])) (g .owed) (rw t at e)
@@ -67,52 +69,52 @@ module _ (g : Stage) (l : List ℕ) where
       no-bytes (g .owed)
       (and-true (eqb (length (g .owed)) 0) (eqb (length l) 0 || (opens l || asks l)) (rw t at e) .0)
 
-  pub next-opens : opens l ≡ true → next g l ≡ fresh
-  unfolding next
+  pub next-opens : opens l ≡ true → nextState g l ≡ fresh
+  unfolding nextState
   next-opens o = rw o
 
   pub next-asks : opens l ≡ false → asks l ≡ true →
-      next g l ≡ stage (turnOf (g .base) (unmarked l) .lent) (replyText (g .base) (unmarked l))
-  unfolding next
+      nextState g l ≡ stage (turnOf (g .base) (unmarked l) .lent) (replyText (g .base) (unmarked l))
+  unfolding nextState
   next-asks o a = rw (o, a)
 
-  pub next-other : opens l ≡ false → asks l ≡ false → next g l ≡ stage (g .base) []
-  unfolding next
+  pub next-other : opens l ≡ false → asks l ≡ false → nextState g l ≡ stage (g .base) []
+  unfolding nextState
   next-other o a = rw (o, a)
 
 -- ---- the first case
 
 -- what is owed, and the replies to the lines of the case, on the bytes of the base
-abbrev answers : Stage → List (List ℕ) → List ℕ
-answers g ls = g .owed ++ byteTranscript (asked ls) (g .base)
+abbrev answers : TranscriptState → List (List ℕ) → List ℕ
+answers g ls = g .owed ++ byteTranscript (askedLines ls) (g .base)
 
-module _ (g : Stage) (l : List ℕ) (rest : List (List ℕ)) (s : stands g l ≡ true)
-    (more : answers (next g l) rest ≡ told rest) where
-  said-opens : opens l ≡ true → answers g (l ∷ rest) ≡ told (l ∷ rest)
+module _ (g : TranscriptState) (l : List ℕ) (rest : List (List ℕ)) (s : stands g l ≡ true)
+    (more : answers (nextState g l) rest ≡ toldLines rest) where
+  said-opens : opens l ≡ true → answers g (l ∷ rest) ≡ toldLines (l ∷ rest)
   said-opens o = rw (o, stands-other g l (one-mark 35 60 l refl o) s)
 
-  said-asks : opens l ≡ false → asks l ≡ true → answers g (l ∷ rest) ≡ told (l ∷ rest)
+  said-asks : opens l ≡ false → asks l ≡ true → answers g (l ∷ rest) ≡ toldLines (l ∷ rest)
   said-asks o a =
       let t = one-mark 62 60 l refl a in
       let x = turnOf (g .base) (unmarked l) in
       rw (o, a, t, stands-other g l t s)
       (sym (append-assoc (printReply (x .reply) (x .runs)) (newline ∷ [])
-      (byteTranscript (asked rest) (x .lent)))
-      ∙ ap (λ (h : Stage). answers h rest) (sym (next-asks g l o a)) ∙ more)
+      (byteTranscript (askedLines rest) (x .lent)))
+      ∙ ap (λ (h : TranscriptState). answers h rest) (sym (next-asks g l o a)) ∙ more)
 
-  said-other : opens l ≡ false → asks l ≡ false → answers g (l ∷ rest) ≡ told (l ∷ rest)
+  said-other : opens l ≡ false → asks l ≡ false → answers g (l ∷ rest) ≡ toldLines (l ∷ rest)
   said-other o a =
-      let m = ap (λ (h : Stage). answers h rest) (sym (next-other g l o a)) ∙ more in
+      let m = ap (λ (h : TranscriptState). answers h rest) (sym (next-other g l o a)) ∙ more in
       cases (tells l)
       (λ t. rw (o, a, t) (rw (← stands-told g l t s)
       (ap (λ (r : List ℕ). (unmarked l ++ (newline ∷ [])) ++ r) m)))
       (λ t. rw (o, a, t, stands-other g l t s) m)
 
-case-bytes : (g : Stage) (ls : List (List ℕ)) → agrees g ls ≡ true → answers g ls ≡ told ls
+case-bytes : (g : TranscriptState) (ls : List (List ℕ)) → agrees g ls ≡ true → answers g ls ≡ toldLines ls
 case-bytes g [] e = rw (no-bytes (g .owed) e)
 case-bytes g (l ∷ rest) e =
-    let p = and-true (stands g l) (agrees (next g l) rest) e in
-    let m = case-bytes (next g l) rest (p .1) in
+    let p = and-true (stands g l) (agrees (nextState g l) rest) e in
+    let m = case-bytes (nextState g l) rest (p .1) in
     cases (opens l)
     (λ o. said-opens g l rest (p .0) m o)
     (λ o. cases (asks l) (λ a. said-asks g l rest (p .0) m o a) (λ a. said-other g l rest (p .0) m o a))
@@ -120,19 +122,19 @@ case-bytes g (l ∷ rest) e =
 -- the replies that a transcript tells before its next title are those of the model's session to the lines
 -- there
 pub case-said : (ls : List (List ℕ)) → agrees fresh ls ≡ true →
-    transcript plainly asDefined (asked ls) emptyBase ≡ told ls
-case-said ls e = sym (same-transcript (asked ls) emptyBase empty-sound) ∙ case-bytes fresh ls e
+    transcript plainly asDefined (askedLines ls) emptyBase ≡ toldLines ls
+case-said ls e = sym (same-transcript (askedLines ls) emptyBase empty-sound) ∙ case-bytes fresh ls e
 
 -- and behind every title a case begins of which the same holds
-pub case-behind : (g : Stage) (front : List (List ℕ)) (title : List ℕ) (rest : List (List ℕ)) →
+pub case-behind : (g : TranscriptState) (front : List (List ℕ)) (title : List ℕ) (rest : List (List ℕ)) →
     opens title ≡ true →
     agrees g (front ++ (title ∷ rest)) ≡ true → agrees fresh rest ≡ true
 case-behind g [] title rest o e =
-    let p = and-true (stands g title) (agrees (next g title) rest) e in
-    ap (λ (h : Stage). agrees h rest) (sym (next-opens g title o)) ∙ p .1
+    let p = and-true (stands g title) (agrees (nextState g title) rest) e in
+    ap (λ (h : TranscriptState). agrees h rest) (sym (next-opens g title o)) ∙ p .1
 case-behind g (l ∷ front) title rest o e =
-    let p = and-true (stands g l) (agrees (next g l) (front ++ (title ∷ rest))) e in
-    case-behind (next g l) front title rest o (p .1)
+    let p = and-true (stands g l) (agrees (nextState g l) (front ++ (title ∷ rest))) e in
+    case-behind (nextState g l) front title rest o (p .1)
 
 -- ---- lines and replies in turn
 
@@ -162,7 +164,7 @@ has-mark : (c d : ℕ) (l : List ℕ) → marked d (c ∷ space ∷ l) ≡ eqb c
 unfolding marked
 has-mark c d l = rw (le-true 2 (length (c ∷ space ∷ l)) (omega arith)) (and-one (eqb c d))
 
-exchanged-asked : (xs : List Exchange) → asked (exchanged xs) ≡ inputs xs
+exchanged-asked : (xs : List Exchange) → askedLines (exchanged xs) ≡ inputs xs
 exchanged-asked [] = refl
 exchanged-asked (x ∷ xs) =
     rw (
@@ -173,7 +175,7 @@ exchanged-asked (x ∷ xs) =
     )
     (ap (λ (ls : List (List ℕ)). x .input ∷ ls) (exchanged-asked xs))
 
-exchanged-told : (xs : List Exchange) → told (exchanged xs) ≡ replies xs
+exchanged-told : (xs : List Exchange) → toldLines (exchanged xs) ≡ replies xs
 exchanged-told [] = refl
 exchanged-told (x ∷ xs) =
     rw (

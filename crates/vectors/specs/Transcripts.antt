@@ -11,7 +11,7 @@ use Rattle.foundation.specs.Bytes.{eqList}
 use Rattle.model.specs.Base.{emptyBase}
 use Rattle.model.specs.Encoding.{encode}
 use Rattle.model.specs.Text.{newline, space}
-use Rattle.serving.specs.Turns.{turnOf, replyText}
+use Rattle.serving.specs.LineTurns.{turnOf, replyText}
 
 -- ---- the marks of lines
 
@@ -36,44 +36,44 @@ unmarked l = drop 2 l
 -- ---- going through the lines
 
 -- the bytes of the base, and the printed reply, with its newline, that is still to be compared ([] if none)
-pub record Stage : Type 0 where
+pub record TranscriptState : Type 0 where
   pub base : List ℕ
   pub owed : List ℕ
 
-abbrev pub stage : List ℕ → List ℕ → Stage
+abbrev pub stage : List ℕ → List ℕ → TranscriptState
 stage base owed = record { base = base; owed = owed }
 
-abbrev pub fresh : Stage
+abbrev pub fresh : TranscriptState
 fresh = stage (encode emptyBase) []
 
 -- a line stands: it tells the reply that is owed, or none is owed and it is of another known kind
-unfoldable pub stands : Stage → List ℕ → Bool
+unfoldable pub stands : TranscriptState → List ℕ → Bool
 stands g l = pick (tells l)
     (eqList (unmarked l ++ (newline ∷ [])) (g .owed))
     (eqb (length (g .owed)) 0 && (eqb (length l) 0 || (opens l || asks l)))
 
 -- what is owed of a reply is owed once; a new case forgets the base of the one before
-unfoldable pub next : Stage → List ℕ → Stage
-next g l = pick (opens l) fresh
+unfoldable pub nextState : TranscriptState → List ℕ → TranscriptState
+nextState g l = pick (opens l) fresh
     (pick (asks l) (stage (turnOf (g .base) (unmarked l) .lent) (replyText (g .base) (unmarked l)))
     (stage (g .base) []))
 
 -- every line stands, and no reply is owed at the end
-abbrev pub agrees : Stage → List (List ℕ) → Bool
+abbrev pub agrees : TranscriptState → List (List ℕ) → Bool
 agrees g [] = eqb (length (g .owed)) 0
-agrees g (l ∷ rest) = let r = agrees (next g l) rest in stands g l && r
+agrees g (l ∷ rest) = let r = agrees (nextState g l) rest in stands g l && r
 
 -- how many lines stand before the first that does not
-abbrev pub standing : Stage → List (List ℕ) → ℕ
-standing g [] = 0
-standing g (l ∷ rest) = let n = suc (standing (next g l) rest) in pick (stands g l) n 0
+abbrev pub countStanding : TranscriptState → List (List ℕ) → ℕ
+countStanding g [] = 0
+countStanding g (l ∷ rest) = let n = suc (countStanding (nextState g l) rest) in pick (stands g l) n 0
 
 -- where the lines that stand have led
-abbrev pub reached : Stage → List (List ℕ) → Stage
-reached g [] = g
-reached g (l ∷ rest) = let h = reached (next g l) rest in pick (stands g l) h g
+abbrev pub stateAfter : TranscriptState → List (List ℕ) → TranscriptState
+stateAfter g [] = g
+stateAfter g (l ∷ rest) = let h = stateAfter (nextState g l) rest in pick (stands g l) h g
 
 -- the lines from the first that does not stand on
-abbrev pub remaining : Stage → List (List ℕ) → List (List ℕ)
-remaining g [] = []
-remaining g (l ∷ rest) = let ls = remaining (next g l) rest in pick (stands g l) ls (l ∷ rest)
+abbrev pub linesLeft : TranscriptState → List (List ℕ) → List (List ℕ)
+linesLeft g [] = []
+linesLeft g (l ∷ rest) = let ls = linesLeft (nextState g l) rest in pick (stands g l) ls (l ∷ rest)

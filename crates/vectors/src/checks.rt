@@ -23,7 +23,7 @@ pub struct Checked {
 }
 
 // Goes through the lines of a transcript, on an empty base, up to the first that does not stand.
-fn walk(s: &mut [u8], text: &[u8], out: &mut [u8]) -> Checked
+fn check_lines(s: &mut [u8], text: &[u8], out: &mut [u8]) -> Checked
     requires { ⌜ (now s ≡ encode emptyBase) × (24001 ≤ length (now out)) ⌝ }
     ensures { λ r. ⌜ Checks (now (text .entry)) r (now (out .exit))
         × (length (now (out .exit)) ≡ length (now (out .entry))) ⌝ }
@@ -67,5 +67,5 @@ pub fn check(text: &[u8], out: &mut [u8]) -> Checked
 {
     let mut s = [0u8; BASE_BYTES];
     encoding::create(&mut s);
-    walk(&mut s, text, out)
+    check_lines(&mut s, text, out)
 }

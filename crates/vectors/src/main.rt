@@ -68,8 +68,8 @@ fn check_file(i: usize) -> bool {
     good
 }
 
-// One for a file that stands.
-fn count(good: bool) -> usize
+// 1 for a file that stands, else 0.
+fn as_bit(good: bool) -> usize
     ensures { λ r. ⌜ r ≤ 1 ⌝ }
 {
     if good { 1 } else { 0 }
@@ -81,7 +81,7 @@ fn main() {
     let mut good = 0;
     let mut i = 1;
     while i < end {
-        good += count(check_file(i));
+        good += as_bit(check_file(i));
         i += 1;
     }
     put_number(good);

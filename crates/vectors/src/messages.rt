@@ -1,7 +1,7 @@
 // What the program says of a file, on standard output.
 ghost use Prim.Native.Nat.{_≤_};
 ghost use lib.ListN.{length};
-ghost use Rattle.vectors.specs.LinePlaces.{Bounds};
+ghost use Rattle.vectors.specs.LinePlaces.{MessageBounds};
 use crate::checks::Checked;
 use crate::lines::line_at;
 use libc::STDOUT_FILENO;
@@ -89,7 +89,7 @@ fn say_answer(reply: &[u8], told: bool) {
 
 // A line does not stand: which, in which case, what it says, and what was answered.
 pub fn say_wrong(name: &[u8], text: &[u8], out: &[u8], c: Checked)
-    requires { ⌜ Bounds (now text) (now out) c ⌝ }
+    requires { ⌜ MessageBounds (now text) (now out) c ⌝ }
 {
     let at = c.at;
     let n = c.n;

@@ -11,7 +11,7 @@ use lib.ListN.{getD}
 use Rattle.foundation.specs.declared.Interval.{Interval}
 use Rattle.foundation.specs.Tests.{cases, agree, le-true, le-false, true-le, false-le, and-true, and-intro}
 use Rattle.foundation.specs.Intervals.{inInterval, inInterval-in, inInterval-true}
-use Rattle.foundation.specs.Masks.{bit}
+use Rattle.foundation.specs.BitMasks.{bit}
 use Rattle.windows.specs.Windows.{inside}
 
 module _ (n : ℕ) (ms : List ℕ) (i : Interval) (a e : ℕ) (few : e ≤ n)

@@ -3,12 +3,12 @@ ghost use mathlib.Core.Path.{_≡_};
 ghost use Prim.Native.Nat.{ℕ, _≤_, _<_};
 ghost use lib.Dec.{ltb};
 ghost use lib.ListN.{getD};
-ghost use Rattle.foundation.specs.Masks.{bit};
+ghost use Rattle.foundation.specs.BitMasks.{bit};
 ghost use Rattle.windows.specs.Windows.{Rising, inside};
 use foundation::Interval;
 
 // An instant as a number that its successor fits too.
-fn wide(t: u32) -> u64
+fn u64_of(t: u32) -> u64
     ensures { λ r. ⌜ r ≡ t ⌝ }
 {
     t as u64
@@ -23,7 +23,7 @@ fn marks_below(marks: &[u32; 63], n: usize, t: u64) -> usize
     let mut high = n;
     while low < high {
         let k = (low + high) / 2;
-        if wide(marks[k]) < t {
+        if u64_of(marks[k]) < t {
             low = k + 1;
         } else {
             high = k;
@@ -37,8 +37,8 @@ pub fn span(marks: &[u32; 63], n: usize, i: Interval) -> u64
     requires { ⌜ (n ≤ 63) × Rising n (now marks) ⌝ }
     ensures { λ r. ⌜ ((j : ℕ) → bit j r ≡ inside n (now (marks .entry)) i j) ⌝ }
 {
-    let a = marks_below(marks, n, wide(i.start));
-    let e = marks_below(marks, n, wide(i.end) + 1);
+    let a = marks_below(marks, n, u64_of(i.start));
+    let e = marks_below(marks, n, u64_of(i.end) + 1);
     if a < e {
         return words::span_of(a as u32, e as u32);
     }

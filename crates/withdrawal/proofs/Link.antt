@@ -9,10 +9,11 @@ use Rattle.model.specs.declared.Head.{Head}
 use Rattle.model.specs.declared.Request.{Request}
 use Rattle.model.specs.Base.{Base}
 use Rattle.model.specs.Withdrawal.{keep, restrict}
-use Rattle.model.specs.Requests.{REVOKE, REVOKEP, REVOKEN, REVOKEADM, is, withdraws, rootAfter, takes, leave}
+use Rattle.model.specs.Requests.{REVOKE, REVOKEP, REVOKEN, REVOKEADM, is, withdraws, rootAfter, leave}
 use Rattle.model.specs.Means.{plainly}
 use Rattle.model.specs.Step.{effect}
 use Rattle.model.specs.SoundnessFacts.{Sound}
+use Rattle.model.specs.SurvivalFacts.{takes-eq}
 use Rattle.model.specs.Kinds.{is-apart}
 use Rattle.laws.specs.Restriction.{withdrawn-all}
 use Rattle.pieces.specs.declared.Cut.{Cut}
@@ -22,15 +23,14 @@ use Rattle.pieces.specs.Cuts.{spared, CutOf}
 module _ (q : Request) (c : Cut) where
   -- REVOKE
   pub by-label : is q (REVOKE ∷ []) ≡ true → c .kind ≡ Label → c .label ≡ q .label → CutOf q c
-  unfolding takes
-  by-label e k l h t = rw (e, k, l)
+  by-label e k l h t = rw (takes-eq q h t, e, k, l)
 
   -- REVOKEADM
   pub by-grantor : is q (REVOKEADM ∷ []) ≡ true → c .kind ≡ Grantor → c .object ≡ q .object →
       c .grantor ≡ q .subject →
       CutOf q c
-  unfolding takes
   by-grantor e k o g h t = rw (
+    takes-eq q h t,
     is-apart q (REVOKEADM ∷ []) (REVOKE ∷ []) refl e,
     is-apart q (REVOKEADM ∷ []) (REVOKEP ∷ REVOKEN ∷ []) refl e,
     e,
@@ -44,9 +44,8 @@ module _ (q : Request) (c : Cut) where
       c .subject ≡ q .subject → c .object ≡ q .object → c .mode ≡ q .mode →
       c .negative ≡ is q (REVOKEN ∷ []) →
       c .interval ≡ q .interval → CutOf q c
-  unfolding takes
   by-name e k g s o m n i h t =
-      rw (is-apart q (REVOKEP ∷ REVOKEN ∷ []) (REVOKE ∷ []) refl e, e, k, g, s, o, m, n, i)
+      rw (takes-eq q h t, is-apart q (REVOKEP ∷ REVOKEN ∷ []) (REVOKE ∷ []) refl e, e, k, g, s, o, m, n, i)
 
 -- the authorizations after a withdrawal, as the code builds them
 pub withdrawn-is : (b : Base) (q : Request) (c : Cut) → Sound b → withdraws q ≡ true → CutOf q c →

@@ -25,14 +25,14 @@ use Rattle.pieces.proofs.StretchFacts.{in-stretch, stretch-true}
 use Rattle.withdrawal.proofs.StayFacts.{left, keep-nil, keep-cons, covered-keep, stays-step}
 use Rattle.withdrawal.proofs.StayFacts.{left-before, left-after, covered-upTo, upTo-fewer}
 use Rattle.pieces.proofs.PartFacts.{wanted-before, parts-left}
-use Rattle.withdrawal.specs.Stays.{stays, upTo}
+use Rattle.withdrawal.specs.Stays.{stays, untilInstant}
 use Rattle.pieces.specs.Cuts.{spared, CutOrdered, behindAll, takenOf}
 use Rattle.pieces.proofs.BodyFacts.{placed-none}
-use Rattle.pieces.specs.Parts.{partsOf}
-use Rattle.withdrawal.specs.Turns.{pieceOf, leading, inOf, byOf}
+use Rattle.pieces.specs.CutParts.{partsOf}
+use Rattle.withdrawal.specs.RoundTurns.{pieceOf, leading, inOf, byOf}
 use Rattle.withdrawal.proofs.TurnFacts.{leading-left}
 use Rattle.withdrawal.specs.Times.{among, InTime}
-use Rattle.withdrawal.specs.Rounds.{stayed}
+use Rattle.withdrawal.specs.WithdrawalRounds.{stayed}
 
 -- ---- the state of a round
 
@@ -115,12 +115,12 @@ module _ (root : Head → Bool) (c : Cut) (xs : List Authorization) (T U : ℕ) 
 
   module _ (e : among T U a ≡ true) where
     -- of what is still to come, nothing supports a
-    covered-time : (t : ℕ) → coveredBy (wantOf (a .head)) (keep (upTo T stay) (a ∷ ys)) t
-        ≡ coveredBy (wantOf (a .head)) (keep (upTo U stay) (a ∷ ys)) t
+    covered-time : (t : ℕ) → coveredBy (wantOf (a .head)) (keep (untilInstant T stay) (a ∷ ys)) t
+        ≡ coveredBy (wantOf (a .head)) (keep (untilInstant U stay) (a ∷ ys)) t
     covered-time t =
-        covered-keep (wantOf (a .head)) (upTo T stay) (a ∷ ys) t
+        covered-keep (wantOf (a .head)) (untilInstant T stay) (a ∷ ys) t
         ∙ any-cong-mem _ _ (live t (a ∷ ys)) one
-        ∙ sym (covered-keep (wantOf (a .head)) (upTo U stay) (a ∷ ys) t)
+        ∙ sym (covered-keep (wantOf (a .head)) (untilInstant U stay) (a ∷ ys) t)
       where
         i : (T ≤ a .head .granted) × (a .head .granted < U)
         i = stretch-true T U (a .head .granted) e
@@ -133,7 +133,8 @@ module _ (root : Head → Bool) (c : Cut) (xs : List Authorization) (T U : ℕ) 
             omega (arith, v .0 e x m (in-stretch T U (x .head .granted) p (omega (arith, i))))
 
         one : (k : Head) → Mem k (live t (a ∷ ys)) →
-            upTo T stay k t && wanted (wantOf (a .head)) k ≡ upTo U stay k t && wanted (wantOf (a .head)) k
+            untilInstant T stay k t && wanted (wantOf (a .head)) k ≡ untilInstant U stay k t
+            && wanted (wantOf (a .head)) k
         one k m = cases (wanted (wantOf (a .head)) k)
             (λ z. let y = wanted-before (wantOf (a .head)) k z in cases (ltb (k .granted) T)
             (λ x. let x' = true-le (suc (k .granted)) T x in
@@ -142,7 +143,7 @@ module _ (root : Head → Bool) (c : Cut) (xs : List Authorization) (T U : ℕ) 
             let w = live-mem t (a ∷ ys) k m in
             let g = ap (λ (y : Head). y .granted) (w .2) in
             absurd (never (w .0) (w .1) (omega arith) (omega arith))))
-            (λ z. rw z (and-false (upTo T stay k t) ∙ sym (and-false (upTo U stay k t))))
+            (λ z. rw z (and-false (untilInstant T stay k t) ∙ sym (and-false (untilInstant U stay k t))))
 
     -- all that can support a is in the body
     covered-body : (t : ℕ) → coveredBy (wantOf (a .head)) os t ≡ coveredBy (wantOf (a .head)) (keep stay xs) t
@@ -150,14 +151,14 @@ module _ (root : Head → Bool) (c : Cut) (xs : List Authorization) (T U : ℕ) 
         let w = wantOf (a .head) in
         let i = stretch-true T U (a .head .granted) e in
         ap (λ (x : List Authorization). coveredBy w x t) (r .is)
-        ∙ any-append (covers w t) (r .front) (keep (upTo T stay) (a ∷ ys))
+        ∙ any-append (covers w t) (r .front) (keep (untilInstant T stay) (a ∷ ys))
         ∙ ap (λ (b : Bool). coveredBy w (r .front) t || b) (covered-time t)
-        ∙ sym (any-append (covers w t) (r .front) (keep (upTo U stay) (a ∷ ys)))
+        ∙ sym (any-append (covers w t) (r .front) (keep (untilInstant U stay) (a ∷ ys)))
         ∙ ap (λ (x : List Authorization). coveredBy w x t) (r .final)
         ∙ covered-upTo stay w U xs t (omega arith)
 
     -- so what goes in is what stays of it
-    parts-stay : partsOf (takenOf c (a .head)) (root (a .head)) os a ≡ left (upTo U stay) a
+    parts-stay : partsOf (takenOf c (a .head)) (root (a .head)) os a ≡ left (untilInstant U stay) a
     unfolding left
     parts-stay =
         let i = stretch-true T U (a .head .granted) e in
@@ -168,27 +169,30 @@ module _ (root : Head → Bool) (c : Cut) (xs : List Authorization) (T U : ℕ) 
         ∙ sym (left-before stay U a (i .1))
 
   -- the round after the turn
-  pub round-turn : Round (upTo U stay) (upTo T stay) xs ys (placed pos (inOf c T U (root (a .head)) os a) os)
+  pub round-turn : Round (untilInstant U stay) (untilInstant T stay) xs ys
+      (placed pos (inOf c T U (root (a .head)) os a) os)
       (pos + length (inOf c T U (root (a .head)) os a) + byOf T a (drop pos os))
   round-turn = cases (among T U a)
       (λ e. let i = stretch-true T U (a .head .granted) e in
       let ps = partsOf (takenOf c (a .head)) (root (a .head)) os a in
       let n : pos + length ps + 0 ≡ pos + length ps = omega arith in
       rw (e, le-false (suc (a .head .granted)) T (omega arith), n)
-      (round-in (upTo U stay) (upTo T stay) xs ys os pos a r ps (left-after stay T a (omega arith))
+      (round-in (untilInstant U stay) (untilInstant T stay) xs ys os pos a r ps
+      (left-after stay T a (omega arith))
       (parts-stay e)))
       (λ e. cases (ltb (a .head .granted) T)
       (λ f. let y = true-le (suc (a .head .granted)) T f in
-      let d = round-drop (upTo U stay) (upTo T stay) xs (a ∷ ys) os pos r ∙ keep-cons (upTo T stay) a ys in
-      let n : pos + 0 + leading (pieceOf a) (drop pos os) ≡ pos + length (left (upTo T stay) a) =
-      omega (arith, ap (leading (pieceOf a)) d ∙ leading-left (upTo T stay) a ys (s .0)) in
-      rw (e, f, placed-none pos os, n) (round-by (upTo U stay) (upTo T stay) xs ys os pos a r
+      let d = round-drop (untilInstant U stay) (untilInstant T stay) xs (a ∷ ys) os pos r
+      ∙ keep-cons (untilInstant T stay) a ys in
+      let n : pos + 0 + leading (pieceOf a) (drop pos os) ≡ pos + length (left (untilInstant T stay) a) =
+      omega (arith, ap (leading (pieceOf a)) d ∙ leading-left (untilInstant T stay) a ys (s .0)) in
+      rw (e, f, placed-none pos os, n) (round-by (untilInstant U stay) (untilInstant T stay) xs ys os pos a r
       (left-before stay U a (omega arith) ∙ sym (left-before stay T a y))))
       (λ f. let y = false-le (suc (a .head .granted)) T f in
-      let g : left (upTo T stay) a ≡ [] = left-after stay T a (omega arith) in
-      let n : pos + 0 + 0 ≡ pos + length (left (upTo T stay) a) =
+      let g : left (untilInstant T stay) a ≡ [] = left-after stay T a (omega arith) in
+      let n : pos + 0 + 0 ≡ pos + length (left (untilInstant T stay) a) =
       omega (arith, ap (λ (x : List Authorization). length x) g) in
-      rw (e, f, placed-none pos os, n) (round-by (upTo U stay) (upTo T stay) xs ys os pos a r
+      rw (e, f, placed-none pos os, n) (round-by (untilInstant U stay) (untilInstant T stay) xs ys os pos a r
       (left-after stay U a (beyond e (omega arith)) ∙ sym g))))
     where
       beyond : among T U a ≡ false → T ≤ a .head .granted → U ≤ a .head .granted
@@ -199,17 +203,17 @@ module _ (root : Head → Bool) (c : Cut) (xs : List Authorization) (T U : ℕ) 
 
   -- too many by stay are too many in the end
   pub round-full : 1024 < length (placed pos (inOf c T U (root (a .head)) os a) os) →
-      1024 < length (keep (upTo U stay) xs)
+      1024 < length (keep (untilInstant U stay) xs)
   round-full f =
       let w = round-turn in
       let n = ap (λ (x : List Authorization). length x) (w .is) in
       let m = ap (λ (x : List Authorization). length x) (w .final) in
-      let l = upTo-fewer stay T (upTo U stay) ys (λ k q. left-before stay U k (omega arith)) in
+      let l = upTo-fewer stay T (untilInstant U stay) ys (λ k q. left-before stay U k (omega arith)) in
       omega (
         arith,
         n,
         m,
         l,
-        length-append (w .front) (keep (upTo T stay) ys),
-        length-append (w .front) (keep (upTo U stay) ys),
+        length-append (w .front) (keep (untilInstant T stay) ys),
+        length-append (w .front) (keep (untilInstant U stay) ys),
       )

@@ -21,7 +21,7 @@ use Rattle.cover.specs.declared.Want.{Want}
 use Rattle.cover.specs.Cover.{wantOf, wanted, coveredBy}
 use Rattle.cover.proofs.CoverFacts.{supports-wanted, any-live}
 use Rattle.pieces.proofs.PartFacts.{wanted-before}
-use Rattle.withdrawal.specs.Stays.{stays, upTo}
+use Rattle.withdrawal.specs.Stays.{stays, untilInstant}
 
 -- what r leaves of one authorization
 unfoldable pub left : (Head → ℕ → Bool) → Authorization → List Authorization
@@ -98,42 +98,42 @@ module _ (root : Head → Bool) (p : Head → ℕ → Bool) (xs : List Authoriza
 
 -- r leaves no more than the times tell it
 module _ (r : Head → ℕ → Bool) where
-  pub left-before : (T : ℕ) (a : Authorization) → a .head .granted < T → left (upTo T r) a ≡ left r a
+  pub left-before : (T : ℕ) (a : Authorization) → a .head .granted < T → left (untilInstant T r) a ≡ left r a
   unfolding left
   left-before T a h =
       ap (λ (f : ℕ → Bool). pieces (a .head) (maximal (a .interval .start) (a .interval .end) f))
       (fun-ext (λ t. rw (le-true (suc (a .head .granted)) T h)))
 
-  pub left-after : (T : ℕ) (a : Authorization) → T ≤ a .head .granted → left (upTo T r) a ≡ []
+  pub left-after : (T : ℕ) (a : Authorization) → T ≤ a .head .granted → left (untilInstant T r) a ≡ []
   unfolding left
   left-after T a h = ap (pieces (a .head)) (sym (maximal-unique (a .interval .start) (a .interval .end)
-      (upTo T r (a .head)) 0 [] tt
+      (untilInstant T r (a .head)) 0 [] tt
       (λ t. rw (le-false (suc (a .head .granted)) T (omega arith))
       (sym (and-false (inInterval (a .interval) t))))))
 
   -- for an authorization granted by T, what was granted later covers nothing
   pub covered-upTo : (w : Want) (T : ℕ) (xs : List Authorization) (t : ℕ) → w .before ≤ T →
-      coveredBy w (keep (upTo T r) xs) t ≡ coveredBy w (keep r xs) t
+      coveredBy w (keep (untilInstant T r) xs) t ≡ coveredBy w (keep r xs) t
   covered-upTo w T xs t h =
-      covered-keep w (upTo T r) xs t ∙ any-cong _ _ (live t xs) one ∙ sym (covered-keep w r xs t)
+      covered-keep w (untilInstant T r) xs t ∙ any-cong _ _ (live t xs) one ∙ sym (covered-keep w r xs t)
     where
-      one : (k : Head) → upTo T r k t && wanted w k ≡ r k t && wanted w k
+      one : (k : Head) → untilInstant T r k t && wanted w k ≡ r k t && wanted w k
       one k = cases (wanted w k)
           (λ e. let l = wanted-before w k e in rw (le-true (suc (k .granted)) T (omega arith)))
-          (λ e. rw e (and-false (upTo T r k t) ∙ sym (and-false (r k t))))
+          (λ e. rw e (and-false (untilInstant T r k t) ∙ sym (and-false (r k t))))
 
   -- nothing was granted before the first instant
-  pub upTo-none : (xs : List Authorization) → keep (upTo 0 r) xs ≡ []
-  upTo-none [] = keep-nil (upTo 0 r)
+  pub upTo-none : (xs : List Authorization) → keep (untilInstant 0 r) xs ≡ []
+  upTo-none [] = keep-nil (untilInstant 0 r)
   upTo-none (a ∷ xs) =
-      keep-cons (upTo 0 r) a xs
+      keep-cons (untilInstant 0 r) a xs
       ∙ ap₂ (λ (x y : List Authorization). x ++ y) (left-after 0 a (omega arith)) (upTo-none xs)
 
   pub upTo-all : (T : ℕ) (xs : List Authorization) → ((a : Authorization) → Mem a xs → a .head .granted < T) →
-      keep (upTo T r) xs ≡ keep r xs
-  upTo-all T [] h = keep-nil (upTo T r) ∙ sym (keep-nil r)
+      keep (untilInstant T r) xs ≡ keep r xs
+  upTo-all T [] h = keep-nil (untilInstant T r) ∙ sym (keep-nil r)
   upTo-all T (a ∷ xs) h =
-      keep-cons (upTo T r) a xs
+      keep-cons (untilInstant T r) a xs
       ∙ ap₂ (λ (x y : List Authorization). x ++ y)
       (left-before T a (h a (inl refl))) (upTo-all T xs (λ k m. h k (inr m)))
       ∙ sym (keep-cons r a xs)
@@ -141,14 +141,14 @@ module _ (r : Head → ℕ → Bool) where
   -- with a later time there are no fewer
   pub upTo-fewer : (T : ℕ) (q : Head → ℕ → Bool) (xs : List Authorization) →
       ((a : Authorization) → a .head .granted < T → left q a ≡ left r a) →
-      length (keep (upTo T r) xs) ≤ length (keep q xs)
-  upTo-fewer T q [] h = rw (keep-nil (upTo T r), keep-nil q) (omega arith)
+      length (keep (untilInstant T r) xs) ≤ length (keep q xs)
+  upTo-fewer T q [] h = rw (keep-nil (untilInstant T r), keep-nil q) (omega arith)
   upTo-fewer T q (a ∷ xs) h =
       let i = upTo-fewer T q xs h in
       rw (
-        keep-cons (upTo T r) a xs,
+        keep-cons (untilInstant T r) a xs,
         keep-cons q a xs,
-        length-append (left (upTo T r) a) (keep (upTo T r) xs),
+        length-append (left (untilInstant T r) a) (keep (untilInstant T r) xs),
         length-append (left q a) (keep q xs),
       )
       (cases (ltb (a .head .granted) T)

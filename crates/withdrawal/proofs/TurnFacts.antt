@@ -16,16 +16,16 @@ use Rattle.model.specs.Withdrawal.{pieces, keep}
 use Rattle.laws.specs.KeepFacts.{intervalsOf, piece-of, pieces-of, Precedes}
 use Rattle.pieces.specs.declared.Cut.{Cut}
 use Rattle.pieces.specs.declared.Stretch.{Stretch}
-use Rattle.withdrawal.specs.declared.Turn.{Turn}
-use Rattle.withdrawal.specs.declared.Turn.the-variants.{Full, At}
+use Rattle.withdrawal.specs.declared.RoundStep.{RoundStep}
+use Rattle.withdrawal.specs.declared.RoundStep.the-variants.{Full, At}
 use Rattle.pieces.proofs.StretchFacts.{stretch-true}
 use Rattle.withdrawal.proofs.StayFacts.{left}
 use Rattle.pieces.specs.Cuts.{takenOf}
-use Rattle.pieces.specs.Building.{Body}
+use Rattle.pieces.specs.Building.{BuiltBody}
 use Rattle.pieces.proofs.BodyFacts.{body-count, placed-none, length-placed}
-use Rattle.pieces.specs.Parts.{partsOf}
+use Rattle.pieces.specs.CutParts.{partsOf}
 use Rattle.withdrawal.specs.Times.{among}
-use Rattle.withdrawal.specs.Turns.{pieceOf, leading, inOf, byOf, Turns}
+use Rattle.withdrawal.specs.RoundTurns.{pieceOf, leading, inOf, byOf, TurnMakes}
 
 -- ---- passing over pieces
 
@@ -69,21 +69,22 @@ leading-left r a ys s =
 -- ---- a turn
 
 -- by what it answers
-pub turns-at : (pos : ℕ) (ps : List Authorization) (by : ℕ) (os : List Authorization) (r : Turn)
+pub turns-at : (pos : ℕ) (ps : List Authorization) (by : ℕ) (os : List Authorization) (r : RoundStep)
     (out sorted : List ℕ)
-    (k p : ℕ) → r ≡ At k p → Turns pos ps by os r out sorted →
-    Body k (placed pos ps os) out sorted × (p ≡ pos + length ps + by)
-turns-at pos ps by os r out sorted k p e t = subst (λ (x : Turn). Turns pos ps by os x out sorted) e t
+    (k p : ℕ) → r ≡ At k p → TurnMakes pos ps by os r out sorted →
+    BuiltBody k (placed pos ps os) out sorted × (p ≡ pos + length ps + by)
+turns-at pos ps by os r out sorted k p e t = subst (λ (x : RoundStep). TurnMakes pos ps by os x out sorted) e
+    t
 
-pub turns-full : (pos : ℕ) (ps : List Authorization) (by : ℕ) (os : List Authorization) (r : Turn)
-    (out sorted : List ℕ) → r ≡ Full → Turns pos ps by os r out sorted → 1024 < length (placed pos ps os)
-turns-full pos ps by os r out sorted e t = subst (λ (x : Turn). Turns pos ps by os x out sorted) e t
+pub turns-full : (pos : ℕ) (ps : List Authorization) (by : ℕ) (os : List Authorization) (r : RoundStep)
+    (out sorted : List ℕ) → r ≡ Full → TurnMakes pos ps by os r out sorted → 1024 < length (placed pos ps os)
+turns-full pos ps by os r out sorted e t = subst (λ (x : RoundStep). TurnMakes pos ps by os x out sorted) e t
 
 -- ---- what a turn answers
 
 module _ (c : Cut) (T U : ℕ) (root : Bool) (os : List Authorization) (a : Authorization) (pos : ℕ) where
-  abbrev Turned : Turn → List ℕ → List ℕ → Type 0
-  Turned r out sorted = Turns pos (inOf c T U root os a) (byOf T a (drop pos os)) os r out sorted
+  abbrev Turned : RoundStep → List ℕ → List ℕ → Type 0
+  Turned r out sorted = TurnMakes pos (inOf c T U root os a) (byOf T a (drop pos os)) os r out sorted
 
   -- granted in the round
   module _ (e : among T U a ≡ true) (taken : Stretch) (f : taken ≡ takenOf c (a .head))
@@ -96,18 +97,18 @@ module _ (c : Cut) (T U : ℕ) (root : Bool) (os : List Authorization) (a : Auth
     turn-full h = subst (λ (x : List Authorization). 1024 < length (placed pos x os)) goes-in h
 
     pub turn-in : (m k : ℕ) (out sorted : List ℕ) → length os ≡ m →
-        Body k (placed pos (partsOf taken root' os a) os) out sorted →
+        BuiltBody k (placed pos (partsOf taken root' os a) os) out sorted →
         Turned (At k (pos + (k - m))) out sorted
     turn-in m k out sorted n b =
         let p = inOf c T U root os a in
-        let d = subst (λ (x : List Authorization). Body k (placed pos x os) out sorted) goes-in b in
+        let d = subst (λ (x : List Authorization). BuiltBody k (placed pos x os) out sorted) goes-in b in
         let i = stretch-true T U (a .head .granted) e in
         let z : byOf T a (drop pos os) ≡ 0 = rw (le-false (suc (a .head .granted)) T (omega arith)) in
         (d, omega (arith, z, body-count d, length-placed pos p os))
 
   -- not so
-  module _ (e : among T U a ≡ false) (m : ℕ) (out sorted : List ℕ) (b : Body m os out sorted) where
-    nothing-in : Body m (placed pos (inOf c T U root os a) os) out sorted
+  module _ (e : among T U a ≡ false) (m : ℕ) (out sorted : List ℕ) (b : BuiltBody m os out sorted) where
+    nothing-in : BuiltBody m (placed pos (inOf c T U root os a) os) out sorted
     nothing-in = rw (e, placed-none pos os) b
 
     stays-long : length (inOf c T U root os a) ≡ 0

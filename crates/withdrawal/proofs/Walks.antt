@@ -16,13 +16,13 @@ use Rattle.pieces.specs.declared.Cut.{Cut}
 use Rattle.withdrawal.specs.Stays.{stays}
 use Rattle.withdrawal.proofs.StayFacts.{restricted, upTo-none, upTo-all, upTo-fewer}
 use Rattle.pieces.specs.Cuts.{spared, CutOrdered, behindAll}
-use Rattle.pieces.specs.Building.{Body, Holds, Result}
+use Rattle.pieces.specs.Building.{BuiltBody, AnyBody, Result}
 use Rattle.pieces.proofs.BodyFacts.{body-count, body-own, body-none, body-result}
 use Rattle.withdrawal.specs.Times.{InTime}
-use Rattle.withdrawal.specs.Turns.{inOf, byOf}
+use Rattle.withdrawal.specs.RoundTurns.{inOf, byOf}
 use Rattle.withdrawal.proofs.RoundFacts.{Round, round-start, round-end, round-pos, round-turn}
 use Rattle.withdrawal.proofs.RoundFacts.{round-full}
-use Rattle.withdrawal.specs.Rounds.{stayed, stayers}
+use Rattle.withdrawal.specs.WithdrawalRounds.{stayed, stayers}
 
 module _ (root : Head → Bool) (c : Cut) (xs : List Authorization) (T U : ℕ) where
   abbrev Midway : List Authorization → List Authorization → ℕ → Type 0
@@ -30,13 +30,13 @@ module _ (root : Head → Bool) (c : Cut) (xs : List Authorization) (T U : ℕ) 
 
   -- the authorizations ys of the base are still to come, and the body has come to the place pos
   pub record Walk (ys : List Authorization) (k pos : ℕ) (out sorted : List ℕ) : Type 0 where
-    pub body : Holds k out sorted
+    pub body : AnyBody k out sorted
     pub order : Sorted ys
     pub times : InTime T U ys
     pub round : Midway ys (authorizationsIn k out) pos
 
   pub walk-start : (m : ℕ) (out sorted : List ℕ) → Sorted xs → InTime T U xs →
-      Body m (stayers root c xs T) out sorted → Walk xs m 0 out sorted
+      BuiltBody m (stayers root c xs T) out sorted → Walk xs m 0 out sorted
   walk-start m out sorted s t b = record {
     body = body-own b;
     order = s;
@@ -53,10 +53,10 @@ module _ (root : Head → Bool) (c : Cut) (xs : List Authorization) (T U : ℕ) 
         let n = body-count (w .body) in
         omega (arith, round-pos (stayed root c xs U) (stayed root c xs T) xs ys os pos (w .round))
 
-    pub walk-end : ys ≡ [] → Body k (stayers root c xs U) out sorted
+    pub walk-end : ys ≡ [] → BuiltBody k (stayers root c xs U) out sorted
     walk-end e =
         let r = subst (λ (y : List Authorization). Midway y os pos) e (w .round) in
-        subst (λ (x : List Authorization). Body k x out sorted)
+        subst (λ (x : List Authorization). BuiltBody k x out sorted)
         (round-end (stayed root c xs U) (stayed root c xs T) xs os pos r) (w .body)
 
     -- a turn
@@ -75,7 +75,7 @@ module _ (root : Head → Bool) (c : Cut) (xs : List Authorization) (T U : ℕ) 
       round' = subst (λ (y : List Authorization). Midway y os pos) e (w .round)
 
       pub walk-next : (j p : ℕ) (out' sorted' : List ℕ) →
-          Body j (placed pos ps os) out' sorted' × (p ≡ pos + length ps + byOf T a (drop pos os)) →
+          BuiltBody j (placed pos ps os) out' sorted' × (p ≡ pos + length ps + byOf T a (drop pos os)) →
           Walk rest j p out' sorted'
       walk-next j p out' sorted' t = record {
         body = body-own (t .0);
@@ -96,17 +96,17 @@ module _ (root : Head → Bool) (c : Cut) (xs : List Authorization) where
   left = restrict root (λ h. true) (keep (spared c) xs)
 
   -- before the first
-  pub rounds-start : (out sorted : List ℕ) → Body 0 (stayers root c xs 0) out sorted
-  rounds-start out sorted = subst (λ (x : List Authorization). Body 0 x out sorted)
+  pub rounds-start : (out sorted : List ℕ) → BuiltBody 0 (stayers root c xs 0) out sorted
+  rounds-start out sorted = subst (λ (x : List Authorization). BuiltBody 0 x out sorted)
       (sym (upTo-none (stays root (spared c) xs) xs)) (body-none out sorted)
 
   -- behind the last
   pub rounds-end : (T m : ℕ) (out sorted : List ℕ) → ((a : Authorization) → Mem a xs → a .head .granted < T) →
-      Body m (stayers root c xs T) out sorted → Result m left out
+      BuiltBody m (stayers root c xs T) out sorted → Result m left out
   rounds-end T m out sorted h b =
       let e : stayers root c xs T ≡ left =
       upTo-all (stays root (spared c) xs) T xs h ∙ sym (restricted root (spared c) xs) in
-      body-result (subst (λ (x : List Authorization). Body m x out sorted) e b)
+      body-result (subst (λ (x : List Authorization). BuiltBody m x out sorted) e b)
 
   -- too many after a round are too many
   pub rounds-full : (T : ℕ) → 1024 < length (stayers root c xs T) → 1024 < length left

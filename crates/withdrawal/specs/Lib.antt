@@ -1,4 +1,4 @@
 pub mod Stays
 pub mod Times
-pub mod Turns
-pub mod Rounds
+pub mod RoundTurns
+pub mod WithdrawalRounds

@@ -1,5 +1,5 @@
 -- What a withdrawal leaves, as one test of instants, and what of it those granted before a time leave
--- (`upTo`).
+-- (`untilInstant`).
 use Prim.Native.Nat.{ℕ}
 use mathlib.Core.Bool.{Bool, _&&_}
 use mathlib.Core.List.{List}
@@ -19,5 +19,5 @@ module _ (root : Head → Bool) (p : Head → ℕ → Bool) (xs : List Authoriza
 -- ---- what was granted before a time
 
 -- r for what was granted before T, and nothing of the rest
-abbrev pub upTo : ℕ → (Head → ℕ → Bool) → Head → ℕ → Bool
-upTo T r h t = ltb (h .granted) T && r h t
+abbrev pub untilInstant : ℕ → (Head → ℕ → Bool) → Head → ℕ → Bool
+untilInstant T r h t = ltb (h .granted) T && r h t

@@ -11,16 +11,16 @@ ghost use Rattle.laws.specs.KeepFacts.{Sorted};
 ghost use Rattle.support.specs.Hops.{rootsIn};
 ghost use Rattle.encoding.specs.Format.{authorizationsIn};
 ghost use Rattle.pieces.specs.Cuts.{spared, CutOrdered};
-ghost use Rattle.pieces.specs.Building.{Body, Holds, Room, Makes, Built};
+ghost use Rattle.pieces.specs.Building.{BuiltBody, AnyBody, Room, Makes, Built};
 ghost use Rattle.withdrawal.specs.Times.{InTime, pullOf, raiseOf, endOf};
-ghost use Rattle.withdrawal.specs.Turns.{pieceOf, leading, inOf, byOf, Turns};
-ghost use Rattle.withdrawal.specs.Rounds.{stayers};
-use crate::Turn;
+ghost use Rattle.withdrawal.specs.RoundTurns.{pieceOf, leading, inOf, byOf, TurnMakes};
+ghost use Rattle.withdrawal.specs.WithdrawalRounds.{stayers};
+use crate::RoundStep;
+use fields::lesser;
 use model::AUTHORIZATION_BYTES;
 use model::Authorization;
 use pieces::Cut;
 use pieces::Put;
-use pieces::earlier;
 use pieces::put_pieces;
 use pieces::taken;
 
@@ -64,11 +64,11 @@ fn take_turn(
     sorted: &mut [u8],
     m: usize,
     pos: usize,
-) -> Turn
+) -> RoundStep
     requires { ⌜ (no * 4 ≤ length (now owners)) × (na * 4 ≤ length (now administrators))
         × (pos ≤ m) × Room (now out) (now sorted) ⌝ }
-    requires { ⌜ Holds m (now out) (now sorted) ⌝ }
-    ensures { λ r. ⌜ Turns pos
+    requires { ⌜ AnyBody m (now out) (now sorted) ⌝ }
+    ensures { λ r. ⌜ TurnMakes pos
         (inOf c from to (rootsIn no (now (owners .entry)) na (now (administrators .entry)) (a .head))
         (authorizationsIn m (now (out .entry))) a)
         (byOf from a (drop pos (authorizationsIn m (now (out .entry)))))
@@ -80,15 +80,15 @@ fn take_turn(
         let root = lookup::is_root(owners, no, administrators, na, h.object, h.grantor);
         let cut = taken(c, h);
         let Put::Lines(k) = put_pieces(out, sorted, m, pos, a, root, cut) else {
-            return Turn::Full;
+            return RoundStep::Full;
         };
-        return Turn::At(k, pos + (k - m));
+        return RoundStep::At(k, pos + (k - m));
     }
     if g < from {
         let p = skip(out, m, pos, a);
-        return Turn::At(m, p);
+        return RoundStep::At(m, p);
     }
-    Turn::At(m, pos)
+    RoundStep::At(m, pos)
 }
 
 // What the withdrawal leaves of what was granted before `to`, from what it leaves of what was granted before
@@ -111,7 +111,7 @@ fn do_round(
         × (n * 24 ≤ length (now s)) × (from ≤ to) × Room (now out) (now sorted) ⌝ }
     requires { ⌜ CutOrdered c × Sorted (authorizationsIn n (now s))
         × InTime from to (authorizationsIn n (now s)) ⌝ }
-    requires { ⌜ Body m
+    requires { ⌜ BuiltBody m
         (stayers (rootsIn no (now owners) na (now administrators)) c (authorizationsIn n (now s)) from)
         (now out) (now sorted) ⌝ }
     ensures { λ r. ⌜ Makes
@@ -124,7 +124,7 @@ fn do_round(
     let mut i = 0;
     while i < n {
         let a = encoding::authorization_at(s, i * AUTHORIZATION_BYTES);
-        let Turn::At(j, p) = take_turn(
+        let RoundStep::At(j, p) = take_turn(
             owners,
             no,
             administrators,
@@ -153,7 +153,7 @@ fn pull(t: u64, g: u64, top: u64, d: u64) -> u64
     ensures { λ r. ⌜ r ≡ pullOf t g top d ⌝ }
 {
     if (t <= g) & (g < top) {
-        return earlier(d, g + 1);
+        return lesser(d, g + 1);
     }
     d
 }

@@ -10,7 +10,7 @@ use lib.Dec.{eqb, leb, ltb}
 use lib.Pow.{pow-mono}
 use Rattle.foundation.specs.Tests.{cases, agree, le-true, le-false, true-le, false-le, and-true, true-eq}
 use Rattle.foundation.specs.Tests.{false-eq}
-use Rattle.foundation.specs.Masks.{bit}
+use Rattle.foundation.specs.BitMasks.{bit}
 use Rattle.words.specs.Ones.{bit-half, bit-shl, span-bit}
 
 -- ---- one digit

@@ -10,7 +10,7 @@ use lib.Dec.{eqb, leb, ltb}
 use lib.Bits.{bitAnd, and-step, and-self, and-le-l}
 use lib.Pow.{pow-pos, pow-add, shl-shr, shr-shr, high-ones}
 use Rattle.foundation.specs.Tests.{cases, agree, le-true, le-false, true-le, false-le, eq-true, ne-false}
-use Rattle.foundation.specs.Masks.{bit}
+use Rattle.foundation.specs.BitMasks.{bit}
 
 -- every bit up to the i-th is set
 abbrev pub upTo : ℕ → ℕ → Bool

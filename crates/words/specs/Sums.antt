@@ -20,14 +20,14 @@ sum-set (x ∷ l) zero v h = omega arith
 sum-set (x ∷ l) (suc i) v h = let s = sum-set l i v (omega arith) in omega arith
 
 -- nothing is new, and all is as before; or something is, and the sum is larger
-pub record Grown (fresh : Bool) (old new : List ℕ) : Type 0 where
+pub record SumGrown (fresh : Bool) (old new : List ℕ) : Type 0 where
   pub same : fresh ≡ false → new ≡ old
   pub more : fresh ≡ true → sum old < sum new
 
-pub grown-none : (l : List ℕ) → Grown false l l
+pub grown-none : (l : List ℕ) → SumGrown false l l
 grown-none l = record { same = λ e. refl; more = λ e. let z : _≡_ {A = ℕ} 0 1 = cc in absurd (omega arith) }
 
-pub grown-both : (p q : Bool) {a b c : List ℕ} → Grown p a b → Grown q b c → Grown (p || q) a c
+pub grown-both : (p q : Bool) {a b c : List ℕ} → SumGrown p a b → SumGrown q b c → SumGrown (p || q) a c
 grown-both false q g h =
     let e = g .same refl in
     record { same = λ z. h .same z ∙ e; more = λ z. rw e at (h .more z) }
@@ -44,7 +44,7 @@ grown-both true true g h = record {
 
 -- bits that are joined to a word
 pub join-grown : (l : List ℕ) (i v : ℕ) → i < length l →
-    Grown (not (eqb (getD l i 0) (bitOr (getD l i 0) v))) l (set l i (bitOr (getD l i 0) v))
+    SumGrown (not (eqb (getD l i 0) (bitOr (getD l i 0) v))) l (set l i (bitOr (getD l i 0) v))
 join-grown l i v h =
     let x : ℕ = getD l i 0 in
     let y : ℕ = bitOr x v in

@@ -5,10 +5,10 @@ ghost use Prim.Native.Nat.{ℕ, _+_, _*_, _^_, _≤_, _<_, _-_};
 ghost use lib.ListN.{length};
 ghost use mathlib.Core.Bool.{true, false, _&&_};
 ghost use lib.Dec.{leb, ltb};
-ghost use Rattle.foundation.specs.Masks.{bit};
+ghost use Rattle.foundation.specs.BitMasks.{bit};
 ghost use Rattle.words.specs.Ones.{allFrom};
 ghost use Rattle.words.specs.Fields.{fieldOf, joined, starts};
-ghost use Rattle.words.specs.Sums.{Grown};
+ghost use Rattle.words.specs.Sums.{SumGrown};
 
 // The word whose lowest 2^k bits are set.
 fn low_ones(k: u32) -> u64
@@ -41,7 +41,7 @@ pub fn join_at(words: &mut [u64], k: u32, i: u32, v: u64) -> bool
     requires { ⌜ (k ≤ 6) × (starts k i < 64 * length (now words)) × (v < 2 ^ (2 ^ k)) ⌝ }
     ensures { λ r. ⌜ ((j : ℕ) → fieldOf k (now (words .exit)) j ≡ joined k (now (words .entry)) i v j)
         × (length (now (words .exit)) ≡ length (now (words .entry)))
-        × Grown r (now (words .entry)) (now (words .exit)) ⌝ }
+        × SumGrown r (now (words .entry)) (now (words .exit)) ⌝ }
 {
     let n = start_of(k, i);
     let old = words[n / 64];

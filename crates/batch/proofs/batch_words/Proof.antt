@@ -10,7 +10,7 @@ use denote.Ref.{now}
 use Rattle.foundation.specs.Tests.{pick}
 use Rattle.model.specs.Batch.{byteFor, batchRefusal, question, questionsIn}
 use Rattle.model.specs.BatchFacts.{length-questions, nth-question}
-use Rattle.batch.proofs.Filled.{filled, filled-none, filled-next, Known, know}
+use Rattle.batch.proofs.AnswerBytes.{filled, filled-none, filled-next, Known, know}
 use Rattle.batch.proofs.batch_words.Statement.{statement}
 use Rattle.batch.proofs.batch_words.Tie as tie
 

@@ -1,10 +1,10 @@
 -- `batch::prepare`: nothing is asked of the table.
-use Rattle.batch.specs.Prepared.{Prepared}
+use Rattle.batch.specs.Prepared.{TablePrepared}
 use Rattle.batch.proofs.prepare.Statement.{statement}
 use Rattle.batch.proofs.prepare.Tie as tie
 
 returns : tie.Need-returns
-unfolding Prepared
+unfolding TablePrepared
 returns c = λ h. tt
 
 pub prepare-spec : {M : Type 1} → statement M

@@ -9,8 +9,9 @@ use Rattle.model.specs.declared.Head.{Head}
 use Rattle.model.specs.Text.{space, decimal}
 use Rattle.model.specs.Report.{aligned}
 use Rattle.columns.specs.Columns.{headColumns}
-use Rattle.columns.proofs.Filling.{Begun, put, begun-none, begun-length, begun-column, begun-splice}
-use Rattle.columns.proofs.Filling.{begun-all}
+use Rattle.columns.proofs.RowFilling.{BeginsWith, put, begun-none, begun-length, begun-column}
+use Rattle.columns.proofs.RowFilling.{begun-splice}
+use Rattle.columns.proofs.RowFilling.{begun-all}
 use Rattle.columns.proofs.put_head.Statement.{statement}
 use Rattle.columns.proofs.put_head.Tie as tie
 
@@ -27,7 +28,7 @@ four : (c : tie.After-row4) → (let n₄ = c .before in
     let n₂ = n₃ .before .before .before .before .before in
     let n₁ = n₂ .before .before .before .before .before in
     let a = n₁ .before .before .before .before .args in
-    Begun (now (a .row)) (numbers (a .h))
+    BeginsWith (now (a .row)) (numbers (a .h))
     (put (put (put (put (now (a .row)) 0 5 (n₁ .put-number .last .0)) 5 10 (n₂ .put-number2 .last .0))
     10 15 (n₃ .put-number3 .last .0)) 15 17 (n₄ .put-number4 .last .0)) 17)
 four c =
@@ -71,10 +72,10 @@ returns c =
     let h = start .args .h in
     let l = start .pre .0 in
     put .put4 .ensures
-    ∙ begun-all (begun-splice (four r) (space ∷ sign .sign-of .result ∷ space ∷ option .option-of .result
+    ∙ begun-all (begun-splice (four r) (space ∷ sign .sign-byte .result ∷ space ∷ option .option-byte .result
     ∷ [])
     (omega arith)) l
-    ∙ (λ k. numbers h ++ (space ∷ (sign .sign-of .ensures k ++ (space ∷ option .option-of .ensures k))))
+    ∙ (λ k. numbers h ++ (space ∷ (sign .sign-byte .ensures k ++ (space ∷ option .option-byte .ensures k))))
 
 pub put-head-spec : {M : Type 1} → statement M
 put-head-spec =

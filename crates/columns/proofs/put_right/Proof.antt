@@ -6,7 +6,7 @@ use Prim.Native.Nat.{ℕ, _-_}
 use lib.ListN.{length, take}
 use denote.Ref.{now}
 use Rattle.fields.specs.Field.{splice}
-use Rattle.columns.proofs.Filling.{right}
+use Rattle.columns.proofs.RowFilling.{right}
 use Rattle.columns.proofs.put_right.Statement.{statement}
 use Rattle.columns.proofs.put_right.Tie as tie
 

@@ -10,10 +10,11 @@ use Rattle.fields.proofs.ByteLaws.{stores}
 use Rattle.model.specs.Text.{newline, printInstant}
 use Rattle.model.specs.TextFacts.{instant-most}
 use Rattle.model.specs.Report.{aligned}
-use Rattle.model.specs.ReportFacts.{fits}
-use Rattle.columns.specs.Columns.{row-filled}
-use Rattle.columns.proofs.Filling.{Begun, put, begun-none, begun-length, begun-room, begun-part}
-use Rattle.columns.proofs.Filling.{begun-column, begun-splice, begun-all}
+use Rattle.model.specs.ReportFacts.{head-fits}
+use Rattle.columns.proofs.RowFilling.{BeginsWith, put, begun-none, begun-length, begun-room}
+use Rattle.columns.proofs.RowFilling.{begun-part}
+use Rattle.columns.proofs.RowFilling.{begun-column, begun-splice, begun-all}
+use Rattle.columns.proofs.RowFacts.{row-filled}
 use Rattle.columns.proofs.put_row.Statement.{statement}
 use Rattle.columns.proofs.put_row.Tie as tie
 
@@ -22,13 +23,13 @@ put-head-requires c κs =
     let start = c .before .before .before in
     let l = start .pre .0 in (
       begun-room (begun-none (now (start .args .row))) 21 (omega arith) (omega arith),
-      fits (start .args .a) (start .pre .1),
+      head-fits (start .args .a) (start .pre .1),
     )
 
 -- the head is there
 one : (c : tie.After-row) → (let p = c .before in
     let a = p .before .before .before .before .args in
-    Begun (now (a .row)) (p .put-head .last .0) (put (now (a .row)) 0 21 (p .put-head .last .0)) 21)
+    BeginsWith (now (a .row)) (p .put-head .last .0) (put (now (a .row)) 0 21 (p .put-head .last .0)) 21)
 one c =
     let p = c .before in
     let start = p .before .before .before .before in
@@ -53,7 +54,7 @@ put-instant-requires c κs =
 two : (c : tie.After-row2) → (let i = c .before in
     let p = i .before .before .before .before in
     let a = p .before .before .before .before .args in
-    Begun (now (a .row)) (p .put-head .last .0 ++ aligned 11 (printInstant (a .a .interval .start)))
+    BeginsWith (now (a .row)) (p .put-head .last .0 ++ aligned 11 (printInstant (a .a .interval .start)))
     (put (put (now (a .row)) 0 21 (p .put-head .last .0)) 21 32 (i .put-instant .last .0)) 32)
 two c =
     let i = c .before in
@@ -81,7 +82,7 @@ three : (c : tie.After-row3) → (let j = c .before in
     let i = j .before .before .before .before in
     let p = i .before .before .before .before in
     let a = p .before .before .before .before .args in
-    Begun (now (a .row))
+    BeginsWith (now (a .row))
     (p .put-head .last .0
     ++ aligned 11 (printInstant (a .a .interval .start))
     ++ aligned 11 (printInstant (a .a .interval .end)))
@@ -118,7 +119,7 @@ returns c =
     ++ aligned 11 (printInstant (a .interval .start))
     ++ aligned 11 (printInstant (a .interval .end))
     ++ (newline ∷ [])) (p .put-head .ensures)
-    ∙ row-filled a (fits a (start .pre .1))
+    ∙ row-filled a (head-fits a (start .pre .1))
 
 pub put-row-spec : {M : Type 1} → statement M
 put-row-spec =

@@ -7,7 +7,8 @@ use mathlib.Core.Logic.{⊎-elim}
 use Prim.Native.Nat.{_+_, _≤_, _-_}
 use denote.Ref.{now}
 use Rattle.foundation.specs.Tests.{or-true, or-false}
-use Rattle.direct.proofs.Turns.{heldFrom, granted-turn, denied-turn, no-turn, all-held, denied-held}
+use Rattle.direct.proofs.FoundLoop.{heldFrom, granted-turn, denied-turn, no-turn, all-held}
+use Rattle.direct.proofs.FoundLoop.{denied-held}
 use Rattle.direct.proofs.holds_directly.Statement.{statement}
 use Rattle.direct.proofs.holds_directly.Tie as tie
 

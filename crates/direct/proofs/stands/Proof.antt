@@ -1,16 +1,14 @@
--- `stands` is the only function that looks into `standsFor`.
+-- `stands` meets its contract: subject and mode first, then the object.
 use borrow.Author.Needs.{needs}
-use Rattle.model.specs.Rules.{standsFor}
+use Rattle.model.specs.SideFacts.{stands-eq}
 use Rattle.direct.proofs.stands.Statement.{statement}
 use Rattle.direct.proofs.stands.Tie as tie
 
 returns : tie.Need-returns
-unfolding standsFor
-returns c = rw (c .before .if1 .taken) (c .stands-on .ensures)
+returns c = rw (stands-eq _ _ _, c .before .if1 .taken) (c .stands-on .ensures)
 
 returns-2 : tie.Need-returns-2
-unfolding standsFor
-returns-2 c = rw (c .if1 .left)
+returns-2 c = rw (stands-eq _ _ _, c .if1 .left)
 
 pub stands-spec : {M : Type 1} → statement M
 stands-spec =

@@ -12,7 +12,7 @@ use Rattle.model.specs.Encoding.{ruleOf, decode}
 use Rattle.model.specs.Rules.{standsFor}
 use Rattle.model.specs.SideFacts.{stands-same}
 use Rattle.encoding.specs.Format.{rulesIn}
-use Rattle.lookup.proofs.Loops.{AnyFrom, any-starts, any-fails, any-passes, any-ends}
+use Rattle.lookup.proofs.RecordLoops.{AnyFrom, any-starts, any-fails, any-passes, any-ends}
 use Rattle.direct.proofs.stands_some.Statement.{statement}
 use Rattle.direct.proofs.stands_some.Tie as tie
 

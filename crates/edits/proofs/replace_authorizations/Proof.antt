@@ -8,7 +8,7 @@ use denote.Ref.{now}
 use Rattle.foundation.specs.Bytes.{records}
 use Rattle.model.specs.Encoding.{authorizationOf}
 use Rattle.fields.specs.Field.{splice}
-use Rattle.foundation.specs.Records.{length-records}
+use Rattle.foundation.specs.ByteRecords.{length-records}
 use Rattle.edits.proofs.EditedBytes.{written-length, edited}
 use Rattle.edits.proofs.BodyEdits.{authorizations, replacement}
 use Rattle.edits.proofs.replace_authorizations.Statement.{statement}

@@ -5,7 +5,7 @@ use denote.Ref.{now}
 use mathlib.Core.Bool.{false, not}
 use Rattle.model.specs.Requests.{DROPRULE}
 use Rattle.model.specs.Encoding.{decode}
-use Rattle.effects.specs.Effects.{dropsBy}
+use Rattle.effects.specs.EffectRecords.{dropsBy}
 use Rattle.effects.proofs.AllowedEffects.{allowed-written, effect-drop}
 use Rattle.effects.proofs.Changes.{clock-holds, rules-done}
 use Rattle.effects.proofs.drop_rule.Statement.{statement}

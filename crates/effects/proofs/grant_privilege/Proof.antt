@@ -24,8 +24,8 @@ privilege-of-requires c κs = named-fits (GRANTADM ∷ GRANTREF ∷ []) _ _
 effects : (c : tie.After-privilege-of) →
     effect plainly (decode (now (c .before .before .before .before .before .before .before .before .args .s)))
     (c .before .before .before .before .before .before .before .before .args .q)
-    ≡ withPrivileges (c .before .body-of .result)
-    (insert (c .privilege-of .result) (privilegesOf (c .before .body-of .result)
+    ≡ withPrivileges (c .before .privilege-body-of .result)
+    (insert (c .privilege-of .result) (privilegesOf (c .before .privilege-body-of .result)
     (decode (now (c .before .before .before .before .before .before .before .before .args .s)))))
     (withStamp (c .before .before .before .before .before .before .before .before .args .q .now)
     (decode (now (c .before .before .before .before .before .before .before .before .args .s)) .last)
@@ -34,16 +34,17 @@ effects c =
     let d = c .before .before .before .before .before .before .before .before in
     let b = decode (now (d .args .s)) in
     effect-privilege b (d .args .q) (d .pre .kind)
-    ∙ (λ j. withPrivileges (sym (c .before .body-of .ensures) j)
-    (insert (sym (c .privilege-of .ensures) j) (privilegesOf (sym (c .before .body-of .ensures) j) b))
+    ∙ (λ j. withPrivileges (sym (c .before .privilege-body-of .ensures) j)
+    (insert (sym (c .privilege-of .ensures) j) (privilegesOf (sym (c .before .privilege-body-of .ensures) j)
+    b))
     (withStamp (d .args .q .now) (b .last) b))
 
-put-privilege-requires : tie.Need-put-privilege-requires
-put-privilege-requires c κs =
+insert-in-order-requires : tie.Need-insert-in-order-requires
+insert-in-order-requires c κs =
     let p = c .before .before .before .before .before in
     let d = p .before .before .before in
     put-room (GRANTADM ∷ GRANTREF ∷ []) (now (d .args .s)) (d .args .q) (d .pre) _ (p .set-clock .ensures)
-    (c .before .body-of .result) _ (effects c)
+    (c .before .privilege-body-of .result) _ (effects c)
 
 returns : tie.Need-returns
 returns c =
@@ -52,11 +53,11 @@ returns c =
     let p = o .before .before .before .before .before in
     let d = p .before .before .before in
     put-done (GRANTADM ∷ GRANTREF ∷ []) (now (d .args .s)) (d .args .q) (d .pre) _ (p .set-clock .ensures)
-    (o .before .body-of .result) _ (effects o) _
-    (r .put-privilege .ensures)
+    (o .before .privilege-body-of .result) _ (effects o) _
+    (r .insert-in-order .ensures)
 
 pub grant-privilege-spec : {M : Type 1} → statement M
 grant-privilege-spec =
     tie.close
-    (tie.spec set-clock-requires (λ c κs. search needs) privilege-of-requires put-privilege-requires
+    (tie.spec set-clock-requires (λ c κs. search needs) privilege-of-requires insert-in-order-requires
     (λ c. search needs) returns)

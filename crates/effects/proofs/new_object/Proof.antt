@@ -38,8 +38,8 @@ effects c =
     ∙ (λ j. withPrivileges Objects (insert (sym (c .owner-of .ensures) j) (privilegesOf Objects b))
     (withStamp (d .args .q .now) (b .last) b))
 
-put-privilege-requires : tie.Need-put-privilege-requires
-put-privilege-requires c κs =
+insert-in-order-requires : tie.Need-insert-in-order-requires
+insert-in-order-requires c κs =
     let p = c .before .before .before .before in
     let d = p .before .before .before in
     put-room (NEW ∷ []) (now (d .args .s)) (d .args .q) (d .pre) _ (p .set-clock .ensures) Objects _
@@ -53,9 +53,9 @@ returns c =
     let d = p .before .before .before in
     put-done (NEW ∷ []) (now (d .args .s)) (d .args .q) (d .pre) _ (p .set-clock .ensures) Objects _
     (effects o) _
-    (r .put-privilege .ensures)
+    (r .insert-in-order .ensures)
 
 pub new-object-spec : {M : Type 1} → statement M
 new-object-spec =
     tie.close
-    (tie.spec set-clock-requires owner-of-requires put-privilege-requires (λ c. search needs) returns)
+    (tie.spec set-clock-requires owner-of-requires insert-in-order-requires (λ c. search needs) returns)

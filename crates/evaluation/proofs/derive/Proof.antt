@@ -6,13 +6,13 @@ use mathlib.Core.Bool.{Bool, true, false, not}
 use Prim.Native.Nat.{ℕ, _≤_, _<_}
 use lib.Dec.{eqb}
 use Rattle.foundation.specs.Tests.{or-cases, true-eq, not-true, not-false}
-use Rattle.foundation.specs.Masks.{bit}
-use Rattle.questions.specs.Operators.{lasting}
+use Rattle.foundation.specs.BitMasks.{bit}
+use Rattle.questions.specs.OperatorSteps.{lasting}
 use Rattle.words.specs.Ones.{allFrom}
 use Rattle.derivation.specs.Words.{wantedWord}
-use Rattle.derivation.specs.Derive.{First, Derived}
-use Rattle.evaluation.proofs.Rules.{wanted-le, first-of, neither, plain-derived, broken-derived}
-use Rattle.evaluation.proofs.Rules.{idle-derived, lasting-derived}
+use Rattle.derivation.specs.Derive.{FirstBit, Derived}
+use Rattle.evaluation.proofs.RuleWords.{wanted-le, first-of, neither, plain-derived, broken-derived}
+use Rattle.evaluation.proofs.RuleWords.{idle-derived, lasting-derived}
 use Rattle.evaluation.proofs.derive.Statement.{statement}
 use Rattle.evaluation.proofs.derive.Tie as tie
 

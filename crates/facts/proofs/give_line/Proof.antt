@@ -6,12 +6,12 @@ use mathlib.Core.Bool.{Bool}
 use Prim.Native.Nat.{ℕ}
 use denote.Ref.{now}
 use Rattle.foundation.specs.Tests.{and-true}
-use Rattle.foundation.specs.Masks.{bit, bit-le}
+use Rattle.foundation.specs.BitMasks.{bit, bit-le}
 use Rattle.tables.specs.declared.Place.{Place}
-use Rattle.tables.specs.Giving.{tablesOf, Given}
-use Rattle.tables.proofs.Giving.{given-zero}
+use Rattle.tables.specs.TableGiving.{tablesOf, TablesGiven}
+use Rattle.tables.proofs.GivingSteps.{given-zero}
 use Rattle.facts.specs.Facts.{fitsRule, takenBy, placeFor}
-use Rattle.facts.proofs.Giving.{span-fits, takes-mask}
+use Rattle.facts.proofs.LineGiving.{span-fits, takes-mask}
 use Rattle.facts.proofs.give_line.Statement.{statement}
 use Rattle.facts.proofs.give_line.Tie as tie
 
@@ -34,8 +34,8 @@ returns c =
           (c .if1 .taken);
     }
 
-place-of-requires : tie.Need-place-of-requires
-place-of-requires c κs =
+place-for-requires : tie.Need-place-for-requires
+place-for-requires c κs =
     let p = c .before .before .before .before .before .before .pre in
     (p .1 .placed, p .1 .pair, p .0 .few)
 
@@ -51,7 +51,7 @@ give-requires c κs =
     let a = b .args in
     let p = b .pre in (
       p .0 .ready,
-      rw (q .place-of .ensures) (p .1 .within),
+      rw (q .place-for .ensures) (p .1 .within),
       omega (arith, c .sign-of .ensures, bit-le (a .a .head .negative)),
       λ d m. and-true (bit d (a .f .choosy)) (fitsRule (now (a .body)) (a .a .head) d)
           (sym (k .takers-of .ensures d) ∙ m) .0,
@@ -72,11 +72,11 @@ returns-2 c =
     record {
       value = v;
       instants = s .span .ensures;
-      given = subst (λ (z : Place). Given t (a .f .width) (z .pair) (z .point)
+      given = subst (λ (z : Place). TablesGiven t (a .f .width) (z .pair) (z .point)
           (takenBy (now (a .body)) (a .f .choosy) (a .a .head)) v (now (a .words)) (g .give .last .0))
-          (q .place-of .ensures)
-          (subst (λ (taken : ℕ → Bool). Given t (a .f .width) (q .place-of .result .pair)
-          (q .place-of .result .point) taken v (now (a .words)) (g .give .last .0))
+          (q .place-for .ensures)
+          (subst (λ (taken : ℕ → Bool). TablesGiven t (a .f .width) (q .place-for .result .pair)
+          (q .place-for .result .point) taken v (now (a .words)) (g .give .last .0))
           (takes-mask (now (a .body)) (a .f .choosy) (a .a .head) (n .sign-of .result) (k .takers-of .result)
           (n .sign-of .ensures) (k .takers-of .ensures))
           (g .give .ensures .0));
@@ -85,5 +85,5 @@ returns-2 c =
 pub give-line-spec : {M : Type 1} → statement M
 give-line-spec =
     tie.close
-    (tie.spec span-requires returns place-of-requires takers-of-requires (λ c κs. search needs) give-requires
+    (tie.spec span-requires returns place-for-requires takers-of-requires (λ c κs. search needs) give-requires
     (λ c. search needs) returns-2)

@@ -7,7 +7,7 @@ use denote.Ref.{now}
 use lib.ListN.{length}
 use Rattle.relevance.specs.Chosen.{picked}
 use Rattle.facts.specs.Facts.{setting, LineSteps}
-use Rattle.facts.proofs.Giving.{picked-start, picked-turn}
+use Rattle.facts.proofs.LineGiving.{picked-start, picked-turn}
 use Rattle.facts.proofs.give_lines.Statement.{statement}
 use Rattle.facts.proofs.give_lines.Tie as tie
 

@@ -7,7 +7,7 @@ use Prim.Native.Nat.{suc, _-_, _≤_, _<_}
 use denote.Ref.{now}
 use lib.Dec.{ltb}
 use Rattle.foundation.specs.Tests.{cases, le-true, and-false}
-use Rattle.foundation.specs.Masks.{bit}
+use Rattle.foundation.specs.BitMasks.{bit}
 use Rattle.masks.proofs.Collecting.{Collected, collect-start, collect-turn}
 use Rattle.facts.specs.Facts.{fitsKind, fitsRule}
 use Rattle.facts.proofs.takers_of.Statement.{statement}

@@ -1,7 +1,7 @@
 -- `access_base_may`: the reply of base's function, packed.
 use borrow.Author.Needs.{needs}
 use mathlib.Core.Path.{ap, _∙_}
-use Rattle.ffi.specs.Numbers.{packed}
+use Rattle.ffi.specs.PackedReplies.{packed}
 use Rattle.ffi.proofs.access_base_may.Statement.{statement}
 use Rattle.ffi.proofs.access_base_may.Tie as tie
 

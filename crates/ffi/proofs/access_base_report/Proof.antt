@@ -2,7 +2,7 @@
 use borrow.Author.Needs.{needs}
 use mathlib.Core.Path.{ap, _∙_}
 use Rattle.model.specs.Counting.{Counting}
-use Rattle.ffi.specs.Numbers.{packedCount}
+use Rattle.ffi.specs.PackedReplies.{packedCount}
 use Rattle.ffi.proofs.access_base_report.Statement.{statement}
 use Rattle.ffi.proofs.access_base_report.Tie as tie
 

@@ -5,7 +5,7 @@ use mathlib.Core.Path.{_≡_, ap, _∙_}
 use denote.Ref.{now}
 use Rattle.model.specs.declared.Request.{Request}
 use Rattle.model.specs.Answers.{Answer, request}
-use Rattle.ffi.specs.Numbers.{packed}
+use Rattle.ffi.specs.PackedReplies.{packed}
 use Rattle.ffi.proofs.access_base_request.Statement.{statement}
 use Rattle.ffi.proofs.access_base_request.Tie as tie
 

@@ -2,7 +2,7 @@
 use borrow.Author.Needs.{needs}
 use mathlib.Core.Path.{ap, _∙_}
 use Rattle.model.specs.Answers.{Answer}
-use Rattle.ffi.specs.Numbers.{packed}
+use Rattle.ffi.specs.PackedReplies.{packed}
 use Rattle.ffi.proofs.access_base_when.Statement.{statement}
 use Rattle.ffi.proofs.access_base_when.Tie as tie
 

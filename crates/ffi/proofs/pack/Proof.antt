@@ -1,7 +1,7 @@
 -- `pack`: by the variant of the reply.
 use borrow.Author.Needs.{needs}
 use mathlib.Core.Path.{sym, ap}
-use Rattle.ffi.specs.Numbers.{packed}
+use Rattle.ffi.specs.PackedReplies.{packed}
 use Rattle.ffi.proofs.pack.Statement.{statement}
 use Rattle.ffi.proofs.pack.Tie as tie
 

@@ -1,7 +1,7 @@
 -- `pack_count`: by the variant of the reply.
 use borrow.Author.Needs.{needs}
 use mathlib.Core.Path.{sym, ap}
-use Rattle.ffi.specs.Numbers.{packedCount}
+use Rattle.ffi.specs.PackedReplies.{packedCount}
 use Rattle.ffi.proofs.pack_count.Statement.{statement}
 use Rattle.ffi.proofs.pack_count.Tie as tie
 

@@ -2,7 +2,7 @@
 use borrow.Author.Needs.{needs}
 use mathlib.Core.Path.{sym, ap}
 use mathlib.Core.Bool.{Bool}
-use Rattle.ffi.specs.Numbers.{termOf}
+use Rattle.ffi.specs.PackedReplies.{termOf}
 use Rattle.ffi.proofs.term.Statement.{statement}
 use Rattle.ffi.proofs.term.Tie as tie
 

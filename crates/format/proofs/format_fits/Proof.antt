@@ -12,7 +12,7 @@ use denote.Ref.{now}
 use Rattle.encoding.specs.Format.{countsFit}
 use Rattle.format.proofs.FormatTests.{other-length, counts-beyond, format-asked}
 use Rattle.lookup.proofs.SoundBodies.{rest-long}
-use Rattle.encoding.proofs.Contents.{Within, within}
+use Rattle.encoding.proofs.Contents.{CountsWithin, within}
 use Rattle.format.proofs.format_fits.Statement.{statement}
 use Rattle.format.proofs.format_fits.Tie as tie
 
@@ -20,7 +20,7 @@ use Rattle.format.proofs.format_fits.Tie as tie
 fit : (c : tie.Else2) → countsFit (c .before .before .counts-of .result) ≡ true
 fit c = sym (c .before .counts-fit .ensures) ∙ not-false _ (c .if2 .left)
 
-fitting : (c : tie.Else2) → Within (c .before .before .counts-of .result)
+fitting : (c : tie.Else2) → CountsWithin (c .before .before .counts-of .result)
 fitting c = within _ (fit c)
 
 -- where the bodies stand

@@ -1,7 +1,7 @@
 -- Three masks have them in common.
 use borrow.Author.Needs.{needs}
 use denote.Ref.{now}
-use Rattle.masks.proofs.Standing.{stands-at}
+use Rattle.masks.proofs.StandingPairs.{stands-at}
 use Rattle.masks.proofs.at_pair.Statement.{statement}
 use Rattle.masks.proofs.at_pair.Tie as tie
 

@@ -4,7 +4,7 @@ use native.Mathlib.Omega.{arith}
 use mathlib.Core.Path.{_≡_, _∙_}
 use Prim.Native.Nat.{ℕ, _-_, _≤_, _<_}
 use lib.ListN.{length, getD, length-set}
-use Rattle.masks.proofs.Loops.{zero-turn}
+use Rattle.masks.proofs.BitLoops.{zero-turn}
 use Rattle.masks.proofs.clear.Statement.{statement}
 use Rattle.masks.proofs.clear.Tie as tie
 

@@ -8,7 +8,7 @@ use denote.Ref.{now}
 use lib.Dec.{eqb, ltb}
 use lib.ListN.{length, getD, length-set}
 use lib.Seq.{getD-set-other}
-use Rattle.foundation.specs.Masks.{bit}
+use Rattle.foundation.specs.BitMasks.{bit}
 use Rattle.foundation.specs.Tests.{agree, true-eq, eq-true, or-false, and-false}
 use Rattle.masks.proofs.Puts.{put-bit}
 use Rattle.masks.proofs.BitWalk.{pass-start, pass-turn, pass-end, or-under}

@@ -4,7 +4,7 @@ use denote.Ref.{now}
 use lib.Bits.{bitAnd}
 use lib.ListN.{getD}
 use Rattle.foundation.specs.Tests.{true-eq}
-use Rattle.masks.proofs.Bits.{apart}
+use Rattle.masks.proofs.SingleBits.{apart}
 use Rattle.masks.proofs.is_ready.Statement.{statement}
 use Rattle.masks.proofs.is_ready.Tie as tie
 

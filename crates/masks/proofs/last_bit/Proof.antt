@@ -1,7 +1,7 @@
 -- Shifted so that bit r - 1 is the highest, the word has its first bit where the last below the r-th is.
 use borrow.Author.Needs.{needs}
 use native.Mathlib.Omega.{arith}
-use Rattle.masks.proofs.Bits.{last-set}
+use Rattle.masks.proofs.SingleBits.{last-set}
 use Rattle.masks.proofs.last_bit.Statement.{statement}
 use Rattle.masks.proofs.last_bit.Tie as tie
 

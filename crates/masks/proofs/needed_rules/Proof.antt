@@ -4,8 +4,8 @@ use native.Mathlib.Omega.{arith}
 use Prim.Native.Nat.{_-_, _≤_}
 use mathlib.Core.Path.{_≡_}
 use denote.Ref.{now}
-use Rattle.masks.specs.Masks.{Needed}
-use Rattle.masks.proofs.Standing.{needed-start, needed-turn}
+use Rattle.masks.specs.RuleMasks.{Needed}
+use Rattle.masks.proofs.StandingPairs.{needed-start, needed-turn}
 use Rattle.masks.proofs.needed_rules.Statement.{statement}
 use Rattle.masks.proofs.needed_rules.Tie as tie
 

@@ -1,7 +1,7 @@
 -- Where no bit is found upwards or downwards, there is one from 0 on, as the mask is not 0.
 use borrow.Author.Needs.{needs}
 use native.Mathlib.Omega.{arith}
-use Rattle.masks.proofs.Bits.{first-set}
+use Rattle.masks.proofs.SingleBits.{first-set}
 use Rattle.masks.proofs.next_dirty.Statement.{statement}
 use Rattle.masks.proofs.next_dirty.Tie as tie
 

@@ -7,7 +7,7 @@ use Prim.Native.Nat.{ℕ, _-_, _≤_, _<_}
 use denote.Ref.{now}
 use lib.Dec.{eqb, ltb}
 use lib.ListN.{getD}
-use Rattle.foundation.specs.Masks.{bit}
+use Rattle.foundation.specs.BitMasks.{bit}
 use Rattle.masks.proofs.Collecting.{Collected, collect-start, collect-turn}
 use Rattle.masks.proofs.of_stratum.Statement.{statement}
 use Rattle.masks.proofs.of_stratum.Tie as tie

@@ -9,9 +9,9 @@ use lib.Bits.{bitOr}
 use denote.Ref.{now}
 use lib.ListN.{getD}
 use Rattle.foundation.specs.Tests.{or-intro-left, or-true-right}
-use Rattle.foundation.specs.Masks.{bit}
+use Rattle.foundation.specs.BitMasks.{bit}
 use Rattle.words.specs.Bits.{bit-or, bit-inside}
-use Rattle.masks.proofs.Loops.{Passed, passed-start, passed-turn}
+use Rattle.masks.proofs.BitLoops.{ForBitsBelow, passed-start, passed-turn}
 use Rattle.masks.proofs.on_modes.Statement.{statement}
 use Rattle.masks.proofs.on_modes.Tie as tie
 
@@ -21,7 +21,7 @@ Has left m k = (r : ℕ) → bit r (getD left (130 + k) 0) ≡ true → bit r m 
 
 abbrev Inv-loop : tie.InvT-loop
 Inv-loop left need w m₀ k₀ m k =
-    (k ≤ 64) × (k < 64 → bit k need ≡ true) × Passed need (Has left m) k
+    (k ≤ 64) × (k < 64 → bit k need ≡ true) × ForBitsBelow need (Has left m) k
 
 abbrev μ-loop : tie.MeasureT-loop
 μ-loop left need w m₀ k₀ m k = 64 - k

@@ -6,7 +6,7 @@ use mathlib.Core.Bool.{true}
 use Prim.Native.Nat.{ℕ, suc, _+_, _%_, _≤_, _<_}
 use lib.Dec.{ltb}
 use Rattle.foundation.specs.Tests.{cases, true-le, false-le}
-use Rattle.foundation.specs.Masks.{bit}
+use Rattle.foundation.specs.BitMasks.{bit}
 use Rattle.masks.proofs.ready_below.Statement.{statement}
 use Rattle.masks.proofs.ready_below.Tie as tie
 

@@ -8,11 +8,11 @@ use Prim.Native.Nat.{ℕ, _-_, _≤_, _<_}
 use denote.Ref.{now}
 use lib.ListN.{length, getD, set, length-set}
 use lib.Seq.{getD-set-same, getD-set-other}
-use Rattle.foundation.specs.Masks.{bit}
+use Rattle.foundation.specs.BitMasks.{bit}
 use Rattle.model.specs.declared.Rule.{Rule}
 use Rattle.encoding.specs.Format.{ruleAt}
 use Rattle.windows.specs.Windows.{inside}
-use Rattle.masks.proofs.Loops.{Passed, passed-start, passed-turn}
+use Rattle.masks.proofs.BitLoops.{ForBitsBelow, passed-start, passed-turn}
 use Rattle.masks.proofs.spans.Statement.{statement}
 use Rattle.masks.proofs.spans.Tie as tie
 
@@ -24,7 +24,7 @@ Spanned body marks count active r =
 abbrev Inv-loop : tie.InvT-loop
 Inv-loop body n needed marks count active₀ r₀ active r =
     (r ≤ 64) × (r < 64 → bit r needed ≡ true) × (length active ≡ 64)
-    × Passed needed (Spanned body marks count active) r
+    × ForBitsBelow needed (Spanned body marks count active) r
 
 abbrev μ-loop : tie.MeasureT-loop
 μ-loop body n needed marks count active₀ r₀ active r = 64 - r

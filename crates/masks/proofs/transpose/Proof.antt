@@ -10,10 +10,10 @@ use denote.Ref.{now}
 use lib.Bits.{bitAnd}
 use lib.Dec.{eqb, ltb}
 use lib.ListN.{getD}
-use Rattle.foundation.specs.Masks.{bit}
+use Rattle.foundation.specs.BitMasks.{bit}
 use Rattle.foundation.specs.Tests.{true-eq}
 use Rattle.words.specs.Bits.{bit-and}
-use Rattle.masks.proofs.Bits.{no-bit}
+use Rattle.masks.proofs.SingleBits.{no-bit}
 use Rattle.masks.proofs.BitWalk.{pass-start, pass-turn, pass-end, bring-one}
 use Rattle.masks.proofs.transpose.Statement.{statement}
 use Rattle.masks.proofs.transpose.Tie as tie

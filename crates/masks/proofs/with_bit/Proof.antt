@@ -3,10 +3,10 @@ use borrow.Author.Needs.{needs}
 use mathlib.Core.Path.{ap, _∙_}
 use mathlib.Core.Bool.{Bool, _||_}
 use Prim.Native.Nat.{_^_}
-use Rattle.foundation.specs.Masks.{bit}
+use Rattle.foundation.specs.BitMasks.{bit}
 use Rattle.words.specs.Bits.{bit-or}
 use Rattle.words.proofs.FieldLaws.{bit-shifted}
-use Rattle.masks.proofs.Bits.{one-bit}
+use Rattle.masks.proofs.SingleBits.{one-bit}
 use Rattle.masks.proofs.with_bit.Statement.{statement}
 use Rattle.masks.proofs.with_bit.Tie as tie
 

@@ -4,7 +4,7 @@ use mathlib.Core.Path.{sym, ap, _∙_}
 use mathlib.Core.Bool.{Bool, _&&_, _||_, and-true}
 use lib.Dec.{eqb}
 use Rattle.foundation.specs.Tests.{and-false, or-false}
-use Rattle.foundation.specs.Masks.{bit}
+use Rattle.foundation.specs.BitMasks.{bit}
 use Rattle.masks.proofs.with_if.Statement.{statement}
 use Rattle.masks.proofs.with_if.Tie as tie
 

@@ -4,11 +4,11 @@ use mathlib.Core.Path.{ap, _∙_}
 use mathlib.Core.Bool.{Bool, not, _&&_}
 use Prim.Native.Nat.{_^_}
 use lib.Bits.{and-le-l}
-use Rattle.foundation.specs.Masks.{bit}
+use Rattle.foundation.specs.BitMasks.{bit}
 use Rattle.words.specs.Bits.{bit-less}
 use Rattle.reach.proofs.Aims.{cut-less}
 use Rattle.words.proofs.FieldLaws.{bit-shifted}
-use Rattle.masks.proofs.Bits.{one-bit}
+use Rattle.masks.proofs.SingleBits.{one-bit}
 use Rattle.masks.proofs.without.Statement.{statement}
 use Rattle.masks.proofs.without.Tie as tie
 

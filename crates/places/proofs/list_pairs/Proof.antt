@@ -10,10 +10,10 @@ use lib.Dec.{eqb}
 use lib.ListN.{length, getD, set, length-set}
 use lib.Seq.{getD-set-same, getD-set-other}
 use Rattle.foundation.specs.Tests.{cases, true-eq, false-eq}
-use Rattle.foundation.specs.Totals.{count-le}
-use Rattle.places.specs.Numbering.{used, before, before-none, before-step, before-le, before-apart}
-use Rattle.places.specs.Numbering.{codeOf}
-use Rattle.places.specs.Numbering.{code-small, code-first}
+use Rattle.foundation.specs.BitMasks.{bit-le}
+use Rattle.places.specs.ReachedNumbers.{used, before, before-none, before-step, before-le, before-apart}
+use Rattle.places.specs.ReachedNumbers.{codeOf}
+use Rattle.places.proofs.PairCodes.{code-small, code-first}
 use Rattle.places.proofs.list_pairs.Statement.{statement}
 use Rattle.places.proofs.list_pairs.Tie as tie
 use Rattle.places.proofs.list_pairs.Reads as reads
@@ -87,7 +87,7 @@ add-n c = omega (
   before-le (now (c .before .before .before .before .before .before .args .need)) (c .before .before
       .before .loop .j),
   c .step-of .ensures,
-  count-le (used (getD (now (c .before .before .before .before .before .before .args .need)) (c .before
+  bit-le (used (getD (now (c .before .before .before .before .before .before .args .need)) (c .before
       .before .before .loop .j) 0)),
 )
 

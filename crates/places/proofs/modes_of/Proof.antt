@@ -8,7 +8,7 @@ use denote.Ref.{now}
 use lib.Dec.{eqb}
 use lib.ListN.{length, getD}
 use Rattle.foundation.specs.Tests.{cases, true-eq, false-eq, or-cases, or-intro-left, or-true-right}
-use Rattle.foundation.specs.Masks.{bit}
+use Rattle.foundation.specs.BitMasks.{bit}
 use Rattle.words.specs.Bits.{bit-or}
 use Rattle.places.proofs.modes_of.Statement.{statement}
 use Rattle.places.proofs.modes_of.Tie as tie
@@ -40,7 +40,7 @@ returns : tie.Need-returns Inv-loop μ-loop
 returns c = λ j k h g e.
     let l = c .before .before .loop in
     let x : ℕ = getD (now (c .before .before .before .before .args .need)) j 0 in
-    c .both-signs .ensures k g ∙ or-cases (bit k x) (bit (8 + k) x) e
+    c .either-sign .ensures k g ∙ or-cases (bit k x) (bit (8 + k) x) e
     (λ f. or-intro-left (bit k (l .all)) (bit (8 + k) (l .all)) (l .inv .1 j k (omega arith) f))
     (λ f. or-true-right (bit k (l .all)) (bit (8 + k) (l .all)) (l .inv .1 j (8 + k) (omega arith) f))
 

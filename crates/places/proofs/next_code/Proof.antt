@@ -2,7 +2,7 @@
 use borrow.Author.Needs.{needs}
 use native.Mathlib.Omega.{arith}
 use native.Mathlib.Nat.{mod-lt}
-use Rattle.places.specs.Numbering.{code-low, code-step, code-wrap}
+use Rattle.places.proofs.PairCodes.{code-low, code-step, code-wrap}
 use Rattle.places.proofs.next_code.Statement.{statement}
 use Rattle.places.proofs.next_code.Tie as tie
 

@@ -9,8 +9,8 @@ use lib.Dec.{eqb}
 use lib.ListN.{length, getD, set, length-set}
 use lib.Seq.{getD-set-same, getD-set-other}
 use Rattle.foundation.specs.Tests.{cases, true-eq, false-eq}
-use Rattle.foundation.specs.Totals.{count}
-use Rattle.places.specs.Numbering.{used, before, before-none, before-step, before-le}
+use Rattle.foundation.specs.BitMasks.{asBit}
+use Rattle.places.specs.ReachedNumbers.{used, before, before-none, before-step, before-le}
 use Rattle.places.proofs.number_pairs.Statement.{statement}
 use Rattle.places.proofs.number_pairs.Tie as tie
 use Rattle.places.proofs.number_pairs.Reads as reads
@@ -68,7 +68,7 @@ loop-again c =
     let need = now (a .need) in
     let h : l .j < length (l .number) = omega (arith, i .2) in (
       omega arith,
-      c .counted .ensures ∙ ap (λ (n : ℕ). n + count (used (getD need (l .j) 0))) (i .1)
+      c .counted .ensures ∙ ap (λ (n : ℕ). n + asBit (used (getD need (l .j) 0))) (i .1)
           ∙ sym (before-step need (l .j) (omega arith)) ∙ ap (before need) (sym (add-one (l .j))),
       length-set (l .number) (l .j) (l .n) ∙ i .2,
       λ k g. cases (eqb k (l .j))

@@ -16,7 +16,8 @@ returns c =
     let a = c .before .before .before .before .args in
     let p = c .before .before .before .before .pre in
     let l = now (a .right) in
-    ap₂ (λ (w m : ℕ). (w % 2 + 256 * (w / 2)) * 2 ^ m % 65536) (c .before .before .wide .ensures) (c .turn
+    ap₂ (λ (w m : ℕ). (w % 2 + 256 * (w / 2)) * 2 ^ m % 65536) (c .before .before .u16-of .ensures .0)
+    (c .turn
     .ensures)
     ∙ bits-fit (getD l (4 * a .r + 3) 0) (turned (getD l (4 * a .r + 2) 0) (a .mode)) (p .2) (p .1)
 

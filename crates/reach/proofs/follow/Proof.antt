@@ -6,9 +6,9 @@ use mathlib.Core.Bool.{Bool, true}
 use Prim.Native.Nat.{ℕ, _-_, _≤_, _<_}
 use denote.Ref.{now}
 use lib.ListN.{length}
-use Rattle.foundation.specs.Masks.{bit}
+use Rattle.foundation.specs.BitMasks.{bit}
 use Rattle.reach.specs.Net.{has, aimPair}
-use Rattle.reach.specs.Reach.{Grown, Kept}
+use Rattle.reach.specs.Reach.{Grown, KeepsWithin}
 use Rattle.reach.proofs.Growth.{grown-none, grown-then, Done, done-start, done-turn}
 use Rattle.reach.proofs.follow.Statement.{statement}
 use Rattle.reach.proofs.follow.Tie as tie
@@ -19,7 +19,8 @@ Inv-loop right rules at need₀ todo₀ r₀ need todo r =
     × Done right rules (at .subjects) (at .object) (at .subject) (at .mode) r need
     × (r < 64 → bit r rules ≡ true)
     × ((P : ℕ → Bool) → ((q : ℕ) → q < 64 → bit q rules ≡ true →
-    P (aimPair right (at .subjects) q (at .object) (at .subject)) ≡ true) → Kept P need₀ todo₀ need todo)
+    P (aimPair right (at .subjects) q (at .object) (at .subject)) ≡ true) → KeepsWithin P need₀ todo₀ need
+    todo)
 
 abbrev μ-loop : tie.MeasureT-loop
 μ-loop right rules at need₀ todo₀ r₀ need todo r = 64 - r

@@ -8,7 +8,7 @@ use mathlib.Core.List.{List}
 use Prim.Native.Nat.{ℕ, _≤_, _<_}
 use denote.Ref.{now}
 use lib.ListN.{length, getD}
-use Rattle.foundation.specs.Masks.{bit}
+use Rattle.foundation.specs.BitMasks.{bit}
 use Rattle.reach.specs.Net.{Net, has, ClosedBut, Formed, Only}
 use Rattle.reach.specs.Reach.{remaining}
 use Rattle.reach.proofs.Growth.{closed-grown, closed-start, closed-end, none-within}

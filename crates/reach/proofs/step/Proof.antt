@@ -5,7 +5,7 @@ use mathlib.Core.Path.{_≡_, sym, ap, _∙_}
 use Prim.Native.Nat.{ℕ, _%_, _<_}
 use denote.Ref.{now}
 use lib.ListN.{length}
-use Rattle.foundation.specs.Masks.{bit}
+use Rattle.foundation.specs.BitMasks.{bit}
 use Rattle.reach.proofs.Aims.{object-below, subject-below, led}
 use Rattle.reach.proofs.Growth.{step-law}
 use Rattle.reach.proofs.step.Statement.{statement}

@@ -8,7 +8,7 @@ use denote.Ref.{now}
 use borrow.Author.Needs.{needs}
 use borrow.Author.Tests.{le-leb, lt-leb}
 use Rattle.model.specs.Text.{readLine, anyLine, orUnreadable}
-use Rattle.reading.specs.Fields.{fieldsLeft, part, Bounded}
+use Rattle.reading.specs.LineFields.{fieldsLeft, part, Bounded}
 use Rattle.reading.proofs.FieldReaders.{left-here}
 use Rattle.reading.proofs.read_line.Statement.{statement}
 use Rattle.reading.proofs.read_line.Tie as tie
@@ -29,7 +29,7 @@ returns-2 : tie.Need-returns-2
 returns-2 c =
     let f = c .before .before .before .before .before in
     let s = now (f .before .before .before .args .s) in
-    let b = f .field-at in
+    let b = f .field-bounds in
     rw (
       by-first s (b .result .from) (b .result .to) (f .before .if1 .left) (b .ensures),
       sym (c .before .before .same .ensures) ∙ c .before .if2 .taken,
@@ -40,7 +40,7 @@ returns-3 c =
     let e2 = c .before .before .before .before in
     let f = e2 .before .before .before .before in
     let s = now (f .before .before .before .args .s) in
-    let b = f .field-at in
+    let b = f .field-bounds in
     rw (
       by-first s (b .result .from) (b .result .to) (f .before .if1 .left) (b .ensures),
       sym (e2 .before .same .ensures) ∙ e2 .if2 .left,
@@ -53,7 +53,7 @@ returns-4 c =
     let e2 = c .before .before .before .before in
     let f = e2 .before .before .before .before in
     let s = now (f .before .before .before .args .s) in
-    let b = f .field-at in
+    let b = f .field-bounds in
     rw (
       by-first s (b .result .from) (b .result .to) (f .before .if1 .left) (b .ensures),
       sym (e2 .before .same .ensures) ∙ e2 .if2 .left,

@@ -20,12 +20,13 @@ returns : tie.Need-returns
 returns c =
     let a = c .before .before .before .before .args in
     let e = sym (c .before .is-sound .ensures) ∙ not-true _ (c .if1 .taken) in
-    sym (unsound (now (a .s)) (a .body) (a .first) (now (a .list)) e)
+    sym (unsound (now (a .s)) (a .source) (a .first) (now (a .list)) e)
 
 returns-2 : tie.Need-returns-2
 returns-2 c =
     let a = c .before .before .before .before .before .args in
-    sym (no-body (now (a .s)) (a .body) (a .first) (now (a .list)) (sound-here (c .before)) (c .if2 .taken))
+    sym (no-body (now (a .s)) (a .source) (a .first) (now (a .list)) (sound-here (c .before))
+    (c .if2 .taken))
 
 page-requires : tie.Need-page-requires
 page-requires c κs = sound-here (c .before .before .before)
@@ -37,7 +38,7 @@ returns-3 c =
     c .before .before .page .ensures
     ∙ ap (λ (b : Body). pageAnswer (now (a .s)) b (a .first) (now (a .list)))
     (c .before .before .before .before .body-of .ensures)
-    ∙ sym (of-body (now (a .s)) (a .body) (a .first) (now (a .list)) (sound-here d) (omega arith))
+    ∙ sym (of-body (now (a .s)) (a .source) (a .first) (now (a .list)) (sound-here d) (omega arith))
 
 pub records-spec : {M : Type 1} → statement M
 records-spec =

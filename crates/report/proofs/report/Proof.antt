@@ -3,7 +3,7 @@ use borrow.Author.Needs.{needs}
 use mathlib.Core.Path.{sym, _∙_}
 use denote.Ref.{now}
 use Rattle.foundation.specs.Tests.{not-true, not-false}
-use Rattle.report.proofs.ByRows.{report-unsound}
+use Rattle.report.proofs.SheetByRows.{report-unsound}
 use Rattle.report.proofs.report.Statement.{statement}
 use Rattle.report.proofs.report.Tie as tie
 

@@ -8,7 +8,7 @@ use Rattle.model.specs.Encoding.{decode}
 use Rattle.model.specs.Means.{plainly}
 use Rattle.model.specs.Step.{full}
 use Rattle.edits.proofs.EditedBytes.{written-length}
-use Rattle.requests.proofs.Replies.{carried-refused, passed-allowed, effect-holds, carried-done}
+use Rattle.requests.proofs.EffectReplies.{carried-refused, passed-allowed, effect-holds, carried-done}
 use Rattle.requests.proofs.add_or_drop.Statement.{statement}
 use Rattle.requests.proofs.add_or_drop.Tie as tie
 

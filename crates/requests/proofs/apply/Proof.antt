@@ -10,9 +10,9 @@ use lib.Dec.{eqb}
 use Rattle.foundation.specs.Tests.{eq-true, ne-false, or-intro-left, or-true-right}
 use Rattle.model.specs.declared.Request.{Request}
 use Rattle.model.specs.Requests.{NEW, GRANT, DENY, ADDRULE, DROPRULE, GRANTADM, GRANTREF, REVOKEREF, is}
-use Rattle.effects.specs.Effects.{Allowed}
+use Rattle.effects.specs.EffectRecords.{Allowed}
 use Rattle.requests.specs.KeepingKinds.{keepingKinds}
-use Rattle.requests.proofs.Keeping.{among, apart, is-one}
+use Rattle.requests.proofs.KindNumbers.{among, apart, is-one}
 use Rattle.requests.proofs.apply.Statement.{statement}
 use Rattle.requests.proofs.apply.Tie as tie
 

@@ -8,7 +8,7 @@ use mathlib.Core.Bool.{false}
 use Rattle.foundation.specs.Tests.{ne-false}
 use Rattle.model.specs.declared.Request.{Request}
 use Rattle.model.specs.Requests.{REVOKE, REVOKEP, REVOKEN, REVOKEADM, withdraws}
-use Rattle.requests.proofs.Keeping.{among, apart, is-one}
+use Rattle.requests.proofs.KindNumbers.{among, apart, is-one}
 use Rattle.requests.proofs.carry_out.Statement.{statement}
 use Rattle.requests.proofs.carry_out.Tie as tie
 

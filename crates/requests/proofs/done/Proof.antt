@@ -2,7 +2,7 @@
 use borrow.Author.Needs.{needs}
 use mathlib.Core.Path.{sym, _∙_}
 use denote.Ref.{now}
-use Rattle.requests.proofs.Replies.{read-label, read-none}
+use Rattle.requests.proofs.EffectReplies.{read-label, read-none}
 use Rattle.requests.proofs.done.Statement.{statement}
 use Rattle.requests.proofs.done.Tie as tie
 

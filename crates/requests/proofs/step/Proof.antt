@@ -4,13 +4,13 @@ use mathlib.Core.Path.{subst}
 use denote.Ref.{now}
 use Rattle.model.specs.Encoding.{decode}
 use Rattle.refusals.specs.Early.{earlyIs}
-use Rattle.revocation.specs.Carried.{Passed}
+use Rattle.revocation.specs.CarriedOut.{PassesEarly}
 use Rattle.revocation.proofs.CarriedFacts.{number-answered, uncovered-answered, passed-answered}
 use Rattle.requests.proofs.step.Statement.{statement}
 use Rattle.requests.proofs.step.Tie as tie
 
 passed : (c : tie.After-enum-told) →
-    (let d = c .before .before .before .before .before in Passed (now (d .args .s)) (d .args .q))
+    (let d = c .before .before .before .before .before in PassesEarly (now (d .args .s)) (d .args .q))
 passed c =
     let r = c .before .before in
     let d = r .before .before .before in

@@ -7,14 +7,15 @@ use denote.Ref.{now}
 use Rattle.model.specs.Encoding.{encode, decode}
 use Rattle.edits.specs.Edits.{Written}
 use Rattle.edits.proofs.Written.{written-sound}
-use Rattle.revocation.proofs.Revoking.{Left, carried-full, lines-left, carried-done, replace-ready}
+use Rattle.revocation.proofs.Revoking.{AuthorizationsLeft, carried-full, lines-left, carried-done}
+use Rattle.revocation.proofs.Revoking.{replace-ready}
 use Rattle.revocation.proofs.Revoking.{replaced-holds, clocked, named-withdraws, effect-named}
 use Rattle.revocation.proofs.Revoking.{named-objects, named-administrators}
 use Rattle.revocation.proofs.revoke.Statement.{statement}
 use Rattle.revocation.proofs.revoke.Tie as tie
 
-remaining-requires : tie.Need-remaining-requires
-remaining-requires c κs =
+build-remaining-requires : tie.Need-build-remaining-requires
+build-remaining-requires c κs =
     let d = c .before .before .before .before in
     let q = d .args .q in
     let k = d .pre .1 in (
@@ -27,7 +28,7 @@ returns c =
     let r = c .before .before .before .before in
     let d = r .before .before .before .before .before in
     carried-full (now (d .args .s)) (d .args .q) (d .pre .0) (named-withdraws (d .args .q) (d .pre .1)) _ _
-    (r .remaining .ensures) (c .enum-told .given .1)
+    (r .build-remaining .ensures) (c .enum-told .given .1)
 
 -- ---- where the number of what remains is known
 
@@ -39,11 +40,12 @@ base-written c = written-sound _ (start c .pre .0 .sound)
 
 left : (c : tie.After-m) →
     let r = c .before .before .before .before in
-    Left (now (start c .args .s)) (start c .args .q) (c .m .given .0 .0) (r .remaining .last .1 .1 .1 .0)
+    AuthorizationsLeft (now (start c .args .s)) (start c .args .q) (c .m .given .0 .0)
+    (r .build-remaining .last .1 .1 .1 .0)
 left c =
     let d = start c in
     lines-left (now (d .args .s)) (d .args .q) (d .pre .0) (named-withdraws (d .args .q) (d .pre .1)) _ _
-    (c .before .before .before .before .remaining .ensures) _ (c .m .given .1)
+    (c .before .before .before .before .build-remaining .ensures) _ (c .m .given .1)
 
 replace-authorizations-requires : tie.Need-replace-authorizations-requires
 replace-authorizations-requires c κs =
@@ -76,7 +78,7 @@ returns-2 c =
 pub revoke-spec : {M : Type 1} → statement M
 revoke-spec =
     tie.close
-    (tie.spec (λ c. search needs) (λ c. search needs) remaining-requires (λ c. search needs)
+    (tie.spec (λ c. search needs) (λ c. search needs) build-remaining-requires (λ c. search needs)
     (λ c. search needs)
     (λ c. search needs) returns (λ c. search needs) replace-authorizations-requires set-clock-requires
     cast-t22

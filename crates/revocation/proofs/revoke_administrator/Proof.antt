@@ -13,7 +13,8 @@ use Rattle.edits.specs.Edits.{Written}
 use Rattle.edits.proofs.Written.{written-sound}
 use Rattle.model.specs.Effects.{withAdministrators}
 use Rattle.edits.proofs.EditedBytes.{written-length}
-use Rattle.revocation.proofs.Revoking.{Left, carried-full, lines-left, carried-done, replace-ready}
+use Rattle.revocation.proofs.Revoking.{AuthorizationsLeft, carried-full, lines-left, carried-done}
+use Rattle.revocation.proofs.Revoking.{replace-ready}
 use Rattle.revocation.proofs.Revoking.{replaced-holds, clocked, administrator-withdraws, copied}
 use Rattle.revocation.proofs.Revoking.{remove-ready, removed-holds, roots-objects}
 use Rattle.revocation.proofs.Revoking.{roots-administrators, dropped, administrator-done}
@@ -51,8 +52,8 @@ copy-left c =
     ∙ ap (λ (l : List ℕ). encode (withAdministrators
     (without (q .object) (q .subject) (decode l .administrators)) (decode l))) (copy-is y)
 
-remaining-requires : tie.Need-remaining-requires
-remaining-requires c κs =
+build-remaining-requires : tie.Need-build-remaining-requires
+build-remaining-requires c κs =
     let y = c .before .before .before .before .before in
     let d = y .before .before .before .before .before .before .before in
     let s = now (d .args .s) in
@@ -74,7 +75,7 @@ returns c =
     .before in
     carried-full (now (d .args .s)) (d .args .q) (d .pre .0)
     (administrator-withdraws (d .args .q) (d .pre .1)) _ _
-    (r .remaining .ensures) (c .enum-told .given .1)
+    (r .build-remaining .ensures) (c .enum-told .given .1)
 
 -- ---- where the number of what remains is known
 
@@ -86,12 +87,13 @@ start c =
 
 left : (c : tie.After-n) →
     let r = c .before .before .before .before in
-    Left (now (start c .args .s)) (start c .args .q) (c .n .given .0 .0) (r .remaining .last .1 .1 .1 .0)
+    AuthorizationsLeft (now (start c .args .s)) (start c .args .q) (c .n .given .0 .0)
+    (r .build-remaining .last .1 .1 .1 .0)
 left c =
     let d = start c in
     lines-left (now (d .args .s)) (d .args .q) (d .pre .0)
     (administrator-withdraws (d .args .q) (d .pre .1)) _ _
-    (c .before .before .before .before .remaining .ensures) _ (c .n .given .1)
+    (c .before .before .before .before .build-remaining .ensures) _ (c .n .given .1)
 
 refers-requires : tie.Need-refers-requires
 refers-requires c κs = let d = start (c .before .before) in d .pre .0 .sound
@@ -164,7 +166,7 @@ revoke-administrator-spec =
     tie.close
     (tie.spec (λ c. search needs) copy-requires (λ c. search needs) remove-administrator-requires
     (λ c. search needs)
-    (λ c. search needs) (λ c. search needs) remaining-requires (λ c. search needs) (λ c. search needs)
+    (λ c. search needs) (λ c. search needs) build-remaining-requires (λ c. search needs) (λ c. search needs)
     (λ c. search needs) returns refers-requires remove-administrator-requires-2
     drop-rules-requires (λ c. search needs) replace-authorizations-requires set-clock-requires cast-t36
     (λ c. search needs) returns-2)

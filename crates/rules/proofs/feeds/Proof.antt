@@ -5,12 +5,12 @@ use mathlib.Core.Bool.{false, Bool·beq}
 use Rattle.foundation.specs.Tests.{and-false, not-true}
 use Rattle.model.specs.declared.Rule.{Rule}
 use Rattle.model.specs.Stratification.{meets, feeds}
+use Rattle.model.specs.SideFacts.{feeds-eq}
 use Rattle.rules.proofs.feeds.Statement.{statement}
 use Rattle.rules.proofs.feeds.Tie as tie
 
 other-object : (q r : Rule) → meets (q .left .object) (r .right .object) ≡ false → false ≡ feeds q r
-unfolding feeds
-other-object q r n = rw (n, and-false (Bool·beq (q .left .negative) (r .right .negative)))
+other-object q r n = rw (feeds-eq q r, n, and-false (Bool·beq (q .left .negative) (r .right .negative)))
 
 returns : tie.Need-returns
 returns c =
@@ -19,18 +19,18 @@ returns c =
     other-object (a .q) (a .r) (sym (m .ensures) ∙ not-true (m .result) (c .if1 .taken))
 
 returns-2 : tie.Need-returns-2
-unfolding feeds
 returns-2 c =
     let d = c .before .before .before in
     let w = d .before .before in
     let a = w .before .before .before in
     rw (
+      feeds-eq _ _,
       a .alike .ensures,
       a .before .before .meets .ensures,
       w .before .before .meets2 .ensures,
       d .before .meets3 .ensures,
-      w .before .wide .ensures .0,
-      w .wide2 .ensures .0,
+      w .before .u16-of .ensures .0,
+      w .u16-of2 .ensures .0,
       d .fits-option .ensures,
     )
 

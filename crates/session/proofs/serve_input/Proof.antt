@@ -10,22 +10,23 @@ use lib.ListN.{length}
 use Rattle.model.specs.Soundness.{soundBytes}
 use Rattle.model.specs.EncodingFacts.{sound-length}
 use Rattle.channel.specs.Trace.{arrived, Read, read-none, read-more}
-use Rattle.serving.specs.Turns.{Kept}
+use Rattle.serving.specs.LineTurns.{LineKept}
 use Rattle.serving.proofs.PieceFacts.{kept-front}
-use Rattle.session.specs.declared.Going.{Going}
-use Rattle.session.specs.Input.{Answered, answered-none, answered-then, served-ended, served-cut}
+use Rattle.session.specs.declared.InputState.{InputState}
+use Rattle.session.specs.Input.{FrontAnswered, answered-none, answered-then, served-ended, served-cut}
 use Rattle.session.proofs.serve_input.Statement.{statement}
 use Rattle.session.proofs.serve_input.Tie as tie
 
-pub record Inv (s₀ line₀ : List ℕ) (len : ℕ) (buf₀ out₀ s line buf out : List ℕ) (g : Going) : Type 0 where
-  pub input : List ℕ
-  pub read : Read input (g .channel)
-  pub answered : (pending : List ℕ) → Kept pending len line₀ → Answered s₀ pending input 0 g s line
-  pub sound : soundBytes s ≡ true
-  pub few : g .len ≤ 97
-  pub size : length line ≡ 97
-  pub room : length out ≡ length out₀
-  pub same : length buf ≡ length buf₀
+pub record Inv (s₀ line₀ : List ℕ) (len : ℕ) (buf₀ out₀ s line buf out : List ℕ) (g : InputState) : Type 0
+  where
+    pub input : List ℕ
+    pub read : Read input (g .channel)
+    pub answered : (pending : List ℕ) → LineKept pending len line₀ → FrontAnswered s₀ pending input 0 g s line
+    pub sound : soundBytes s ≡ true
+    pub few : g .len ≤ 97
+    pub size : length line ≡ 97
+    pub room : length out ≡ length out₀
+    pub same : length buf ≡ length buf₀
 
 abbrev Inv-loop : tie.InvT-loop
 Inv-loop s₀ line₀ len buf₀ out₀ g₀ s line buf out g = Inv s₀ line₀ len buf₀ out₀ s line buf out g

@@ -12,17 +12,17 @@ use Rattle.foundation.specs.Tests.{not-true}
 use Rattle.model.specs.Soundness.{soundBytes}
 use Rattle.model.specs.EncodingFacts.{sound-length}
 use Rattle.channel.specs.Trace.{Unread, unread-none, unread-then}
-use Rattle.serving.specs.Turns.{Kept}
+use Rattle.serving.specs.LineTurns.{LineKept}
 use Rattle.serving.proofs.PieceFacts.{kept-front}
-use Rattle.session.specs.declared.Going.{Going}
-use Rattle.session.specs.Input.{Answers, answers-none, answers-step}
+use Rattle.session.specs.declared.InputState.{InputState}
+use Rattle.session.specs.Input.{AnsweredUpTo, answers-none, answers-step}
 use Rattle.session.proofs.serve_piece.Statement.{statement}
 use Rattle.session.proofs.serve_piece.Tie as tie
 
-pub record Inv (s₀ line₀ piece out₀ : List ℕ) (from : Going) (s line out : List ℕ) (g : Going)
+pub record Inv (s₀ line₀ piece out₀ : List ℕ) (from : InputState) (s line out : List ℕ) (g : InputState)
     (at : ℕ) : Type 0 where
-  pub answers : (pending : List ℕ) → Kept pending (from .len) line₀ →
-      Answers s₀ pending piece (drop at piece) (from .channel .sent) (g .len) (g .channel .sent) s line
+  pub answers : (pending : List ℕ) → LineKept pending (from .len) line₀ →
+      AnsweredUpTo s₀ pending piece (drop at piece) (from .channel .sent) (g .len) (g .channel .sent) s line
   pub unread : Unread (from .channel) (g .channel)
   pub sound : soundBytes s ≡ true
   pub few : g .len ≤ 97

@@ -21,11 +21,11 @@ use Rattle.model.specs.HoldsLaws.{holding}
 use Rattle.model.specs.Encoding.{ruleOf, decode}
 use Rattle.encoding.specs.Format.{countsOf}
 use Rattle.lookup.proofs.SoundBodies.{base-sound}
-use Rattle.lookup.proofs.Loops.{AnyFrom, any-starts, any-fails, any-passes, any-ends}
+use Rattle.lookup.proofs.RecordLoops.{AnyFrom, any-starts, any-fails, any-passes, any-ends}
 use Rattle.simple.specs.Stored.{rulesFrom}
-use Rattle.simple.specs.Engine.{Served, grantedAt, givesIn, wantedIn}
+use Rattle.simple.specs.Engine.{ServedRules, grantedAt, givesIn, wantedIn}
 use Rattle.simple.proofs.Depth.{depthFor, reach, sight, sight-denial, reach-rule, sight-right}
-use Rattle.simple.proofs.Steps as steps
+use Rattle.simple.proofs.EngineSteps as steps
 use Rattle.simple.proofs.gives.Reads as gives
 use Rattle.simple.proofs.gives.Kinds as gives-kinds
 use Rattle.simple.proofs.+gives+held+in_force+throughout.Lts-gives as gives-lts
@@ -125,10 +125,10 @@ in-force-claims t = (held-below t, held.Post, asked-reads.Asked, asked-reads.Lea
 module _ (t : ℕ) where
   -- ---- gives
 
-  abbrev Passed : Type 0
-  Passed = gives-lts.Else1 (gives-claims t) (gives-at t) gives.Post
+  abbrev AfterTest : Type 0
+  AfterTest = gives-lts.Else1 (gives-claims t) (gives-at t) gives.Post
 
-  abbrev strata : (s : List ℕ) → Served s → stratified (decode s .rules) ≡ true
+  abbrev strata : (s : List ℕ) → ServedRules s → stratified (decode s .rules) ≡ true
   strata s v = base-sound s (v .sound) .strata
 
   gives-may-give-requires : gives-lts.Need-may-give-requires (gives-claims t) (gives-at t) gives.Post
@@ -146,7 +146,7 @@ module _ (t : ℕ) where
       (c .if1 .taken)
 
   -- behind the test its operator decides
-  decided : (c : Passed) →
+  decided : (c : AfterTest) →
       (let d = c .before .before .before .before .before in
       let a = d .args in
       let b = decode (now (a .s)) in

@@ -20,7 +20,7 @@ use Rattle.model.specs.Encoding.{decode}
 use Rattle.model.specs.Soundness.{soundBytes}
 use Rattle.model.specs.Answers.{accessIn, mayReply}
 use Rattle.model.specs.Simple.{simpleAnswer}
-use Rattle.simple.specs.Engine.{Served}
+use Rattle.simple.specs.Engine.{ServedRules}
 use Rattle.simple.proofs.simple_may.Statement.{statement}
 use Rattle.simple.proofs.simple_may.Tie as tie
 
@@ -82,7 +82,7 @@ existing : (c : tie.Else3) →
     (let e = c .before .before .before .before .before in there (bytes e) (question e) ≡ true)
 existing c = sym (c .before .exists .ensures) ∙ not-false _ (c .if3 .left)
 
-served : (c : tie.Else4) → Served (bytes (c .before .before .before .before .before .before .before))
+served : (c : tie.Else4) → ServedRules (bytes (c .before .before .before .before .before .before .before))
 served c = record {
   sound = sound (c .before .before .before .before .before .before);
   uncircular = sym (c .before .has-circle .ensures) ∙ c .if4 .left;

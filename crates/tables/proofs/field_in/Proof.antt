@@ -3,7 +3,7 @@ use borrow.Author.Needs.{needs}
 use mathlib.Core.Path.{ap, _∙_}
 use denote.Ref.{now}
 use Rattle.words.specs.Fields.{fieldOf}
-use Rattle.tables.proofs.Giving.{start-below}
+use Rattle.tables.proofs.GivingSteps.{start-below}
 use Rattle.tables.proofs.field_in.Statement.{statement}
 use Rattle.tables.proofs.field_in.Tie as tie
 

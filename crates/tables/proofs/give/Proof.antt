@@ -7,22 +7,22 @@ use mathlib.Core.List.{List}
 use Prim.Native.Nat.{ℕ, _+_, _*_, _-_, _≤_, _<_}
 use denote.Ref.{now}
 use lib.ListN.{length}
-use Rattle.foundation.specs.Masks.{bit}
+use Rattle.foundation.specs.BitMasks.{bit}
 use Rattle.words.specs.Fields.{joined}
-use Rattle.words.specs.Sums.{Grown, grown-both}
+use Rattle.words.specs.Sums.{SumGrown, grown-both}
 use Rattle.places.specs.declared.Region.{Region}
 use Rattle.places.specs.Regions.{sizeOf, indexIn}
-use Rattle.tables.specs.Giving.{tablesOf, Given, takes}
-use Rattle.tables.proofs.Giving.{plain-fits, given-plain, given-nothing, given-then, below}
-use Rattle.tables.proofs.Giving.{below-none, below-once, below-step, plain-once, below-all}
+use Rattle.tables.specs.TableGiving.{tablesOf, TablesGiven, tableTakes}
+use Rattle.tables.proofs.GivingSteps.{plain-fits, given-plain, given-nothing, given-then, below}
+use Rattle.tables.proofs.GivingSteps.{below-none, below-once, below-step, plain-once, below-all}
 use Rattle.tables.proofs.give.Statement.{statement}
 use Rattle.tables.proofs.give.Tie as tie
 
 abbrev Inv-loop : tie.InvT-loop
 Inv-loop words₀ right first f p sign takers v fresh₀ c₀ words fresh c =
     (c ≤ 64) × (c < 64 → bit c takers ≡ true)
-    × Given (tablesOf f right first) (f .width) (p .pair) (p .point) (below takers c) v words₀ words
-    × ((old : List ℕ) → Grown fresh₀ old words₀ → Grown fresh old words)
+    × TablesGiven (tablesOf f right first) (f .width) (p .pair) (p .point) (below takers c) v words₀ words
+    × ((old : List ℕ) → SumGrown fresh₀ old words₀ → SumGrown fresh old words)
 
 abbrev μ-loop : tie.MeasureT-loop
 μ-loop words₀ right first f p sign takers v fresh₀ c₀ words fresh c = 64 - c
@@ -119,7 +119,7 @@ returns c =
     (λ i. j .ensures .0 i ∙ ap₂ (λ (n : ℕ) (r : Region). joined (a .f .width) (now (a .words))
     (a .sign * n + indexIn (a .f .grid) r (a .p .pair) (a .p .point)) (a .v) i)
     (z ∙ ap (sizeOf (a .f .grid)) b) b) in (
-      given-then (takes (a .sign) (a .takers)) (plain-once (a .sign) (a .takers) (l .c) (p .2))
+      given-then (tableTakes (a .sign) (a .takers)) (plain-once (a .sign) (a .takers) (l .c) (p .2))
           (λ d. rw e (below-all (a .sign) (a .takers) (p .2) (omega arith) d)) plain (l .inv .2),
       l .inv .3 (now (a .words)) (j .ensures .2),
     )

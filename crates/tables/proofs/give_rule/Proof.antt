@@ -9,9 +9,9 @@ use Rattle.words.specs.Fields.{joined}
 use Rattle.words.specs.Sums.{grown-none}
 use Rattle.places.specs.declared.Region.{Region}
 use Rattle.places.specs.Regions.{indexIn, In}
-use Rattle.tables.specs.Layout.{regionAt}
-use Rattle.tables.specs.Giving.{tablesOf, reaches, given-one}
-use Rattle.tables.proofs.Giving.{given-none}
+use Rattle.tables.specs.TableLayout.{regionAt}
+use Rattle.tables.specs.TableGiving.{tablesOf, reaches, given-one}
+use Rattle.tables.proofs.GivingSteps.{given-none}
 use Rattle.tables.proofs.give_rule.Statement.{statement}
 use Rattle.tables.proofs.give_rule.Tie as tie
 

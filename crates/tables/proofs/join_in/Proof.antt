@@ -4,7 +4,7 @@ use mathlib.Core.Path.{ap, _∙_}
 use Prim.Native.Nat.{ℕ}
 use denote.Ref.{now}
 use Rattle.words.specs.Fields.{joined}
-use Rattle.tables.proofs.Giving.{start-below}
+use Rattle.tables.proofs.GivingSteps.{start-below}
 use Rattle.tables.proofs.join_in.Statement.{statement}
 use Rattle.tables.proofs.join_in.Tie as tie
 

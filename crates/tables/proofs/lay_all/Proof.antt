@@ -5,7 +5,7 @@ use mathlib.Core.Path.{_≡_, ap, _∙_}
 use Prim.Native.Nat.{ℕ, _+_, _*_}
 use denote.Ref.{now}
 use Rattle.places.specs.Regions.{sizeOf}
-use Rattle.tables.specs.Layout.{whole, roomOf, size-small, room-small, all-laid}
+use Rattle.tables.specs.TableLayout.{wholeRegion, roomOf, size-small, room-small, all-laid}
 use Rattle.tables.proofs.lay_all.Statement.{statement}
 use Rattle.tables.proofs.lay_all.Tie as tie
 
@@ -33,7 +33,7 @@ returns : tie.Need-returns
 returns c =
     let s = c .before .before .before .before in
     let a = s .args in
-    let z : 2 * c .before .before .size-of .result ≡ 2 * sizeOf (a .g) whole =
+    let z : 2 * c .before .before .size-of .result ≡ 2 * sizeOf (a .g) wholeRegion =
     ap (λ (n : ℕ). 2 * n) (c .before .before .size-of .ensures
     ∙ ap (sizeOf (a .g)) (c .before .before .before .all-places .ensures)) in
     let e = c .lay-out .ensures in (

@@ -9,9 +9,9 @@ use lib.Dec.{eqb, ltb}
 use lib.ListN.{length, getD, length-set}
 use lib.Seq.{getD-set-same, getD-set-other}
 use Rattle.foundation.specs.Tests.{cases, true-eq, false-eq, true-le, false-le}
-use Rattle.foundation.specs.Masks.{bit}
+use Rattle.foundation.specs.BitMasks.{bit}
 use Rattle.places.specs.Regions.{sizeOf}
-use Rattle.tables.specs.Layout.{roomOf}
+use Rattle.tables.specs.TableLayout.{roomOf}
 use Rattle.tables.proofs.Rooms.{room-none, room-taken, room-same, room-mono, rules-laid}
 use Rattle.tables.proofs.lay_out.Statement.{statement}
 use Rattle.tables.proofs.lay_out.Tie as tie

@@ -8,7 +8,7 @@ use denote.Ref.{now}
 use Rattle.model.specs.Text.{newline, printReply}
 use Rattle.model.specs.Session.{runsOf}
 use Rattle.printing.proofs.Lengths.{reply-most, fit-in}
-use Rattle.text.proofs.Lines.{line-ended}
+use Rattle.text.proofs.LineEnd.{line-ended}
 use Rattle.text.proofs.put_line.Statement.{statement}
 use Rattle.text.proofs.put_line.Tie as tie
 

@@ -6,7 +6,7 @@ use mathlib.Core.List.{[]}
 use denote.Ref.{now}
 use Rattle.model.specs.declared.Reply.the-variants.{Refused}
 use Rattle.model.specs.Text.{order, asksMay, asksWhen, unreadable, readLine}
-use Rattle.reading.specs.Lines.{lineOf, askedOf}
+use Rattle.reading.specs.ParsedLines.{lineOf, askedOf}
 use Rattle.text.specs.Short.{short-length}
 use Rattle.text.specs.Writing.{too-short}
 use Rattle.text.proofs.WritingFacts.{all-written, answers-line}

@@ -9,7 +9,7 @@ use Rattle.windows.proofs.marks_below.Statement.{statement}
 use Rattle.windows.proofs.marks_below.Tie as tie
 use Rattle.windows.proofs.marks_below.Reads as reads
 use Rattle.windows.proofs.marks_below.Lts as lts
-use Rattle.windows.proofs.wide.Reads as wide-reads
+use Rattle.windows.proofs.u64_of.Reads as u64-of-reads
 
 abbrev Inv-loop : tie.InvT-loop
 Inv-loop marks n t low₀ high₀ low high = Cut n marks t low high
@@ -23,14 +23,14 @@ loop-holds c = let a = c .args in cut-start (a .n) (now (a .marks)) (a .t)
 add-k : tie.Need-add-k Inv-loop μ-loop
 add-k c = search needs
 
-mul-wide : tie.Need-mul-wide Inv-loop μ-loop
-mul-wide c = search needs
+mul-u64-of : tie.Need-mul-u64-of Inv-loop μ-loop
+mul-u64-of c = search needs
 
-element-copy-out-wide : tie.Need-element-copy-out-wide Inv-loop μ-loop
-element-copy-out-wide c = search needs
+element-copy-out-u64-of : tie.Need-element-copy-out-u64-of Inv-loop μ-loop
+element-copy-out-u64-of c = search needs
 
-wide-requires : tie.Need-wide-requires Inv-loop μ-loop
-wide-requires c κs = search needs
+u64-of-requires : tie.Need-u64-of-requires Inv-loop μ-loop
+u64-of-requires c κs = search needs
 
 add-low : tie.Need-add-low Inv-loop μ-loop
 add-low c = search needs
@@ -76,9 +76,9 @@ marks-below-spec =
     μ-loop
     loop-holds
     add-k
-    mul-wide
-    element-copy-out-wide
-    wide-requires
+    mul-u64-of
+    element-copy-out-u64-of
+    u64-of-requires
     add-low
     loop-less
     loop-again

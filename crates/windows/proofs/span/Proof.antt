@@ -14,9 +14,9 @@ returns : tie.Need-returns
 returns c = λ j.
     let a = c .before .before .before .before .before .before .args in
     let f = c .before .before .before .before .marks-below in
-    let s = c .before .before .before .before .before .wide in
+    let s = c .before .before .before .before .before .u64-of in
     let g = c .before .before .marks-below2 in
-    let e = c .before .before .before .wide2 in
+    let e = c .before .before .before .u64-of2 in
     c .span-of .ensures j
     ∙ between (a .n) (now (a .marks)) (a .i) (f .result) (g .result) (g .ensures .0)
     (λ j l. ap (ltb (getD (now (a .marks)) j 0)) (sym (s .ensures)) ∙ f .ensures .1 j l)
@@ -26,9 +26,9 @@ returns-2 : tie.Need-returns-2
 returns-2 c =
     let a = c .before .before .before .before .before .args in
     let f = c .before .before .before .marks-below in
-    let s = c .before .before .before .before .wide in
+    let s = c .before .before .before .before .u64-of in
     let g = c .before .marks-below2 in
-    let e = c .before .before .wide2 in
+    let e = c .before .before .u64-of2 in
     no-instant (a .n) (now (a .marks)) (a .i) (f .result) (g .result) (g .ensures .0)
     (λ j l. ap (ltb (getD (now (a .marks)) j 0)) (sym (s .ensures)) ∙ f .ensures .1 j l)
     (λ j l. ap (λ (t : ℕ). ltb (getD (now (a .marks)) j 0) (t + 1)) (sym (e .ensures)) ∙ g .ensures .1 j l)

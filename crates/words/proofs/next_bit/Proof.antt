@@ -3,7 +3,7 @@ use borrow.Author.Needs.{needs}
 use native.Mathlib.Omega.{arith}
 use Prim.Native.Nat.{_/_, _^_}
 use lib.Count.{trailing-le}
-use Rattle.foundation.specs.Masks.{none-between}
+use Rattle.foundation.specs.BitMasks.{none-between}
 use Rattle.words.proofs.FieldLaws.{next-set}
 use Rattle.words.proofs.next_bit.Statement.{statement}
 use Rattle.words.proofs.next_bit.Tie as tie

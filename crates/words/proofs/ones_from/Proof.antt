@@ -5,7 +5,7 @@ use Prim.Native.Nat.{ℕ, _+_, _*_, _-_, _/_, _^_, _≤_}
 use native.Mathlib.Nat.{mul-le-mul-right, div-mul-le-self}
 use lib.Bits.{and-le-l}
 use lib.Pow.{shr-le}
-use Rattle.foundation.specs.Masks.{bit}
+use Rattle.foundation.specs.BitMasks.{bit}
 use Rattle.words.specs.Ones.{ones, ones-from}
 use Rattle.words.proofs.FieldLaws.{back-up}
 use Rattle.words.proofs.ones_from.Statement.{statement}

@@ -3,7 +3,7 @@ use native.Mathlib.Omega.{arith}
 use mathlib.Core.Path.{_≡_, ap₂, _∙_}
 use Prim.Native.Nat.{ℕ, _-_}
 use lib.Pow.{pow-mono}
-use Rattle.foundation.specs.Masks.{bit}
+use Rattle.foundation.specs.BitMasks.{bit}
 use Rattle.words.specs.Ones.{span-bit}
 use Rattle.words.proofs.FieldLaws.{bit-shifted}
 use Rattle.words.proofs.span_of.Statement.{statement}

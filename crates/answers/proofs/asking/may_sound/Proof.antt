@@ -10,8 +10,8 @@ use Rattle.model.specs.Ranges.{isInstant, lastInstant}
 use Rattle.model.specs.Encoding.{decode}
 use Rattle.model.specs.Step.{firstNumber}
 use Rattle.model.specs.Answers.{mayReply}
-use Rattle.answers.specs.Asking.{accessRows}
-use Rattle.answers.proofs.ByRows.{asked-in, may-refused, may-answered}
+use Rattle.answers.specs.AskingRows.{accessRows}
+use Rattle.answers.proofs.AnswersByRows.{asked-in, may-refused, may-answered}
 use Rattle.answers.proofs.asking.may_sound.Statement.{statement}
 use Rattle.answers.proofs.asking.may_sound.Tie as tie
 

@@ -11,8 +11,8 @@ use Rattle.model.specs.declared.Reply.the-variants.{Refused, Runs}
 use Rattle.model.specs.Rules.{when}
 use Rattle.model.specs.Answers.{answering, refusing}
 use Rattle.scan.specs.Listing.{listed-short, listed-all}
-use Rattle.answers.specs.Asking.{accessRows}
-use Rattle.answers.proofs.ByRows.{asked-in, when-refused, when-short, when-listed}
+use Rattle.answers.specs.AskingRows.{accessRows}
+use Rattle.answers.proofs.AnswersByRows.{asked-in, when-refused, when-short, when-listed}
 use Rattle.answers.proofs.asking.when_sound.Statement.{statement}
 use Rattle.answers.proofs.asking.when_sound.Tie as tie
 

@@ -5,9 +5,9 @@ use borrow.Author.Tests.{not-true, not-false}
 use Prim.Native.Nat.{_-_}
 use Rattle.encoding.specs.Format.{privilegesIn, rulesIn}
 use Rattle.model.specs.Encoding.{authorizationOf}
-use Rattle.bodies.specs.Parts.{authorizationTest}
+use Rattle.bodies.specs.BodyTests.{authorizationTest}
 use denote.Ref.{now}
-use Rattle.lookup.proofs.Loops.{AllFrom, all-starts, all-fails, all-passes, all-ends}
+use Rattle.lookup.proofs.RecordLoops.{AllFrom, all-starts, all-fails, all-passes, all-ends}
 use Rattle.bodies.proofs.each.authorizations_test_all.Statement.{statement}
 use Rattle.bodies.proofs.each.authorizations_test_all.Tie as tie
 

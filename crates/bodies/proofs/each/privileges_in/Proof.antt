@@ -7,7 +7,7 @@ use Prim.Native.Nat.{_-_}
 use Rattle.model.specs.Encoding.{privilegeOf}
 use Rattle.model.specs.Soundness.{privilegeIn}
 use denote.Ref.{now}
-use Rattle.lookup.proofs.Loops.{AllFrom, all-starts, all-fails, all-passes, all-ends}
+use Rattle.lookup.proofs.RecordLoops.{AllFrom, all-starts, all-fails, all-passes, all-ends}
 use Rattle.bodies.proofs.each.privileges_in.Statement.{statement}
 use Rattle.bodies.proofs.each.privileges_in.Tie as tie
 

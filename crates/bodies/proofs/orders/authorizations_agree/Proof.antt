@@ -3,10 +3,11 @@
 use borrow.Author.Needs.{needs}
 use borrow.Author.Tests.{not-true, not-false}
 use Prim.Native.Nat.{_-_}
-use Rattle.bodies.specs.Parts.{neighbours}
+use Rattle.bodies.specs.BodyTests.{neighbours}
 use denote.Ref.{now}
 use Rattle.model.specs.Encoding.{authorizationOf}
-use Rattle.lookup.proofs.Loops.{ChainedFrom, chained-starts, chained-fails, chained-passes, chained-ends}
+use Rattle.lookup.proofs.RecordLoops.{ChainedFrom, chained-starts, chained-fails, chained-passes}
+use Rattle.lookup.proofs.RecordLoops.{chained-ends}
 use Rattle.bodies.proofs.orders.authorizations_agree.Statement.{statement}
 use Rattle.bodies.proofs.orders.authorizations_agree.Tie as tie
 

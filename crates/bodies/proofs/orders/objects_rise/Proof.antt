@@ -8,7 +8,8 @@ use lib.Dec.{ltb}
 use Rattle.model.specs.declared.Privilege.{Privilege}
 use denote.Ref.{now}
 use Rattle.model.specs.Encoding.{privilegeOf}
-use Rattle.lookup.proofs.Loops.{ChainedFrom, chained-starts, chained-fails, chained-passes, chained-ends}
+use Rattle.lookup.proofs.RecordLoops.{ChainedFrom, chained-starts, chained-fails, chained-passes}
+use Rattle.lookup.proofs.RecordLoops.{chained-ends}
 use Rattle.bodies.proofs.orders.objects_rise.Statement.{statement}
 use Rattle.bodies.proofs.orders.objects_rise.Tie as tie
 

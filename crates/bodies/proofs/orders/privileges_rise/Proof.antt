@@ -7,7 +7,8 @@ use Prim.Native.Nat.{_-_}
 use Rattle.model.specs.Requests.{before}
 use denote.Ref.{now}
 use Rattle.model.specs.Encoding.{privilegeOf}
-use Rattle.lookup.proofs.Loops.{ChainedFrom, chained-starts, chained-fails, chained-passes, chained-ends}
+use Rattle.lookup.proofs.RecordLoops.{ChainedFrom, chained-starts, chained-fails, chained-passes}
+use Rattle.lookup.proofs.RecordLoops.{chained-ends}
 use Rattle.bodies.proofs.orders.privileges_rise.Statement.{statement}
 use Rattle.bodies.proofs.orders.privileges_rise.Tie as tie
 

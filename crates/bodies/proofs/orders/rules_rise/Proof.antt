@@ -8,7 +8,8 @@ use lib.Dec.{ltb}
 use Rattle.model.specs.declared.Rule.{Rule}
 use denote.Ref.{now}
 use Rattle.model.specs.Encoding.{ruleOf}
-use Rattle.lookup.proofs.Loops.{ChainedFrom, chained-starts, chained-fails, chained-passes, chained-ends}
+use Rattle.lookup.proofs.RecordLoops.{ChainedFrom, chained-starts, chained-fails, chained-passes}
+use Rattle.lookup.proofs.RecordLoops.{chained-ends}
 use Rattle.bodies.proofs.orders.rules_rise.Statement.{statement}
 use Rattle.bodies.proofs.orders.rules_rise.Tie as tie
 

@@ -16,7 +16,8 @@ use Rattle.marks.specs.Least.{NextMark}
 use Rattle.relevance.specs.Chosen.{picked, selected, marksFor, marks-for}
 use Rattle.relevance.specs.Ahead.{NearAt, Standing}
 use Rattle.relevance.specs.declared.ahead.Near.{Near}
-use Rattle.scan.specs.Runs.{Reached, start, fewer, onward}
+use Rattle.scan.specs.Runs.{ScannedTo, fewer}
+use Rattle.scan.proofs.RunFacts.{start, onward}
 use Rattle.direct.specs.Among.{heldAmong}
 use Rattle.direct.proofs.Choosing.{few, among-ahead, among-onward, among-few}
 use Rattle.direct.proofs.intervals.walk_among.Statement.{statement}
@@ -24,7 +25,7 @@ use Rattle.direct.proofs.intervals.walk_among.Tie as tie
 
 abbrev Inv-loop : tie.InvT-loop
 Inv-loop lines which n lent c w₀ t₀ near₀ list w t near =
-    (t ≤ 4294967296) × Reached (heldAmong (picked lines which n)) 4294967295 lent t w list
+    (t ≤ 4294967296) × ScannedTo (heldAmong (picked lines which n)) 4294967295 lent t w list
     × (length list ≡ length lent)
     × Standing (picked lines which n) (selected 0 (rulesIn 0 lines)) t near
 
@@ -127,7 +128,7 @@ returns c =
     let l = c .before .loop in
     let a = c .before .before .before .before .before .before .args in
     let e : l .t ≡ 4294967296 = omega (arith, l .inv .0, c .loop-test .left) in
-    subst (λ (t : ℕ). Reached (heldAmong (picked (now (a .lines)) (now (a .which)) (a .n))) 4294967295
+    subst (λ (t : ℕ). ScannedTo (heldAmong (picked (now (a .lines)) (now (a .which)) (a .n))) 4294967295
     (now (a .list)) t (l .w) (l .list)) e (l .inv .1)
 
 pub walk-among-spec : {M : Type 1} → statement M

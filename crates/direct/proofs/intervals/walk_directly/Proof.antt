@@ -7,7 +7,7 @@ use Prim.Native.Nat.{ℕ}
 use denote.Ref.{now}
 use Rattle.encoding.specs.Format.{authorizationsIn}
 use Rattle.relevance.specs.Needed.{choice-picks}
-use Rattle.scan.specs.Runs.{Reached}
+use Rattle.scan.specs.Runs.{ScannedTo}
 use Rattle.direct.specs.Among.{isFor}
 use Rattle.direct.proofs.Choosing.{chosen-held}
 use Rattle.direct.proofs.intervals.walk_directly.Statement.{statement}
@@ -29,7 +29,7 @@ returns c =
     let w = c .before .before in
     let k = w .before .before .before .before in
     let a = k .before .before .before .before .args in
-    subst (λ (f : ℕ → Bool). Reached f 4294967295 (now (a .list)) 4294967296 (w .walk-among .result)
+    subst (λ (f : ℕ → Bool). ScannedTo f 4294967295 (now (a .list)) 4294967296 (w .walk-among .result)
     (w .walk-among .last .1 .1 .1 .0))
     (chosen-held (a .x) (authorizationsIn (a .total) (now (a .lines))) _ (k .choose-for .ensures .chosen))
     (w .walk-among .ensures)

@@ -6,7 +6,7 @@ use denote.Ref.{now}
 use Rattle.encoding.specs.Format.{countsOf}
 use Rattle.edits.specs.Edits.{privilegesAt}
 use Rattle.edits.proofs.EditedBytes.{written-length}
-use Rattle.effects.proofs.Reading.{privileges-body, nth-there, nth-read}
+use Rattle.effects.proofs.BodiesRead.{privileges-body, nth-there, nth-read}
 use Rattle.effects.proofs.privileges.nth_privilege.Statement.{statement}
 use Rattle.effects.proofs.privileges.nth_privilege.Tie as tie
 

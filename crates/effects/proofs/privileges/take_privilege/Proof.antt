@@ -17,7 +17,7 @@ sub-i : tie.Need-sub-i
 sub-i c =
     let d = c .before .before .before in
     let ps = privilegesOf (d .args .k) (decode (now (d .args .s))) in
-    omega (arith, c .place-of .ensures, remove-place (d .args .p) ps (d .pre .1) (d .pre .2) .0)
+    omega (arith, c .privilege-index .ensures, remove-place (d .args .p) ps (d .pre .1) (d .pre .2) .0)
 
 remove-privilege-requires : tie.Need-remove-privilege-requires
 remove-privilege-requires c κs =
@@ -26,7 +26,7 @@ remove-privilege-requires c κs =
       d .pre .0,
       omega (
         arith,
-        c .before .place-of .ensures,
+        c .before .privilege-index .ensures,
         first-most (before (d .args .p)) ps,
         remove-place (d .args .p) ps (d .pre .1) (d .pre .2) .0,
       ),
@@ -40,7 +40,8 @@ returns c =
     let b = decode (now (d .args .s)) in
     let ps = privilegesOf (d .args .k) b in
     r .remove-privilege .ensures
-    ∙ ap (λ (n : ℕ). encode (withPrivileges (d .args .k) (removeAt (n - 1) ps) b)) (p .place-of .ensures)
+    ∙ ap (λ (n : ℕ). encode (withPrivileges (d .args .k) (removeAt (n - 1) ps) b))
+    (p .privilege-index .ensures)
     ∙ ap (λ (l : List Privilege). encode (withPrivileges (d .args .k) l b))
     (sym (remove-place (d .args .p) ps (d .pre .1) (d .pre .2) .1))
 

@@ -10,7 +10,7 @@ use Rattle.model.specs.Encoding.{decode}
 use Rattle.encoding.specs.declared.Counts.{Counts}
 use Rattle.encoding.proofs.FormatFacts.{decoded-lengths}
 use Rattle.edits.proofs.EditedBytes.{written-length}
-use Rattle.effects.specs.Effects.{dropsBy}
+use Rattle.effects.specs.EffectRecords.{dropsBy}
 use Rattle.effects.proofs.Dropping.{Dropped, dropped-holds, drop-starts, drop-ends, turn-reads}
 use Rattle.effects.proofs.Dropping.{turn-keeps, turn-drops}
 use Rattle.effects.proofs.rules.drop_rules.Statement.{statement}

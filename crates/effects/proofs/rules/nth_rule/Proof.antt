@@ -5,7 +5,7 @@ use native.Mathlib.Omega.{arith}
 use denote.Ref.{now}
 use Rattle.encoding.specs.Format.{countsOf, rulesAt}
 use Rattle.edits.proofs.EditedBytes.{written-length}
-use Rattle.effects.proofs.Reading.{rules-body, nth-there, nth-read}
+use Rattle.effects.proofs.BodiesRead.{rules-body, nth-there, nth-read}
 use Rattle.effects.proofs.rules.nth_rule.Statement.{statement}
 use Rattle.effects.proofs.rules.nth_rule.Tie as tie
 

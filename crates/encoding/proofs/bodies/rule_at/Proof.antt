@@ -6,7 +6,7 @@ use denote.Ref.{now}
 use Rattle.model.specs.Requests.{operatorOf}
 use Rattle.model.specs.Encoding.{bit, optionOf}
 use Rattle.fields.proofs.ByteLaws.{le-at}
-use Rattle.foundation.specs.Masks.{mask-test}
+use Rattle.foundation.specs.BitMasks.{mask-test}
 use Rattle.encoding.proofs.RecordFields.{byte-at, interval-at}
 use borrow.Author.Needs.{needs}
 use Rattle.encoding.proofs.bodies.rule_at.Statement.{statement}

@@ -1,5 +1,5 @@
 -- `has_option` meets its contract: a mask of one bit tests that bit.
-use Rattle.foundation.specs.Masks.{mask-test}
+use Rattle.foundation.specs.BitMasks.{mask-test}
 use Rattle.encoding.proofs.flags.has_option.Statement.{statement}
 use Rattle.encoding.proofs.flags.has_option.Tie as tie
 

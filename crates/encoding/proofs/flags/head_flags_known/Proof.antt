@@ -1,5 +1,5 @@
 -- `head_flags_known` meets its contract: the six high bits are clear exactly if the byte is below 4.
-use Rattle.foundation.specs.Masks.{high-clear}
+use Rattle.foundation.specs.BitMasks.{high-clear}
 use Rattle.encoding.proofs.flags.head_flags_known.Statement.{statement}
 use Rattle.encoding.proofs.flags.head_flags_known.Tie as tie
 

@@ -1,5 +1,5 @@
 -- `is_negative` meets its contract: a mask of one bit tests that bit.
-use Rattle.foundation.specs.Masks.{mask-test}
+use Rattle.foundation.specs.BitMasks.{mask-test}
 use Rattle.encoding.proofs.flags.is_negative.Statement.{statement}
 use Rattle.encoding.proofs.flags.is_negative.Tie as tie
 

@@ -3,7 +3,7 @@ use mathlib.Core.Path.{_≡_, sym, _∙_}
 use mathlib.Core.Bool.{false}
 use borrow.Author.Tests.{eq-eqb, ne-eqb}
 use Rattle.model.specs.Encoding.{bit}
-use Rattle.foundation.specs.Masks.{mask-test}
+use Rattle.foundation.specs.BitMasks.{mask-test}
 use Rattle.encoding.proofs.flags.option_of.Statement.{statement}
 use Rattle.encoding.proofs.flags.option_of.Tie as tie
 

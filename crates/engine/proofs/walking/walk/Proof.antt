@@ -7,7 +7,7 @@ use denote.Ref.{now}
 use lib.ListN.{length}
 use Rattle.model.specs.declared.Access.{Access}
 use Rattle.model.specs.Base.{Base}
-use Rattle.grounding.specs.Turns.{prepared}
+use Rattle.grounding.specs.RuleTurns.{prepared}
 use Rattle.engine.specs.Posed.{Walks}
 use Rattle.engine.specs.Going.{chartOf, Going}
 use Rattle.engine.proofs.Onward.{startOf, starts, finds}
@@ -34,8 +34,8 @@ loop-holds c =
     let a = c .before .before .before .before .before .before .before .before .before .before .args in
     (λ base x w. starts w (omega (arith, c .struct-known .given)) (now (a .list)), refl, refl, refl, refl)
 
-pass-requires : tie.Need-pass-requires Inv-loop μ-loop
-pass-requires c κs =
+pass-window-requires : tie.Need-pass-window-requires Inv-loop μ-loop
+pass-window-requires c κs =
     let l = c .before .before .before .before .before .before in
     let s = l .before .before .before .before .before .before .before .before .before .before .before in
     let a = s .args in (
@@ -49,7 +49,7 @@ loop-less c =
     let p = c .before .before .before .before .before .before .before .before in
     let l = p .before .before .before .before .before .before .before in
     let s = l .before .before .before .before .before .before .before .before .before .before .before in
-    let r = p .pass .ensures _ (l .loop .inv .0 (s .pre .0) (s .pre .1) (s .pre .2)) in
+    let r = p .pass-window .ensures _ (l .loop .inv .0 (s .pre .0) (s .pre .1) (s .pre .2)) in
     omega (arith, r .0, r .1 .high)
 
 loop-again : tie.Need-loop-again Inv-loop μ-loop
@@ -57,7 +57,7 @@ loop-again c =
     let p = c .before .before .before .before .before .before .before .before in
     let l = p .before .before .before .before .before .before .before in
     let v = l .loop .inv in (
-      λ base x w. p .pass .ensures _ (v .0 base x w) .1,
+      λ base x w. p .pass-window .ensures _ (v .0 base x w) .1,
       search needs,
       search needs,
       search needs,
@@ -83,6 +83,7 @@ returns c = λ base x w. finds (c .before .before .before .loop .inv .0 base x w
 pub walk-spec : {M : Type 1} → statement M
 walk-spec =
     tie.close
-    (tie.spec Inv-loop μ-loop (λ c. search needs) loop-holds (λ c. search needs) pass-requires loop-less
+    (tie.spec Inv-loop μ-loop (λ c. search needs) loop-holds (λ c. search needs) pass-window-requires
+    loop-less
     loop-again same-length
     same-length-2 same-length-3 same-length-4 returns)

@@ -7,12 +7,12 @@ use Prim.Native.Nat.{ℕ, _+_}
 use denote.Ref.{now}
 use lib.Bits.{and-le-l}
 use lib.ListN.{length}
-use Rattle.foundation.specs.Masks.{bit}
+use Rattle.foundation.specs.BitMasks.{bit}
 use Rattle.words.specs.Bits.{bit-less}
 use Rattle.words.specs.Fields.{fieldOf}
 use Rattle.places.specs.declared.Region.{Region}
 use Rattle.places.specs.Regions.{sizeOf, indexIn}
-use Rattle.tables.specs.Giving.{reaches}
+use Rattle.tables.specs.TableGiving.{reaches}
 use Rattle.engine.proofs.window.answers_in.Statement.{statement}
 use Rattle.engine.proofs.window.answers_in.Tie as tie
 

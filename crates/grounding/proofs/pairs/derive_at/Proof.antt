@@ -2,8 +2,8 @@
 use borrow.Author.Needs.{needs}
 use denote.Ref.{now}
 use Rattle.words.specs.Sums.{grown-none}
-use Rattle.tables.specs.Giving.{tablesOf, takes}
-use Rattle.tables.proofs.Giving.{given-zero}
+use Rattle.tables.specs.TableGiving.{tablesOf, tableTakes}
+use Rattle.tables.proofs.GivingSteps.{given-zero}
 use Rattle.grounding.proofs.pairs.derive_at.Statement.{statement}
 use Rattle.grounding.proofs.pairs.derive_at.Tie as tie
 
@@ -15,7 +15,8 @@ returns c =
         value = v .result;
         derived = v .ensures;
         given = given-zero (tablesOf (a .f) (now (a .right)) (now (a .first))) (a .f .width) (a .p .pair)
-            (a .p .point) (takes (a .t .sign) (a .t .takers)) (v .result) (now (a .words)) (c .if1 .taken);
+            (a .p .point) (tableTakes (a .t .sign) (a .t .takers)) (v .result) (now (a .words))
+            (c .if1 .taken);
       },
       grown-none (now (a .words)),
     )

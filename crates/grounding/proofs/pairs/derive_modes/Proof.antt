@@ -6,10 +6,10 @@ use mathlib.Core.Bool.{true}
 use Prim.Native.Nat.{_-_, _≤_, _<_}
 use denote.Ref.{now}
 use lib.ListN.{length}
-use Rattle.foundation.specs.Masks.{bit}
-use Rattle.words.specs.Sums.{Grown, grown-none, grown-both}
-use Rattle.grounding.specs.Steps.{Step}
-use Rattle.grounding.proofs.Rows.{row-length, ModesTo, modes-start, modes-turn, modes-end}
+use Rattle.foundation.specs.BitMasks.{bit}
+use Rattle.words.specs.Sums.{SumGrown, grown-none, grown-both}
+use Rattle.grounding.specs.RuleSteps.{Step}
+use Rattle.grounding.proofs.StepRows.{row-length, ModesTo, modes-start, modes-turn, modes-end}
 use Rattle.grounding.proofs.pairs.derive_modes.Statement.{statement}
 use Rattle.grounding.proofs.pairs.derive_modes.Tie as tie
 
@@ -17,7 +17,7 @@ abbrev Inv-loop : tie.InvT-loop
 Inv-loop t f number words₀ bits right first pair modes x fresh₀ m₀ words fresh m =
     (m ≤ 64) × (m < 64 → bit m modes ≡ true)
     × ModesTo (Step t f number bits right first) pair modes m words₀ words
-    × Grown fresh words₀ words
+    × SumGrown fresh words₀ words
 
 abbrev μ-loop : tie.MeasureT-loop
 μ-loop t f number words₀ bits right first pair modes x fresh₀ m₀ words fresh m = 64 - m

@@ -5,16 +5,16 @@ use mathlib.Core.Path.{_≡_}
 use Prim.Native.Nat.{_-_, _≤_}
 use denote.Ref.{now}
 use lib.ListN.{length}
-use Rattle.words.specs.Sums.{Grown, grown-none, grown-both}
-use Rattle.grounding.specs.Steps.{Step}
-use Rattle.grounding.proofs.Rows.{row-length, PairsTo, pairs-start, pairs-turn, pairs-end}
+use Rattle.words.specs.Sums.{SumGrown, grown-none, grown-both}
+use Rattle.grounding.specs.RuleSteps.{Step}
+use Rattle.grounding.proofs.StepRows.{row-length, PairsTo, pairs-start, pairs-turn, pairs-end}
 use Rattle.grounding.proofs.pairs.derive_pairs.Statement.{statement}
 use Rattle.grounding.proofs.pairs.derive_pairs.Tie as tie
 
 abbrev Inv-loop : tie.InvT-loop
 Inv-loop t f left need codes number words₀ bits right first from to g fresh₀ n₀ words fresh n =
     (from ≤ n) × PairsTo t f left need codes (Step t f number bits right first) from to n words₀ words
-    × Grown fresh words₀ words
+    × SumGrown fresh words₀ words
 
 abbrev μ-loop : tie.MeasureT-loop
 μ-loop t f left need codes number words₀ bits right first from to g fresh₀ n₀ words fresh n = to - n

@@ -6,9 +6,9 @@ use mathlib.Core.Bool.{true}
 use Prim.Native.Nat.{_-_, _≤_, _<_}
 use denote.Ref.{now}
 use lib.ListN.{length}
-use Rattle.foundation.specs.Masks.{bit}
-use Rattle.grounding.specs.Steps.{Mark}
-use Rattle.grounding.proofs.Rows.{row-length, ModesTo, modes-start, modes-turn, modes-end}
+use Rattle.foundation.specs.BitMasks.{bit}
+use Rattle.grounding.specs.RuleSteps.{Mark}
+use Rattle.grounding.proofs.StepRows.{row-length, ModesTo, modes-start, modes-turn, modes-end}
 use Rattle.grounding.proofs.pairs.mark_modes.Statement.{statement}
 use Rattle.grounding.proofs.pairs.mark_modes.Tie as tie
 
@@ -22,8 +22,8 @@ abbrev μ-loop : tie.MeasureT-loop
 loop-holds : tie.Need-loop-holds Inv-loop μ-loop
 loop-holds c = let e = c .next-bit .ensures in (e .1, e .3, modes-start (c .next-bit .result) (e .2))
 
-mark-at-requires : tie.Need-mark-at-requires Inv-loop μ-loop
-mark-at-requires c κs =
+mark-broken-at-requires : tie.Need-mark-broken-at-requires Inv-loop μ-loop
+mark-broken-at-requires c κs =
     let s = c .before .before .before .before .before .before .before .before in
     let l = c .before .before .loop in
     let e : length (l .bits) ≡ length (now (s .args .bits)) =
@@ -39,7 +39,7 @@ loop-again c =
       e .1,
       e .3,
       modes-turn (l .m) (c .next-bit2 .result) (l .inv .2) h (l .inv .1 h)
-          (c .before .before .before .mark-at .ensures) (e .2),
+          (c .before .before .before .mark-broken-at .ensures) (e .2),
     )
 
 same-length : tie.Need-same-length Inv-loop μ-loop
@@ -53,5 +53,5 @@ returns c =
 pub mark-modes-spec : {M : Type 1} → statement M
 mark-modes-spec =
     tie.close
-    (tie.spec Inv-loop μ-loop (λ c κs. search needs) loop-holds mark-at-requires (λ c. search needs)
+    (tie.spec Inv-loop μ-loop (λ c κs. search needs) loop-holds mark-broken-at-requires (λ c. search needs)
     (λ c κs. search needs) (λ c. search needs) loop-again same-length returns)

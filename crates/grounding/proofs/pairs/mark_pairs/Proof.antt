@@ -5,8 +5,8 @@ use mathlib.Core.Path.{_≡_}
 use Prim.Native.Nat.{_-_, _≤_}
 use denote.Ref.{now}
 use lib.ListN.{length}
-use Rattle.grounding.specs.Steps.{Mark}
-use Rattle.grounding.proofs.Rows.{row-length, PairsTo, pairs-start, pairs-turn, pairs-end}
+use Rattle.grounding.specs.RuleSteps.{Mark}
+use Rattle.grounding.proofs.StepRows.{row-length, PairsTo, pairs-start, pairs-turn, pairs-end}
 use Rattle.grounding.proofs.pairs.mark_pairs.Statement.{statement}
 use Rattle.grounding.proofs.pairs.mark_pairs.Tie as tie
 

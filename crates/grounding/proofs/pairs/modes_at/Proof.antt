@@ -4,7 +4,7 @@ use native.Mathlib.Omega.{arith}
 use mathlib.Core.Path.{ap, _∙_}
 use Prim.Native.Nat.{ℕ, _*_, _/_, _^_}
 use lib.Bits.{bitAnd, and-le-r}
-use Rattle.foundation.specs.Masks.{bit}
+use Rattle.foundation.specs.BitMasks.{bit}
 use Rattle.words.proofs.FieldLaws.{bit-shifted}
 use Rattle.grounding.proofs.Modes.{needed, all-modes, own-mode, no-mode}
 use Rattle.grounding.proofs.pairs.modes_at.Statement.{statement}

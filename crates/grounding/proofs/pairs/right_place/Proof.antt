@@ -5,7 +5,7 @@ use mathlib.Core.Path.{ap}
 use denote.Ref.{now}
 use lib.ListN.{getD}
 use Rattle.places.specs.declared.Point.{Point}
-use Rattle.grounding.specs.Steps.{pairIn}
+use Rattle.grounding.specs.RuleSteps.{pairIn}
 use Rattle.grounding.proofs.pairs.right_place.Statement.{statement}
 use Rattle.grounding.proofs.pairs.right_place.Tie as tie
 

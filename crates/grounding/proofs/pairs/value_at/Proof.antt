@@ -7,11 +7,11 @@ use denote.Ref.{now}
 use lib.Dec.{eqb}
 use lib.ListN.{length}
 use Rattle.foundation.specs.Tests.{and-true}
-use Rattle.questions.specs.Operators.{lasting}
+use Rattle.questions.specs.OperatorSteps.{lasting}
 use Rattle.words.specs.Fields.{fieldOf}
 use Rattle.tables.specs.declared.Place.{Place}
-use Rattle.evaluation.proofs.Rules.{broken-derived}
-use Rattle.grounding.specs.Steps.{forceAt, forceIn, brokenAt, brokenIn}
+use Rattle.evaluation.proofs.RuleWords.{broken-derived}
+use Rattle.grounding.specs.RuleSteps.{forceAt, forceIn, brokenAt, brokenIn}
 use Rattle.grounding.proofs.pairs.value_at.Statement.{statement}
 use Rattle.grounding.proofs.pairs.value_at.Tie as tie
 
@@ -32,8 +32,8 @@ right-place-requires c κs =
     let p = c .before .before .before .before .before .before .before .pre in
     (p .pair, omega (arith, p .pair, p .few))
 
-in-force-requires : tie.Need-in-force-requires
-in-force-requires c κs =
+instants-in-force-requires : tie.Need-instants-in-force-requires
+instants-in-force-requires c κs =
     let p = c .before .before .before .before .before .before .before .before .pre in
     rw (c .right-place .ensures) (p .looked, p .denials)
 
@@ -42,13 +42,15 @@ returns-2 c =
     let w = c .before in
     let d = w .before .before .before .before in
     let a = d .before .before .before .before .before .args in
-    let h : w .in-force .result ≡ forceIn (a .t) (a .f) (now (a .number)) (now (a .words)) (a .p .point) =
-    w .in-force .ensures
+    let h : w .instants-in-force .result ≡ forceIn (a .t) (a .f) (now (a .number)) (now (a .words))
+    (a .p .point) =
+    w .instants-in-force .ensures
     ∙ ap (λ (y : Place). forceAt (a .t) (a .f) (now (a .words)) y) (w .before .right-place .ensures) in
     rw (h, sym (w .before .before .before .if1 .left) ∙ d .is-broken .ensures) at (c .derive .ensures)
 
 pub value-at-spec : {M : Type 1} → statement M
 value-at-spec =
     tie.close
-    (tie.spec (λ c κs. search needs) returns right-place-requires in-force-requires (λ c κs. search needs)
+    (tie.spec (λ c κs. search needs) returns right-place-requires instants-in-force-requires
+    (λ c κs. search needs)
     returns-2)

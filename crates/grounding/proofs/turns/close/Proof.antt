@@ -9,12 +9,12 @@ use denote.Ref.{now}
 use lib.Bits.{or-lt}
 use lib.ListN.{length, getD, getD-replicate}
 use Rattle.foundation.specs.Tests.{and-true, and-intro, or-intro-left, or-true-right, or-cases}
-use Rattle.foundation.specs.Masks.{bit}
+use Rattle.foundation.specs.BitMasks.{bit}
 use Rattle.words.specs.Bits.{bit-or}
 use Rattle.reach.proofs.Growth.{none-set}
 use Rattle.masks.proofs.BitWalk.{bits-le}
-use Rattle.grounding.specs.Turns.{prepared, Rounds, none, then}
-use Rattle.grounding.proofs.Rounds.{others, among, measure, lighter, less-to-do}
+use Rattle.grounding.specs.RuleTurns.{prepared, Rounds, none, then}
+use Rattle.grounding.proofs.TurnRounds.{others, among, measure, lighter, less-to-do}
 use Rattle.grounding.proofs.turns.close.Statement.{statement}
 use Rattle.grounding.proofs.turns.close.Tie as tie
 

@@ -7,9 +7,9 @@ use Prim.Native.Nat.{ℕ}
 use denote.Ref.{now}
 use lib.ListN.{length}
 use Rattle.words.specs.Sums.{grown-none}
-use Rattle.grounding.specs.Steps.{Steps, Step, none, then}
+use Rattle.grounding.specs.RuleSteps.{Steps, Step, none, then}
 use Rattle.tables.specs.declared.Place.{Place}
-use Rattle.grounding.proofs.Rounds.{ready-as, ran-as}
+use Rattle.grounding.proofs.TurnRounds.{ready-as, ran-as}
 use Rattle.grounding.proofs.turns.derive_rule.Statement.{statement}
 use Rattle.grounding.proofs.turns.derive_rule.Tie as tie
 

@@ -6,10 +6,10 @@ use mathlib.Core.Bool.{true}
 use mathlib.Core.List.{List}
 use Prim.Native.Nat.{ℕ, _<_}
 use lib.ListN.{length}
-use Rattle.foundation.specs.Masks.{bit}
-use Rattle.masks.specs.Masks.{Ready}
-use Rattle.grounding.specs.Turns.{prepared, Turns, none, then}
-use Rattle.grounding.proofs.Rounds.{others, among}
+use Rattle.foundation.specs.BitMasks.{bit}
+use Rattle.masks.specs.RuleMasks.{RuleReady}
+use Rattle.grounding.specs.RuleTurns.{prepared, Turns, none, then}
+use Rattle.grounding.proofs.TurnRounds.{others, among}
 use Rattle.grounding.proofs.turns.derive_rules.Statement.{statement}
 use Rattle.grounding.proofs.turns.derive_rules.Tie as tie
 
@@ -20,7 +20,7 @@ Inv-loop body needed f left feed sides right need codes number first starts acti
     ((end : ℕ) (w : List ℕ) → Turns p active bits rest words end w → Turns p active bits needed old end w)
     × ((q : ℕ) → bit q rest ≡ true → bit q needed ≡ true)
     × (length words ≡ length old)
-    × Ready feed rest (at .rule)
+    × RuleReady feed rest (at .rule)
 
 abbrev μ-loop : tie.MeasureT-loop
 μ-loop _ _ _ _ _ _ _ _ _ _ _ _ _ _ _ _ _ _ rest _ = rest

@@ -12,10 +12,10 @@ use lib.Bits.{and-le-l}
 use lib.Dec.{eqb, leb}
 use lib.ListN.{length, getD}
 use Rattle.foundation.specs.Tests.{cases, eq-true, true-eq, true-le, false-le, and-true}
-use Rattle.foundation.specs.Masks.{bit}
+use Rattle.foundation.specs.BitMasks.{bit}
 use Rattle.reach.proofs.Growth.{none-set}
-use Rattle.grounding.specs.Turns.{prepared, Strata, none, then}
-use Rattle.grounding.proofs.Rounds.{passes, passed, less-other, less-in}
+use Rattle.grounding.specs.RuleTurns.{prepared, Strata, none, then}
+use Rattle.grounding.proofs.TurnRounds.{passes, passed, less-other, less-in}
 use Rattle.grounding.proofs.turns.derive_strata.Statement.{statement}
 use Rattle.grounding.proofs.turns.derive_strata.Tie as tie
 

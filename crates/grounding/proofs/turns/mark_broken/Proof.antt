@@ -8,9 +8,9 @@ use mathlib.Core.Logic.{⊎-elim}
 use Prim.Native.Nat.{ℕ, suc, _-_, _≤_, _<_}
 use denote.Ref.{now}
 use lib.ListN.{length}
-use Rattle.foundation.specs.Masks.{bit}
-use Rattle.grounding.specs.Turns.{prepared, Marked, none, then}
-use Rattle.grounding.proofs.Rounds.{marked-from}
+use Rattle.foundation.specs.BitMasks.{bit}
+use Rattle.grounding.specs.RuleTurns.{prepared, Marked, none, then}
+use Rattle.grounding.proofs.TurnRounds.{marked-from}
 use Rattle.grounding.proofs.turns.mark_broken.Statement.{statement}
 use Rattle.grounding.proofs.turns.mark_broken.Tie as tie
 

@@ -8,10 +8,10 @@ use denote.Ref.{now}
 use lib.ListN.{length}
 use Rattle.model.specs.declared.Rule.{Rule}
 use Rattle.encoding.specs.Format.{ruleAt}
-use Rattle.questions.specs.Operators.{lasting}
-use Rattle.grounding.specs.declared.Turn.{Turn}
-use Rattle.grounding.specs.Steps.{Mark}
-use Rattle.grounding.proofs.Rounds.{ready-as, ran-as}
+use Rattle.questions.specs.OperatorSteps.{lasting}
+use Rattle.grounding.specs.declared.RuleTurn.{RuleTurn}
+use Rattle.grounding.specs.RuleSteps.{Mark}
+use Rattle.grounding.proofs.TurnRounds.{ready-as, ran-as}
 use Rattle.grounding.proofs.turns.mark_rule.Statement.{statement}
 use Rattle.grounding.proofs.turns.mark_rule.Tie as tie
 
@@ -25,7 +25,7 @@ mark-pairs-requires c κs =
           (s .pre .0 .pairs),
       s .pre .1,
       s .pre .2,
-      ap (λ (t : Turn). lasting (t .operator)) (d .turn-of .ensures) ∙ s .pre .3,
+      ap (λ (t : RuleTurn). lasting (t .operator)) (d .turn-of .ensures) ∙ s .pre .3,
     )
 
 returns : tie.Need-returns

@@ -25,30 +25,31 @@ returns c = rw (eq-true (c .before .before .before .args .b .object) 255 (search
 mul-row : tie.Need-mul-row
 mul-row c = omega (arith, row-fits c)
 
-add-number-at : tie.Need-add-number-at
-add-number-at c = omega (arith, row-fits (c .before .before .before))
+add-pair-number-at : tie.Need-add-pair-number-at
+add-pair-number-at c = omega (arith, row-fits (c .before .before .before))
 
 returns-2 : tie.Need-returns-2
 returns-2 c =
     let a = c .before .before .before .before .before .before .before .before .before .args in
     rw (ne-false (a .b .object) 255 (search needs), eq-true (a .b .subject) 255 (search needs))
-    (ap₂ between (c .before .number-at .ensures) (c .number-at2 .ensures))
+    (ap₂ between (c .before .pair-number-at .ensures) (c .pair-number-at2 .ensures))
 
 add-j : tie.Need-add-j
 add-j c = omega (arith, row-fits (c .before .before .before))
 
-add-number-at-2 : tie.Need-add-number-at-2
-add-number-at-2 c = omega (arith, row-fits (c .before .before .before .before))
+add-pair-number-at-2 : tie.Need-add-pair-number-at-2
+add-pair-number-at-2 c = omega (arith, row-fits (c .before .before .before .before))
 
 returns-3 : tie.Need-returns-3
 returns-3 c =
     let a = c .before .before .before .before .before .before .before .before .before .before .args in
     rw (ne-false (a .b .object) 255 (search needs), ne-false (a .b .subject) 255 (search needs))
-    (ap₂ between (c .before .number-at3 .ensures) (c .number-at4 .ensures))
+    (ap₂ between (c .before .pair-number-at3 .ensures) (c .pair-number-at4 .ensures))
 
 pub range-of-spec : {M : Type 1} → statement M
 range-of-spec =
     tie.close
-    (tie.spec returns (λ c. search needs) (λ c. search needs) mul-row (λ c κs. search needs) add-number-at
-    (λ c κs. search needs) returns-2 (λ c. search needs) add-j (λ c κs. search needs) add-number-at-2
+    (tie.spec returns (λ c. search needs) (λ c. search needs) mul-row (λ c κs. search needs)
+    add-pair-number-at
+    (λ c κs. search needs) returns-2 (λ c. search needs) add-j (λ c κs. search needs) add-pair-number-at-2
     (λ c κs. search needs) returns-3)

@@ -10,7 +10,7 @@ use lib.Bits.{bitAnd}
 use Rattle.foundation.specs.Tests.{pick}
 use Rattle.model.specs.declared.Rule.{Rule}
 use Rattle.places.specs.Regions.{sizeOf}
-use Rattle.tables.specs.Layout.{regionAt, whole}
+use Rattle.tables.specs.TableLayout.{regionAt, wholeRegion}
 use Rattle.grounding.proofs.turns.turn_of.Statement.{statement}
 use Rattle.grounding.proofs.turns.turn_of.Tie as tie
 
@@ -29,9 +29,9 @@ returns c =
       denied = eqb (signs / 2) 1;
       first = (d .before .before .table-start .ensures
           ∙ ap (λ (x : Bool). pick x (getD (now (a .first)) (a .r) 0)
-          (pick (eqb (signs / 2) 1) (sizeOf (a .f .grid) whole) 0)) (b .has-bit .ensures)) k;
+          (pick (eqb (signs / 2) 1) (sizeOf (a .f .grid) wholeRegion) 0)) (b .has-bit .ensures)) k;
       table = (d .before .table-region .ensures
-          ∙ ap (λ (x : Bool). pick x (regionAt (now (a .right)) (a .r)) whole) (b .has-bit .ensures)) k;
+          ∙ ap (λ (x : Bool). pick x (regionAt (now (a .right)) (a .r)) wholeRegion) (b .has-bit .ensures)) k;
       left = d .region-at2 .ensures k;
       sign = signs % 2;
       bits = getD (now (a .starts)) (a .r) 0;

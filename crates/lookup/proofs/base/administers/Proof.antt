@@ -7,7 +7,7 @@ use Rattle.model.specs.Base.{listed}
 use Rattle.model.specs.Encoding.{decode}
 use Rattle.model.specs.EncodingFacts.{sound-length}
 use Rattle.encoding.specs.Format.{administratorsAt}
-use Rattle.lookup.proofs.Narrowed.{listed-narrowed}
+use Rattle.lookup.proofs.NarrowedFacts.{listed-narrowed}
 use Rattle.lookup.proofs.SoundBodies.{administrators-in, fitting, there, administrators-lent}
 use Rattle.lookup.proofs.base.administers.Statement.{statement}
 use Rattle.lookup.proofs.base.administers.Tie as tie

@@ -5,8 +5,8 @@ use native.Mathlib.Omega.{arith}
 use denote.Ref.{now}
 use Rattle.model.specs.Encoding.{decode}
 use Rattle.model.specs.EncodingFacts.{sound-length}
-use Rattle.lookup.specs.Numbers.{existsIn}
-use Rattle.lookup.proofs.Narrowed.{exists-narrowed}
+use Rattle.lookup.specs.NarrowedNumbers.{existsIn}
+use Rattle.lookup.proofs.NarrowedFacts.{exists-narrowed}
 use Rattle.lookup.proofs.SoundBodies.{objects-in, fitting, there, objects-lent}
 use Rattle.lookup.proofs.base.exists.Statement.{statement}
 use Rattle.lookup.proofs.base.exists.Tie as tie

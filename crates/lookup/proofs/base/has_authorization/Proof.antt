@@ -7,8 +7,8 @@ use Rattle.foundation.specs.Lists.{anyb}
 use Rattle.model.specs.Encoding.{decode}
 use Rattle.model.specs.EncodingFacts.{sound-length}
 use Rattle.encoding.specs.Format.{authorizationsAt}
-use Rattle.lookup.specs.Numbers.{hasLabel}
-use Rattle.lookup.proofs.Narrowed.{label-narrowed}
+use Rattle.lookup.specs.NarrowedNumbers.{hasLabel}
+use Rattle.lookup.proofs.NarrowedFacts.{label-narrowed}
 use Rattle.lookup.proofs.SoundBodies.{authorizations-in, fitting, there, authorizations-lent}
 use Rattle.lookup.proofs.base.has_authorization.Statement.{statement}
 use Rattle.lookup.proofs.base.has_authorization.Tie as tie

@@ -7,8 +7,8 @@ use Rattle.foundation.specs.Lists.{anyb}
 use Rattle.model.specs.Encoding.{decode}
 use Rattle.model.specs.EncodingFacts.{sound-length}
 use Rattle.encoding.specs.Format.{rulesAt}
-use Rattle.lookup.specs.Numbers.{labelled}
-use Rattle.lookup.proofs.Narrowed.{rule-narrowed}
+use Rattle.lookup.specs.NarrowedNumbers.{labelled}
+use Rattle.lookup.proofs.NarrowedFacts.{rule-narrowed}
 use Rattle.lookup.proofs.SoundBodies.{rules-in, fitting, there, rules-lent}
 use Rattle.lookup.proofs.base.has_rule.Statement.{statement}
 use Rattle.lookup.proofs.base.has_rule.Tie as tie

@@ -7,8 +7,8 @@ use Rattle.foundation.specs.Lists.{anyb}
 use Rattle.model.specs.Encoding.{decode}
 use Rattle.model.specs.EncodingFacts.{sound-length}
 use Rattle.encoding.specs.Format.{authorizationsAt}
-use Rattle.lookup.specs.Numbers.{ofOther}
-use Rattle.lookup.proofs.Narrowed.{other-narrowed}
+use Rattle.lookup.specs.NarrowedNumbers.{ofOther}
+use Rattle.lookup.proofs.NarrowedFacts.{other-narrowed}
 use Rattle.lookup.proofs.SoundBodies.{authorizations-in, fitting, there, authorizations-lent}
 use Rattle.lookup.proofs.base.is_granted_by_other.Statement.{statement}
 use Rattle.lookup.proofs.base.is_granted_by_other.Tie as tie

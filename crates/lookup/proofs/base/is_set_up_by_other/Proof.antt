@@ -7,8 +7,8 @@ use Rattle.foundation.specs.Lists.{anyb}
 use Rattle.model.specs.Encoding.{decode}
 use Rattle.model.specs.EncodingFacts.{sound-length}
 use Rattle.encoding.specs.Format.{rulesAt}
-use Rattle.lookup.specs.Numbers.{ofOtherAuthor}
-use Rattle.lookup.proofs.Narrowed.{author-narrowed}
+use Rattle.lookup.specs.NarrowedNumbers.{ofOtherAuthor}
+use Rattle.lookup.proofs.NarrowedFacts.{author-narrowed}
 use Rattle.lookup.proofs.SoundBodies.{rules-in, fitting, there, rules-lent}
 use Rattle.lookup.proofs.base.is_set_up_by_other.Statement.{statement}
 use Rattle.lookup.proofs.base.is_set_up_by_other.Tie as tie

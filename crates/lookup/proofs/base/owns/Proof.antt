@@ -6,7 +6,7 @@ use denote.Ref.{now}
 use Rattle.model.specs.Base.{listed}
 use Rattle.model.specs.Encoding.{decode}
 use Rattle.model.specs.EncodingFacts.{sound-length}
-use Rattle.lookup.proofs.Narrowed.{listed-narrowed}
+use Rattle.lookup.proofs.NarrowedFacts.{listed-narrowed}
 use Rattle.lookup.proofs.SoundBodies.{objects-in, fitting, there, objects-lent}
 use Rattle.lookup.proofs.base.owns.Statement.{statement}
 use Rattle.lookup.proofs.base.owns.Tie as tie

@@ -7,7 +7,7 @@ use Rattle.model.specs.Base.{listed}
 use Rattle.model.specs.Encoding.{decode}
 use Rattle.model.specs.EncodingFacts.{sound-length}
 use Rattle.encoding.specs.Format.{referrersAt}
-use Rattle.lookup.proofs.Narrowed.{listed-narrowed}
+use Rattle.lookup.proofs.NarrowedFacts.{listed-narrowed}
 use Rattle.lookup.proofs.SoundBodies.{referrers-in, fitting, there, referrers-lent}
 use Rattle.lookup.proofs.base.refers.Statement.{statement}
 use Rattle.lookup.proofs.base.refers.Tie as tie

@@ -4,8 +4,8 @@ use borrow.Author.Needs.{needs}
 use Prim.Native.Nat.{_-_}
 use Rattle.model.specs.Encoding.{ruleOf}
 use denote.Ref.{now}
-use Rattle.lookup.specs.Numbers.{labelled}
-use Rattle.lookup.proofs.Loops.{AnyFrom, any-starts, any-fails, any-passes, any-ends}
+use Rattle.lookup.specs.NarrowedNumbers.{labelled}
+use Rattle.lookup.proofs.RecordLoops.{AnyFrom, any-starts, any-fails, any-passes, any-ends}
 use Rattle.lookup.proofs.bodies.has_label.Statement.{statement}
 use Rattle.lookup.proofs.bodies.has_label.Tie as tie
 

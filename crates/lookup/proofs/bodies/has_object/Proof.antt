@@ -7,7 +7,7 @@ use lib.Dec.{eqb}
 use Rattle.model.specs.declared.Privilege.{Privilege}
 use Rattle.model.specs.Encoding.{privilegeOf}
 use denote.Ref.{now}
-use Rattle.lookup.proofs.Loops.{AnyFrom, any-starts, any-fails, any-passes, any-ends}
+use Rattle.lookup.proofs.RecordLoops.{AnyFrom, any-starts, any-fails, any-passes, any-ends}
 use Rattle.lookup.proofs.bodies.has_object.Statement.{statement}
 use Rattle.lookup.proofs.bodies.has_object.Tie as tie
 

@@ -5,7 +5,7 @@ use Prim.Native.Nat.{_-_}
 use Rattle.model.specs.Encoding.{privilegeOf}
 use denote.Ref.{now}
 use Rattle.model.specs.Base.{isPrivilege}
-use Rattle.lookup.proofs.Loops.{AnyFrom, any-starts, any-fails, any-passes, any-ends}
+use Rattle.lookup.proofs.RecordLoops.{AnyFrom, any-starts, any-fails, any-passes, any-ends}
 use Rattle.lookup.proofs.bodies.is_listed.Statement.{statement}
 use Rattle.lookup.proofs.bodies.is_listed.Tie as tie
 

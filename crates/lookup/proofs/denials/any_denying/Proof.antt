@@ -5,7 +5,7 @@ use Prim.Native.Nat.{_-_}
 use Rattle.model.specs.Encoding.{authorizationOf}
 use denote.Ref.{now}
 use Rattle.model.specs.Step.{bars}
-use Rattle.lookup.proofs.Loops.{AnyFrom, any-starts, any-fails, any-passes, any-ends}
+use Rattle.lookup.proofs.RecordLoops.{AnyFrom, any-starts, any-fails, any-passes, any-ends}
 use Rattle.lookup.proofs.denials.any_denying.Statement.{statement}
 use Rattle.lookup.proofs.denials.any_denying.Tie as tie
 

@@ -6,15 +6,15 @@ use mathlib.Core.Bool.{Bool, true, false, _&&_, _||_}
 use Prim.Native.Nat.{ℕ, _*_, _%_, _^_, _≤_, _<_, _-_}
 use denote.Ref.{now}
 use lib.Dec.{eqb, ltb}
-use Rattle.foundation.specs.Masks.{bit}
+use Rattle.foundation.specs.BitMasks.{bit}
 use Rattle.foundation.specs.Tests.{true-eq}
 use Rattle.words.specs.Bits.{bit-or}
 use Rattle.model.specs.declared.Rule.{Rule}
 use Rattle.model.specs.Base.{controls}
 use Rattle.model.specs.Encoding.{decode}
-use Rattle.outlines.specs.Masks.{controlledBy}
+use Rattle.outlines.specs.LeftMasks.{controlledBy}
 use Rattle.words.proofs.FieldLaws.{bit-shifted}
-use Rattle.masks.proofs.Bits.{no-bit, one-bit}
+use Rattle.masks.proofs.SingleBits.{no-bit, one-bit}
 use Rattle.masks.proofs.BitWalk.{pass-start, pass-turn, pass-end, take-one, leave-one}
 use Rattle.outlines.proofs.controlled.by_control.Statement.{statement}
 use Rattle.outlines.proofs.controlled.by_control.Tie as tie

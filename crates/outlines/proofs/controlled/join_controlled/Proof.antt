@@ -6,7 +6,7 @@ use Prim.Native.Nat.{ℕ}
 use denote.Ref.{now}
 use lib.Dec.{eqb}
 use lib.ListN.{getD}
-use Rattle.foundation.specs.Masks.{bit}
+use Rattle.foundation.specs.BitMasks.{bit}
 use Rattle.foundation.specs.Tests.{ne-false}
 use Rattle.outlines.proofs.Controlling.{stored-word, no-word}
 use Rattle.outlines.proofs.controlled.join_controlled.Statement.{statement}

@@ -26,7 +26,7 @@ join-controlled-requires c κs =
       b .pre .1,
       b .pre .3,
       omega arith,
-      omega (arith, c .before .wide .ensures .0, b .pre .2 .below (l .v)),
+      omega (arith, c .before .usize-of .ensures .0, b .pre .2 .below (l .v)),
     )
 
 loop-again : tie.Need-loop-again Inv-loop μ-loop
@@ -35,7 +35,7 @@ loop-again c =
     let l = c .before .before .before .before .before .loop in
     let j = c .join-controlled .ensures in (
       search needs,
-      upto-turn (b .pre .2) (l .inv .1) (rw (c .before .before .wide .ensures .0) at (j .0)) (j .1),
+      upto-turn (b .pre .2) (l .inv .1) (rw (c .before .before .usize-of .ensures .0) at (j .0)) (j .1),
     )
 
 returns : tie.Need-returns Inv-loop μ-loop

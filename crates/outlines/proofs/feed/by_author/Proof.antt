@@ -6,12 +6,12 @@ use mathlib.Core.Bool.{Bool, true, _&&_, _||_}
 use Prim.Native.Nat.{ℕ, _*_, _%_, _^_, _≤_, _<_, _-_}
 use denote.Ref.{now}
 use lib.Dec.{eqb, ltb}
-use Rattle.foundation.specs.Masks.{bit}
+use Rattle.foundation.specs.BitMasks.{bit}
 use Rattle.encoding.specs.Format.{ruleAt}
 use Rattle.words.specs.Bits.{bit-or}
 use Rattle.foundation.specs.Tests.{true-eq, eq-true, ne-false}
 use Rattle.words.proofs.FieldLaws.{bit-shifted}
-use Rattle.masks.proofs.Bits.{no-bit, one-bit}
+use Rattle.masks.proofs.SingleBits.{no-bit, one-bit}
 use Rattle.masks.proofs.BitWalk.{pass-start, pass-turn, pass-end, take-one, leave-one}
 use Rattle.model.specs.declared.Rule.{Rule}
 use Rattle.outlines.proofs.feed.by_author.Statement.{statement}

@@ -1,7 +1,7 @@
 use borrow.Author.Needs.{needs}
 use native.Mathlib.Omega.{arith}
 use mathlib.Core.Path.{_≡_, refl}
-use Rattle.foundation.specs.Masks.{bit}
+use Rattle.foundation.specs.BitMasks.{bit}
 use Rattle.foundation.specs.Tests.{eq-true, ne-false}
 use Rattle.masks.proofs.BitWalk.{and-last}
 use Rattle.outlines.proofs.feed.by_grantor.Statement.{statement}

@@ -4,7 +4,7 @@ use mathlib.Core.Path.{_≡_, refl, ap, _∙_}
 use mathlib.Core.Bool.{false}
 use Prim.Native.Nat.{_≤_}
 use denote.Ref.{now}
-use Rattle.foundation.specs.Masks.{Built, build-start, build-room, build-turn, build-end}
+use Rattle.foundation.specs.BitMasks.{Built, build-start, build-room, build-turn, build-end}
 use Rattle.model.specs.Encoding.{ruleOf}
 use Rattle.outlines.specs.Feed.{isChoosy}
 use Rattle.outlines.proofs.feed.choosy_of.Statement.{statement}

@@ -6,9 +6,9 @@ use Prim.Native.Nat.{ℕ, _+_, _≤_, _<_, _-_}
 use denote.Ref.{now}
 use lib.Dec.{eqb, ltb}
 use lib.ListN.{getD}
-use Rattle.foundation.specs.Masks.{bit}
+use Rattle.foundation.specs.BitMasks.{bit}
 use Rattle.foundation.specs.Tests.{true-eq}
-use Rattle.masks.proofs.Bits.{no-bit}
+use Rattle.masks.proofs.SingleBits.{no-bit}
 use Rattle.masks.proofs.BitWalk.{pass-start, pass-turn, pass-end, bring-one}
 use Rattle.outlines.proofs.feed.draw_fed.Statement.{statement}
 use Rattle.outlines.proofs.feed.draw_fed.Tie as tie

@@ -5,10 +5,10 @@ use Prim.Native.Nat.{ℕ, suc, _+_}
 use denote.Ref.{now}
 use lib.Bits.{bitOr}
 use Rattle.foundation.specs.Tests.{le-true, le-false}
-use Rattle.foundation.specs.Masks.{bit}
+use Rattle.foundation.specs.BitMasks.{bit}
 use Rattle.model.specs.Stratification.{feeds}
 use Rattle.encoding.specs.Format.{ruleAt}
-use Rattle.outlines.specs.Standing.{rule-bit}
+use Rattle.outlines.specs.StandingRules.{rule-bit}
 use Rattle.outlines.specs.Feed.{linkersWord}
 use Rattle.outlines.proofs.Feeding.{right-placed, preceders-same}
 use Rattle.outlines.proofs.feed.draw_feed.Statement.{statement}

@@ -7,13 +7,13 @@ use lib.Dec.{eqb}
 use lib.ListN.{getD}
 use Rattle.foundation.specs.Tests.{cases, true-eq, false-eq, ne-false}
 use Rattle.encoding.specs.Format.{rulesIn, ruleAt}
-use Rattle.rules.specs.Strata.{feedersOf, Holds}
+use Rattle.rules.specs.RankTables.{feedersOf, RuleTable}
 use Rattle.outlines.proofs.feed.draw_feeders.Statement.{statement}
 use Rattle.outlines.proofs.feed.draw_feeders.Tie as tie
 
 abbrev Inv-loop : tie.InvT-loop
 Inv-loop body n left right sides feed₀ i₀ feed i =
-    (i ≤ n) × Holds i body (feedersOf (rulesIn n body)) feed
+    (i ≤ n) × RuleTable i body (feedersOf (rulesIn n body)) feed
     × ((k : ℕ) → i ≤ k → getD feed k 0 ≡ getD feed₀ k 0)
 
 abbrev μ-loop : tie.MeasureT-loop

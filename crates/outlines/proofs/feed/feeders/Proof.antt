@@ -3,21 +3,21 @@ use native.Mathlib.Omega.{arith}
 use mathlib.Core.Path.{_≡_, refl, ap, _∙_}
 use Prim.Native.Nat.{ℕ, _/_}
 use denote.Ref.{now}
-use Rattle.foundation.specs.Masks.{bit-le}
+use Rattle.foundation.specs.BitMasks.{bit-le}
 use Rattle.encoding.specs.Format.{ruleAt}
 use Rattle.outlines.specs.Feed.{meetingWord}
 use Rattle.outlines.proofs.Feeding.{sign-bit, right-placed, meeting-inside, feeders-same}
 use Rattle.outlines.proofs.feed.feeders.Statement.{statement}
 use Rattle.outlines.proofs.feed.feeders.Tie as tie
 
-mul-wide : tie.Need-mul-wide
-mul-wide c = omega (arith, c .before .pre .1 .well-formed .few)
+mul-usize-of : tie.Need-mul-usize-of
+mul-usize-of c = omega (arith, c .before .pre .1 .well-formed .few)
 
-add-wide : tie.Need-add-wide
-add-wide c = omega (arith, c .before .pre .1 .well-formed .few)
+add-usize-of : tie.Need-add-usize-of
+add-usize-of c = omega (arith, c .before .pre .1 .well-formed .few)
 
-element-copy-out-wide : tie.Need-element-copy-out-wide
-element-copy-out-wide c = omega (arith, c .before .pre .1 .well-formed .few)
+element-copy-out-usize-of : tie.Need-element-copy-out-usize-of
+element-copy-out-usize-of c = omega (arith, c .before .pre .1 .well-formed .few)
 
 meeting-requires : tie.Need-meeting-requires
 meeting-requires c κs =
@@ -27,7 +27,7 @@ meeting-requires c κs =
     let i = b .args .i in
     let s = bit-le (ruleAt (now (b .args .body)) i .right .negative) in (
       omega (arith, o .well-formed .few),
-      omega (arith, s, sign-bit o i h, c .wide .ensures .0),
+      omega (arith, s, sign-bit o i h, c .usize-of .ensures .0),
       right-placed o i h,
     )
 
@@ -44,7 +44,7 @@ narrowed-requires c κs =
       b .pre .1 .well-formed .there,
       meeting-inside (b .pre .1) (a .i) (b .pre .0) _ (c .before .meeting .ensures
           ∙ ap (λ (k : ℕ). meetingWord (now (a .left)) (now (a .right)) (a .i) (k / 2))
-          (c .before .before .wide .ensures .0)),
+          (c .before .before .usize-of .ensures .0)),
     )
 
 returns : tie.Need-returns
@@ -55,11 +55,12 @@ returns c =
     (c .narrowed .result)
     (c .before .before .meeting .ensures
     ∙ ap (λ (k : ℕ). meetingWord (now (a .left)) (now (a .right)) (a .i) (k / 2))
-    (c .before .before .before .wide .ensures .0))
+    (c .before .before .before .usize-of .ensures .0))
     (λ q. rw (c .before .rule-at .ensures) at (c .narrowed .ensures q))
 
 pub feeders-spec : {M : Type 1} → statement M
 feeders-spec =
     tie.close
-    (tie.spec mul-wide add-wide element-copy-out-wide (λ c κs. search needs) meeting-requires mul-rule-at
+    (tie.spec mul-usize-of add-usize-of element-copy-out-usize-of (λ c κs. search needs) meeting-requires
+    mul-rule-at
     rule-at-requires narrowed-requires returns)

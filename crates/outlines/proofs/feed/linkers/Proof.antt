@@ -13,7 +13,7 @@ unfolding linkersWord
 returns c =
     let a = c .before .before .before .before .args in
     let s : getD (now (a .sides)) (4 * a .i + 3) 0 / 2 ≡ 0 =
-    ap (λ (k : ℕ). k / 2) (sym (c .before .before .wide .ensures .0)) ∙ c .before .if1 .taken in
+    ap (λ (k : ℕ). k / 2) (sym (c .before .before .usize-of .ensures .0)) ∙ c .before .if1 .taken in
     rw (eq-true (getD (now (a .sides)) (4 * a .i + 3) 0 / 2) 0 s) (c .meeting .ensures)
 
 returns-2 : tie.Need-returns-2
@@ -21,7 +21,7 @@ unfolding linkersWord
 returns-2 c =
     let a = c .before .before .before .args in
     rw (ne-false (getD (now (a .sides)) (4 * a .i + 3) 0 / 2) 0
-    (λ z. c .if1 .left (ap (λ (k : ℕ). k / 2) (c .before .wide .ensures .0) ∙ z)))
+    (λ z. c .if1 .left (ap (λ (k : ℕ). k / 2) (c .before .usize-of .ensures .0) ∙ z)))
 
 pub linkers-spec : {M : Type 1} → statement M
 linkers-spec =

@@ -16,25 +16,25 @@ mul-meet-subject : tie.Need-mul-meet-subject
 mul-meet-subject c =
     let b = c .before .before .before in
     let e = c .right-mode-word .ensures
-    ∙ ap (λ (m : ℕ). rightModeWord m (b .args .sign)) (c .before .wide .ensures .0) in
+    ∙ ap (λ (m : ℕ). rightModeWord m (b .args .sign)) (c .before .usize-of .ensures .0) in
     omega (arith, depends-below (now (b .args .right)) (b .args .i) (b .pre .2) (b .args .sign) (b .pre .1))
 
 element-copy-out-meet-subject : tie.Need-element-copy-out-meet-subject
 element-copy-out-meet-subject c =
     let b = c .before .before .before in
     let e = c .right-mode-word .ensures
-    ∙ ap (λ (m : ℕ). rightModeWord m (b .args .sign)) (c .before .wide .ensures .0) in
+    ∙ ap (λ (m : ℕ). rightModeWord m (b .args .sign)) (c .before .usize-of .ensures .0) in
     omega (arith, depends-below (now (b .args .right)) (b .args .i) (b .pre .2) (b .args .sign) (b .pre .1))
 
 meet-subject-requires : tie.Need-meet-subject-requires
 meet-subject-requires c κs =
     let p = c .before .before .before .before .before .before .pre .2 .subject in
-    rw (c .wide2 .ensures .0) p
+    rw (c .usize-of2 .ensures .0) p
 
 meet-object-requires : tie.Need-meet-object-requires
 meet-object-requires c κs =
     let p = c .before .before .before .before .before .before .before .before .before .pre .2 .object in
-    rw (c .wide3 .ensures .0) p
+    rw (c .usize-of3 .ensures .0) p
 
 returns : tie.Need-returns
 unfolding meetingWord
@@ -42,14 +42,15 @@ returns c =
     let a = c .before .before .before .before .before .before .before .before .before .before .args in
     let l = now (a .left) in
     let k = c .before .before .before .before .before .before .before in
-    let e = k .right-mode-word .ensures ∙ ap (λ (m : ℕ). rightModeWord m (a .sign)) (k .before .wide .ensures
+    let e = k .right-mode-word .ensures ∙ ap (λ (m : ℕ). rightModeWord m (a .sign))
+    (k .before .usize-of .ensures
     .0) in
     let f = c .before .before .before .meet-subject .ensures
     ∙ ap₂ (λ (w s : ℕ). pick (eqb s 255) (getD l w 0) (bitAnd (getD l w 0) (getD l (65 + s) 0))) e
-    (c .before .before .before .before .wide2 .ensures .0) in
+    (c .before .before .before .before .usize-of2 .ensures .0) in
     c .meet-object .ensures
     ∙ ap₂ (λ (w o : ℕ). pick (eqb o 255) w (bitAnd w (bitOr (getD l 151 0) (getD l o 0)))) f
-    (c .before .wide3 .ensures .0)
+    (c .before .usize-of3 .ensures .0)
 
 pub meeting-spec : {M : Type 1} → statement M
 meeting-spec =

@@ -3,12 +3,12 @@ use native.Mathlib.Omega.{arith}
 use mathlib.Core.Path.{_≡_, refl, sym, _∙_}
 use mathlib.Core.Bool.{_&&_}
 use denote.Ref.{now}
-use Rattle.foundation.specs.Masks.{bit}
+use Rattle.foundation.specs.BitMasks.{bit}
 use Rattle.foundation.specs.Tests.{and-false}
 use Rattle.model.specs.declared.OptionTerm.the-variants.{With, Without, Either}
 use Rattle.model.specs.Rules.{fitsGrantor}
 use Rattle.encoding.specs.Format.{ruleAt}
-use Rattle.masks.proofs.Bits.{no-bit}
+use Rattle.masks.proofs.SingleBits.{no-bit}
 use Rattle.masks.proofs.BitWalk.{and-last}
 use Rattle.outlines.proofs.feed.narrowed.Statement.{statement}
 use Rattle.outlines.proofs.feed.narrowed.Tie as tie

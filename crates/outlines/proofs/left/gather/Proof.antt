@@ -6,8 +6,8 @@ use Prim.Native.Nat.{ℕ, _≤_, _-_}
 use denote.Ref.{now}
 use lib.Dec.{eqb, ltb}
 use lib.ListN.{getD}
-use Rattle.foundation.specs.Masks.{bit}
-use Rattle.outlines.specs.Masks.{inWord}
+use Rattle.foundation.specs.BitMasks.{bit}
+use Rattle.outlines.specs.LeftMasks.{inWord}
 use Rattle.outlines.proofs.MaskWords.{gather-start, gather-turn}
 use Rattle.outlines.proofs.left.gather.Statement.{statement}
 use Rattle.outlines.proofs.left.gather.Tie as tie

@@ -5,12 +5,12 @@ use mathlib.Core.Bool.{Bool, false}
 use Prim.Native.Nat.{ℕ, _≤_}
 use denote.Ref.{now}
 use Rattle.foundation.specs.Tests.{ne-false}
-use Rattle.foundation.specs.Masks.{Built, build-start, build-room, build-turn, build-end}
+use Rattle.foundation.specs.BitMasks.{Built, build-start, build-room, build-turn, build-end}
 use mathlib.Core.List.{List}
 use Rattle.model.specs.declared.Rule.{Rule}
 use Rattle.model.specs.Encoding.{ruleOf, decode}
 use Rattle.model.specs.Rules.{standsOn}
-use Rattle.outlines.specs.Masks.{onSubject}
+use Rattle.outlines.specs.LeftMasks.{onSubject}
 use Rattle.outlines.proofs.left.own_masks.Statement.{statement}
 use Rattle.outlines.proofs.left.own_masks.Tie as tie
 

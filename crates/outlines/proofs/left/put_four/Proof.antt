@@ -6,7 +6,7 @@ use Prim.Native.Nat.{ℕ}
 use denote.Ref.{now}
 use lib.Dec.{eqb}
 use lib.ListN.{getD}
-use Rattle.foundation.specs.Masks.{bit}
+use Rattle.foundation.specs.BitMasks.{bit}
 use Rattle.outlines.proofs.MaskWords.{four-joined}
 use Rattle.outlines.proofs.left.put_four.Statement.{statement}
 use Rattle.outlines.proofs.left.put_four.Tie as tie

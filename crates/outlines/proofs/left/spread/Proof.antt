@@ -7,7 +7,7 @@ use Prim.Native.Nat.{ℕ, _≤_, _<_, _-_}
 use denote.Ref.{now}
 use lib.Dec.{eqb, leb, ltb}
 use lib.ListN.{length, getD, length-set}
-use Rattle.foundation.specs.Masks.{bit}
+use Rattle.foundation.specs.BitMasks.{bit}
 use Rattle.masks.proofs.Puts.{join-word}
 use Rattle.outlines.proofs.MaskWords.{spread-turn, spread-start}
 use Rattle.outlines.proofs.left.spread.Statement.{statement}

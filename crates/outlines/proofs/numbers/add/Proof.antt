@@ -1,7 +1,7 @@
 -- One store, where nothing is there yet.
 use borrow.Author.Needs.{needs}
 use denote.Ref.{now}
-use Rattle.outlines.proofs.Numbering.{added-none, added-one}
+use Rattle.outlines.proofs.CoordinateTurns.{added-none, added-one}
 use Rattle.outlines.proofs.numbers.add.Statement.{statement}
 use Rattle.outlines.proofs.numbers.add.Tie as tie
 

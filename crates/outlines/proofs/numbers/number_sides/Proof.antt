@@ -4,14 +4,14 @@ use native.Mathlib.Omega.{arith}
 use mathlib.Core.Path.{_≡_, ap}
 use Prim.Native.Nat.{_≤_, _-_}
 use denote.Ref.{now}
-use Rattle.outlines.specs.Coordinates.{Numbered, rightSubject, rightObject}
-use Rattle.outlines.proofs.Numbering.{numbered-start, numbered-turn}
+use Rattle.outlines.specs.Coordinates.{HasCoordinates, subjectOnRight, objectOnRight}
+use Rattle.outlines.proofs.CoordinateTurns.{numbered-start, numbered-turn}
 use Rattle.outlines.proofs.numbers.number_sides.Statement.{statement}
 use Rattle.outlines.proofs.numbers.number_sides.Tie as tie
 
 abbrev Inv-loop : tie.InvT-loop
 Inv-loop body n subjects₀ objects₀ s₀ o₀ i₀ subjects objects s o i =
-    (i ≤ n) × Numbered rightSubject i body subjects s × Numbered rightObject i body objects o
+    (i ≤ n) × HasCoordinates subjectOnRight i body subjects s × HasCoordinates objectOnRight i body objects o
 
 abbrev μ-loop : tie.MeasureT-loop
 μ-loop body n subjects₀ objects₀ s₀ o₀ i₀ subjects objects s o i = n - i
@@ -20,15 +20,15 @@ loop-holds : tie.Need-loop-holds Inv-loop μ-loop
 loop-holds c =
     let b = c .before in (
       search needs,
-      numbered-start rightSubject (now (b .args .body)) (now (b .args .subjects)) (b .pre .1),
-      numbered-start rightObject (now (b .args .body)) (now (b .args .objects)) (b .pre .2),
+      numbered-start subjectOnRight (now (b .args .body)) (now (b .args .subjects)) (b .pre .1),
+      numbered-start objectOnRight (now (b .args .body)) (now (b .args .objects)) (b .pre .2),
     )
 
 add-requires : tie.Need-add-requires Inv-loop μ-loop
 add-requires c κs =
     let l = c .before .before .before .before .loop in
     let b = c .before .before .before .before .before .before in
-    let e = ap rightSubject (c .before .before .rule-at .ensures) in
+    let e = ap subjectOnRight (c .before .before .rule-at .ensures) in
     let g = b .pre .0 .right (l .i) (omega arith) .subject in
     (omega arith, omega (arith, l .inv .1 .few, b .pre .0 .few))
 
@@ -36,7 +36,7 @@ add-requires-2 : tie.Need-add-requires-2 Inv-loop μ-loop
 add-requires-2 c κs =
     let l = c .before .before .before .before .before .before .before .loop in
     let b = c .before .before .before .before .before .before .before .before .before in
-    let e = ap rightObject (c .before .before .before .before .before .rule-at .ensures) in
+    let e = ap objectOnRight (c .before .before .before .before .before .rule-at .ensures) in
     let g = b .pre .0 .right (l .i) (omega arith) .object in
     (omega arith, omega (arith, l .inv .2 .few, b .pre .0 .few))
 
@@ -46,8 +46,8 @@ loop-again c =
     let e = c .before .before .before .before .before .before .rule-at .ensures in
     let a = c .before .before .before .before .before .before .before .before .before .before .args in (
       search needs,
-      numbered-turn (l .inv .1) (rw (ap rightSubject e) at (c .before .before .before .add .ensures)),
-      numbered-turn (l .inv .2) (rw (ap rightObject e) at (c .add2 .ensures)),
+      numbered-turn (l .inv .1) (rw (ap subjectOnRight e) at (c .before .before .before .add .ensures)),
+      numbered-turn (l .inv .2) (rw (ap objectOnRight e) at (c .add2 .ensures)),
     )
 
 returns : tie.Need-returns Inv-loop μ-loop

@@ -4,7 +4,7 @@ use native.Mathlib.Omega.{arith}
 use mathlib.Core.Path.{_≡_, refl, ap, ap₂, _∙_}
 use Prim.Native.Nat.{ℕ, _+_, _*_, _≤_, _<_, _-_}
 use denote.Ref.{now}
-use Rattle.foundation.specs.Masks.{bit-le}
+use Rattle.foundation.specs.BitMasks.{bit-le}
 use Rattle.model.specs.declared.Rule.{Rule}
 use Rattle.model.specs.declared.Side.{Side}
 use Rattle.encoding.specs.Format.{ruleAt}
@@ -28,16 +28,16 @@ loop-holds c = (search needs, λ i h. absurd (omega arith))
 
 mul-signs : tie.Need-mul-signs Inv-loop μ-loop
 mul-signs c = omega
-    (arith, c .one-if2 .ensures, bit-le (c .before .before .before .rule-at .result .right .negative))
+    (arith, c .as-bit2 .ensures, bit-le (c .before .before .before .rule-at .result .right .negative))
 
 add-signs : tie.Need-add-signs Inv-loop μ-loop
 add-signs c =
     let r = c .before .before .before .rule-at .result in
     omega (
       arith,
-      c .one-if2 .ensures,
+      c .as-bit2 .ensures,
       bit-le (r .right .negative),
-      c .before .one-if .ensures,
+      c .before .as-bit .ensures,
       bit-le (r .left .negative),
     )
 
@@ -53,10 +53,10 @@ loop-again c =
     let l = c .before .before .before .before .before .before .before .loop in
     let b = now (c .before .before .before .before .before .before .before .before .before .args .body) in
     let r = c .before .before .before .before .before .rule-at in
-    let g : c .before .before .before .one-if .result + 2 * c .before .before .one-if2 .result ≡ signsOf
+    let g : c .before .before .before .as-bit .result + 2 * c .before .before .as-bit2 .result ≡ signsOf
     (ruleAt b (l .i)) =
-    ap₂ (λ (x y : ℕ). x + 2 * y) (c .before .before .before .one-if .ensures)
-    (c .before .before .one-if2 .ensures)
+    ap₂ (λ (x y : ℕ). x + 2 * y) (c .before .before .before .as-bit .ensures)
+    (c .before .before .as-bit2 .ensures)
     ∙ ap signsOf (r .ensures) in
     let w = c .put-side .ensures in (
       search needs,

@@ -13,7 +13,7 @@ use Rattle.cover.specs.First.{first}
 use Rattle.cover.proofs.FirstFacts.{first-past}
 use Rattle.cover.specs.Cover.{coveredBy}
 use Rattle.encoding.specs.Format.{authorizationsIn}
-use Rattle.foundation.specs.Records.{rest, rest-all, rest-step, rest-end}
+use Rattle.foundation.specs.ByteRecords.{rest, rest-all, rest-step, rest-end}
 use Rattle.pieces.proofs.NearestFacts.{near-low, near-step, first-none}
 use Rattle.pieces.proofs.granting.cover_from.Statement.{statement}
 use Rattle.pieces.proofs.granting.cover_from.Tie as tie

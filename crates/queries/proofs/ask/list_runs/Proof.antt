@@ -4,8 +4,8 @@ use native.Mathlib.Omega.{arith}
 use denote.Ref.{now}
 use Rattle.model.specs.Encoding.{decode}
 use Rattle.model.specs.EncodingFacts.{sound-length}
-use Rattle.queries.proofs.SoundBodies.{la-in, ra-in}
-use Rattle.queries.proofs.SoundBodies.{sound-bodies}
+use Rattle.queries.proofs.QuestionBodies.{la-in, ra-in}
+use Rattle.queries.proofs.QuestionBodies.{sound-bodies}
 use Rattle.queries.proofs.ask.list_runs.Statement.{statement}
 use Rattle.queries.proofs.ask.list_runs.Tie as tie
 

@@ -10,7 +10,7 @@ use Rattle.model.specs.Base.{Base}
 use Rattle.model.specs.Encoding.{decode}
 use Rattle.model.specs.Rules.{when}
 use Rattle.queries.specs.Starting.{Bodies}
-use Rattle.queries.proofs.SoundBodies.{most, listing, listing-short}
+use Rattle.queries.proofs.QuestionBodies.{most, listing, listing-short}
 use Rattle.queries.proofs.ask.runs_if_room.Statement.{statement}
 use Rattle.queries.proofs.ask.runs_if_room.Tie as tie
 

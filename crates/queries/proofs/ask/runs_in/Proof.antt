@@ -2,7 +2,7 @@
 use borrow.Author.Needs.{needs}
 use denote.Ref.{now}
 use Rattle.model.specs.Rules.{may}
-use Rattle.queries.proofs.SoundBodies.{open-few, filling}
+use Rattle.queries.proofs.QuestionBodies.{open-few, filling}
 use Rattle.queries.proofs.ask.runs_in.Statement.{statement}
 use Rattle.queries.proofs.ask.runs_in.Tie as tie
 

@@ -3,7 +3,7 @@ use borrow.Author.Needs.{needs}
 use mathlib.Core.Path.{sym, _∙_}
 use mathlib.Core.List.{[]}
 use Rattle.model.specs.Effects.{withRules}
-use Rattle.queries.proofs.SoundBodies.{ruleless-bodies, ruleless-listing}
+use Rattle.queries.proofs.QuestionBodies.{ruleless-bodies, ruleless-listing}
 use Rattle.queries.proofs.ask.runs_narrowed.Statement.{statement}
 use Rattle.queries.proofs.ask.runs_narrowed.Tie as tie
 

@@ -14,7 +14,7 @@ use Rattle.model.specs.Base.{Base}
 use Rattle.model.specs.Rules.{may, standsFor}
 use Rattle.encoding.specs.Format.{authorizationsIn, rulesIn}
 use Rattle.direct.specs.Direct.{heldDirectly, direct-may}
-use Rattle.scan.specs.Runs.{Reached}
+use Rattle.scan.specs.Runs.{ScannedTo}
 use native.Mathlib.Omega.{arith}
 use Rattle.queries.specs.Asking.{access-ranges}
 use Rattle.queries.specs.Starting.{Bodies}
@@ -46,7 +46,7 @@ returns c =
     let t = w .before .before in
     let a = t .before .before .before .before .before .args in
     let none = true-eq (a .n) 0 (and-true (eqb (a .n) 0) (leb (a .total) 64) (t .if1 .taken) .0) in
-    λ base b. subst (λ (f : ℕ → Bool). Reached f 4294967295 (now (a .list)) 4294967296
+    λ base b. subst (λ (f : ℕ → Bool). ScannedTo f 4294967295 (now (a .list)) 4294967296
     (w .walk-directly .result) (w .walk-directly .last .1 .1 .1 .0)) (ruleless b none (a .x))
     (w .walk-directly .ensures)
 

@@ -4,7 +4,7 @@ use native.Mathlib.Omega.{arith}
 use mathlib.Core.Path.{_∙_}
 use denote.Ref.{now}
 use Rattle.outlines.specs.CoordinateFacts.{numbered-apart}
-use Rattle.outlines.specs.Standing.{left-placed, masked, starred-below}
+use Rattle.outlines.specs.StandingRules.{left-placed, masked, starred-below}
 use Rattle.queries.proofs.outlining.draw.Statement.{statement}
 use Rattle.queries.proofs.outlining.draw.Tie as tie
 

@@ -6,9 +6,9 @@ use mathlib.Core.Path.{_≡_, refl, sym, ap, _∙_}
 use mathlib.Core.List.{List}
 use Prim.Native.Nat.{ℕ, _*_, _≤_}
 use lib.ListN.{length}
-use Rattle.foundation.specs.Masks.{bit}
+use Rattle.foundation.specs.BitMasks.{bit}
 use Rattle.reach.specs.Net.{Formed}
-use Rattle.places.specs.Numbering.{before-le}
+use Rattle.places.specs.ReachedNumbers.{before-le}
 use Rattle.queries.proofs.outlining.map_pairs.Statement.{statement}
 use Rattle.queries.proofs.outlining.map_pairs.Tie as tie
 

@@ -6,7 +6,7 @@ use mathlib.Core.List.{List}
 use Prim.Native.Nat.{ℕ, _+_, _*_}
 use denote.Ref.{now}
 use lib.ListN.{length}
-use Rattle.places.specs.Numbering.{before-le}
+use Rattle.places.specs.ReachedNumbers.{before-le}
 use Rattle.queries.specs.Drawing.{chart-small, map-small, code-pair, needed-in}
 use Rattle.queries.specs.Asking.{pair-in, pair-few, sketch-formed, lasts-in, lasts-room, sketch-tabled}
 use Rattle.queries.specs.Asking.{finds-answers}

@@ -2,7 +2,7 @@
 use denote.Ref.{now}
 use borrow.Author.Needs.{needs}
 use borrow.Author.Tests.{eq-eqb, ne-eqb}
-use Rattle.reading.specs.Lines.{askedOf}
+use Rattle.reading.specs.ParsedLines.{askedOf}
 use Rattle.reading.proofs.FieldReaders.{whole-reading}
 use Rattle.reading.proofs.lines.finished.Statement.{statement}
 use Rattle.reading.proofs.lines.finished.Tie as tie

@@ -8,7 +8,7 @@ use lib.Dec.{eqb}
 use borrow.Author.Needs.{needs}
 use Rattle.foundation.specs.Tests.{cases}
 use Rattle.model.specs.Text.{Line, whole, orUnreadable}
-use Rattle.reading.specs.Lines.{readerFor}
+use Rattle.reading.specs.ParsedLines.{readerFor}
 use Rattle.reading.proofs.FieldReaders.{goes-on}
 use Rattle.reading.proofs.lines.request_line.Statement.{statement}
 use Rattle.reading.proofs.lines.request_line.Tie as tie

@@ -8,7 +8,7 @@ use lib.Seq.{drop-length}
 use denote.Ref.{now}
 use borrow.Author.Needs.{needs}
 use borrow.Author.Tests.{eq-eqb, ne-eqb}
-use Rattle.reading.specs.Fields.{fieldLength}
+use Rattle.reading.specs.LineFields.{fieldLength}
 use Rattle.reading.proofs.FieldReaders.{length-more, length-end}
 use Rattle.reading.proofs.places.end_of.Statement.{statement}
 use Rattle.reading.proofs.places.end_of.Tie as tie

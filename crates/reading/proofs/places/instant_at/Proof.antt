@@ -11,9 +11,9 @@ returns : tie.Need-returns
 returns c =
     let f = c .before .before .before in
     let a = f .before .before .args in
-    field-read instant (now (a .s)) (a .at) (f .field-at .result .from) (f .field-at .result .to)
-    (c .before .instant-of .result .known) (c .before .instant-of .result .value) (c .behind .result)
-    (f .field-at .ensures) refl (c .before .instant-of .ensures) (c .behind .ensures)
+    field-read instant (now (a .s)) (a .at) (f .field-bounds .result .from) (f .field-bounds .result .to)
+    (c .before .read-instant .result .known) (c .before .read-instant .result .value) (c .behind .result)
+    (f .field-bounds .ensures) refl (c .before .read-instant .ensures) (c .behind .ensures)
 
 pub instant-at-spec : {M : Type 1} → statement M
 instant-at-spec =

@@ -3,7 +3,7 @@ use mathlib.Core.Path.{refl}
 use denote.Ref.{now}
 use borrow.Author.Needs.{needs}
 use Rattle.model.specs.Text.{oneOf, grammar}
-use Rattle.reading.specs.Lines.{readerFor}
+use Rattle.reading.specs.ParsedLines.{readerFor}
 use Rattle.reading.proofs.FieldReaders.{field-read}
 use Rattle.reading.proofs.places.kind_at.Statement.{statement}
 use Rattle.reading.proofs.places.kind_at.Tie as tie
@@ -12,9 +12,11 @@ returns : tie.Need-returns
 returns c =
     let f = c .before .before .before in
     let a = f .before .before .args in
-    field-read (oneOf grammar) (now (a .s)) (a .at) (f .field-at .result .from) (f .field-at .result .to)
-    (c .before .kind-of .result .known) (readerFor (c .before .kind-of .result .value)) (c .behind .result)
-    (f .field-at .ensures) refl (c .before .kind-of .ensures) (c .behind .ensures)
+    field-read (oneOf grammar) (now (a .s)) (a .at) (f .field-bounds .result .from)
+    (f .field-bounds .result .to)
+    (c .before .read-kind .result .known) (readerFor (c .before .read-kind .result .value))
+    (c .behind .result)
+    (f .field-bounds .ensures) refl (c .before .read-kind .ensures) (c .behind .ensures)
 
 pub kind-at-spec : {M : Type 1} → statement M
 kind-at-spec =

@@ -11,9 +11,9 @@ returns : tie.Need-returns
 returns c =
     let f = c .before .before .before in
     let a = f .before .before .args in
-    field-read number (now (a .s)) (a .at) (f .field-at .result .from) (f .field-at .result .to)
-    (c .before .number-of .result .known) (c .before .number-of .result .value) (c .behind .result)
-    (f .field-at .ensures) refl (c .before .number-of .ensures) (c .behind .ensures)
+    field-read number (now (a .s)) (a .at) (f .field-bounds .result .from) (f .field-bounds .result .to)
+    (c .before .read-number .result .known) (c .before .read-number .result .value) (c .behind .result)
+    (f .field-bounds .ensures) refl (c .before .read-number .ensures) (c .behind .ensures)
 
 pub number-at-spec : {M : Type 1} → statement M
 number-at-spec =

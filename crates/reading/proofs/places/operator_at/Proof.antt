@@ -11,9 +11,9 @@ returns : tie.Need-returns
 returns c =
     let f = c .before .before .before in
     let a = f .before .before .args in
-    field-read operator (now (a .s)) (a .at) (f .field-at .result .from) (f .field-at .result .to)
-    (c .before .operator-of .result .known) (c .before .operator-of .result .value) (c .behind .result)
-    (f .field-at .ensures) refl (c .before .operator-of .ensures) (c .behind .ensures)
+    field-read operator (now (a .s)) (a .at) (f .field-bounds .result .from) (f .field-bounds .result .to)
+    (c .before .read-operator .result .known) (c .before .read-operator .result .value) (c .behind .result)
+    (f .field-bounds .ensures) refl (c .before .read-operator .ensures) (c .behind .ensures)
 
 pub operator-at-spec : {M : Type 1} → statement M
 operator-at-spec =

@@ -11,9 +11,9 @@ returns : tie.Need-returns
 returns c =
     let f = c .before .before .before in
     let a = f .before .before .args in
-    field-read option (now (a .s)) (a .at) (f .field-at .result .from) (f .field-at .result .to)
-    (c .before .option-of .result .known) (c .before .option-of .result .value) (c .behind .result)
-    (f .field-at .ensures) refl (c .before .option-of .ensures) (c .behind .ensures)
+    field-read option (now (a .s)) (a .at) (f .field-bounds .result .from) (f .field-bounds .result .to)
+    (c .before .read-option .result .known) (c .before .read-option .result .value) (c .behind .result)
+    (f .field-bounds .ensures) refl (c .before .read-option .ensures) (c .behind .ensures)
 
 pub option-at-spec : {M : Type 1} → statement M
 option-at-spec =

@@ -11,9 +11,10 @@ returns : tie.Need-returns
 returns c =
     let f = c .before .before .before in
     let a = f .before .before .args in
-    field-read optionTerm (now (a .s)) (a .at) (f .field-at .result .from) (f .field-at .result .to)
-    (c .before .option-term-of .result .known) (c .before .option-term-of .result .value) (c .behind .result)
-    (f .field-at .ensures) refl (c .before .option-term-of .ensures) (c .behind .ensures)
+    field-read optionTerm (now (a .s)) (a .at) (f .field-bounds .result .from) (f .field-bounds .result .to)
+    (c .before .read-option-term .result .known) (c .before .read-option-term .result .value)
+    (c .behind .result)
+    (f .field-bounds .ensures) refl (c .before .read-option-term .ensures) (c .behind .ensures)
 
 pub option-term-at-spec : {M : Type 1} → statement M
 option-term-at-spec =

@@ -11,9 +11,9 @@ returns : tie.Need-returns
 returns c =
     let f = c .before .before .before in
     let a = f .before .before .args in
-    field-read sign (now (a .s)) (a .at) (f .field-at .result .from) (f .field-at .result .to)
-    (c .before .sign-of .result .known) (c .before .sign-of .result .value) (c .behind .result)
-    (f .field-at .ensures) refl (c .before .sign-of .ensures) (c .behind .ensures)
+    field-read sign (now (a .s)) (a .at) (f .field-bounds .result .from) (f .field-bounds .result .to)
+    (c .before .read-sign .result .known) (c .before .read-sign .result .value) (c .behind .result)
+    (f .field-bounds .ensures) refl (c .before .read-sign .ensures) (c .behind .ensures)
 
 pub sign-at-spec : {M : Type 1} → statement M
 sign-at-spec =

@@ -11,9 +11,9 @@ returns : tie.Need-returns
 returns c =
     let f = c .before .before .before in
     let a = f .before .before .args in
-    field-read term (now (a .s)) (a .at) (f .field-at .result .from) (f .field-at .result .to)
-    (c .before .term-of .result .known) (c .before .term-of .result .value) (c .behind .result)
-    (f .field-at .ensures) refl (c .before .term-of .ensures) (c .behind .ensures)
+    field-read term (now (a .s)) (a .at) (f .field-bounds .result .from) (f .field-bounds .result .to)
+    (c .before .read-term .result .known) (c .before .read-term .result .value) (c .behind .result)
+    (f .field-bounds .ensures) refl (c .before .read-term .ensures) (c .behind .ensures)
 
 pub term-at-spec : {M : Type 1} → statement M
 term-at-spec =

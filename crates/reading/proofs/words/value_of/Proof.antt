@@ -11,7 +11,7 @@ use lib.Seq.{drop-length}
 use denote.Ref.{now}
 use borrow.Author.Needs.{needs}
 use borrow.Author.Tests.{not-true, not-false}
-use Rattle.reading.proofs.Numbers.{valueOr, value-digit, value-other, ten-digits}
+use Rattle.reading.proofs.DigitValues.{valueOr, value-digit, value-other, ten-digits}
 use Rattle.reading.proofs.words.value_of.Statement.{statement}
 use Rattle.reading.proofs.words.value_of.Tie as tie
 

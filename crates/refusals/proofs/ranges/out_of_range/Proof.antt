@@ -3,7 +3,7 @@ use borrow.Author.Needs.{needs}
 use mathlib.Core.Path.{_∙_}
 use mathlib.Core.Bool.{not, _&&_, _||_}
 use Rattle.model.specs.Step.{rangeTests}
-use Rattle.refusals.proofs.Tests.{joined-any}
+use Rattle.refusals.proofs.JoinedTests.{joined-any}
 use Rattle.refusals.proofs.ranges.out_of_range.Statement.{statement}
 use Rattle.refusals.proofs.ranges.out_of_range.Tie as tie
 

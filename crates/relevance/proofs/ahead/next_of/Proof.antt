@@ -1,7 +1,8 @@
 -- The least of the four is the next mark.
 use borrow.Author.Needs.{needs}
 use mathlib.Core.Path.{ap, _∙_}
-use Rattle.relevance.proofs.Nearness.{low, promised}
+use Prim.Native.Nat.{min}
+use Rattle.relevance.proofs.Nearness.{promised}
 use Rattle.relevance.proofs.ahead.next_of.Statement.{statement}
 use Rattle.relevance.proofs.ahead.next_of.Tie as tie
 
@@ -10,8 +11,8 @@ returns c =
     let n = c .before .before .before .before .before .args .n in
     λ xs rs t w. promised xs rs t n w (c .lesser3 .result)
     (c .lesser3 .ensures
-    ∙ ap (low (n .lines .starts)) (c .before .lesser2 .ensures
-    ∙ ap (low (n .lines .ends)) (c .before .before .lesser .ensures)))
+    ∙ ap (min (n .lines .starts)) (c .before .lesser2 .ensures
+    ∙ ap (min (n .lines .ends)) (c .before .before .lesser .ensures)))
 
 pub next-of-spec : {M : Type 1} → statement M
 next-of-spec =

@@ -1,9 +1,11 @@
 -- Field by field.
 use borrow.Author.Needs.{needs}
+use Rattle.foundation.specs.CoordinateTables.{coordinate}
 use Rattle.relevance.proofs.choice.cell_of.Statement.{statement}
 use Rattle.relevance.proofs.choice.cell_of.Tie as tie
 
 returns : tie.Need-returns
+unfolding coordinate
 returns c =
     let s = c .before .before .before .before .coordinate-of .ensures in
     let o = c .coordinate-of2 .ensures in

@@ -10,8 +10,8 @@ use denote.Ref.{now}
 use Rattle.model.specs.declared.Authorization.{Authorization}
 use Rattle.relevance.specs.Chosen.{number-inside}
 use Rattle.relevance.specs.Needed.{isNeeded, isChosen}
-use Rattle.relevance.proofs.Keeping.{Chose, chose-start, chose-skip, chose-end}
-use Rattle.relevance.proofs.Keeping.{charted, placed-at, chose-during}
+use Rattle.relevance.proofs.KeptNumbers.{Chose, chose-start, chose-skip, chose-end}
+use Rattle.relevance.proofs.KeptNumbers.{charted, placed-at, chose-during}
 use Rattle.relevance.proofs.choice.choose_during.Statement.{statement}
 use Rattle.relevance.proofs.choice.choose_during.Tie as tie
 

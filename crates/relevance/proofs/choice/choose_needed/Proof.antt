@@ -7,8 +7,8 @@ use Rattle.foundation.specs.declared.Interval.{Interval}
 use Rattle.foundation.specs.Intervals.{interval}
 use Rattle.relevance.specs.Chosen.{number-inside}
 use Rattle.relevance.specs.Needed.{isChosen}
-use Rattle.relevance.proofs.Keeping.{Chose, chose-start, chose-end}
-use Rattle.relevance.proofs.Keeping.{charted, placed-at, chose-during, during-all}
+use Rattle.relevance.proofs.KeptNumbers.{Chose, chose-start, chose-end}
+use Rattle.relevance.proofs.KeptNumbers.{charted, placed-at, chose-during, during-all}
 use Rattle.relevance.proofs.choice.choose_needed.Statement.{statement}
 use Rattle.relevance.proofs.choice.choose_needed.Tie as tie
 

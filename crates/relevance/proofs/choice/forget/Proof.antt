@@ -6,7 +6,7 @@ use Prim.Native.Nat.{_-_}
 use denote.Ref.{now}
 use lib.Dec.{leb}
 use lib.ListN.{getD}
-use Rattle.relevance.proofs.Keeping.{Forgot, forgot-inside, forgot-start, forgot-turn, forgot-end}
+use Rattle.relevance.proofs.KeptNumbers.{Forgot, forgot-inside, forgot-start, forgot-turn, forgot-end}
 use Rattle.relevance.proofs.choice.forget.Statement.{statement}
 use Rattle.relevance.proofs.choice.forget.Tie as tie
 

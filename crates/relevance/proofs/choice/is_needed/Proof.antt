@@ -2,7 +2,7 @@
 use borrow.Author.Needs.{needs}
 use native.Mathlib.Omega.{arith}
 use mathlib.Core.Path.{sym, _∙_}
-use Rattle.relevance.proofs.Keeping.{small}
+use Rattle.relevance.proofs.KeptNumbers.{small}
 use Rattle.relevance.proofs.choice.is_needed.Statement.{statement}
 use Rattle.relevance.proofs.choice.is_needed.Tie as tie
 

@@ -5,7 +5,7 @@ use mathlib.Core.Path.{_≡_, sym, ap, _∙_}
 use Prim.Native.Nat.{ℕ, _-_, _≤_}
 use denote.Ref.{now}
 use Rattle.foundation.specs.Marks.{next}
-use Rattle.marks.specs.Marks.{sooner}
+use Rattle.marks.specs.NextMarks.{sooner}
 use Rattle.relevance.specs.Chosen.{picked}
 use Rattle.relevance.specs.Distance.{edge, lineEdges, reached}
 use Rattle.relevance.proofs.Nearness.{line-turn, line-none, reached-none}

@@ -6,14 +6,14 @@ use mathlib.Core.Path.{refl, sym, _∙_, subst}
 use Prim.Native.Nat.{ℕ, _-_, _<_}
 use denote.Ref.{now}
 use Rattle.relevance.specs.Distance.{reached}
-use Rattle.relevance.proofs.Nearness.{Left, left-start, left-turn, left-end, reached-none}
+use Rattle.relevance.proofs.Nearness.{MarksLeft, left-start, left-turn, left-end, reached-none}
 use Rattle.relevance.proofs.Nearness.{Rest, rest-some, rest-up, rest-turn, rest-between}
 use Rattle.relevance.proofs.distance.nearest_rule.Statement.{statement}
 use Rattle.relevance.proofs.distance.nearest_rule.Tie as tie
 
 abbrev Inv-loop : tie.InvT-loop
 Inv-loop body k needed ends t best₀ rest₀ r₀ best rest r =
-    Rest needed rest r × Left body k needed ends t (reached t best) r
+    Rest needed rest r × MarksLeft body k needed ends t (reached t best) r
 
 abbrev μ-loop : tie.MeasureT-loop
 μ-loop body k needed ends t best₀ rest₀ r₀ best rest r = 64 - r
@@ -28,7 +28,7 @@ loop-holds c =
         below = λ j h. e .2 j (omega arith) h;
         same = λ j h. refl;
       },
-      subst (λ (d : ℕ). Left (now (a .body)) (a .k) (a .needed) (a .ends) (a .t) d (c .next-bit .result))
+      subst (λ (d : ℕ). MarksLeft (now (a .body)) (a .k) (a .needed) (a .ends) (a .t) d (c .next-bit .result))
           (sym (reached-none (a .t) 4294967295 (omega arith)))
           (left-start (now (a .body)) (a .k) (a .needed) (a .ends) (a .t) (c .next-bit .result)
           (λ j h. e .2 j (omega arith) h)),

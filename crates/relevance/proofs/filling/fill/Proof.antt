@@ -1,4 +1,4 @@
--- One instant is a window (`only-one`). The loop's invariant is `Grown`, and that what is near stands.
+-- One instant is a window (`only-one`). The loop's invariant is `MarksGrown`, and that what is near stands.
 use borrow.Author.Needs.{needs}
 use native.Mathlib.Omega.{arith}
 use mathlib.Core.Path.{sym, ap, _∙_}
@@ -11,7 +11,7 @@ use Rattle.encoding.specs.Format.{rulesIn}
 use denote.Ref.{now}
 use Rattle.relevance.specs.Ahead.{Standing}
 use Rattle.relevance.specs.Chosen.{marksFor, marks-for, picked, selected}
-use Rattle.relevance.proofs.Growing.{Grown, grown-start, only-one, grown-turn, grown-end}
+use Rattle.relevance.proofs.Growing.{MarksGrown, grown-start, only-one, grown-turn, grown-end}
 use Rattle.relevance.proofs.filling.fill.Statement.{statement}
 use Rattle.relevance.proofs.filling.fill.Tie as tie
 use Rattle.relevance.proofs.filling.fill.Reads as reads
@@ -22,7 +22,7 @@ use Rattle.relevance.proofs.ahead.nothing_near.Reads as nothing-near-re
 
 abbrev Inv-loop : tie.InvT-loop
 Inv-loop lines which body c from to width marks₀ count₀ t₀ near₀ marks count t near =
-    Grown (marksFor lines which body c) from to width marks count t
+    MarksGrown (marksFor lines which body c) from to width marks count t
     × Standing (picked lines which (c .authorizations)) (selected (c .needed) (rulesIn (c .rules) body)) t
     near
 

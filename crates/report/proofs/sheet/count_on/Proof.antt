@@ -13,7 +13,7 @@ use Rattle.foundation.specs.Lists.{keepIf}
 use Rattle.model.specs.declared.Authorization.{Authorization}
 use Rattle.model.specs.Encoding.{authorizationOf}
 use Rattle.model.specs.Report.{isOn}
-use Rattle.foundation.specs.Records.{rest-all, rest-end}
+use Rattle.foundation.specs.ByteRecords.{rest-all, rest-end}
 use Rattle.encoding.specs.Format.{authorizationsIn}
 use Rattle.report.proofs.Adding.{left, count-next}
 use Rattle.report.proofs.sheet.count_on.Statement.{statement}

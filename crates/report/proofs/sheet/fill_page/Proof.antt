@@ -13,7 +13,7 @@ use Rattle.model.specs.Counting.{counting}
 use Rattle.model.specs.Report.{isOn, rowsOn}
 use Rattle.model.specs.ReportFacts.{rows-length, on-in}
 use Rattle.encoding.specs.Format.{authorizationsIn}
-use Rattle.report.proofs.ByRows.{filled-refused, filled-written}
+use Rattle.report.proofs.SheetByRows.{filled-refused, filled-written}
 use Rattle.report.proofs.sheet.fill_page.Statement.{statement}
 use Rattle.report.proofs.sheet.fill_page.Tie as tie
 

@@ -15,7 +15,7 @@ use Rattle.model.specs.declared.Authorization.{Authorization}
 use Rattle.model.specs.Encoding.{authorizationOf}
 use Rattle.model.specs.Soundness.{authorizationIn}
 use Rattle.model.specs.Report.{rowsOn}
-use Rattle.foundation.specs.Records.{rest-all, rest-end, all-step}
+use Rattle.foundation.specs.ByteRecords.{rest-all, rest-end, all-step}
 use Rattle.encoding.specs.Format.{authorizationsIn}
 use Rattle.printing.proofs.Placed.{printed-room}
 use Rattle.report.proofs.Adding.{left, rowOf, rows-next, put-before, put-behind, alike-behind}

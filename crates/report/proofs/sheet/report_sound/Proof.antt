@@ -12,8 +12,8 @@ use Rattle.model.specs.EncodingFacts.{sound-length}
 use Rattle.model.specs.Report.{rowsOn}
 use Rattle.encoding.specs.Format.{authorizationsAt}
 use Rattle.lookup.proofs.SoundBodies.{authorizations-in, fitting, there, authorizations-lent}
-use Rattle.report.specs.Sheet.{filled}
-use Rattle.report.proofs.ByRows.{report-range, report-unknown, report-filled}
+use Rattle.report.specs.Sheet.{sheetFilled}
+use Rattle.report.proofs.SheetByRows.{report-range, report-unknown, report-filled}
 use Rattle.report.proofs.sheet.report_sound.Statement.{statement}
 use Rattle.report.proofs.sheet.report_sound.Tie as tie
 
@@ -77,7 +77,7 @@ returns-3 c =
     let a = start .args in
     let s = now (a .base) in
     p .fill-page .ensures
-    ∙ ap (λ (xs : List Authorization). filled (rowsOn (a .object) xs) (now (a .page)))
+    ∙ ap (λ (xs : List Authorization). sheetFilled (rowsOn (a .object) xs) (now (a .page)))
     (authorizations-lent s (n .counts-of .result) (n .counts-of .ensures) (at .authorizations-at .result)
     (at .authorizations-at .ensures))
     ∙ sym (report-filled s (a .object) (now (a .page)) (start .pre) (in-range (d .before .before))

@@ -5,15 +5,15 @@ use mathlib.Core.Path.{_≡_, _∙_}
 use Prim.Native.Nat.{ℕ, _-_, _≤_, _<_}
 use lib.ListN.{length, getD, length-set}
 use denote.Ref.{now}
-use Rattle.rules.specs.Edges.{Row}
-use Rattle.rules.proofs.Edges.{edges-turn}
+use Rattle.rules.specs.Edges.{EdgeRow}
+use Rattle.rules.proofs.EdgeFacts.{edges-turn}
 use Rattle.rules.proofs.ranks.put_edges.Statement.{statement}
 use Rattle.rules.proofs.ranks.put_edges.Tie as tie
 
 abbrev Inv-loop : tie.InvT-loop
 Inv-loop s n every edges₀ counts₀ j₀ edges counts j =
     (j ≤ n) × (length edges ≡ 4225) × (length counts ≡ 65)
-    × ((i : ℕ) → i < j → Row every n s i edges (getD counts i 0))
+    × ((i : ℕ) → i < j → EdgeRow every n s i edges (getD counts i 0))
 
 abbrev μ-loop : tie.MeasureT-loop
 μ-loop s n every edges₀ counts₀ j₀ edges counts j = n - j

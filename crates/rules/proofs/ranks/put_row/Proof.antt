@@ -9,15 +9,15 @@ use Prim.Native.Nat.{ℕ, _+_, _*_, _-_, _≤_, _<_}
 use lib.ListN.{length, getD}
 use denote.Ref.{now}
 use Rattle.encoding.specs.Format.{ruleAt}
-use Rattle.rules.specs.Edges.{stepOf, Row}
-use Rattle.rules.proofs.Edges.{step-small, row-start, putEdge, putCount, put-length, put-other}
-use Rattle.rules.proofs.Edges.{row-turn}
+use Rattle.rules.specs.Edges.{stepOf, EdgeRow}
+use Rattle.rules.proofs.EdgeFacts.{step-small, row-start, putEdge, putCount, put-length, put-other}
+use Rattle.rules.proofs.EdgeFacts.{row-turn}
 use Rattle.rules.proofs.ranks.put_row.Statement.{statement}
 use Rattle.rules.proofs.ranks.put_row.Tie as tie
 
 abbrev Inv-loop : tie.InvT-loop
 Inv-loop s n every j edges₀ r c₀ i₀ edges c i =
-    (i ≤ n) × (length edges ≡ 4225) × Row every i s j edges c
+    (i ≤ n) × (length edges ≡ 4225) × EdgeRow every i s j edges c
     × ((k : ℕ) → k < j * 65 → getD edges k 0 ≡ getD edges₀ k 0)
 
 abbrev μ-loop : tie.MeasureT-loop
@@ -58,8 +58,8 @@ loop-again c =
       omega arith,
       ap length (c .put-edge .ensures .1)
           ∙ put-length (l .loop .edges) (a .j * 65) (l .loop .c) i (d .step .result) ∙ l .loop .inv .1,
-      subst (λ (x : List ℕ). Row (a .every) (i + 1) s (a .j) x (c .put-edge .result)) (sym more)
-          (subst (λ (k : ℕ). Row (a .every) (i + 1) s (a .j)
+      subst (λ (x : List ℕ). EdgeRow (a .every) (i + 1) s (a .j) x (c .put-edge .result)) (sym more)
+          (subst (λ (k : ℕ). EdgeRow (a .every) (i + 1) s (a .j)
           (putEdge (l .loop .edges) (a .j * 65) (l .loop .c) i
           (stepOf (a .every) (ruleAt s i) (ruleAt s (a .j)))) k) (sym many)
           (rw add-one (row-turn (a .every) s (a .j) i (l .loop .edges) (l .loop .c) (l .loop .inv .2)
@@ -75,7 +75,7 @@ returns c =
     let b = l .before .before .before in
     let a = b .args in
     let e : l .loop .i ≡ a .n = omega (arith, l .loop .inv .0) in (
-      subst (λ (k : ℕ). Row (a .every) k (now (a .s)) (a .j) (l .loop .edges) (l .loop .c)) e
+      subst (λ (k : ℕ). EdgeRow (a .every) k (now (a .s)) (a .j) (l .loop .edges) (l .loop .c)) e
           (l .loop .inv .2),
       l .loop .inv .1,
       l .loop .inv .3,

@@ -8,13 +8,13 @@ use Prim.Native.Nat.{_+_, _-_, _≤_, _<_}
 use lib.ListN.{length}
 use denote.Ref.{now}
 use Rattle.foundation.specs.Graph.{heavy, cyclic}
-use Rattle.foundation.specs.Totals.{count}
+use Rattle.foundation.specs.BitMasks.{asBit}
 use Rattle.model.specs.Stratification.{precedes}
-use Rattle.rules.specs.Strata.{Holds, countOf, ownOf}
+use Rattle.rules.specs.RankTables.{RuleTable, countOf, ownCount}
 use Rattle.encoding.specs.Format.{rulesIn}
-use Rattle.rules.specs.Edges.{Edges}
-use Rattle.rules.proofs.Rounds.{ranks, first-ranks, next-ranks, ranks-small}
-use Rattle.rules.proofs.Rounds.{same-free, same-ranks, circle}
+use Rattle.rules.specs.Edges.{EdgeRows}
+use Rattle.rules.proofs.RankRounds.{ranks, first-ranks, next-ranks, ranks-small}
+use Rattle.rules.proofs.RankRounds.{same-free, same-ranks, circle}
 use Rattle.rules.proofs.ranks.rank.Statement.{statement}
 use Rattle.rules.proofs.ranks.rank.Tie as tie
 
@@ -22,9 +22,9 @@ abbrev Inv-loop : tie.InvT-loop
 Inv-loop s n every ranks₀ edges counts own k₀ table k =
     (k ≤ n + 1)
     × (length table ≡ 65)
-    × Edges every n s edges counts
-    × Holds n s (λ r. count (ownOf every r)) own
-    × Holds n s (ranks every (rulesIn n s) k) table
+    × EdgeRows every n s edges counts
+    × RuleTable n s (λ r. asBit (ownCount every r)) own
+    × RuleTable n s (ranks every (rulesIn n s) k) table
     × (n < k → cyclic precedes (heavy (countOf every)) (rulesIn n s) ≡ true)
 
 abbrev μ-loop : tie.MeasureT-loop

@@ -7,10 +7,10 @@ use mathlib.Core.List.{List}
 use Prim.Native.Nat.{ℕ, _+_, _*_, _-_, _≤_}
 use lib.ListN.{length, getD, length-set}
 use denote.Ref.{now}
-use Rattle.rules.specs.Strata.{Filled}
+use Rattle.rules.specs.RankTables.{FilledWith}
 use Rattle.rules.specs.Edges.{bestOf}
-use Rattle.rules.proofs.Rounds.{fill-turn}
-use Rattle.rules.proofs.Edges.{row-raised}
+use Rattle.rules.proofs.RankRounds.{fill-turn}
+use Rattle.rules.proofs.EdgeFacts.{row-raised}
 use Rattle.rules.proofs.ranks.rank_round.Statement.{statement}
 use Rattle.rules.proofs.ranks.rank_round.Tie as tie
 
@@ -20,7 +20,7 @@ roundOf edges counts own old j = bestOf (getD counts j 0) (λ e. getD edges (j *
 
 abbrev Inv-loop : tie.InvT-loop
 Inv-loop edges counts own old out₀ n j₀ out j =
-    (j ≤ n) × (length out ≡ 65) × Filled j (roundOf edges counts own old) out
+    (j ≤ n) × (length out ≡ 65) × FilledWith j (roundOf edges counts own old) out
 
 abbrev μ-loop : tie.MeasureT-loop
 μ-loop edges counts own old out₀ n j₀ out j = n - j

@@ -5,12 +5,12 @@ use mathlib.Core.Bool.{false≢true}
 use Prim.Native.Nat.{_-_, _≤_}
 use borrow.Author.Needs.{needs}
 use borrow.Author.Count.{below-more}
-use Rattle.rules.specs.Strata.{Same}
+use Rattle.rules.specs.RankTables.{SameBelow}
 use Rattle.rules.proofs.ranks.same_ranks.Statement.{statement}
 use Rattle.rules.proofs.ranks.same_ranks.Tie as tie
 
 abbrev Inv-loop : tie.InvT-loop
-Inv-loop a b n i₀ i = (i ≤ n) × Same i a b
+Inv-loop a b n i₀ i = (i ≤ n) × SameBelow i a b
 
 abbrev μ-loop : tie.MeasureT-loop
 μ-loop a b n i₀ i = n - i

@@ -5,10 +5,10 @@ use mathlib.Core.Bool.{Bool, true, false, _||_}
 use Prim.Native.Nat.{ℕ, suc, _+_}
 use native.Mathlib.Omega.{arith}
 use Rattle.foundation.specs.Tests.{pick, not-true, not-false}
-use Rattle.foundation.specs.Totals.{count, count-le}
+use Rattle.foundation.specs.BitMasks.{asBit, bit-le}
 use Rattle.model.specs.declared.Rule.{Rule}
 use Rattle.model.specs.Stratification.{feeds, links, weight, precedes-either, weight-is}
-use Rattle.rules.specs.Strata.{countOf}
+use Rattle.rules.specs.RankTables.{countOf}
 use Rattle.rules.specs.Edges.{stepOf}
 use Rattle.rules.proofs.ranks.step.Statement.{statement}
 use Rattle.rules.proofs.ranks.step.Tie as tie
@@ -52,10 +52,10 @@ returns-3 c =
     let l = e .before .before in
     let f = l .before in
     let a = f .before .args in
-    let w : 1 + c .before .one .result + c .one2 .result ≡ suc (weight (a .q) (a .r)) = omega (
+    let w : 1 + c .before .as-bit .result + c .as-bit2 .result ≡ suc (weight (a .q) (a .r)) = omega (
       arith,
-      c .before .one .ensures ∙ ap count (n .negates .ensures),
-      c .one2 .ensures ∙ ap count (l .links .ensures),
+      c .before .as-bit .ensures ∙ ap asBit (n .negates .ensures),
+      c .as-bit2 .ensures ∙ ap asBit (l .links .ensures),
       weight-is (a .q) (a .r),
     ) in
     w
@@ -65,17 +65,17 @@ returns-3 c =
     (not-false (f .feeds .result || l .links .result) (e .before .if1 .left))
 
 add-result : tie.Need-add-result
-add-result c = omega (arith, c .one .ensures, count-le (c .before .negates .result))
+add-result c = omega (arith, c .as-bit .ensures, bit-le (c .before .negates .result))
 
 add-result-2 : tie.Need-add-result-2
 add-result-2 c =
     let n = c .before .before in
     omega (
       arith,
-      c .before .one .ensures,
-      c .one2 .ensures,
-      count-le (n .negates .result),
-      count-le (n .before .before .before .links .result),
+      c .before .as-bit .ensures,
+      c .as-bit2 .ensures,
+      bit-le (n .negates .result),
+      bit-le (n .before .before .before .links .result),
     )
 
 pub step-spec : {M : Type 1} → statement M

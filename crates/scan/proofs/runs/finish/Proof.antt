@@ -1,7 +1,7 @@
 -- `scan::runs::finish`: an interval that is open at the end is the last one.
 use borrow.Author.Needs.{needs}
 use denote.Ref.{now}
-use Rattle.scan.specs.Runs.{complete-open, complete-none}
+use Rattle.scan.proofs.RunFacts.{complete-open, complete-none}
 use Rattle.scan.proofs.runs.finish.Statement.{statement}
 use Rattle.scan.proofs.runs.finish.Tie as tie
 

@@ -4,7 +4,7 @@ use mathlib.Core.Path.{_≡_, refl, sym, _∙_}
 use mathlib.Core.Bool.{Bool, true, false, not, _&&_, true≢false}
 use denote.Ref.{now}
 use Rattle.foundation.specs.Tests.{and-true, not-true}
-use Rattle.scan.specs.Runs.{same, opens, closed}
+use Rattle.scan.proofs.RunFacts.{same, opens, closed}
 use Rattle.scan.proofs.runs.note.Statement.{statement}
 use Rattle.scan.proofs.runs.note.Tie as tie
 

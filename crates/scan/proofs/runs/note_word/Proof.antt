@@ -7,8 +7,8 @@ use mathlib.Core.List.{List}
 use Prim.Native.Nat.{ℕ, _+_, _-_, _≤_, _<_}
 use denote.Ref.{now}
 use lib.ListN.{length, getD}
-use Rattle.scan.specs.Runs.{Reached, Answered, instant, instant-there, instant-behind}
-use Rattle.scan.specs.Runs.{within-end, next-reached}
+use Rattle.scan.specs.Runs.{ScannedTo, Answered, instantAt}
+use Rattle.scan.proofs.RunFacts.{instant-there, instant-behind, within-end, next-reached}
 use Rattle.scan.proofs.runs.note_word.Statement.{statement}
 use Rattle.scan.proofs.runs.note_word.Tie as tie
 
@@ -16,8 +16,8 @@ abbrev Inv-loop : tie.InvT-loop
 Inv-loop lent marks count yes' r₀ i₀ list r i =
     (i ≤ count) × (r .count ≤ r₀ .count + i) × (length list ≡ length lent)
     × (r .inside ≡ true → i < count → 0 < getD marks i 0)
-    × ((f : ℕ → Bool) (e : ℕ) (lent′ : List ℕ) (m : ℕ) → Reached f e lent′ (getD marks 0 0) r₀ lent →
-    Answered f e count marks m yes' → Reached f e lent′ (instant count marks m i) r list)
+    × ((f : ℕ → Bool) (e : ℕ) (lent′ : List ℕ) (m : ℕ) → ScannedTo f e lent′ (getD marks 0 0) r₀ lent →
+    Answered f e count marks m yes' → ScannedTo f e lent′ (instantAt count marks m i) r list)
 
 abbrev μ-loop : tie.MeasureT-loop
 μ-loop lent marks count yes' r₀ i₀ list r i = count - i
@@ -30,7 +30,7 @@ loop-holds c =
       omega arith,
       refl,
       (λ i h. s .pre .3 i),
-      λ f e lent m r w. subst (λ (t : ℕ). Reached f e lent t (a .w) (now (a .list)))
+      λ f e lent m r w. subst (λ (t : ℕ). ScannedTo f e lent t (a .w) (now (a .list)))
           (sym (instant-there (a .count) (now (a .marks)) m 0 (omega arith))) r,
     )
 
@@ -56,7 +56,7 @@ loop-again c =
       λ f e lent m r w. next-reached f e lent (a .count) ms m (a .yes) (s .pre .2) w (l .i) (noted .result) _
           h
           (noted .ensures .0 f e lent
-          (subst (λ (t : ℕ). Reached f e lent t (l .r) (l .list)) (instant-there (a .count) ms m (l .i) h)
+          (subst (λ (t : ℕ). ScannedTo f e lent t (l .r) (l .list)) (instant-there (a .count) ms m (l .i) h)
           (l .inv .4 f e lent m r w))
           (w .answers (l .i) h) (within-end f e lent (a .count) ms m (a .yes) (s .pre .2) w (l .i) h)),
     )
@@ -65,7 +65,7 @@ returns : tie.Need-returns Inv-loop μ-loop
 returns c =
     let l = c .before .loop in
     let a = c .before .before .before .args in
-    λ f e lent m r w. subst (λ (t : ℕ). Reached f e lent t (l .r) (l .list))
+    λ f e lent m r w. subst (λ (t : ℕ). ScannedTo f e lent t (l .r) (l .list))
     (instant-behind (a .count) (now (a .marks)) m (l .i) (omega arith)) (l .inv .4 f e lent m r w)
 
 pub note-word-spec : {M : Type 1} → statement M

@@ -3,7 +3,7 @@ use borrow.Author.Needs.{needs}
 use native.Mathlib.Omega.{arith}
 use mathlib.Core.Path.{sym}
 use denote.Ref.{now}
-use Rattle.scan.specs.Filled.{pair-put, pair-left}
+use Rattle.scan.proofs.FilledFacts.{pair-put, pair-left}
 use Rattle.scan.proofs.runs.put_run.Statement.{statement}
 use Rattle.scan.proofs.runs.put_run.Tie as tie
 

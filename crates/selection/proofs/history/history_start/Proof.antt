@@ -8,17 +8,17 @@ use Prim.Native.Nat.{_-_, _≤_, _<_}
 use denote.Ref.{now}
 use lib.Dec.{leb, ltb}
 use Rattle.foundation.specs.Tests.{or-none}
-use Rattle.foundation.specs.Masks.{bit}
+use Rattle.foundation.specs.BitMasks.{bit}
 use Rattle.foundation.specs.declared.Interval.{Interval}
 use Rattle.model.specs.declared.Rule.{Rule}
-use Rattle.masks.proofs.Loops.{Passed, passed-start, passed-turn}
+use Rattle.masks.proofs.BitLoops.{ForBitsBelow, passed-start, passed-turn}
 use Rattle.selection.proofs.Seen.{Seen, Idle, idle}
 use Rattle.selection.proofs.history.history_start.Statement.{statement}
 use Rattle.selection.proofs.history.history_start.Tie as tie
 
 abbrev Inv-loop : tie.InvT-loop
 Inv-loop body lasting t least₀ back₀ r₀ least back r =
-    (r ≤ 64) × (r < 64 → bit r lasting ≡ true) × (least ≤ t) × Passed lasting (Seen body t least back) r
+    (r ≤ 64) × (r < 64 → bit r lasting ≡ true) × (least ≤ t) × ForBitsBelow lasting (Seen body t least back) r
 
 abbrev μ-loop : tie.MeasureT-loop
 μ-loop body lasting t least₀ back₀ r₀ least back r = 64 - r

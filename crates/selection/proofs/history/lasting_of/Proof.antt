@@ -8,7 +8,7 @@ use Prim.Native.Nat.{ℕ, suc, _-_, _≤_, _<_}
 use denote.Ref.{now}
 use lib.Dec.{ltb}
 use Rattle.foundation.specs.Tests.{cases, le-true, and-false}
-use Rattle.foundation.specs.Masks.{bit}
+use Rattle.foundation.specs.BitMasks.{bit}
 use Rattle.model.specs.declared.Rule.{Rule}
 use Rattle.model.specs.Stratification.{lasting}
 use Rattle.encoding.specs.Format.{ruleAt}

@@ -7,12 +7,12 @@ use mathlib.Core.List.{List}
 use Prim.Native.Nat.{ℕ, _-_, _≤_, _<_}
 use denote.Ref.{now}
 use Rattle.foundation.specs.Tests.{or-none}
-use Rattle.foundation.specs.Masks.{bit}
+use Rattle.foundation.specs.BitMasks.{bit}
 use Rattle.model.specs.declared.Rule.{Rule}
 use Rattle.model.specs.Stratification.{negates}
 use Rattle.laws.specs.Plain.{Plain}
 use Rattle.encoding.specs.Format.{ruleAt}
-use Rattle.masks.proofs.Loops.{Passed, passed-start, passed-turn}
+use Rattle.masks.proofs.BitLoops.{ForBitsBelow, passed-start, passed-turn}
 use Rattle.selection.proofs.ranking.counts_some.Statement.{statement}
 use Rattle.selection.proofs.ranking.counts_some.Tie as tie
 
@@ -21,7 +21,7 @@ abbrev Light : List ℕ → ℕ → Type 0
 Light body i = Plain (ruleAt body i)
 
 abbrev Inv-loop : tie.InvT-loop
-Inv-loop body rules r₀ r = (r ≤ 64) × (r < 64 → bit r rules ≡ true) × Passed rules (Light body) r
+Inv-loop body rules r₀ r = (r ≤ 64) × (r < 64 → bit r rules ≡ true) × ForBitsBelow rules (Light body) r
 
 abbrev μ-loop : tie.MeasureT-loop
 μ-loop body rules r₀ r = 64 - r

@@ -9,12 +9,12 @@ use denote.Ref.{now}
 use lib.ListN.{length, take, drop, length-drop}
 use lib.Seq.{length-take-le}
 use Rattle.foundation.specs.Tests.{cases}
-use Rattle.foundation.specs.Masks.{bit}
+use Rattle.foundation.specs.BitMasks.{bit}
 use Rattle.fields.specs.Field.{splice}
 use Rattle.fields.proofs.ByteLaws.{length-splice}
 use Rattle.model.specs.declared.Rule.{Rule}
 use Rattle.encoding.specs.Format.{rulesIn, ruleAt}
-use Rattle.selection.proofs.Selected.{upTo, up-same, up-turn, copied, lent}
+use Rattle.selection.proofs.SelectedLoop.{upTo, up-same, up-turn, copied, lent}
 use Rattle.selection.proofs.ranking.select.Statement.{statement}
 use Rattle.selection.proofs.ranking.select.Tie as tie
 

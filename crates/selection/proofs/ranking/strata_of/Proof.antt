@@ -16,7 +16,7 @@ use Rattle.encoding.specs.Format.{rulesIn, ruleAt}
 use Rattle.relevance.specs.Chosen.{selected}
 use Rattle.selection.specs.Selection.{position}
 use Rattle.selection.specs.Selected.{rule-selected, selected-rule}
-use Rattle.selection.proofs.Selected.{at-position}
+use Rattle.selection.proofs.SelectedLoop.{at-position}
 use Rattle.selection.proofs.ranking.strata_of.Statement.{statement}
 use Rattle.selection.proofs.ranking.strata_of.Tie as tie
 
@@ -54,7 +54,8 @@ returns-2 c =
     λ r b.
     let h = s .pre .2 r b in
     let p = at-position (a .needed) body (k .last .1 .1 .1 .0) (k .result) (a .n) r e h b in
-    c .spread .ensures r (omega (arith, s .pre .0)) b ∙ found .table good (position (a .needed) r) (p .0)
+    c .spread-strata .ensures r (omega (arith, s .pre .0)) b ∙ found .table good (position (a .needed) r)
+    (p .0)
     ∙ ap₂ (λ (rules : List Rule) (q : Rule). stratum rules q) e (p .1)
 
 pub strata-of-spec : {M : Type 1} → statement M

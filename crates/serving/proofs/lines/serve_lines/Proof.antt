@@ -10,15 +10,15 @@ use lib.ListN.{length, length-drop}
 use Rattle.model.specs.Soundness.{soundBytes}
 use Rattle.model.specs.EncodingFacts.{sound-length}
 use Rattle.serving.specs.declared.steps.Stepped.{Stepped}
-use Rattle.serving.specs.Turns.{Kept}
+use Rattle.serving.specs.LineTurns.{LineKept}
 use Rattle.serving.proofs.PieceFacts.{kept-front}
-use Rattle.serving.proofs.Behind.{Stands, stands-none, stands-then, began}
+use Rattle.serving.proofs.Behind.{PieceFedTo, stands-none, stands-then, began}
 use Rattle.serving.proofs.lines.serve_lines.Statement.{statement}
 use Rattle.serving.proofs.lines.serve_lines.Tie as tie
 
 pub record Inv (s₀ line₀ : List ℕ) (len : ℕ) (piece : List ℕ) (from : ℕ) (out₀ s line out : List ℕ)
     (g : Stepped) : Type 0 where
-  pub stands : (pending : List ℕ) → Kept pending len line₀ → Stands s₀ pending piece from g s line out
+  pub stands : (pending : List ℕ) → LineKept pending len line₀ → PieceFedTo s₀ pending piece from g s line out
   pub sound : soundBytes s ≡ true
   pub few : g .len ≤ 97
   pub size : length line ≡ 97

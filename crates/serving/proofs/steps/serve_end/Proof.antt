@@ -3,7 +3,7 @@ use mathlib.Core.Path.{refl}
 use native.Mathlib.Omega.{arith}
 use borrow.Author.Needs.{needs}
 use denote.Ref.{now}
-use Rattle.serving.proofs.StepFacts.{finish-none, finish-line}
+use Rattle.serving.proofs.PieceStepFacts.{finish-none, finish-line}
 use Rattle.serving.proofs.steps.serve_end.Statement.{statement}
 use Rattle.serving.proofs.steps.serve_end.Tie as tie
 

@@ -2,7 +2,7 @@
 use mathlib.Core.Path.{refl}
 use native.Mathlib.Omega.{arith}
 use borrow.Author.Needs.{needs}
-use Rattle.serving.proofs.StepFacts.{step-ended, step-goes-on}
+use Rattle.serving.proofs.PieceStepFacts.{step-ended, step-goes-on}
 use Rattle.serving.proofs.steps.serve_piece_step.Statement.{statement}
 use Rattle.serving.proofs.steps.serve_piece_step.Tie as tie
 

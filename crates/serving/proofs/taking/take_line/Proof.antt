@@ -6,12 +6,12 @@ use Prim.Native.Nat.{_-_}
 use lib.ListN.{length}
 use native.Mathlib.Omega.{arith}
 use borrow.Author.Tests.{eq-eqb, ne-eqb}
-use Rattle.serving.proofs.Walk.{Walks, walk-start, walk-byte, walk-ended, walk-whole}
+use Rattle.serving.proofs.Walk.{LineWalk, walk-start, walk-byte, walk-ended, walk-whole}
 use Rattle.serving.proofs.taking.take_line.Statement.{statement}
 use Rattle.serving.proofs.taking.take_line.Tie as tie
 
 abbrev Inv-loop : tie.InvT-loop
-Inv-loop line₀ len piece from n₀ i₀ line n i = Walks len line₀ piece from n i line
+Inv-loop line₀ len piece from n₀ i₀ line n i = LineWalk len line₀ piece from n i line
 
 abbrev μ-loop : tie.MeasureT-loop
 μ-loop line₀ len piece from n₀ i₀ line n i = length piece - i
@@ -30,9 +30,10 @@ returns c =
 loop-again : tie.Need-loop-again Inv-loop μ-loop
 loop-again c =
     let l = c .before .before .before .before .before .loop in
-    let k = c .keep .ensures in
+    let k = c .keep-byte .ensures in
     let other = ne-eqb _ _ (c .before .before .if1 .left) in
-    walk-byte (l .inv) (c .keep .result) (c .keep .last .0) (search needs) other (k .0) (k .1) (k .2)
+    walk-byte (l .inv) (c .keep-byte .result) (c .keep-byte .last .0) (search needs) other (k .0) (k .1)
+    (k .2)
 
 returns-2 : tie.Need-returns-2 Inv-loop μ-loop
 returns-2 c =

@@ -3,7 +3,7 @@ use borrow.Author.Needs.{needs}
 use mathlib.Core.Path.{_≡_, refl, sym, ap, _∙_}
 use denote.Ref.{now}
 use Rattle.model.specs.Text.{readLine}
-use Rattle.reading.specs.Lines.{lineOf, askedOf}
+use Rattle.reading.specs.ParsedLines.{lineOf, askedOf}
 use Rattle.serving.proofs.ReplyFacts.{turned}
 use Rattle.serving.proofs.turns.serve_line.Statement.{statement}
 use Rattle.serving.proofs.turns.serve_line.Tie as tie
@@ -21,7 +21,7 @@ returns c =
     let r = t .before .before in
     let d = r .before .before .before .before in
     turned (now (d .args .s)) _ (d .pre .0) (sym (ap lineOf (t .enum-told .given .1)) ∙ r .read-line .ensures)
-    (u .put-short .ensures) refl
+    (u .put-short-line .ensures) refl
 
 returns-2 : tie.Need-returns-2
 returns-2 c =

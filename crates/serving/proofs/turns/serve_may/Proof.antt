@@ -10,16 +10,17 @@ use Rattle.serving.proofs.ReplyFacts.{printed-as}
 use Rattle.serving.proofs.turns.serve_may.Statement.{statement}
 use Rattle.serving.proofs.turns.serve_may.Tie as tie
 
-put-short-requires : tie.Need-put-short-requires
-put-short-requires c κs =
+put-short-line-requires : tie.Need-put-short-line-requires
+put-short-line-requires c κs =
     let d = c .before .before .before .before in
     (d .pre .1, subst Short (sym (c .may-sound .ensures)) (may-short (now (d .args .s)) (d .args .q)))
 
 returns : tie.Need-returns
 returns c =
     let p = c .before .before in
-    printed-as (ap (λ (r : Reply). printReply r []) (p .before .may-sound .ensures)) (p .put-short .ensures)
+    printed-as (ap (λ (r : Reply). printReply r []) (p .before .may-sound .ensures))
+    (p .put-short-line .ensures)
 
 pub serve-may-spec : {M : Type 1} → statement M
 serve-may-spec =
-    tie.close (tie.spec (λ c κs. search needs) put-short-requires (λ c. search needs) returns)
+    tie.close (tie.spec (λ c κs. search needs) put-short-line-requires (λ c. search needs) returns)

@@ -10,8 +10,8 @@ use Rattle.serving.proofs.ReplyFacts.{printed-as}
 use Rattle.serving.proofs.turns.serve_order.Statement.{statement}
 use Rattle.serving.proofs.turns.serve_order.Tie as tie
 
-put-short-requires : tie.Need-put-short-requires
-put-short-requires c κs =
+put-short-line-requires : tie.Need-put-short-line-requires
+put-short-line-requires c κs =
     let t = c .before .before in
     let d = t .before .before .before .before .before in (
       d .pre .1,
@@ -23,11 +23,12 @@ returns : tie.Need-returns
 returns c =
     let p = c .before .before in
     let t = p .before .before .before in (
-      printed-as (ap (λ (x : Answer). printReply (x .reply) []) (t .step .ensures)) (p .put-short .ensures),
+      printed-as (ap (λ (x : Answer). printReply (x .reply) []) (t .step .ensures))
+          (p .put-short-line .ensures),
       ap (λ (x : Answer). x .lent) (t .step .ensures),
     )
 
 pub serve-order-spec : {M : Type 1} → statement M
 serve-order-spec =
     tie.close
-    (tie.spec (λ c κs. search needs) put-short-requires (λ c. search needs) (λ c. search needs) returns)
+    (tie.spec (λ c κs. search needs) put-short-line-requires (λ c. search needs) (λ c. search needs) returns)

@@ -11,8 +11,8 @@ use Rattle.serving.proofs.ReplyFacts.{printed-as}
 use Rattle.serving.proofs.turns.serve_when.Statement.{statement}
 use Rattle.serving.proofs.turns.serve_when.Tie as tie
 
-put-reply-requires : tie.Need-put-reply-requires
-put-reply-requires c κs =
+put-reply-line-requires : tie.Need-put-reply-line-requires
+put-reply-line-requires c κs =
     let w = c .before .before .before in
     let d = w .before .before .before .before in (
       d .pre .1,
@@ -27,11 +27,11 @@ returns c =
     let w = p .before .before .before .before in
     printed-as (ap (λ (a : Answer). printReply (a .reply) (runsOf (a .reply) (a .lent)))
     (w .when-sound .ensures))
-    (p .put-reply .ensures)
+    (p .put-reply-line .ensures)
 
 pub serve-when-spec : {M : Type 1} → statement M
 serve-when-spec =
     tie.close
-    (tie.spec (λ c. search needs) (λ c κs. search needs) (λ c. search needs) put-reply-requires
+    (tie.spec (λ c. search needs) (λ c κs. search needs) (λ c. search needs) put-reply-line-requires
     (λ c. search needs)
     returns)

@@ -1,12 +1,13 @@
 -- `may_give` meets its contract: its tests are the definition's, one by one.
 use borrow.Author.Needs.{needs}
-use Rattle.model.specs.Rules.{standsFor, derivesFor}
+use Rattle.model.specs.SideFacts.{stands-eq, derives-eq}
 use Rattle.simple.proofs.sides.may_give.Statement.{statement}
 use Rattle.simple.proofs.sides.may_give.Tie as tie
 
 returns : tie.Need-returns
-unfolding derivesFor standsFor
 returns c = rw (
+  derives-eq _ _ _,
+  stands-eq _ _ _,
   c .before .before .before .before .before .before .stands-on .ensures,
   c .fits-option
       .ensures,

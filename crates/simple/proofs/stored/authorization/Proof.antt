@@ -8,7 +8,7 @@ use denote.Ref.{now}
 use Rattle.model.specs.Encoding.{authorizationOf}
 use Rattle.model.specs.EncodingFacts.{sound-length}
 use Rattle.encoding.specs.Format.{countsOf, authorizationsAt}
-use Rattle.simple.proofs.Places.{placed, line-ends}
+use Rattle.simple.proofs.StoredPlaces.{placed, line-ends}
 use Rattle.simple.proofs.stored.authorization.Statement.{statement}
 use Rattle.simple.proofs.stored.authorization.Tie as tie
 

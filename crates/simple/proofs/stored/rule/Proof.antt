@@ -8,7 +8,7 @@ use denote.Ref.{now}
 use Rattle.model.specs.Encoding.{ruleOf}
 use Rattle.model.specs.EncodingFacts.{sound-length}
 use Rattle.encoding.specs.Format.{countsOf, rulesAt}
-use Rattle.simple.proofs.Places.{placed, rule-ends}
+use Rattle.simple.proofs.StoredPlaces.{placed, rule-ends}
 use Rattle.simple.proofs.stored.rule.Statement.{statement}
 use Rattle.simple.proofs.stored.rule.Tie as tie
 

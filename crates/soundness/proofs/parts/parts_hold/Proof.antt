@@ -7,7 +7,7 @@ use lib.ListN.{length}
 use denote.Ref.{now}
 use Rattle.encoding.specs.Format.{countsFit}
 use Rattle.lookup.proofs.SoundBodies.{rest-long}
-use Rattle.encoding.proofs.Contents.{Within, within}
+use Rattle.encoding.proofs.Contents.{CountsWithin, within}
 use Rattle.soundness.proofs.Decoded.{format-length, format-counts, sound-asked}
 use Rattle.soundness.proofs.parts.parts_hold.Statement.{statement}
 use Rattle.soundness.proofs.parts.parts_hold.Tie as tie
@@ -15,7 +15,7 @@ use Rattle.soundness.proofs.parts.parts_hold.Tie as tie
 long : (c : tie.Start) → length (now (c .args .s)) ≡ 27936
 long c = format-length (now (c .args .s)) (c .pre)
 
-fitting : (c : tie.After-counts-of) → Within (c .counts-of .result)
+fitting : (c : tie.After-counts-of) → CountsWithin (c .counts-of .result)
 fitting c = within (c .counts-of .result) (ap countsFit (c .counts-of .ensures)
     ∙ format-counts (now (c .before .before .args .s)) (c .before .before .pre))
 

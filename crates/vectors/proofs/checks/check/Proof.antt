@@ -7,8 +7,8 @@ use Rattle.laws.specs.Created.{created}
 use Rattle.vectors.proofs.checks.check.Statement.{statement}
 use Rattle.vectors.proofs.checks.check.Tie as tie
 
-walk-requires : tie.Need-walk-requires
-walk-requires c κs = (
+check-lines-requires : tie.Need-check-lines-requires
+check-lines-requires c κs = (
   c .before .before .before .create .ensures .1 ∙ created (replicate 27936 0)
       (length-replicate {A = ℕ} 27936 0),
   search needs,
@@ -17,5 +17,6 @@ walk-requires c κs = (
 pub check-spec : {M : Type 1} → statement M
 check-spec =
     tie.close
-    (tie.spec (λ c. search needs) (λ c κs. search needs) (λ c. search needs) walk-requires (λ c. search needs)
+    (tie.spec (λ c. search needs) (λ c κs. search needs) (λ c. search needs) check-lines-requires
+    (λ c. search needs)
     (λ c. search needs))

@@ -5,12 +5,12 @@ use denote.Ref.{now}
 use native.Mathlib.Omega.{arith}
 use Prim.Native.Nat.{_-_}
 use lib.ListN.{length}
-use Rattle.vectors.proofs.LineWalks.{Walks, walk-start, walk-byte, walk-ended, walk-whole}
+use Rattle.vectors.proofs.LineWalks.{TextWalk, walk-start, walk-byte, walk-ended, walk-whole}
 use Rattle.vectors.proofs.lines.line_at.Statement.{statement}
 use Rattle.vectors.proofs.lines.line_at.Tie as tie
 
 abbrev Inv-loop : tie.InvT-loop
-Inv-loop text from i₀ i = Walks text from i
+Inv-loop text from i₀ i = TextWalk text from i
 
 abbrev μ-loop : tie.MeasureT-loop
 μ-loop text from i₀ i = length text - i

@@ -5,7 +5,7 @@ use denote.Ref.{now}
 use Prim.Native.Nat.{ℕ}
 use mathlib.Core.Path.{refl, sym, _∙_, subst}
 use mathlib.Core.List.{List}
-use Rattle.serving.specs.Turns.{Turned}
+use Rattle.serving.specs.LineTurns.{Turned}
 use Rattle.vectors.proofs.LineWalks.{marked-long, leads-opens, leads-asks, leads-other}
 use Rattle.vectors.proofs.stages.advance.Statement.{statement}
 use Rattle.vectors.proofs.stages.advance.Tie as tie

@@ -11,7 +11,7 @@ use Rattle.model.specs.declared.Authorization.{Authorization}
 use Rattle.model.specs.Encoding.{authorizationOf}
 use Rattle.support.specs.Hops.{rootsIn}
 use Rattle.encoding.specs.Format.{authorizationsIn}
-use Rattle.foundation.specs.Records.{rest, rest-all, rest-step, rest-end}
+use Rattle.foundation.specs.ByteRecords.{rest, rest-all, rest-step, rest-end}
 use Rattle.pieces.specs.Cuts.{behindAll}
 use Rattle.withdrawal.proofs.TurnFacts.{turns-at, turns-full}
 use Rattle.withdrawal.proofs.Walks.{Walk, walk-start, walk-pos, walk-end, walk-next, walk-full}

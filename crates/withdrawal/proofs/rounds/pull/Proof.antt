@@ -3,7 +3,7 @@ use Rattle.withdrawal.proofs.rounds.pull.Statement.{statement}
 use Rattle.withdrawal.proofs.rounds.pull.Tie as tie
 
 returns : tie.Need-returns
-returns c = rw (c .before .if1 .taken) (c .earlier .ensures)
+returns c = rw (c .before .if1 .taken) (c .lesser .ensures)
 
 returns-2 : tie.Need-returns-2
 returns-2 c = rw (c .if1 .left)

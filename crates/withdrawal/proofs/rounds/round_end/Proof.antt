@@ -11,7 +11,7 @@ use Rattle.fields.proofs.ByteLaws.{le-at}
 use Rattle.model.specs.declared.Authorization.{Authorization}
 use Rattle.model.specs.Encoding.{authorizationOf}
 use Rattle.encoding.specs.Format.{authorizationsIn}
-use Rattle.foundation.specs.Records.{rest, rest-all, rest-step, rest-end}
+use Rattle.foundation.specs.ByteRecords.{rest, rest-all, rest-step, rest-end}
 use Rattle.withdrawal.specs.Times.{endOf, pullOf, raiseOf}
 use Rattle.withdrawal.proofs.TimeFacts.{end-cons, end-nil}
 use Rattle.withdrawal.proofs.rounds.round_end.Statement.{statement}

@@ -12,8 +12,8 @@ use Rattle.foundation.specs.Tests.{pick}
 use Rattle.model.specs.declared.Authorization.{Authorization}
 use Rattle.model.specs.Encoding.{authorizationOf}
 use Rattle.encoding.specs.Format.{authorizationsIn}
-use Rattle.foundation.specs.Records.{rest, rest-step, rest-end, drop-records}
-use Rattle.withdrawal.specs.Turns.{pieceOf, leading}
+use Rattle.foundation.specs.ByteRecords.{rest, rest-step, rest-end, drop-records}
+use Rattle.withdrawal.specs.RoundTurns.{pieceOf, leading}
 use Rattle.withdrawal.proofs.rounds.skip.Statement.{statement}
 use Rattle.withdrawal.proofs.rounds.skip.Tie as tie
 

@@ -4,10 +4,10 @@ use denote.Ref.{now}
 use Rattle.model.specs.Encoding.{authorizationOf}
 use Rattle.encoding.specs.Format.{authorizationsIn}
 use Rattle.foundation.specs.Lists.{placed}
-use Rattle.foundation.specs.Records.{length-records}
-use Rattle.pieces.specs.Building.{Body}
+use Rattle.foundation.specs.ByteRecords.{length-records}
+use Rattle.pieces.specs.Building.{BuiltBody}
 use Rattle.pieces.proofs.BodyFacts.{makes-lines, makes-full, placed-more}
-use Rattle.pieces.specs.Parts.{partsOf}
+use Rattle.pieces.specs.CutParts.{partsOf}
 use Rattle.withdrawal.proofs.TurnFacts.{turn-full, turn-in, turn-by, turn-out}
 use Rattle.withdrawal.proofs.rounds.take_turn.Statement.{statement}
 use Rattle.withdrawal.proofs.rounds.take_turn.Tie as tie
@@ -18,7 +18,7 @@ went-in : (c : tie.After-k) →
     let cₜ = c₁ .before .before .before in
     let a = cₜ .before .before .before .before .before .before .before .before .before .args in
     let os = authorizationsIn (a .m) (now (a .out)) in
-    Body (c .k .given .0 .0)
+    BuiltBody (c .k .given .0 .0)
     (placed (a .pos) (partsOf (cₜ .taken .result) (cₜ .before .is-root .result) os (a .a)) os)
     (c₁ .put-pieces .last .0) (c₁ .put-pieces .last .1 .0))
 went-in c =

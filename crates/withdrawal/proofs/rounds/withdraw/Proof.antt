@@ -10,10 +10,10 @@ use denote.Ref.{now}
 use Rattle.model.specs.declared.Head.{Head}
 use Rattle.support.specs.Hops.{rootsIn}
 use Rattle.encoding.specs.Format.{authorizationsIn}
-use Rattle.pieces.specs.Building.{Body}
+use Rattle.pieces.specs.Building.{BuiltBody}
 use Rattle.pieces.proofs.BodyFacts.{makes-lines, makes-full}
 use Rattle.withdrawal.proofs.TimeFacts.{end-le, end-above, end-ordered}
-use Rattle.withdrawal.specs.Rounds.{stayers}
+use Rattle.withdrawal.specs.WithdrawalRounds.{stayers}
 use Rattle.withdrawal.proofs.Walks.{rounds-start, rounds-end, rounds-full}
 use Rattle.withdrawal.proofs.Instants.{granted-below}
 use Rattle.withdrawal.proofs.rounds.withdraw.Statement.{statement}
@@ -24,7 +24,7 @@ Inv-loop owners no' administrators na s n c out₀ sorted₀ m₀ t₀ out sorte
     (t ≤ 4294967296)
     × (length out ≡ length out₀)
     × (length sorted ≡ length sorted₀)
-    × Body m (stayers (rootsIn no' owners na administrators) c (authorizationsIn n s) t) out sorted
+    × BuiltBody m (stayers (rootsIn no' owners na administrators) c (authorizationsIn n s) t) out sorted
 
 abbrev μ-loop : tie.MeasureT-loop
 μ-loop owners no' administrators na s n c out₀ sorted₀ m₀ t₀ out sorted m t = 4294967296 - t

@@ -1,0 +1,70 @@
+-- What an authorization gives: its instants as a word fit a field; and the tables that take it, by a mask.
+use mathlib.Core.Path.{_≡_, sym, ap, _∙_, subst}
+use mathlib.Core.Bool.{Bool, false, _&&_}
+use mathlib.Core.List.{List, [], _∷_, _++_}
+use Prim.Native.Nat.{ℕ, zero, suc, _+_, _/_, _^_, _≤_, _<_}
+use native.Mathlib.Nat.{div-div-eq-div-mul, div-lt-iff-lt-mul, div-le-self, lt-of-lt-of-le}
+use native.Mathlib.Numerals.{add-one}
+use native.Mathlib.Omega.{arith}
+use lib.ListN.{length, getD}
+use lib.Pow.{pow-pos, pow-add, pow-mono}
+use Rattle.foundation.specs.declared.Interval.{Interval}
+use Rattle.foundation.specs.Intervals.{inInterval}
+use Rattle.foundation.specs.Tests.{le-false}
+use Rattle.foundation.specs.BitMasks.{asBit, bit}
+use Rattle.model.specs.declared.Authorization.{Authorization}
+use Rattle.model.specs.declared.Head.{Head}
+use Rattle.words.specs.Bits.{no-bits}
+use Rattle.windows.specs.Windows.{inside}
+use Rattle.relevance.specs.Chosen.{authorizationAt, picked, picked-none, picked-more}
+use Rattle.tables.specs.TableGiving.{tableTakes}
+use Rattle.facts.specs.Facts.{Setting, fitsRule, takenBy, LineStep, LineSteps, none, then}
+
+-- ---- the instants
+
+-- a word with no bit from the n-th on is below 2^n
+below-power : (n x : ℕ) → x < 18446744073709551616 → ((i : ℕ) → n ≤ i → bit i x ≡ false) → x < 2 ^ n
+below-power n x h z =
+    let q : x / 2 ^ n ≡ 0 = no-bits 64 (x / 2 ^ n) (omega (arith, div-le-self x (2 ^ n))) (λ i m.
+    rw (div-div-eq-div-mul x (2 ^ n) (2 ^ i), ← pow-add 2 n i) (z (n + i) (omega arith))) in
+    omega (arith, div-lt-iff-lt-mul {k = 2 ^ n} {x = x} {y = 1} (pow-pos n) .0 (omega arith))
+
+pub span-fits : (n k v : ℕ) (ms : List ℕ) (i : Interval) → v < 18446744073709551616 → n ≤ 2 ^ k →
+    ((j : ℕ) → bit j v ≡ inside n ms i j) → v < 2 ^ (2 ^ k)
+span-fits n k v ms i h l e = lt-of-lt-of-le (below-power n v h (λ j m.
+    e j ∙ ap (λ (b : Bool). b && inInterval i (getD ms j 0)) (le-false (suc j) n (omega arith)))) (pow-mono l)
+
+-- ---- who takes it
+
+-- the tables, by a mask
+pub takes-mask : (body : List ℕ) (choosy : ℕ) (h : Head) (sign takers : ℕ) → sign ≡ asBit (h .negative) →
+    ((c : ℕ) → bit c takers ≡ bit c choosy && fitsRule body h c) →
+    tableTakes sign takers ≡ takenBy body choosy h
+takes-mask body choosy h sign takers s e i d = go d i
+  where
+    go : (d : ℕ) → tableTakes sign takers d ≡ takenBy body choosy h d
+    go zero = rw s
+    go (suc zero) = rw s
+    go (suc (suc c)) = e c
+
+-- ---- rows of steps
+
+module _ {e : Setting} where
+  -- one more
+  steps-more : {l : List Authorization} {u v w : List ℕ} (a : Authorization) → LineSteps e l u v →
+      LineStep e a v w → LineSteps e (l ++ (a ∷ [])) u w
+  steps-more a none s = then s none
+  steps-more a (then t rest) s = then t (steps-more a rest s)
+
+  pub picked-start : (lines which : List ℕ) {w : List ℕ} → LineSteps e (picked lines which 0) w w
+  picked-start lines which {w} =
+      subst (λ (l : List Authorization). LineSteps e l w w) (sym (picked-none lines which)) none
+
+  pub picked-turn : (lines which : List ℕ) (i : ℕ) {u v w : List ℕ} (a : Authorization) → i < length which →
+      a ≡ authorizationAt lines (getD which i 0) → LineSteps e (picked lines which i) u v → LineStep e a v w →
+      LineSteps e (picked lines which (i + 1)) u w
+  picked-turn lines which i {u} {v} {w} a h q row s =
+      let p : picked lines which i ++ (a ∷ []) ≡ picked lines which (i + 1) =
+      ap (λ (b : Authorization). picked lines which i ++ (b ∷ [])) q
+      ∙ sym (picked-more lines which i h) ∙ ap (picked lines which) (sym (add-one i)) in
+      subst (λ (l : List Authorization). LineSteps e l u w) p (steps-more a row s)

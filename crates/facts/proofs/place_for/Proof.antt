@@ -1,0 +1,91 @@
+-- The pair of the coordinates has its number.
+use borrow.Author.Needs.{needs}
+use native.Mathlib.Omega.{arith}
+use mathlib.Core.Path.{ap}
+use Prim.Native.Nat.{_+_, _*_, _-_}
+use denote.Ref.{now}
+use lib.ListN.{getD}
+use Rattle.relevance.specs.declared.choice.Cell.{Cell}
+use Rattle.facts.proofs.place_for.Statement.{statement}
+use Rattle.facts.proofs.place_for.Tie as tie
+
+mul-j : tie.Need-mul-j
+mul-j c =
+    let e = c .before .before in
+    let s = e .before .before in
+    let g = s .args .g in
+    omega (
+      arith,
+      ap (λ (r : Cell). r .object * g .subjects + r .subject) (e .cell-of .ensures .0),
+      s .pre .1,
+      s .pre .2,
+    )
+
+add-j : tie.Need-add-j
+add-j c =
+    let e = c .before .before .before in
+    let s = e .before .before in
+    let g = s .args .g in
+    omega (
+      arith,
+      ap (λ (r : Cell). r .object * g .subjects + r .subject) (e .cell-of .ensures .0),
+      s .pre .1,
+      s .pre .2,
+    )
+
+cast-j : tie.Need-cast-j
+cast-j c =
+    let e = c .before .before .before in
+    let s = e .before .before in
+    let g = s .args .g in
+    omega (
+      arith,
+      ap (λ (r : Cell). r .object * g .subjects + r .subject) (e .cell-of .ensures .0),
+      s .pre .1,
+      s .pre .2,
+    )
+
+mul-t11 : tie.Need-mul-t11
+mul-t11 c =
+    let e = c .before .before .before in
+    let s = e .before .before in
+    let g = s .args .g in
+    omega (
+      arith,
+      ap (λ (r : Cell). r .object * g .subjects + r .subject) (e .cell-of .ensures .0),
+      s .pre .1,
+      s .pre .2,
+    )
+
+shared-slice-read-t13 : tie.Need-shared-slice-read-t13
+shared-slice-read-t13 c =
+    let e = c .before .before .before .before in
+    let s = e .before .before in
+    let g = s .args .g in
+    omega (
+      arith,
+      ap (λ (r : Cell). r .object * g .subjects + r .subject) (e .cell-of .ensures .0),
+      s .pre .1,
+      s .pre .2,
+    )
+
+cast-t9 : tie.Need-cast-t9
+cast-t9 c =
+    let r = c .before .before .before .before .cell-of .result in
+    let g = c .before .before .before .before .before .before .args .g in
+    omega (arith, c .shared-slice-known2 .given (r .object * g .subjects + r .subject))
+
+returns : tie.Need-returns
+returns c =
+    let e = c .before .before .before .before .before in
+    let a = e .before .before .args in
+    ap (λ (r : Cell). record {
+      pair = getD (now (a .number)) (r .object * a .g .subjects + r .subject) 0;
+      point = record { subject = r .subject; mode = a .h .mode - 1; object = r .object };
+    }) (e .cell-of .ensures .0)
+
+pub place-for-spec : {M : Type 1} → statement M
+place-for-spec =
+    tie.close
+    (tie.spec (λ c κs. search needs) mul-j add-j cast-j mul-t11 shared-slice-read-t13 cast-t9
+    (λ c. search needs) (λ c. search needs) returns)

@@ -1,0 +1,59 @@
+-- Masks of rules: words whose bit r stands for rule r. And fields in words that are cleared.
+use mathlib.Core.Path.{_≡_, ap, _∙_}
+use mathlib.Core.Bool.{true}
+use mathlib.Core.List.{List}
+use Prim.Native.Nat.{ℕ, _+_, _*_, _/_, _%_, _^_, _≤_, _<_}
+use native.Mathlib.Nat.{zero-div, mod-eq-of-lt}
+use native.Mathlib.Omega.{arith}
+use lib.ListN.{length, getD}
+use lib.Pow.{pow-pos}
+use Rattle.foundation.specs.BitMasks.{bit}
+use Rattle.words.specs.Fields.{starts, fieldOf}
+use Rattle.reach.specs.Net.{standing}
+
+-- the bytes hold each rule of a mask
+abbrev pub RulesIn : ℕ → List ℕ → Type 0
+RulesIn rules body = (r : ℕ) → bit r rules ≡ true → (r < 64) × (r * 28 + 28 ≤ length body)
+
+-- rule r looks at none of the mask
+abbrev pub Alone : List ℕ → ℕ → ℕ → Type 0
+Alone feed rest r = (i : ℕ) → i < 64 → bit i (getD feed r 0) ≡ true → bit i rest ≡ true → ⊥
+
+-- r is a rule of the mask that looks at none of it, or is 64
+pub record RuleReady (feed : List ℕ) (rest r : ℕ) : Type 0 where
+  pub low : r ≤ 64
+  pub own : r < 64 → bit r rest ≡ true
+  pub alone : r < 64 → Alone feed rest r
+
+-- m has the rules that stand at an object and a subject with a bit that is needed, and none that does not
+-- stand on the object
+pub record StandsAt (left : List ℕ) (o s need m : ℕ) : Type 0 where
+  pub all : (k r : ℕ) → bit k need ≡ true → bit r (standing left o s k) ≡ true → bit r m ≡ true
+  pub only : (r : ℕ) → bit r m ≡ true → bit r (getD left o 0) ≡ true
+
+-- the code of a pair: 256 times its object and its subject, and what is needed there is in the table
+pub record PairCode (subjects size c : ℕ) : Type 0 where
+  pub object : c / 256 < 65
+  pub subject : c % 256 < 65
+  pub inside : c / 256 * subjects + c % 256 < size
+
+-- what is needed at a pair with a code
+abbrev pub needAt : List ℕ → ℕ → ℕ → ℕ
+needAt need subjects c = getD need (c / 256 * subjects + c % 256) 0
+
+-- m has the rules that stand at one of the first pairs with a bit that is needed there, and none that does
+-- not stand on the object of one
+pub record Needed (left need codes : List ℕ) (subjects pairs m : ℕ) : Type 0 where
+  pub all : (n k r : ℕ) → n < pairs → bit k (needAt need subjects (getD codes n 0)) ≡ true →
+      bit r (standing left (getD codes n 0 / 256) (getD codes n 0 % 256) k) ≡ true → bit r m ≡ true
+  pub only : (r : ℕ) → bit r m ≡ true →
+      (n : ℕ) × (n < pairs) × (bit r (getD left (getD codes n 0 / 256) 0) ≡ true)
+
+-- fields in words that are 0 are 0
+pub clear-fields : (k n : ℕ) (ws : List ℕ) → ((j : ℕ) → j < n → getD ws j 0 ≡ 0) → (i : ℕ) →
+    starts k i < 64 * n → fieldOf k ws i ≡ 0
+unfolding fieldOf
+clear-fields k n ws z i h =
+    let w : starts k i / 64 < n = omega arith in
+    ap (λ (x : ℕ). x / 2 ^ (starts k i % 64) % 2 ^ (2 ^ k)) (z (starts k i / 64) w)
+    ∙ ap (λ (x : ℕ). x % 2 ^ (2 ^ k)) (zero-div (2 ^ (starts k i % 64))) ∙ mod-eq-of-lt (pow-pos (2 ^ k))

@@ -1,0 +1,197 @@
+-- Tables of fields: each has a region of places and lies from its offset on, a field for each place of the
+-- region. Tables lie one behind the other (`TablesLaid`), so that a field belongs to one table and one place
+-- (`field-apart`).
+use mathlib.Core.Path.{_≡_, sym, ap, _∙_}
+use mathlib.Core.Bool.{Bool, true}
+use mathlib.Core.List.{List}
+use mathlib.Core.Logic.{_↔_}
+use Prim.Native.Nat.{ℕ, zero, suc, _+_, _*_, _≤_, _<_}
+use native.Mathlib.Nat.{mul-le-mul}
+use native.Mathlib.Omega.{arith}
+use lib.Count.{ones}
+use lib.Dec.{ltb}
+use lib.ListN.{getD}
+use Rattle.foundation.specs.Tests.{pick, cases, true-le, false-le}
+use Rattle.foundation.specs.BitMasks.{bit}
+use Rattle.places.specs.declared.Grid.{Grid}
+use Rattle.places.specs.declared.Region.{Region}
+use Rattle.places.specs.declared.Point.{Point}
+use Rattle.places.specs.Regions.{free, outerSize, modeSize, sizeOf, indexIn, Within, In}
+use Rattle.places.specs.Regions.{index-below, index-apart}
+
+-- ---- tables
+
+-- which numbers are tables, where each starts, and the region of each
+pub record Tables : Type 0 where
+  pub grid : Grid
+  pub there : ℕ → Bool
+  pub offset : ℕ → ℕ
+  pub region : ℕ → Region
+
+-- how many fields table c has
+abbrev pub sizeIn : Tables → ℕ → ℕ
+sizeIn t c = sizeOf (t .grid) (t .region c)
+
+-- the field of a place in table c, n being the number of its pair
+abbrev pub fieldIn : Tables → ℕ → ℕ → Point → ℕ
+fieldIn t c n x = t .offset c + indexIn (t .grid) (t .region c) n x
+
+-- the tables lie one behind the other, between two numbers
+pub record TablesLaid (t : Tables) (from to : ℕ) : Type 0 where
+  pub room : from ≤ to
+  pub low : (c : ℕ) → t .there c ≡ true → from ≤ t .offset c
+  pub high : (c : ℕ) → t .there c ≡ true → t .offset c + sizeIn t c ≤ to
+  pub behind : (c d : ℕ) → t .there c ≡ true → t .there d ≡ true → c < d →
+      t .offset c + sizeIn t c ≤ t .offset d
+
+-- two places have one pair exactly if their pairs have one number
+abbrev pub Paired : ℕ → Point → ℕ → Point → Type 0
+Paired n x m y = (n ≡ m) ↔ ((x .subject ≡ y .subject) × (x .object ≡ y .object))
+
+-- a place of the region of table c, n being the number of its pair
+pub record Has (t : Tables) (c n : ℕ) (x : Point) : Type 0 where
+  pub table : t .there c ≡ true
+  pub within : Within (t .grid) n x
+  pub inside : In (t .region c) x
+
+module _ (t : Tables) (from to : ℕ) (laid : TablesLaid t from to) where
+  pub field-below : (c n : ℕ) (x : Point) → Has t c n x → fieldIn t c n x < to
+  field-below c n x h =
+      omega (arith, laid .high c (h .table), index-below (t .grid) (t .region c) n x (h .within))
+
+  -- a field of a table lies before those of the tables behind it
+  before : (c d n m : ℕ) (x y : Point) → Has t c n x → Has t d m y → c < d → fieldIn t c n x < fieldIn t d m y
+  before c d n m x y h k l = omega (
+    arith,
+    laid .behind c d (h .table) (k .table) l,
+    index-below (t .grid) (t .region c) n x (h .within),
+  )
+
+  -- so one field is of one table
+  pub table-same : (c d n m : ℕ) (x y : Point) → Has t c n x → Has t d m y →
+      fieldIn t c n x ≡ fieldIn t d m y → c ≡ d
+  table-same c d n m x y h k e = cases (ltb c d)
+      (λ l. absurd (omega (arith, before c d n m x y h k (true-le (suc c) d l))))
+      (λ l. cases (ltb d c)
+      (λ g. absurd (omega (arith, before d c m n y x k h (true-le (suc d) c g))))
+      (λ g. omega (arith, false-le (suc c) d l, false-le (suc d) c g)))
+
+  -- and of one place
+  pub field-apart : (c d n m : ℕ) (x y : Point) → Has t c n x → Has t d m y →
+      (n ≡ m → (x .subject ≡ y .subject) × (x .object ≡ y .object)) → fieldIn t c n x ≡ fieldIn t d m y →
+      (c ≡ d) × (x .subject ≡ y .subject) × (x .object ≡ y .object) × (x .mode ≡ y .mode)
+  field-apart c d n m x y h k one e =
+      let q = table-same c d n m x y h k e in
+      let f : fieldIn t c n x ≡ fieldIn t c m y = e ∙ ap (λ (i : ℕ). fieldIn t i m y) (sym q) in
+      let j : In (t .region c) y = rw q (k .inside) in
+      let p = index-apart (t .grid) (t .region c) n m x y (h .within) (k .within) (h .inside) j one
+      (omega arith) in
+      (q, p .0, p .1, p .2)
+
+-- ---- the tables of rules
+
+-- the region whose codes stand with rule c
+abbrev pub regionAt : List ℕ → ℕ → Region
+regionAt codes c =
+    record {
+      subject = getD codes (4 * c + 1) 0;
+      mode = getD codes (4 * c + 2) 0;
+      object = getD codes (4 * c) 0;
+    }
+
+-- a table for each rule of a mask
+abbrev pub ruleTables : Grid → List ℕ → ℕ → List ℕ → Tables
+ruleTables g codes rules first =
+    record { grid = g; there = λ c. bit c rules; offset = λ c. getD first c 0; region = regionAt codes }
+
+-- how many fields the tables of the first c rules have
+unfoldable pub roomOf : Grid → List ℕ → ℕ → ℕ → ℕ
+roomOf g codes rules zero = 0
+roomOf g codes rules (suc c) =
+    roomOf g codes rules c + pick (bit c rules) (sizeOf g (regionAt codes c)) 0
+
+-- ---- sizes
+
+-- few subjects, objects and modes: 64 rules name at most 64 subjects and as many objects; there are 8 modes
+pub record SmallGrid (g : Grid) : Type 0 where
+  pub subjects : g .subjects ≤ 65
+  pub objects : g .objects ≤ 65
+  pub pairs : g .pairs ≤ 4225
+  pub modes : ones (g .modes) ≤ 8
+
+module _ (g : Grid) (small : SmallGrid g) where
+  outer-small : (b : Region) → outerSize g b ≤ 4225
+  outer-small b = cases (free (b .subject))
+      (λ s. cases (free (b .object))
+      (λ o. rw (s, o) (small .pairs))
+      (λ o. rw (s, o) (omega (arith, small .subjects))))
+      (λ s. cases (free (b .object))
+      (λ o. rw (s, o) (omega (arith, small .objects)))
+      (λ o. rw (s, o) (omega arith)))
+
+  mode-small : (b : Region) → modeSize g b ≤ 8
+  mode-small b = cases (free (b .mode)) (λ m. rw m (small .modes)) (λ m. rw m (omega arith))
+
+  pub size-small : (b : Region) → sizeOf g b ≤ 33800
+  unfolding sizeOf
+  size-small b = mul-le-mul (outer-small b) (mode-small b)
+
+  pub room-small : (codes : List ℕ) (rules c : ℕ) → roomOf g codes rules c ≤ c * 33800
+  unfolding roomOf
+  room-small codes rules zero = omega arith
+  room-small codes rules (suc c) = cases (bit c rules)
+      (λ e. rw e (omega (arith, room-small codes rules c, size-small (regionAt codes c))))
+      (λ e. rw e (omega (arith, room-small codes rules c)))
+
+-- ---- all tables
+
+-- the region of all places
+abbrev pub wholeRegion : Region
+wholeRegion = record { subject = 255; mode = 255; object = 255 }
+
+-- what is held is table 0, what is denied table 1, and table 2 + c is that of rule c
+abbrev pub isThere : ℕ → ℕ → Bool
+isThere choosy zero = true
+isThere choosy (suc zero) = true
+isThere choosy (suc (suc c)) = bit c choosy
+
+abbrev pub offsetOf : Grid → List ℕ → ℕ → ℕ
+offsetOf g first zero = 0
+offsetOf g first (suc zero) = sizeOf g wholeRegion
+offsetOf g first (suc (suc c)) = getD first c 0
+
+abbrev pub regionOf : List ℕ → ℕ → Region
+regionOf right zero = wholeRegion
+regionOf right (suc zero) = wholeRegion
+regionOf right (suc (suc c)) = regionAt right c
+
+abbrev pub allTables : Grid → List ℕ → ℕ → List ℕ → Tables
+allTables g right choosy first =
+    record { grid = g; there = isThere choosy; offset = offsetOf g first; region = regionOf right }
+
+-- they lie one behind the other if those of the rules do, behind the first two
+pub all-laid : (g : Grid) (right : List ℕ) (choosy : ℕ) (first : List ℕ) (to : ℕ) →
+    TablesLaid (ruleTables g right choosy first) (2 * sizeOf g wholeRegion) to →
+    TablesLaid (allTables g right choosy first) 0 to
+all-laid g right choosy first to l =
+    record { room = omega arith; low = λ c e. omega arith; high = high; behind = behind }
+  where
+    t : Tables
+    t = allTables g right choosy first
+
+    high : (c : ℕ) → t .there c ≡ true → t .offset c + sizeIn t c ≤ to
+    high zero e = omega (arith, l .room)
+    high (suc zero) e = omega (arith, l .room)
+    high (suc (suc c)) e = l .high c e
+
+    behind : (c d : ℕ) → t .there c ≡ true → t .there d ≡ true → c < d →
+        t .offset c + sizeIn t c ≤ t .offset d
+    behind zero zero e f h = absurd (omega arith)
+    behind zero (suc zero) e f h = omega arith
+    behind zero (suc (suc d)) e f h = omega (arith, l .low d f)
+    behind (suc zero) zero e f h = absurd (omega arith)
+    behind (suc zero) (suc zero) e f h = absurd (omega arith)
+    behind (suc zero) (suc (suc d)) e f h = omega (arith, l .low d f)
+    behind (suc (suc c)) zero e f h = absurd (omega arith)
+    behind (suc (suc c)) (suc zero) e f h = absurd (omega arith)
+    behind (suc (suc c)) (suc (suc d)) e f h = l .behind c d e f (omega arith)
