@@ -67,14 +67,27 @@ module _ (s : List ℕ) (q : Question) where
       (λ z. and-true (accessIn x) (isInstant (q .instant)) z .0)
       (λ z. and-intro (accessIn x) (isInstant (q .instant)) z i))
 
-  pub may-refused : soundBytes s ≡ true → isInstant (q .instant) ≡ true →
+  may-refused : soundBytes s ≡ true → isInstant (q .instant) ≡ true →
       firstNumber (accessRows (decode s) (q .access)) ≢ 0 →
       mayAnswer s q ≡ Refused (firstNumber (accessRows (decode s) (q .access)))
   may-refused e i n = may-rows e i ∙ turned-away (accessRows (decode s) (q .access)) Refused said n
 
-  pub may-answered : soundBytes s ≡ true → isInstant (q .instant) ≡ true →
+  may-answered : soundBytes s ≡ true → isInstant (q .instant) ≡ true →
       firstNumber (accessRows (decode s) (q .access)) ≡ 0 → mayAnswer s q ≡ said
   may-answered e i z = may-rows e i ∙ answered (accessRows (decode s) (q .access)) Refused said z
+
+-- MAY's reply, by the number n that rows 3 and 6 give
+module _ (s : List ℕ) (q : Question) (e : soundBytes s ≡ true) (i : isInstant (q .instant) ≡ true) (n : ℕ)
+    (rows : n ≡ firstNumber (accessRows (decode s) (q .access))) where
+  pub reply-refused : n ≢ 0 → Refused n ≡ mayAnswer s q
+  reply-refused some = ap Refused rows ∙ sym (may-refused s q e i (λ z. some (rows ∙ z)))
+
+  pub reply-asked : n ≡ 0 → accessIn (q .access) ≡ true
+  reply-asked none = asked-in (decode s) (q .access) (sym rows ∙ none)
+
+  pub reply-said : n ≡ 0 → {yes : Bool} {r : Reply} → yes ≡ may (decode s) (q .access) (q .instant) →
+      r ≡ mayReply yes → r ≡ mayAnswer s q
+  reply-said none said made = made ∙ ap mayReply said ∙ sym (may-answered s q e i (sym rows ∙ none))
 
 -- ---- WHEN
 

@@ -5,11 +5,13 @@ ghost use Rattle.model.specs.Encoding.{decode};
 ghost use Rattle.model.specs.Soundness.{soundBytes};
 ghost use Rattle.model.specs.Step.{firstNumber};
 ghost use Rattle.model.specs.Answers.{answering, mayReply, mayAnswer, whenAnswer};
+ghost use Rattle.queries.specs.HandedOn.{HandedOn};
 ghost use Rattle.answers.specs.AskingRows.{accessRows};
 use model::Access;
 use model::Question;
 use model::Reply;
 use queries::holds_at;
+use queries::holds_prepared;
 use queries::list_runs;
 
 // The first of rows 3 and 6 that applies, or 0.
@@ -47,6 +49,19 @@ pub fn may_sound(s: &[u8], q: Question) -> Reply
         return Reply::Refused(n);
     }
     may_reply(holds_at(s, x, q.instant))
+}
+
+// The same, by what was prepared of the base.
+pub fn may_prepared(s: &[u8], prepared: &[u64], q: Question) -> Reply
+    requires { ⌜ (soundBytes (now s) ≡ true) × HandedOn (now s) (now prepared) ⌝ }
+    ensures { λ r. ⌜ r ≡ mayAnswer (now (s .entry)) q ⌝ }
+{
+    let x = q.access;
+    let n = refusal_of(s, x);
+    if n != 0 {
+        return Reply::Refused(n);
+    }
+    may_reply(holds_prepared(s, prepared, x, q.instant))
 }
 
 // WHEN over a base that is known to be sound.

@@ -4,6 +4,7 @@ ghost use Rattle.model.specs.Answers.{answering, mayAnswer, whenAnswer};
 
 mod asking;
 
+pub use asking::may_prepared;
 pub use asking::may_sound;
 pub use asking::when_sound;
 use model::Access;

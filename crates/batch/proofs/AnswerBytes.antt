@@ -16,29 +16,29 @@ use Rattle.model.specs.BatchFacts.{batch-accepted, batch-written, batch-refused
 
 module _ (s : List ℕ) (qs : List Question) (out : List ℕ) where
   -- the bytes for the first n questions stand at the front
-  unfoldable pub filled : ℕ → List ℕ
-  filled n = paste out 0 (map (byteFor s) qs) n
+  unfoldable pub bytesFilled : ℕ → List ℕ
+  bytesFilled n = paste out 0 (map (byteFor s) qs) n
 
-  pub filled-none : out ≡ filled 0
-  unfolding filled
+  pub filled-none : out ≡ bytesFilled 0
+  unfolding bytesFilled
   filled-none = paste-zero out 0 (map (byteFor s) qs)
 
-  pub filled-length : (n : ℕ) → n ≤ length qs → n ≤ length out → length (filled n) ≡ length out
-  unfolding filled
+  pub filled-length : (n : ℕ) → n ≤ length qs → n ≤ length out → length (bytesFilled n) ≡ length out
+  unfolding bytesFilled
   filled-length n h k =
       length-paste out 0 (map (byteFor s) qs) n (omega arith) (rw (length-map qs (byteFor s)) h)
 
   pub filled-next : (d : Question) (i : ℕ) → i < length qs → i < length out →
-      set (filled i) i (byteFor s (getD qs i d)) ≡ filled (suc i)
-  unfolding filled
+      set (bytesFilled i) i (byteFor s (getD qs i d)) ≡ bytesFilled (suc i)
+  unfolding bytesFilled
   filled-next d i h k =
       let z : i ≡ 0 + i = omega arith in
       let f = byteFor s in
-      (λ j. set (filled i) (z j) (sym (List·getD-map f qs i d) j))
+      (λ j. set (bytesFilled i) (z j) (sym (List·getD-map f qs i d) j))
       ∙ paste-suc out 0 (map f qs) i (f d) (omega arith) (rw (length-map qs f) h)
 
-  filled-all : length qs ≤ length out → filled (length qs) ≡ map (byteFor s) qs ++ drop (length qs) out
-  unfolding filled
+  filled-all : length qs ≤ length out → bytesFilled (length qs) ≡ map (byteFor s) qs ++ drop (length qs) out
+  unfolding bytesFilled
   filled-all h =
       let f = byteFor s in
       let z : 0 + length qs ≡ length qs = omega arith in
@@ -47,7 +47,7 @@ module _ (s : List ℕ) (qs : List Question) (out : List ℕ) where
   -- a reply r to the call with which n questions are answered
   pub record Known (r n : ℕ) : Type 0 where
     pub refusal : r ≡ batchRefusal s (length qs) (length out)
-    pub bytes : filled n ≡ batchBytes s qs out
+    pub bytes : bytesFilled n ≡ batchBytes s qs out
     pub in-questions : n ≤ length qs
     pub in-room : n ≤ length out
     pub sound : 0 < n → soundBytes s ≡ true
@@ -61,7 +61,7 @@ module _ (s : List ℕ) (qs : List Question) (out : List ℕ) where
       let g : n ≡ length qs = f ∙ ap (λ (b : Bool). pick b (length qs) 0) t in
       record {
         refusal = e;
-        bytes = ap filled g ∙ filled-all (a .1) ∙ sym (batch-written s qs out z);
+        bytes = ap bytesFilled g ∙ filled-all (a .1) ∙ sym (batch-written s qs out z);
         in-questions = omega arith;
         in-room = omega arith;
         sound = λ h. a .0;
@@ -70,7 +70,8 @@ module _ (s : List ℕ) (qs : List Question) (out : List ℕ) where
       let g : n ≡ 0 = f ∙ ap (λ (b : Bool). pick b (length qs) 0) t in
       record {
         refusal = e;
-        bytes = ap filled g ∙ sym filled-none ∙ sym (batch-refused s qs out (λ z. false-eq r 0 t (e ∙ z)));
+        bytes = ap bytesFilled g ∙ sym filled-none
+            ∙ sym (batch-refused s qs out (λ z. false-eq r 0 t (e ∙ z)));
         in-questions = omega arith;
         in-room = omega arith;
         sound = λ h. absurd (omega arith);

@@ -6,7 +6,7 @@ ghost use lib.Dec.{eqb};
 ghost use lib.ListN.{length, drop};
 ghost use Rattle.foundation.specs.Tests.{pick};
 ghost use Rattle.model.specs.Soundness.{soundBytes};
-ghost use Rattle.batch.specs.Prepared.{TablePrepared};
+ghost use Rattle.queries.specs.HandedOn.{HandedOn};
 ghost use Rattle.model.specs.Batch.{replyByte, byteFor, batchRefusal, Batched, questionIn, questionsIn};
 use model::Access;
 use model::Question;
@@ -27,20 +27,24 @@ fn byte_of(r: Reply) -> u8
     }
 }
 
-// What is the same for all questions, worked out once where there are any: so far nothing.
-fn prepare(base: &[u8], questions: usize) -> [u64; 1]
+// What is the same for all questions, worked out once where there are any.
+fn prepare(base: &[u8], questions: usize) -> [u64; 684]
     requires { ⌜ (0 < questions → soundBytes (now base) ≡ true) ⌝ }
-    ensures { λ t. ⌜ (0 < questions → TablePrepared (now (base .entry)) t) ⌝ }
+    ensures { λ t. ⌜ (0 < questions → HandedOn (now (base .entry)) t) ⌝ }
 {
-    [0u64; 1]
+    let mut words = [0u64; 684];
+    if 0 < questions {
+        queries::prepare(base, &mut words);
+    }
+    words
 }
 
 // The byte for one question, over a base that is known to be sound.
 fn byte_for(base: &[u8], prepared: &[u64], q: Question) -> u8
-    requires { ⌜ (soundBytes (now base) ≡ true) × TablePrepared (now base) (now prepared) ⌝ }
+    requires { ⌜ (soundBytes (now base) ≡ true) × HandedOn (now base) (now prepared) ⌝ }
     ensures { λ r. ⌜ r ≡ byteFor (now (base .entry)) q ⌝ }
 {
-    byte_of(answers::may_sound(base, q))
+    byte_of(answers::may_prepared(base, prepared, q))
 }
 
 // The refusal of the whole call, or 0.

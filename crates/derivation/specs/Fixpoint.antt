@@ -65,8 +65,8 @@ module _ (base : Base) (count : ℕ) (ms : ℕ → ℕ) (pat : ℕ → Access �
       × ((i : ℕ) → i < count → bit i v ≡ true → bit i (W T x) ≡ true)
 
   -- and so for all words that the rule derives for
-  abbrev pub Shut : AccessWords → Rule → Type 0
-  Shut W r = (T : ℕ) (x : Access) → Kept T x → derivesFor base (pat T x) r ≡ true → ShutAt W r T x
+  abbrev pub NothingNew : AccessWords → Rule → Type 0
+  NothingNew W r = (T : ℕ) (x : Access) → Kept T x → derivesFor base (pat T x) r ≡ true → ShutAt W r T x
 
   -- that stays so while the words that the rule looks at do not change, and no bit is lost
   pub shut-stays : (W W′ : AccessWords) (r : Rule) (T : ℕ) (x : Access) →
@@ -136,7 +136,7 @@ module _ (base : Base) (s : stratified (base .rules) ≡ true) (count : ℕ) (ms
 
   module _ (few : k ≤ 2 * length (base .rules))
       (shut : (r : Rule) → Mem r (base .rules) → stratum (base .rules) r ≡ k →
-      Done base count ms pat Kept W r ⊎ Shut base count ms pat Kept W r) where
+      Done base count ms pat Kept W r ⊎ NothingNew base count ms pat Kept W r) where
     -- what a round derives is derived at last, and by a rule of this stratum or one below
     round-true : (n : ℕ) → n ≤ enough always base → (r : Rule) → Mem r (base .rules) → (x : Access) (u : ℕ) →
         stage n (fact r x u) ≡ true → (stratum (base .rules) r < suc k) × (truth base u r x ≡ true)
@@ -276,13 +276,13 @@ module _ (base : Base) (s : stratified (base .rules) ≡ true) (count : ℕ) (ms
         subst MadeAt p (made-at i (omega arith)))
 
     shut-given : (r : Rule) → Mem r (base .rules) → stratum (base .rules) r ≡ k →
-        Shut base count ms pat Kept W r → Done base count ms pat Kept W r
+        NothingNew base count ms pat Kept W r → Done base count ms pat Kept W r
     shut-given r m h f x T t d i g b =
         let u = f T x t d in u .2 i g (made-at i g r m h x (u .0) (u .1) b)
 
   -- every rule of the stratum has given what it derives
   pub shut-done : ((r : Rule) → Mem r (base .rules) → stratum (base .rules) r ≡ k →
-      Done base count ms pat Kept W r ⊎ Shut base count ms pat Kept W r) →
+      Done base count ms pat Kept W r ⊎ NothingNew base count ms pat Kept W r) →
       (r : Rule) → Mem r (base .rules) → stratum (base .rules) r ≡ k → Done base count ms pat Kept W r
   shut-done shut r m h = ⊎-elim (λ d. d)
       (shut-given (omega (arith, stratum-few (base .rules) s r m)) shut r m h) (shut r m h)

@@ -22,7 +22,7 @@ use Rattle.model.specs.SupportMarks.{interval-steady}
 use Rattle.model.specs.HoldsSteady.{marks-length}
 use Rattle.model.specs.Means.{boundaries, marksOf}
 use Rattle.model.specs.Rules.{fits, asked}
-use Rattle.marks.specs.Least.{Found, next-is}
+use Rattle.marks.specs.Least.{MarkOrNone, next-is}
 use Rattle.relevance.specs.declared.Chosen.{Chosen}
 use Rattle.relevance.specs.Chosen.{authorizationAt, picked, picked-none, picked-more, marksFor}
 use Rattle.direct.specs.Direct.{heldDirectly}
@@ -121,7 +121,7 @@ module _ (lines which body : List ℕ) (n t m : ℕ)
   pub among-ahead : t < 4294967296 → (t < m) × (m ≤ 4294967296)
   among-ahead h = (omega (arith, mark, next-above t ms 4294967296 h), bounded (next-is t 4294967296 ms))
     where
-      bounded : Found t 4294967296 ms (next t ms 4294967296) → m ≤ 4294967296
+      bounded : MarkOrNone t 4294967296 ms (next t ms 4294967296) → m ≤ 4294967296
       bounded (inl q) = omega (arith, mark, q)
       bounded (inr q) = omega (arith, mark, q .2)
 

@@ -22,14 +22,14 @@ mod records;
 mod rules;
 
 use edits::PrivilegeBody;
-use encoding::rule_of;
+use encoding::new_rule;
 use model::Request;
 use privileges::insert_in_order;
 use privileges::take_privilege;
-use records::authorization_of;
+use records::named_privilege;
+use records::new_authorization;
 use records::owner_of;
 use records::privilege_body_of;
-use records::privilege_of;
 pub use rules::drop_rules;
 
 // Sets the clock and the last label.
@@ -57,7 +57,7 @@ pub fn grant(s: &mut [u8], q: Request)
     let c = encoding::counts_of(s);
     let label = next_label(s);
     stamp(s, q.now, label);
-    edits::insert_authorization(s, c.authorizations as usize, authorization_of(q, label));
+    edits::insert_authorization(s, c.authorizations as usize, new_authorization(q, label));
 }
 
 // ADDRULE: a new rule behind the others, under the next label.
@@ -68,7 +68,7 @@ pub fn add_rule(s: &mut [u8], q: Request)
     let c = encoding::counts_of(s);
     let label = next_label(s);
     stamp(s, q.now, label);
-    edits::insert_rule(s, c.rules as usize, rule_of(q, label));
+    edits::insert_rule(s, c.rules as usize, new_rule(q, label));
 }
 
 // DROPRULE: the rule of the label is taken out.
@@ -95,7 +95,7 @@ pub fn grant_privilege(s: &mut [u8], q: Request)
     ensures { λ _. ⌜ now (s .exit) ≡ encode (effect plainly (decode (now (s .entry))) q) ⌝ }
 {
     edits::set_clock(s, q.now);
-    insert_in_order(s, privilege_body_of(q.kind), privilege_of(q));
+    insert_in_order(s, privilege_body_of(q.kind), named_privilege(q));
 }
 
 // REVOKEREF: the privilege is taken out, and with it the subject's rules with the object on the right, unless
@@ -104,7 +104,7 @@ pub fn revoke_referrer(s: &mut [u8], q: Request)
     requires { ⌜ Allowed (REVOKEREF ∷ []) (now s) q ⌝ }
     ensures { λ _. ⌜ now (s .exit) ≡ encode (effect plainly (decode (now (s .entry))) q) ⌝ }
 {
-    let p = privilege_of(q);
+    let p = named_privilege(q);
     let administers = lookup::administers(s, q.object, q.subject);
     edits::set_clock(s, q.now);
     take_privilege(s, PrivilegeBody::Referrers, p);
@@ -121,5 +121,5 @@ pub fn remove_administrator(s: &mut [u8], q: Request)
         ≡ encode (withAdministrators (without (q .object) (q .subject)
         (decode (now (s .entry)) .administrators)) (decode (now (s .entry)))) ⌝ }
 {
-    take_privilege(s, PrivilegeBody::Administrators, privilege_of(q));
+    take_privilege(s, PrivilegeBody::Administrators, named_privilege(q));
 }

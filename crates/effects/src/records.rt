@@ -16,7 +16,7 @@ use model::REVOKEADM;
 use model::Request;
 
 // The authorization that a grant or denial makes under a label.
-pub fn authorization_of(q: Request, label: u16) -> Authorization
+pub fn new_authorization(q: Request, label: u16) -> Authorization
     requires { ⌜ AuthorizationFits (authorization (newHead label q) (q .interval)) ⌝ }
     ensures { λ r. ⌜ r ≡ authorization (newHead label q) (q .interval) ⌝ }
 {
@@ -37,7 +37,7 @@ pub fn authorization_of(q: Request, label: u16) -> Authorization
 }
 
 // The privilege that a request names.
-pub fn privilege_of(q: Request) -> Privilege
+pub fn named_privilege(q: Request) -> Privilege
     requires { ⌜ PrivilegeFits (privilege (q .object) (q .subject)) ⌝ }
     ensures { λ r. ⌜ r ≡ privilege (q .object) (q .subject) ⌝ }
 {

@@ -34,8 +34,8 @@ pub use heading::referrers_at;
 pub use heading::rules_at;
 pub use insertion::insert_authorization;
 pub use insertion::insertion_index;
+pub use terms::new_rule;
 pub use terms::number_of;
-pub use terms::rule_of;
 
 // How many records each body has.
 pub struct Counts {

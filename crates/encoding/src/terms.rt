@@ -38,7 +38,7 @@ fn side_of(t: SideTerms) -> Side
 }
 
 // The rule that ADDRULE makes under a label.
-pub fn rule_of(q: Request, label: u16) -> Rule
+pub fn new_rule(q: Request, label: u16) -> Rule
     requires { ⌜ RuleFits (newRule label q) × (q .rule .operator < 256) ⌝ }
     ensures { λ r. ⌜ r ≡ newRule label q ⌝ }
 {

@@ -1,13 +1,13 @@
 -- What the steps of a window leave: words of instants that fit the fields (`active-low`), fields that are
 -- cleared (`all-clear`); and the evaluation, once all are done (`evaluated`).
-use mathlib.Core.Path.{_≡_, sym, ap, _∙_}
+use mathlib.Core.Path.{_≡_, refl, sym, ap, _∙_}
 use mathlib.Core.Bool.{Bool, true, false, _&&_, false≢true}
 use mathlib.Core.List.{List}
 use Prim.Native.Nat.{ℕ, zero, suc, _+_, _*_, _/_, _^_, _≤_, _<_}
 use native.Mathlib.Nat.{div-div-eq-div-mul, div-lt-iff-lt-mul, div-le-self, lt-of-lt-of-le, mul-le-mul-right}
 use native.Mathlib.Nat.{pow-succ'}
 use native.Mathlib.Omega.{arith}
-use lib.ListN.{getD}
+use lib.ListN.{length, getD, take}
 use lib.Pow.{pow-pos, pow-add, pow-mono}
 use Rattle.foundation.specs.Intervals.{inInterval}
 use Rattle.foundation.specs.Tests.{le-false}
@@ -19,9 +19,12 @@ use Rattle.words.specs.Fields.{fieldOf}
 use Rattle.windows.specs.Windows.{inside}
 use Rattle.derivation.specs.Words.{bit-zero}
 use Rattle.masks.specs.RuleMasks.{clear-fields}
-use Rattle.facts.specs.Facts.{Setting, LineSteps}
-use Rattle.grounding.specs.RuleTurns.{Prepared}
+use Rattle.sections.specs.Sections.{activeOf, numberOf}
+use Rattle.facts.specs.Facts.{Setting, settingIn, LinesReady, LineSteps}
+use Rattle.facts.specs.declared.WindowTask.{WindowTask}
+use Rattle.grounding.specs.RuleTurns.{Prepared, preparedIn, Able, wordsFor}
 use Rattle.engine.specs.Evaluation.{Low, RulesRan, Evaluation}
+use Rattle.engine.proofs.Sectioned.{setting-same, prepared-same}
 
 -- ---- instants
 
@@ -82,3 +85,44 @@ evaluated {e} {p} {needed = needed} {active} {cleared = cleared} {given} k acts 
       lines = steps;
       rules = ran;
     }
+
+-- ---- in tables that are as they were
+
+pub ready-as : {e e′ : Setting} {lines which which′ : List ℕ} {n a b : ℕ} → e′ ≡ e → which′ ≡ which → b ≡ a →
+    LinesReady e lines which n a → LinesReady e′ lines which′ n b
+ready-as p w q r = rw (p, w, q) r
+
+pub able-as : {p p′ : Prepared} {active : List ℕ} {w w′ b b′ r : ℕ} → p′ ≡ p → w′ ≡ w → b′ ≡ b →
+    Able p active w b r → Able p′ active w′ b′ r
+able-as p q s a = rw (p, q, s) a
+
+-- the instants of the rules stand in an outline v whose front is that of u
+module _ (w : WindowTask) (body coordinates need numbers marks u v y : List ℕ)
+    (same : take 408 v ≡ take 408 u)
+    (own : activeOf v ≡ y) (short : w .count ≤ 63) (fits : w .count ≤ 2 ^ w .frame .width)
+    (acts : (r j : ℕ) → bit r (w .chosen .needed) ≡ true →
+    bit j (getD y r 0) ≡ inside (w .count) marks (ruleAt body r .interval) j) where
+  acts-in : (r j : ℕ) → bit r (w .chosen .needed) ≡ true →
+      bit j (getD (activeOf v) r 0) ≡ inside (w .count) marks (ruleAt body r .interval) j
+  acts-in r j e = ap (λ (l : List ℕ). bit j (getD l r 0)) own ∙ acts r j e
+
+  pub low-in : Low (activeOf v) (w .chosen .needed) (w .frame .width)
+  low-in = active-low (w .count) marks body (w .chosen .needed) (w .frame .width) (activeOf v) short fits
+      acts-in
+
+  pub evaluated-in : {b : List ℕ} {lines lines′ : List Authorization} {n : ℕ}
+      {bits bits′ cleared cleared′ given given′ new : List ℕ} (k : ℕ) →
+      k ≡ wordsFor (w .frame .fields) (w .frame .width) → b ≡ body →
+      ((j : ℕ) → j < k → getD cleared j 0 ≡ 0) → cleared′ ≡ cleared → lines′ ≡ lines →
+      LineSteps (settingIn body w v coordinates (numberOf (length need) numbers) marks) lines′ cleared′ given
+      →
+      given′ ≡ given → bits′ ≡ bits →
+      RulesRan (preparedIn b v coordinates need numbers (w .frame)) n (w .chosen .needed) (activeOf v) bits′
+      given′ new →
+      Evaluation (settingIn body w u coordinates (numberOf (length need) numbers) marks)
+      (preparedIn body u coordinates need numbers (w .frame)) lines n (w .chosen .needed) (activeOf v) bits
+      new
+  evaluated-in {b} k size e clear c l steps g m ran =
+      evaluated k acts-in short fits size (λ j h. ap (λ (l : List ℕ). getD l j 0) c ∙ clear j h)
+      (rw (setting-same v u same body w coordinates (numberOf (length need) numbers) marks, l) at steps)
+      (rw (prepared-same v u same b body coordinates need numbers numbers (w .frame) e refl, g, m) at ran)

@@ -9,7 +9,7 @@ use Rattle.model.specs.declared.Access.{Access}
 use Rattle.model.specs.Base.{Base, controls}
 use Rattle.encoding.specs.Format.{ruleAt}
 use Rattle.questions.specs.OperatorSteps.{lasting}
-use Rattle.reach.specs.Net.{Closed}
+use Rattle.reach.specs.Net.{ClosedNet}
 use Rattle.places.specs.ReachedNumbers.{used, before, codeOf}
 use Rattle.tables.specs.TableLayout.{TablesLaid, ruleTables}
 use Rattle.tables.specs.TableGiving.{TablesReady}
@@ -51,7 +51,7 @@ pub record Drawn (holder : Base) (n : ℕ) (C : Chart) (asked : Access) (p : Pre
     pub feed : (choosy : ℕ) × FeedTable n (p .body) choosy (p .feed)
         × ((c : ℕ) → c < n → bit c choosy ≡ isChoosy (ruleAt (p .body) c))
     -- what is needed
-    pub closed : Closed (record { left = p .left; right = p .right; subjects = C .width }) (p .need)
+    pub closed : ClosedNet (record { left = p .left; right = p .right; subjects = C .width }) (p .need)
     pub size : length (p .need) ≡ C .height * C .width
     -- numbers of pairs and modes
     pub numbers : (length (p .number) ≡ length (p .need))

@@ -20,6 +20,13 @@ abbrev pub Low : List ℕ → ℕ → ℕ → Type 0
 Low active rules width = (r : ℕ) → bit r rules ≡ true →
     (getD active r 0 < 9223372036854775808) × (getD active r 0 < 2 ^ (2 ^ width))
 
+-- those of a mask have their turns stratum by stratum
+pub record StrataRan (p : Prepared) (n needed rest : ℕ) (active bits old new : List ℕ) : Type 0 where
+  pub strata : List ℕ
+  pub numbered : (r : ℕ) → bit r needed ≡ true →
+      getD strata r 0 ≡ stratum (selected needed (rulesIn n (p .body))) (ruleAt (p .body) r)
+  pub ran : Strata p active bits strata rest 0 old new
+
 -- the rules have their turns behind those that precede them, those that are left theirs stratum by stratum
 pub record RulesRan (p : Prepared) (n needed : ℕ) (active bits old new : List ℕ) : Type 0 where
   pub rest : ℕ

@@ -1,10 +1,10 @@
--- How far the walk from window to window is (`Going`), and a window further (`WindowPassed`).
+-- How far the walk from window to window is (`Going`).
 use mathlib.Core.Path.{_≡_}
 use mathlib.Core.Bool.{true}
 use mathlib.Core.List.{List}
 use Prim.Native.Nat.{ℕ, suc, _≤_, _<_}
 use lib.Dec.{leb}
-use lib.ListN.{length}
+use lib.ListN.{length, drop}
 use Rattle.foundation.specs.Tests.{pick}
 use Rattle.foundation.specs.Lists.{keepIf}
 use Rattle.model.specs.declared.Access.{Access}
@@ -16,7 +16,9 @@ use Rattle.relevance.specs.Forgotten.{endsFrom, during}
 use Rattle.scan.specs.Runs.{ScannedTo}
 use Rattle.tables.specs.declared.Frame.{Frame}
 use Rattle.outlines.specs.Coordinates.{Chart}
-use Rattle.grounding.specs.RuleTurns.{Prepared}
+use Rattle.sections.specs.Sections.{subjectsOf, objectsOf, whichOf}
+use Rattle.grounding.specs.RuleTurns.{Prepared, preparedIn, fieldsIn, bitsIn, SlicedIn}
+use Rattle.engine.specs.declared.WindowWalk.{WindowWalk}
 use Rattle.engine.specs.declared.Query.{Query}
 use Rattle.engine.specs.declared.walking.Progress.{Progress}
 use Rattle.engine.specs.Posed.{Walks}
@@ -29,6 +31,10 @@ chartOf subjects objects f = record {
   width = f .grid .subjects;
   height = f .grid .objects;
 }
+
+-- by the slices that hold the tables
+abbrev pub chartIn : List ℕ → Frame → Chart
+chartIn coordinates f = chartOf (subjectsOf coordinates) (objectsOf coordinates) f
 
 -- t, but no instant behind the one that follows `to`
 abbrev pub cappedAt : ℕ → ℕ → ℕ
@@ -62,9 +68,24 @@ pub record Going (lines : List ℕ) (c : Chosen) (lasting : ℕ) (q : Query) (C 
   pub words-size : length words ≡ length (o .words)
   pub bits-size : length bits ≡ length (o .bits)
 
--- a window further, whatever the walk started with
-abbrev pub WindowPassed : List ℕ → Chosen → ℕ → Query → Chart → Prepared → (which words bits list : List ℕ) →
-    Progress → (which′ words′ bits′ list′ : List ℕ) → Progress → Type 0
-WindowPassed lines c lasting q C p which words bits list s which′ words′ bits′ list′ r =
-    (o : Start) → Going lines c lasting q C p o which words bits list s →
-    (s .next < r .next) × Going lines c lasting q C p o which′ words′ bits′ list′ r
+-- ---- as the code has it
+
+module _ (records outline coordinates need numbers : List ℕ) where
+  -- what the slices hold for a walk
+  abbrev pub preparedFor : WindowWalk → Prepared
+  preparedFor w = preparedIn (drop (w .body) records) outline coordinates need numbers (w .frame)
+
+  module _ (work : List ℕ) (w : WindowWalk) where
+    abbrev pub WalksIn : Base → Access → Type 0
+    WalksIn = Walks records (whichOf (length need) numbers) (w .chosen) (w .lasting) (w .query)
+        (chartIn coordinates (w .frame)) (preparedFor w) (fieldsIn (w .frame) work) (bitsIn (w .frame) work)
+
+    abbrev pub GoingIn : List ℕ → Start → Progress → Type 0
+    GoingIn list o s = Going records (w .chosen) (w .lasting) (w .query) (chartIn coordinates (w .frame))
+        (preparedFor w) o (whichOf (length need) numbers) (fieldsIn (w .frame) work)
+        (bitsIn (w .frame) work) list s
+
+    -- they have room for it
+    pub record Roomy : Type 0 where
+      pub body : w .body ≤ length records
+      pub held : SlicedIn outline coordinates need numbers (w .frame) work

@@ -37,7 +37,7 @@ use Rattle.outlines.specs.NeededAccesses as outlines
 use Rattle.grounding.specs.RuleSteps.{brokenIn}
 use Rattle.grounding.specs.Meaning.{placeOf, wordsIn}
 use Rattle.grounding.specs.RuleTurns.{Prepared, turnIn, Able, Marked}
-use Rattle.grounding.specs.Order.{Stage, Staged, RightIn, DoneIn, turns-done, none-left}
+use Rattle.grounding.specs.Order.{WindowInputs, Staged, RightIn, DoneIn, turns-done, none-left}
 use Rattle.grounding.specs.Strata.{strata-done}
 use Rattle.grounding.specs.WindowAnswers.{may-exact}
 use Rattle.grounding.specs.Broken.{brokenTables, next-carried}
@@ -137,7 +137,7 @@ module _ {n : ℕ} {C : Chart} {own : Access} {p : Prepared} {needed words bits�
       (views : Views lines marks count) (size : length bits ≡ bits₀)
       (done : Evaluation (settingFor marks count) p lines n needed active bits new)
       (carried : CarriedAt (getD marks 0 0) bits) where
-    abbrev stage : Stage
+    abbrev stage : WindowInputs
     stage = record {
       prepared = p;
       base = base;

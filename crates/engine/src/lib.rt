@@ -3,13 +3,14 @@ mod walking;
 mod window;
 
 use model::Access;
+use relevance::Chosen;
 use scan::Track;
+use tables::Frame;
 use tables::Place;
-pub use walking::walk;
+pub use walking::walk_windows;
 
 // What is asked: the access that coordinate 0 stands for, the place of the asked access, from which instant
-// to
-// which, and whether the intervals are written down.
+// to which, and whether the intervals are written down.
 pub struct Query {
     pub own: Access,
     pub place: Place,
@@ -22,4 +23,15 @@ pub struct Query {
 pub struct Found {
     pub track: Track,
     pub yes: bool,
+}
+
+// A walk: what was chosen, where the bytes of the rules start behind those of the authorizations, the rules
+// that look back and how many broken bits they have, what is asked, and the frame of the tables.
+pub struct WindowWalk {
+    pub chosen: Chosen,
+    pub body: usize,
+    pub lasting: u64,
+    pub bits: u32,
+    pub query: Query,
+    pub frame: Frame,
 }

@@ -3,26 +3,31 @@ ghost use mathlib.Core.Path.{_≡_};
 ghost use mathlib.Core.Bool.{Bool, true};
 ghost use mathlib.Core.List.{List};
 ghost use Prim.Native.Nat.{ℕ, _^_, _≤_, _<_};
-ghost use lib.ListN.{getD};
+ghost use lib.ListN.{getD, take};
 ghost use Rattle.model.specs.Base.{Base};
 ghost use Rattle.model.specs.declared.Access.{Access};
 ghost use Rattle.windows.specs.Windows.{Rising};
 ghost use Rattle.scan.specs.Runs.{ScannedTo, Answered};
-ghost use Rattle.grounding.specs.RuleTurns.{prepared};
-ghost use Rattle.engine.specs.Posed.{Walks, Finds};
-ghost use Rattle.engine.specs.Going.{chartOf, Start, Going, WindowPassed};
+ghost use Rattle.engine.specs.Posed.{Finds};
+ghost use Rattle.engine.specs.Going.{Start, GoingIn, WalksIn, Roomy};
 use crate::Found;
-use crate::Query;
+use crate::WindowWalk;
 use crate::window::answers_in;
 use crate::window::evaluate;
+use facts::WindowTask;
+use grounding::Ending;
 use grounding::mark_broken;
 use masks::has_bit;
+use masks::words_for;
 use relevance::Chosen;
 use relevance::fill;
 use relevance::forget;
 use scan::Track;
 use scan::note_word;
-use tables::Frame;
+use sections::FIRST;
+use sections::RIGHT;
+use sections::STARTS;
+use sections::SUBJECTS;
 
 // How far the walk is: the next instant, the intervals so far, the answer at the last instant, and how many
 // authorizations are left.
@@ -65,55 +70,51 @@ fn noted(
     w
 }
 
+// A walk, and how far it is.
+pub struct WalkStage {
+    pub walk: WindowWalk,
+    pub progress: Progress,
+}
+
 // Goes through one window, and to the next instant behind it.
 fn pass_window(
-    lines: &[u8],
-    which: &mut [u16],
-    body: &[u8],
-    chosen: Chosen,
-    lasting: u64,
-    q: Query,
-    f: Frame,
-    subjects: &[u8; 1024],
-    objects: &[u8; 130],
-    left: &[u64; 152],
-    feed: &[u64; 128],
-    sides: &[u8; 256],
-    right: &[u8; 256],
+    records: &[u8],
+    g: WalkStage,
+    outline: &mut [u64],
+    coordinates: &[u8],
     need: &[u16],
-    codes: &[u16],
-    number: &[u16],
-    first: &[u32; 64],
-    starts: &[u32; 64],
-    words: &mut [u64],
-    bits: &mut [u64],
+    numbers: &mut [u16],
+    work: &mut [u64],
     list: &mut [u32],
-    s: Progress,
 ) -> Progress
-    requires { ⌜ ((o : Start) × Going (now lines) chosen lasting q (chartOf (now subjects) (now objects) f)
-        (prepared (now body) (now left) (now feed) (now sides) (now right) (now need) (now codes) (now number)
-        (now first) (now starts) f) o (now which) (now words) (now bits) (now list) s × (s .next ≤ q .to)) ⌝ }
-    ensures { λ r. ⌜ WindowPassed (now (lines .entry)) chosen lasting q
-        (chartOf (now (subjects .entry)) (now (objects .entry)) f)
-        (prepared (now (body .entry)) (now (left .entry)) (now (feed .entry)) (now (sides .entry))
-        (now (right .entry)) (now (need .entry)) (now (codes .entry)) (now (number .entry))
-        (now (first .entry)) (now (starts .entry)) f)
-        (now (which .entry)) (now (words .entry)) (now (bits .entry)) (now (list .entry)) s
-        (now (which .exit)) (now (words .exit)) (now (bits .exit)) (now (list .exit)) r ⌝ }
+    requires { ⌜ Roomy (now records) (now outline) (now coordinates) (now need) (now numbers) (now work)
+        (g .walk) × (g .progress .next ≤ g .walk .query .to)
+        × ((o : Start) × GoingIn (now records) (now outline) (now coordinates) (now need) (now numbers)
+        (now work) (g .walk) (now list) o (g .progress)) ⌝ }
+    ensures { λ r. ⌜ ((o : Start) → GoingIn (now (records .entry)) (now (outline .entry))
+        (now (coordinates .entry)) (now (need .entry)) (now (numbers .entry)) (now (work .entry)) (g .walk)
+        (now (list .entry)) o (g .progress) → (g .progress .next < r .next) × GoingIn (now (records .entry))
+        (now (outline .exit)) (now (coordinates .entry)) (now (need .entry)) (now (numbers .exit))
+        (now (work .exit)) (g .walk) (now (list .exit)) o r)
+        × (take 280 (now (outline .exit)) ≡ take 280 (now (outline .entry))) ⌝ }
 {
     let mut marks = [0u32; 63];
-    let mut active = [0u64; 64];
-    let own = q.own;
-    let place = q.place;
-    let mut k = s.left;
+    let w = g.walk;
+    let s = g.progress;
+    let q = w.query;
+    let f = w.frame;
+    let from = w.body;
+    let body = &records[from..];
+    let at = 2 * need.len();
+    let d = w.chosen;
     let c = Chosen {
-        authorizations: k,
-        rules: chosen.rules,
-        needed: chosen.needed,
+        authorizations: s.left,
+        rules: d.rules,
+        needed: d.needed,
     };
     let filled = fill(
-        lines,
-        which,
+        records,
+        &numbers[at..],
         body,
         c,
         s.next,
@@ -123,102 +124,85 @@ fn pass_window(
     );
     let count = filled.count;
     let next = filled.next;
-    let end = count - 1;
-    let at = end as u32;
+    let own = q.own;
+    let window = WindowTask {
+        chosen: c,
+        body: from,
+        own: own,
+        count: count,
+        frame: f,
+    };
     evaluate(
-        lines,
-        which,
-        body,
-        c,
-        own,
-        f,
-        subjects,
-        objects,
-        left,
-        feed,
-        sides,
-        right,
+        records,
+        window,
+        outline,
+        coordinates,
         need,
-        codes,
-        number,
-        first,
-        starts,
+        numbers,
         &marks,
-        count,
-        &mut active,
-        words,
-        bits,
+        work,
     );
-    let word = answers_in(f, place, words, right, first);
-    let yes = has_bit(word, at);
+    let k = words_for(f.fields, f.width);
+    let word = answers_in(
+        f,
+        q.place,
+        &work[..k],
+        &coordinates[RIGHT..SUBJECTS],
+        &outline[FIRST..STARTS],
+    );
+    let end = count - 1;
+    let latest = end as u32;
+    let yes = has_bit(word, latest);
     let track = noted(q.listing, list, s.track, &marks, count, word);
+    let mut left = s.left;
     if next <= q.to as u64 {
         let last = marks[end];
+        let e = Ending {
+            frame: f,
+            last: latest,
+            mark: last,
+        };
         mark_broken(
             body,
-            lasting,
-            f,
-            left,
-            feed,
-            sides,
-            right,
+            w.lasting,
+            e,
+            outline,
+            coordinates,
             need,
-            codes,
-            number,
-            first,
-            starts,
-            &active,
-            words,
-            bits,
-            at,
-            last,
+            numbers,
+            work,
         );
-        k = forget(lines, which, k, last);
+        left = forget(records, &mut numbers[at..], left, last);
     }
     Progress {
         next: next,
         track: track,
         yes: yes,
-        left: k,
+        left: left,
     }
 }
 
 // Walks from window to window, writes the intervals down if they are asked for, and tells the answer at the
 // last instant.
-pub fn walk(
-    lines: &[u8],
-    which: &mut [u16],
-    body: &[u8],
-    chosen: Chosen,
-    lasting: u64,
-    q: Query,
-    f: Frame,
-    subjects: &[u8; 1024],
-    objects: &[u8; 130],
-    left: &[u64; 152],
-    feed: &[u64; 128],
-    sides: &[u8; 256],
-    right: &[u8; 256],
+pub fn walk_windows(
+    records: &[u8],
+    w: WindowWalk,
+    outline: &mut [u64],
+    coordinates: &[u8],
     need: &[u16],
-    codes: &[u16],
-    number: &[u16],
-    first: &[u32; 64],
-    starts: &[u32; 64],
-    words: &mut [u64],
-    bits: &mut [u64],
+    numbers: &mut [u16],
+    work: &mut [u64],
     list: &mut [u32],
 ) -> Found
-    requires { ⌜ ((base : Base) × (x : Access) × Walks (now lines) (now which) chosen lasting q
-        (chartOf (now subjects) (now objects) f)
-        (prepared (now body) (now left) (now feed) (now sides) (now right) (now need) (now codes) (now number)
-        (now first) (now starts) f) (now words) (now bits) base x) ⌝ }
-    ensures { λ r. ⌜ ((base : Base) (x : Access) → Walks (now (lines .entry)) (now (which .entry)) chosen
-        lasting q (chartOf (now (subjects .entry)) (now (objects .entry)) f)
-        (prepared (now (body .entry)) (now (left .entry)) (now (feed .entry)) (now (sides .entry))
-        (now (right .entry)) (now (need .entry)) (now (codes .entry)) (now (number .entry))
-        (now (first .entry)) (now (starts .entry)) f) (now (words .entry)) (now (bits .entry)) base x →
-        Finds q base x r (now (list .entry)) (now (list .exit))) ⌝ }
+    requires { ⌜ Roomy (now records) (now outline) (now coordinates) (now need) (now numbers) (now work) w
+        × ((base : Base) × (x : Access) × WalksIn (now records) (now outline) (now coordinates) (now need)
+        (now numbers) (now work) w base x) ⌝ }
+    ensures { λ r. ⌜ ((base : Base) (x : Access) → WalksIn (now (records .entry)) (now (outline .entry))
+        (now (coordinates .entry)) (now (need .entry)) (now (numbers .entry)) (now (work .entry)) w base x →
+        Finds (w .query) base x r (now (list .entry)) (now (list .exit)))
+        × (take 280 (now (outline .exit)) ≡ take 280 (now (outline .entry))) ⌝ }
 {
+    let q = w.query;
     let to = q.to;
     let none = Track {
         count: 0,
@@ -229,33 +213,14 @@ pub fn walk(
         next: q.from as u64,
         track: none,
         yes: false,
-        left: chosen.authorizations,
+        left: w.chosen.authorizations,
     };
     while s.next <= to as u64 {
-        s = pass_window(
-            lines,
-            which,
-            body,
-            chosen,
-            lasting,
-            q,
-            f,
-            subjects,
-            objects,
-            left,
-            feed,
-            sides,
-            right,
-            need,
-            codes,
-            number,
-            first,
-            starts,
-            words,
-            bits,
-            list,
-            s,
-        );
+        let g = WalkStage {
+            walk: w,
+            progress: s,
+        };
+        s = pass_window(records, g, outline, coordinates, need, numbers, work, list);
     }
     let track = s.track;
     Found {

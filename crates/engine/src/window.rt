@@ -3,7 +3,7 @@ ghost use mathlib.Core.Path.{_≡_};
 ghost use mathlib.Core.Bool.{true, not, _&&_};
 ghost use mathlib.Core.List.{List};
 ghost use Prim.Native.Nat.{ℕ, _*_, _≤_, _<_};
-ghost use lib.ListN.{length};
+ghost use lib.ListN.{length, take, drop};
 ghost use Rattle.foundation.specs.BitMasks.{bit};
 ghost use Rattle.model.specs.Stratification.{stratified};
 ghost use Rattle.encoding.specs.Format.{rulesIn};
@@ -12,180 +12,163 @@ ghost use Rattle.tables.specs.TableLayout.{fieldIn};
 ghost use Rattle.tables.specs.TableGiving.{tablesOf, TablesReady};
 ghost use Rattle.words.specs.Fields.{fieldOf};
 ghost use Rattle.relevance.specs.Chosen.{picked, selected};
-ghost use Rattle.facts.specs.Facts.{setting, LinesReady};
-ghost use Rattle.grounding.specs.RuleTurns.{prepared, Able};
-ghost use Rattle.engine.specs.Evaluation.{Low, RulesRan, Evaluation};
+ghost use Rattle.sections.specs.Sections.{activeOf, numberOf, whichOf};
+ghost use Rattle.facts.specs.Facts.{settingIn, LinesReady};
+ghost use Rattle.grounding.specs.RuleTurns.{preparedIn, Able, fieldsIn, bitsIn, SlicedIn};
+ghost use Rattle.engine.specs.Evaluation.{Low, StrataRan, RulesRan, Evaluation};
+use facts::WindowTask;
 use facts::give_lines;
+use grounding::close;
 use grounding::derive_rules;
-use grounding::derive_strata;
 use masks::clear;
+use masks::of_stratum;
 use masks::spans;
 use masks::words_for;
-use model::Access;
-use relevance::Chosen;
+use sections::ACTIVE;
+use sections::OUTLINE;
 use selection::strata_of;
 use tables::Frame;
 use tables::Place;
 use tables::all_places;
 use tables::field_in;
 
+// Gives the rules that are left, on circles or behind them, their turns, stratum by stratum.
+fn derive_rest(
+    body: &[u8],
+    rest: u64,
+    w: WindowTask,
+    outline: &[u64],
+    coordinates: &[u8],
+    need: &[u16],
+    numbers: &[u16],
+    work: &mut [u64],
+)
+    requires { ⌜ ((r : ℕ) → bit r rest ≡ true → Able (preparedIn (now body) (now outline) (now coordinates)
+        (now need) (now numbers) (w .frame)) (activeOf (now outline))
+        (length (fieldsIn (w .frame) (now work))) (length (bitsIn (w .frame) (now work))) r)
+        × SlicedIn (now outline) (now coordinates) (now need) (now numbers) (w .frame) (now work) ⌝ }
+    requires { ⌜ ((r : ℕ) → bit r (w .chosen .needed) ≡ true → r < w .chosen .rules)
+        × (w .chosen .rules ≤ 64) × (w .chosen .rules * 28 ≤ length (now body))
+        × (stratified (selected (w .chosen .needed) (rulesIn (w .chosen .rules) (now body))) ≡ true) ⌝ }
+    ensures { λ _. ⌜ StrataRan (preparedIn (now (body .entry)) (now (outline .entry))
+        (now (coordinates .entry)) (now (need .entry)) (now (numbers .entry)) (w .frame)) (w .chosen .rules)
+        (w .chosen .needed) rest (activeOf (now (outline .entry))) (bitsIn (w .frame) (now (work .entry)))
+        (fieldsIn (w .frame) (now (work .entry))) (fieldsIn (w .frame) (now (work .exit)))
+        × (bitsIn (w .frame) (now (work .exit)) ≡ bitsIn (w .frame) (now (work .entry))) ⌝ }
+{
+    let c = w.chosen;
+    let f = w.frame;
+    let mut strata = [0u16; 65];
+    strata_of(body, c.rules, c.needed, &mut strata);
+    let mut todo = rest;
+    let mut k: u16 = 0;
+    while (todo != 0) & (k <= 128) {
+        let now = of_stratum(&strata, todo, k);
+        close(body, now, f, outline, coordinates, need, numbers, work);
+        todo = todo - (todo & now);
+        k += 1;
+    }
+}
+
 // Lets each rule that is needed have its turn behind those that precede it, and those that are left, as they
 // are on circles or behind them, theirs stratum by stratum.
 fn derive_all(
     body: &[u8],
-    c: Chosen,
-    f: Frame,
-    left: &[u64; 152],
-    feed: &[u64; 128],
-    sides: &[u8; 256],
-    right: &[u8; 256],
+    w: WindowTask,
+    outline: &[u64],
+    coordinates: &[u8],
     need: &[u16],
-    codes: &[u16],
-    number: &[u16],
-    first: &[u32; 64],
-    starts: &[u32; 64],
-    active: &[u64; 64],
-    words: &mut [u64],
-    bits: &[u64],
+    numbers: &[u16],
+    work: &mut [u64],
 )
-    requires { ⌜ ((r : ℕ) → bit r (c .needed) ≡ true → Able (prepared (now body) (now left) (now feed)
-        (now sides) (now right) (now need) (now codes) (now number) (now first) (now starts) f) (now active)
-        (length (now words)) (length (now bits)) r) ⌝ }
-    requires { ⌜ ((r : ℕ) → bit r (c .needed) ≡ true → r < c .rules) × (c .rules ≤ 64)
-        × (c .rules * 28 ≤ length (now body))
-        × (stratified (selected (c .needed) (rulesIn (c .rules) (now body))) ≡ true) ⌝ }
-    ensures { λ _. ⌜ RulesRan (prepared (now (body .entry)) (now (left .entry)) (now (feed .entry))
-        (now (sides .entry)) (now (right .entry)) (now (need .entry)) (now (codes .entry))
-        (now (number .entry)) (now (first .entry)) (now (starts .entry)) f)
-        (c .rules) (c .needed) (now (active .entry)) (now (bits .entry)) (now (words .entry))
-        (now (words .exit))
-        × (length (now (words .exit)) ≡ length (now (words .entry))) ⌝ }
+    requires { ⌜ ((r : ℕ) → bit r (w .chosen .needed) ≡ true → Able (preparedIn (now body) (now outline)
+        (now coordinates) (now need) (now numbers) (w .frame)) (activeOf (now outline))
+        (length (fieldsIn (w .frame) (now work))) (length (bitsIn (w .frame) (now work))) r)
+        × SlicedIn (now outline) (now coordinates) (now need) (now numbers) (w .frame) (now work) ⌝ }
+    requires { ⌜ ((r : ℕ) → bit r (w .chosen .needed) ≡ true → r < w .chosen .rules)
+        × (w .chosen .rules ≤ 64) × (w .chosen .rules * 28 ≤ length (now body))
+        × (stratified (selected (w .chosen .needed) (rulesIn (w .chosen .rules) (now body))) ≡ true) ⌝ }
+    ensures { λ _. ⌜ RulesRan (preparedIn (now (body .entry)) (now (outline .entry))
+        (now (coordinates .entry)) (now (need .entry)) (now (numbers .entry)) (w .frame)) (w .chosen .rules)
+        (w .chosen .needed) (activeOf (now (outline .entry))) (bitsIn (w .frame) (now (work .entry)))
+        (fieldsIn (w .frame) (now (work .entry))) (fieldsIn (w .frame) (now (work .exit)))
+        × (bitsIn (w .frame) (now (work .exit)) ≡ bitsIn (w .frame) (now (work .entry))) ⌝ }
 {
-    let rest = derive_rules(
-        body,
-        c.needed,
-        f,
-        left,
-        feed,
-        sides,
-        right,
-        need,
-        codes,
-        number,
-        first,
-        starts,
-        active,
-        words,
-        bits,
-    );
+    let c = w.chosen;
+    let f = w.frame;
+    let rest = derive_rules(body, c.needed, f, outline, coordinates, need, numbers, work);
     if rest != 0 {
-        let mut strata = [0u16; 65];
-        strata_of(body, c.rules, c.needed, &mut strata);
-        derive_strata(
-            body,
-            rest,
-            &strata,
-            f,
-            left,
-            feed,
-            sides,
-            right,
-            need,
-            codes,
-            number,
-            first,
-            starts,
-            active,
-            words,
-            bits,
-        );
+        derive_rest(body, rest, w, outline, coordinates, need, numbers, work);
     }
 }
 
 // Puts what holds at the instants of a window into the words, and the instants of each rule's interval into
-// `active`.
+// the outline.
 pub fn evaluate(
-    lines: &[u8],
-    which: &[u16],
-    body: &[u8],
-    c: Chosen,
-    own: Access,
-    f: Frame,
-    subjects: &[u8; 1024],
-    objects: &[u8; 130],
-    left: &[u64; 152],
-    feed: &[u64; 128],
-    sides: &[u8; 256],
-    right: &[u8; 256],
+    records: &[u8],
+    w: WindowTask,
+    outline: &mut [u64],
+    coordinates: &[u8],
     need: &[u16],
-    codes: &[u16],
-    number: &[u16],
-    first: &[u32; 64],
-    starts: &[u32; 64],
+    numbers: &[u16],
     marks: &[u32; 63],
-    count: usize,
-    active: &mut [u64; 64],
-    words: &mut [u64],
-    bits: &[u64],
+    work: &mut [u64],
 )
-    requires { ⌜ LinesReady (setting (now body) own (now subjects) (now objects) (now number) (now marks)
-        count f (now right) (now first)) (now lines) (now which) (c .authorizations) (length (now words)) ⌝ }
-    requires { ⌜ ((l : List ℕ) → Low l (c .needed) (f .width) → (r : ℕ) → bit r (c .needed) ≡ true →
-        Able (prepared (now body) (now left) (now feed) (now sides) (now right) (now need) (now codes)
-        (now number) (now first) (now starts) f) l (length (now words)) (length (now bits)) r) ⌝ }
-    requires { ⌜ ((r : ℕ) → bit r (c .needed) ≡ true → r < c .rules) × (c .rules ≤ 64)
-        × (c .rules * 28 ≤ length (now body))
-        × (stratified (selected (c .needed) (rulesIn (c .rules) (now body))) ≡ true)
-        × (length (now active) ≡ 64) ⌝ }
-    ensures { λ _. ⌜ Evaluation (setting (now (body .entry)) own (now (subjects .entry))
-        (now (objects .entry)) (now (number .entry)) (now (marks .entry)) count f (now (right .entry))
-        (now (first .entry)))
-        (prepared (now (body .entry)) (now (left .entry)) (now (feed .entry)) (now (sides .entry))
-        (now (right .entry)) (now (need .entry)) (now (codes .entry)) (now (number .entry))
-        (now (first .entry)) (now (starts .entry)) f)
-        (picked (now (lines .entry)) (now (which .entry)) (c .authorizations)) (c .rules) (c .needed)
-        (now (active .exit)) (now (bits .entry)) (now (words .exit))
-        × (length (now (words .exit)) ≡ length (now (words .entry))) × (length (now (active .exit)) ≡ 64) ⌝ }
+    requires { ⌜ LinesReady (settingIn (drop (w .body) (now records)) w (now outline) (now coordinates)
+        (numberOf (length (now need)) (now numbers)) (now marks)) (now records)
+        (whichOf (length (now need)) (now numbers)) (w .chosen .authorizations)
+        (length (fieldsIn (w .frame) (now work))) ⌝ }
+    requires { ⌜ ((l : List ℕ) → Low l (w .chosen .needed) (w .frame .width) → (r : ℕ) → bit r
+        (w .chosen .needed) ≡ true → Able (preparedIn (drop (w .body) (now records)) (now outline)
+        (now coordinates) (now need) (now numbers) (w .frame)) l (length (fieldsIn (w .frame) (now work)))
+        (length (bitsIn (w .frame) (now work))) r) ⌝ }
+    requires { ⌜ ((r : ℕ) → bit r (w .chosen .needed) ≡ true → r < w .chosen .rules)
+        × (w .chosen .rules ≤ 64) × (w .chosen .rules * 28 ≤ length (drop (w .body) (now records)))
+        × (stratified (selected (w .chosen .needed)
+        (rulesIn (w .chosen .rules) (drop (w .body) (now records)))) ≡ true)
+        × (w .body ≤ length (now records))
+        × SlicedIn (now outline) (now coordinates) (now need) (now numbers) (w .frame) (now work) ⌝ }
+    ensures { λ _. ⌜ Evaluation (settingIn (drop (w .body) (now (records .entry))) w (now (outline .entry))
+        (now (coordinates .entry)) (numberOf (length (now (need .entry))) (now (numbers .entry)))
+        (now (marks .entry))) (preparedIn (drop (w .body) (now (records .entry))) (now (outline .entry))
+        (now (coordinates .entry)) (now (need .entry)) (now (numbers .entry)) (w .frame)) (picked
+        (now (records .entry)) (whichOf (length (now (need .entry))) (now (numbers .entry)))
+        (w .chosen .authorizations)) (w .chosen .rules) (w .chosen .needed) (activeOf (now (outline .exit)))
+        (bitsIn (w .frame) (now (work .entry))) (fieldsIn (w .frame) (now (work .exit)))
+        × (bitsIn (w .frame) (now (work .exit)) ≡ bitsIn (w .frame) (now (work .entry)))
+        × (take 408 (now (outline .exit)) ≡ take 408 (now (outline .entry))) ⌝ }
 {
-    spans(body, c.rules, c.needed, marks, count, active);
-    clear(words, words_for(f.fields, f.width));
-    give_lines(
-        lines,
-        which,
-        c.authorizations,
+    let c = w.chosen;
+    let f = w.frame;
+    let from = w.body;
+    let k = words_for(f.fields, f.width);
+    let size = need.len();
+    let at = 2 * size;
+    let body = &records[from..];
+    spans(
         body,
-        own,
-        subjects,
-        objects,
-        number,
+        c.rules,
+        c.needed,
         marks,
-        count,
-        f,
-        right,
-        first,
-        words,
+        w.count,
+        &mut outline[ACTIVE..OUTLINE],
     );
-    derive_all(
-        body,
-        c,
-        f,
-        left,
-        feed,
-        sides,
-        right,
-        need,
-        codes,
-        number,
-        first,
-        starts,
-        active,
-        words,
-        bits,
+    clear(&mut work[..k], k);
+    give_lines(
+        records,
+        w,
+        outline,
+        coordinates,
+        &numbers[at..],
+        &numbers[..size],
+        marks,
+        &mut work[..k],
     );
+    derive_all(body, w, outline, coordinates, need, numbers, work);
 }
 
 // The answers at the instants of a window, once it is evaluated.
-pub fn answers_in(f: Frame, p: Place, words: &[u64], right: &[u8; 256], first: &[u32; 64]) -> u64
+pub fn answers_in(f: Frame, p: Place, words: &[u64], right: &[u8], first: &[u64]) -> u64
     requires { ⌜ TablesReady f (now right) (now first) (length (now words))
         × Within (f .grid) (p .pair) (p .point) ⌝ }
     ensures { λ r. ⌜ ((i : ℕ) → bit i r ≡ bit i (fieldOf (f .width) (now (words .entry))

@@ -18,8 +18,10 @@ use Rattle.windows.specs.Windows.{Rising, inside}
 use Rattle.places.specs.declared.Grid.{Grid}
 use Rattle.places.specs.Regions.{Within}
 use Rattle.masks.specs.RuleMasks.{RulesIn}
+use Rattle.sections.specs.Sections.{firstOf, rightsOf, subjectsOf, objectsOf}
 use Rattle.tables.specs.declared.Frame.{Frame}
 use Rattle.tables.specs.declared.Place.{Place}
+use Rattle.facts.specs.declared.WindowTask.{WindowTask}
 use Rattle.tables.specs.TableGiving.{tablesOf, TablesReady, TablesGiven}
 use Rattle.relevance.specs.Chosen.{authorizationAt, Picks}
 use Rattle.relevance.specs.Needed.{cellOf, HeadInRange}
@@ -73,6 +75,12 @@ setting body asked subjects objects number marks count frame right first = recor
   right = right;
   first = first;
 }
+
+-- that of a window, by the slices that hold the tables
+abbrev pub settingIn : (body : List ℕ) → WindowTask → (outline coordinates number marks : List ℕ) → Setting
+settingIn body w outline coordinates number marks =
+    setting body (w .own) (subjectsOf coordinates) (objectsOf coordinates) number marks (w .count) (w .frame)
+    (rightsOf coordinates) (firstOf outline)
 
 module _ (subjects objects : List ℕ) (x : Access) (g : Grid) where
   -- the code of the pair of what an authorization is about

@@ -3,12 +3,13 @@
 ghost use mathlib.Core.Path.{_≡_};
 ghost use mathlib.Core.Bool.{_&&_};
 ghost use Prim.Native.Nat.{ℕ, _≤_, _<_};
-ghost use lib.ListN.{length};
+ghost use lib.ListN.{length, drop};
 ghost use Rattle.foundation.specs.BitMasks.{bit};
+ghost use Rattle.sections.specs.Sections.{subjectsOf, objectsOf};
 ghost use Rattle.masks.specs.RuleMasks.{RulesIn};
 ghost use Rattle.relevance.specs.Chosen.{picked};
 ghost use Rattle.relevance.specs.Needed.{HeadInRange};
-ghost use Rattle.facts.specs.Facts.{fitsKind, fitsRule, setting, pairFor, placeFor};
+ghost use Rattle.facts.specs.Facts.{fitsKind, fitsRule, settingIn, pairFor, placeFor};
 ghost use Rattle.facts.specs.Facts.{Usable, HasPlace, LinesReady, LineStep, LineSteps};
 use encoding::authorization_at;
 use encoding::rule_at;
@@ -21,15 +22,30 @@ use model::RULE_BYTES;
 use model::Rule;
 use places::Grid;
 use places::Point;
+use relevance::Chosen;
 use relevance::cell_of;
 use relevance::sign_of;
 use rules::alike;
 use rules::fits_option;
+use sections::FIRST;
+use sections::RIGHT;
+use sections::STARTS;
+use sections::SUBJECTS;
 use tables::Frame;
 use tables::Place;
 use tables::give;
 use windows::span;
 use words::next_bit;
+
+// A window: what was chosen, where the bytes of the rules start behind those of the authorizations, the
+// access that coordinate 0 stands for, how many instants there are, and the frame of the tables.
+pub struct WindowTask {
+    pub chosen: Chosen,
+    pub body: usize,
+    pub own: Access,
+    pub count: usize,
+    pub frame: Frame,
+}
 
 // Whether sign, grantor and option of a rule's right side fit an authorization.
 fn fits_kind(h: Head, r: Rule) -> bool
@@ -58,20 +74,13 @@ fn takers_of(h: Head, body: &[u8], choosy: u64) -> u64
 }
 
 // The place of an authorization, x being asked.
-fn place_for(
-    h: Head,
-    x: Access,
-    subjects: &[u8; 1024],
-    objects: &[u8; 130],
-    number: &[u16],
-    g: Grid,
-) -> Place
-    requires { ⌜ HeadInRange h × (pairFor (now subjects) (now objects) x g h < length (now number))
-        × (length (now number) ≤ 4225) ⌝ }
-    ensures { λ r. ⌜ r
-        ≡ placeFor (now (subjects .entry)) (now (objects .entry)) x g (now (number .entry)) h ⌝ }
+fn place_for(h: Head, x: Access, coordinates: &[u8], number: &[u16], g: Grid) -> Place
+    requires { ⌜ HeadInRange h × (pairFor (subjectsOf (now coordinates)) (objectsOf (now coordinates)) x g h
+        < length (now number)) × (length (now number) ≤ 4225) × (1666 ≤ length (now coordinates)) ⌝ }
+    ensures { λ r. ⌜ r ≡ placeFor (subjectsOf (now (coordinates .entry)))
+        (objectsOf (now (coordinates .entry))) x g (now (number .entry)) h ⌝ }
 {
-    let c = cell_of(h, x, subjects, objects);
+    let c = cell_of(h, x, coordinates);
     let j = (c.object * g.subjects + c.subject) as usize;
     Place {
         pair: number[j] as u32,
@@ -87,77 +96,72 @@ fn place_for(
 fn give_line(
     a: Authorization,
     body: &[u8],
-    x: Access,
-    subjects: &[u8; 1024],
-    objects: &[u8; 130],
+    w: WindowTask,
+    outline: &[u64],
+    coordinates: &[u8],
     number: &[u16],
     marks: &[u32; 63],
-    count: usize,
-    f: Frame,
-    right: &[u8; 256],
-    first: &[u32; 64],
     words: &mut [u64],
 )
-    requires { ⌜ Usable (setting (now body) x (now subjects) (now objects) (now number) (now marks) count f
-        (now right) (now first)) (length (now words))
-        × HasPlace (setting (now body) x (now subjects) (now objects) (now number) (now marks) count f
-        (now right) (now first)) (a .head) ⌝ }
-    ensures { λ _. ⌜ LineStep (setting (now (body .entry)) x (now (subjects .entry)) (now (objects .entry))
-        (now (number .entry)) (now (marks .entry)) count f (now (right .entry)) (now (first .entry)))
+    requires { ⌜ Usable (settingIn (now body) w (now outline) (now coordinates) (now number) (now marks))
+        (length (now words))
+        × HasPlace (settingIn (now body) w (now outline) (now coordinates) (now number) (now marks)) (a .head)
+        × (length (now outline) ≡ 472) × (length (now coordinates) ≡ 1666) ⌝ }
+    ensures { λ _. ⌜ LineStep (settingIn (now (body .entry)) w (now (outline .entry))
+        (now (coordinates .entry)) (now (number .entry)) (now (marks .entry)))
         a (now (words .entry)) (now (words .exit)) ⌝ }
 {
     let h = a.head;
-    let v = span(marks, count, a.interval);
+    let f = w.frame;
+    let v = span(marks, w.count, a.interval);
     if v == 0 {
         return;
     }
-    let p = place_for(h, x, subjects, objects, number, f.grid);
+    let p = place_for(h, w.own, coordinates, number, f.grid);
     let takers = takers_of(h, body, f.choosy);
-    give(words, right, first, f, p, sign_of(h.negative), takers, v);
+    give(
+        words,
+        &coordinates[RIGHT..SUBJECTS],
+        &outline[FIRST..STARTS],
+        f,
+        p,
+        sign_of(h.negative),
+        takers,
+        v,
+    );
 }
 
-// Gives the tables the instants of each of the first n authorizations that `which` has the numbers of.
+// Gives the tables the instants of each of the authorizations that `which` has the numbers of. The rules
+// stand behind all authorizations.
 pub fn give_lines(
-    lines: &[u8],
+    records: &[u8],
+    w: WindowTask,
+    outline: &[u64],
+    coordinates: &[u8],
     which: &[u16],
-    n: usize,
-    body: &[u8],
-    x: Access,
-    subjects: &[u8; 1024],
-    objects: &[u8; 130],
     number: &[u16],
     marks: &[u32; 63],
-    count: usize,
-    f: Frame,
-    right: &[u8; 256],
-    first: &[u32; 64],
     words: &mut [u64],
 )
-    requires { ⌜ LinesReady (setting (now body) x (now subjects) (now objects) (now number) (now marks) count
-        f (now right) (now first)) (now lines) (now which) n (length (now words)) ⌝ }
-    ensures { λ _. ⌜ LineSteps (setting (now (body .entry)) x (now (subjects .entry)) (now (objects .entry))
-        (now (number .entry)) (now (marks .entry)) count f (now (right .entry)) (now (first .entry)))
-        (picked (now (lines .entry)) (now (which .entry)) n) (now (words .entry)) (now (words .exit))
+    requires { ⌜ LinesReady (settingIn (drop (w .body) (now records)) w (now outline) (now coordinates)
+        (now number) (now marks)) (now records) (now which) (w .chosen .authorizations) (length (now words))
+        × (w .body ≤ length (now records)) × (length (now outline) ≡ 472)
+        × (length (now coordinates) ≡ 1666) ⌝ }
+    ensures { λ _. ⌜ LineSteps (settingIn (drop (w .body) (now (records .entry))) w (now (outline .entry))
+        (now (coordinates .entry)) (now (number .entry)) (now (marks .entry)))
+        (picked (now (records .entry)) (now (which .entry)) (w .chosen .authorizations))
+        (now (words .entry)) (now (words .exit))
         × (length (now (words .exit)) ≡ length (now (words .entry))) ⌝ }
 {
+    let from = w.body;
+    let c = w.chosen;
+    let n = c.authorizations;
+    let body = &records[from..];
     let mut i = 0;
     while i < n {
         let at = which[i] as usize;
-        let a = authorization_at(lines, at * AUTHORIZATION_BYTES);
-        give_line(
-            a,
-            body,
-            x,
-            subjects,
-            objects,
-            number,
-            marks,
-            count,
-            f,
-            right,
-            first,
-            words,
-        );
+        let a = authorization_at(records, at * AUTHORIZATION_BYTES);
+        give_line(a, body, w, outline, coordinates, number, marks, words);
         i += 1;
     }
 }

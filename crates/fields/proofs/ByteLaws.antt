@@ -114,30 +114,6 @@ put-join v w at n s h =
     (ap (λ (i : ℕ). splice (at + i) (bytesOf w (n / 256 ^ v)) (splice at (bytesOf v n) s))
     (sym (length-bytesOf v n)) ∙ j)
 
--- the bytes before a splice, and those behind it, are as they were
-pub take-splice : (n at : ℕ) (bs s : List ℕ) → n ≤ at → at ≤ length s → take n (splice at bs s) ≡ take n s
-unfolding splice
-take-splice n at bs s h k =
-    let i : n ≤ length (take at s) = rw (length-take-le at s k) h in
-    rw (
-      append-assoc (take at s) bs (drop (at + length bs) s),
-      take-append-le n (take at s) (bs ++ drop (at + length bs) s),
-    ) (take-take n at s h)
-
-pub drop-splice-behind : (n at : ℕ) (bs s : List ℕ) → at + length bs ≤ n → at + length bs ≤ length s →
-    drop n (splice at bs s) ≡ drop n s
-unfolding splice
-drop-splice-behind n at bs s h k =
-    let p : List ℕ = take at s ++ bs in
-    let i : at ≤ length s = omega arith in
-    let e : length (take at s ++ bs) ≡ at + length bs = length-append (take at s) bs
-    ∙ ap (λ (m : ℕ). m + length bs) (length-take-le at s i) in
-    let m : ℕ = n - (at + length bs) in
-    let q : n ≡ at + length bs + (n - (at + length bs)) = omega arith in
-    ap (λ (x : ℕ). drop x (splice at bs s)) q ∙ sym (drop-drop m (at + length bs) (splice at bs s))
-    ∙ ap (drop m) (drop-at p (drop (at + length bs) s) (at + length bs) e) ∙ drop-drop m (at + length bs) s
-    ∙ ap (λ (x : ℕ). drop x s) (sym q)
-
 -- ---- moves
 
 suc-sub : {w j : ℕ} → w ≤ j → suc (j - w) ≡ suc j - w
@@ -266,26 +242,6 @@ splice-then at n a b s h l p q =
 -- a field of a record that starts at `at`
 pub le-at : (w : ℕ) (s : List ℕ) (at o : ℕ) → le w (drop (at + o) s) ≡ le w (drop o (drop at s))
 le-at w s at o = ap (le w) (sym (drop-drop o at s))
-
--- a record of w bytes at `at` becomes two: a gap is opened behind it, and both are written
-pub split-law : (w at to : ℕ) (ab s : List ℕ) → at + w + w ≤ to → to ≤ length s → length ab ≡ w + w
-    → splice at ab (gapped (at + w) to w s) ≡ take at s ++ ab
-    ++ (take (to - (at + w) - w) (drop (at + w) s) ++ drop to s)
-unfolding splice gapped
-split-law w at to ab s h k l =
-    let p : List ℕ = take (at + w + w) s in
-    let r : List ℕ = take (to - (at + w) - w) (drop (at + w) s) in
-    let j : at + w + w ≤ length s = omega arith in
-    let lp : length (take (at + w + w) s) ≡ at + length ab = length-take-le (at + w + w) s j
-    ∙ omega (arith, l) in
-    let q : at ≤ length (take (at + w + w) s) = omega (arith, lp) in
-    let e : at ≤ at + w + w = omega arith in
-    rw (
-      append-assoc p r (drop to s),
-      take-append-le at p (r ++ drop to s),
-      take-take at (at + w + w) s e,
-      drop-at p (r ++ drop to s) (at + length ab) lp,
-    )
 
 -- ---- tests of bytes, from the front
 

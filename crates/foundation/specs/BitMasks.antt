@@ -1,6 +1,6 @@
 -- The bits of a number, and tests of a list's members as one number, where bit i is what the i-th answers.
 -- The mask of one bit tests that bit (`mask-test`); bit i of a mask is the i-th answer (`mask-nth`, and for
--- records `mask-at`); a loop builds the mask of n records from the last to the first (`Built`).
+-- records `mask-at`); a loop builds the mask of n records from the last to the first (`MaskBuilt`).
 use mathlib.Core.Path.{_≡_, refl, sym, ap, _∙_}
 use mathlib.Core.Bool.{Bool, true, false}
 use mathlib.Core.List.{List, [], _∷_}
@@ -169,14 +169,14 @@ mask-at w f p n s i h =
 module _ {R : Type 0} (w : ℕ) (f : List ℕ → R) (p : R → Bool) (n : ℕ) (s : List ℕ) where
   -- a loop that builds the mask of n records from the last to the first: m is the mask of those from the i-th
   -- on
-  abbrev pub Built : ℕ → ℕ → Type 0
-  Built m i = m ≡ maskOf p (rest w f n s i)
+  abbrev pub MaskBuilt : ℕ → ℕ → Type 0
+  MaskBuilt m i = m ≡ maskOf p (rest w f n s i)
 
-  pub build-start : Built 0 n
+  pub build-start : MaskBuilt 0 n
   build-start = sym (ap (maskOf p) (rest-end w f n s n (omega arith)))
 
   -- one more bit fits
-  pub build-room : (m i : ℕ) (b : Bool) → 0 < i → n ≤ 64 → Built m i →
+  pub build-room : (m i : ℕ) (b : Bool) → 0 < i → n ≤ 64 → MaskBuilt m i →
       2 * m + boolByte b < 18446744073709551616
   build-room m i b h k e =
       let l : length (rest w f n s i) ≤ 63 = omega (arith, length-records w f (n - i) (drop (i * w) s)) in
@@ -184,11 +184,11 @@ module _ {R : Type 0} (w : ℕ) (f : List ℕ → R) (p : R → Bool) (n : ℕ) 
       lt-of-lt-of-le (mask-lt p (rest w f n s i)) (pow-le-pow-right {n = 2} (omega arith) l) in
       omega (arith, byte-bit b, bit-le b)
 
-  pub build-turn : (m i : ℕ) (b : Bool) → 0 < i → i ≤ n → Built m i → b ≡ p (f (drop ((i - 1) * w) s)) →
-      Built (2 * m + boolByte b) (i - 1)
+  pub build-turn : (m i : ℕ) (b : Bool) → 0 < i → i ≤ n → MaskBuilt m i → b ≡ p (f (drop ((i - 1) * w) s)) →
+      MaskBuilt (2 * m + boolByte b) (i - 1)
   build-turn m i b h l e g =
       let j : (i - 1) + 1 ≡ i = omega arith in
       rw (byte-bit b, g, e, rest-step w f n s (i - 1) (omega arith), j) (omega arith)
 
-  pub build-end : (m i : ℕ) → i ≡ 0 → Built m i → m ≡ maskOf p (records w f n s)
+  pub build-end : (m i : ℕ) → i ≡ 0 → MaskBuilt m i → m ≡ maskOf p (records w f n s)
   build-end m i z e = rw (← rest-all w f n s, ← z) e

@@ -8,7 +8,7 @@ use mathlib.Core.Bool.{Bool, true, false}
 use mathlib.Core.List.{List}
 use lib.ListN.{length}
 use Rattle.foundation.specs.Lists.{Mem}
-use Rattle.foundation.specs.Totals.{total, total-le, Gap}
+use Rattle.foundation.specs.Totals.{total, total-le, TotalGap}
 use Rattle.foundation.specs.BitMasks.{asBit, bit-le, bit-mono, bit-same}
 use Rattle.foundation.specs.Totals.{total-gap}
 use Rattle.foundation.specs.Totals.{still-after}
@@ -28,7 +28,7 @@ size-le S ks = omega (arith, total-le (λ k. asBit (S k)) 1 ks (λ k m. bit-le (
 
 -- S is part of Q on the keys: it is no larger, and smaller if some key is in Q only
 module _ {K : Type 0} (S Q : K → Bool) (ks : List K) (h : (k : K) → Mem k ks → S k ≡ true → Q k ≡ true) where
-  gap : Gap (λ k. asBit (S k)) (λ k. asBit (Q k)) ks
+  gap : TotalGap (λ k. asBit (S k)) (λ k. asBit (Q k)) ks
   gap = total-gap (λ k. asBit (S k)) (λ k. asBit (Q k)) ks (λ k m. bit-mono (S k) (Q k) (h k m))
 
   pub size-mono : size S ks ≤ size Q ks

@@ -63,11 +63,11 @@ module _ {K : Type 0} where
   rank edge weight own nodes r = rankIn edge weight own (length nodes * (2 * length nodes)) nodes r
 
   -- a path that ends in r, with what it counts
-  pub data Walk (edge : K → K → Bool) (weight : K → K → ℕ) (own : K → Bool) (nodes : List K) :
+  pub data CountedPath (edge : K → K → Bool) (weight : K → K → ℕ) (own : K → Bool) (nodes : List K) :
       ℕ → K → Type 0 where
-    alone : {r : K} → Walk edge weight own nodes (asBit (own r)) r
-    then : {n : ℕ} {q r : K} → Walk edge weight own nodes n q → Mem q nodes → edge q r ≡ true →
-        Walk edge weight own nodes (weight q r + n) r
+    alone : {r : K} → CountedPath edge weight own nodes (asBit (own r)) r
+    then : {n : ℕ} {q r : K} → CountedPath edge weight own nodes n q → Mem q nodes → edge q r ≡ true →
+        CountedPath edge weight own nodes (weight q r + n) r
 
 -- ---- what `reaches` finds
 

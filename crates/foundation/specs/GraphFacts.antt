@@ -17,7 +17,7 @@ use Rattle.foundation.specs.BitMasks.{asBit, bit-le, bit-mono, bit-same}
 use Rattle.foundation.specs.Closure.{size, size-le, size-mono, size-less}
 use Rattle.foundation.specs.Graph.{Path, direct, onward, reaches, strictEdge, cyclic, most, heavy}
 use Rattle.foundation.specs.Graph.{rankIn, rank}
-use Rattle.foundation.specs.Graph.{Walk, alone, then, reaches-path, cyclic-path}
+use Rattle.foundation.specs.Graph.{CountedPath, alone, then, reaches-path, cyclic-path}
 
 -- ---- the most of a list
 
@@ -134,7 +134,7 @@ module _ {K : Type 0} (edge : K → K → Bool) (weight : K → K → ℕ) (own 
       (λ q k. ap (λ (i : ℕ). weight q r + i) (h q (kept (λ q. edge q r) nodes q k .0)))) ∙ sym (rank-step n r)
 
   -- some walk counts as much
-  walk-after : (n : ℕ) (r : K) → Walk edge weight own nodes (after n r) r
+  walk-after : (n : ℕ) (r : K) → CountedPath edge weight own nodes (after n r) r
   walk-after zero r = rw (rank-zero r) alone
   walk-after (suc n) r = rw (rank-step n r) (⊎-elim
       (λ e. rw e alone)
@@ -143,7 +143,7 @@ module _ {K : Type 0} (edge : K → K → Bool) (weight : K → K → ℕ) (own 
       (most-from (by n r) (before r) (asBit (own r))))
 
   -- the rank is what some walk counts
-  pub rank-walk : (r : K) → Walk edge weight own nodes (rank edge weight own nodes r) r
+  pub rank-walk : (r : K) → CountedPath edge weight own nodes (rank edge weight own nodes r) r
   unfolding rank
   rank-walk r = walk-after (length nodes * (2 * length nodes)) r
 
@@ -215,13 +215,13 @@ module _ {K : Type 0} (edge : K → K → Bool) (weight : K → K → ℕ) (own 
       few = after-few (length nodes * (2 * length nodes));
     }
 
-    walk-le : {n : ℕ} {r : K} → Walk edge weight own nodes n r → Mem r nodes →
+    walk-le : {n : ℕ} {r : K} → CountedPath edge weight own nodes n r → Mem r nodes →
         n ≤ rank edge weight own nodes r
     walk-le (alone {r}) m = rank-own r
     walk-le (then {n} {q} {r} w k e) m = omega (arith, walk-le w k, rank-by q r k m e)
 
     -- no walk counts more
-    pub rank-most : (r : K) → Mem r nodes → {n : ℕ} → Walk edge weight own nodes n r →
+    pub rank-most : (r : K) → Mem r nodes → {n : ℕ} → CountedPath edge weight own nodes n r →
         n ≤ rank edge weight own nodes r
     rank-most r m w = walk-le w m
 
@@ -324,9 +324,3 @@ module _ {K : Type 0} (edge : K → K → Bool) (weight : K → K → ℕ) (own 
       cases (leb n j)
       (λ e. still-on n j h (true-le n j e) r m)
       (λ e. let l = false-le n j e in sym (still-on j n (rank-settled (still-sound n h)) (omega arith) r m))
-
-  -- a rank above the number of nodes: a strict edge lies on a cycle
-  pub large-cycle : (n : ℕ) (r : K) → Mem r nodes → 2 * length nodes < rankIn edge weight own n nodes r →
-      cyclic edge strict nodes ≡ true
-  large-cycle n r m l = cases (cyclic edge strict nodes) (λ e. e)
-      (λ e. absurd (omega (arith, after-few e n r m)))

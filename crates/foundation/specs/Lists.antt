@@ -197,9 +197,6 @@ kept p (y ∷ ys) x m = cases (p y)
     ⊎-elim (λ e. (inl e, rw e q)) (λ k. let w = kept p ys x k in (inr (w .0), w .1)) n)
     (λ q. let w = kept p ys x (rw q at m) in (inr (w .0), w .1))
 
-pub mem-keepIf : {A : Type 0} (p : A → Bool) (xs : List A) (x : A) → Mem x (keepIf p xs) → p x ≡ true
-mem-keepIf p xs x m = kept p xs x m .1
-
 pub keepIf-append : {A : Type 0} (p : A → Bool) (xs ys : List A) →
     keepIf p (xs ++ ys) ≡ keepIf p xs ++ keepIf p ys
 keepIf-append p [] ys = refl

@@ -23,11 +23,11 @@ module _ {K : Type 0} where
   total-le f b (k ∷ ks) h = omega (arith, h k (inl refl), total-le f b ks (λ j m. h j (inr m)))
 
   -- the same values and the same total, or a larger total
-  abbrev pub Gap : (f g : K → ℕ) → List K → Type 0
-  Gap f g ks = (((k : K) → Mem k ks → f k ≡ g k) × (total f ks ≡ total g ks)) ⊎ (total f ks < total g ks)
+  abbrev pub TotalGap : (f g : K → ℕ) → List K → Type 0
+  TotalGap f g ks = (((k : K) → Mem k ks → f k ≡ g k) × (total f ks ≡ total g ks)) ⊎ (total f ks < total g ks)
 
   -- where f is at most g
-  pub total-gap : (f g : K → ℕ) (ks : List K) → ((k : K) → Mem k ks → f k ≤ g k) → Gap f g ks
+  pub total-gap : (f g : K → ℕ) (ks : List K) → ((k : K) → Mem k ks → f k ≤ g k) → TotalGap f g ks
   total-gap f g [] h = inl ((λ k m. absurd (m .lower)), refl)
   total-gap f g (j ∷ ks) h = join (total-gap f g ks (λ k m. h k (inr m)))
     where
@@ -35,7 +35,7 @@ module _ {K : Type 0} where
       both e a k (inl p) = rw p e
       both e a k (inr m) = a k m
 
-      join : Gap f g ks → Gap f g (j ∷ ks)
+      join : TotalGap f g ks → TotalGap f g (j ∷ ks)
       join (inl a) = cases (eqb (f j) (g j))
           (λ e. let p = true-eq (f j) (g j) e in inl (both p (a .0), omega (arith, a .1)))
           (λ e. let n = false-eq (f j) (g j) e in inr (omega (arith, h j (inl refl), a .1)))

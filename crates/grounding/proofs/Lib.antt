@@ -3,3 +3,4 @@ pub mod StepRows
 pub mod StepBits
 pub mod Modes
 pub mod TurnRounds
+pub mod Parts

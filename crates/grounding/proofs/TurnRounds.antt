@@ -1,23 +1,25 @@
 -- Turns of rules: a turn takes its rule out of a mask (`others`, `among`); the turns of a set of rules come
 -- to an end, as each adds bits (`lighter`) or takes a rule out (`less-to-do`).
 use mathlib.Core.Path.{_≡_, sym, ap, _∙_}
-use mathlib.Core.Bool.{Bool, true, false, not, _&&_, false≢true}
+use mathlib.Core.Bool.{true, false, not, _&&_, false≢true}
 use mathlib.Core.List.{List}
+use mathlib.Core.Logic.{⊎-elim}
 use Prim.Native.Nat.{ℕ, suc, _+_, _*_, _-_, _≤_, _<_}
 use native.Mathlib.Nat.{mul-le-mul-right, suc-mul}
 use native.Mathlib.Omega.{arith}
 use lib.Dec.{eqb, ltb}
 use lib.ListN.{length, getD}
-use Rattle.foundation.specs.Tests.{cases, and-true, and-intro, ne-false, le-true, true-le, false-le}
+use Rattle.foundation.specs.Tests.{cases, and-true, and-intro, ne-false, true-le, false-le}
 use Rattle.foundation.specs.BitMasks.{bit}
-use Rattle.words.specs.Bits.{bit-less, less}
 use Rattle.words.specs.Sums.{sum, sum-words}
+use Rattle.sections.specs.Sections.{fieldsOf, brokenOf}
 use Rattle.tables.specs.declared.Frame.{Frame}
 use Rattle.tables.specs.declared.Place.{Place}
 use Rattle.grounding.specs.declared.RuleTurn.{RuleTurn}
 use Rattle.grounding.specs.declared.Range.{Range}
 use Rattle.grounding.specs.RuleSteps.{PairsReady, PairsRan}
-use Rattle.grounding.specs.RuleTurns.{Prepared, rangeOf, Marked, none, then}
+use Rattle.grounding.specs.RuleTurns.{Prepared, rangeOf, RuleRan, RuleMarked, Marked, none, then}
+use Rattle.grounding.proofs.StepRows.{row-length}
 
 -- ---- the turn that is had
 
@@ -26,15 +28,31 @@ module _ (f : Frame) (left need codes number : List ℕ) {t t′ : RuleTurn} {n 
   abbrev range : Range
   range = rangeOf (t′ .left) (f .grid) number
 
-  pub ready-as : (words bits : ℕ) →
-      PairsReady t′ f left need codes number words bits (range .from) (range .to) →
-      PairsReady t f left need codes number words bits (n .from) (n .to)
-  ready-as words bits r = rw (g, e) r
+  pub ready-as : (work : List ℕ) →
+      PairsReady t′ f left need codes number (length (fieldsOf (t′ .words) work))
+      (length (brokenOf (t′ .words) work)) (range .from) (range .to) →
+      PairsReady t f left need codes number (length (fieldsOf (t .words) work))
+      (length (brokenOf (t .words) work)) (n .from) (n .to)
+  ready-as work r = rw (g, e) r
 
-  pub ran-as : (Does : RuleTurn → Place → List ℕ → List ℕ → Type 0) {old new : List ℕ} →
-      PairsRan t f left need codes (Does t) (n .from) (n .to) old new →
-      PairsRan t′ f left need codes (Does t′) (range .from) (range .to) old new
-  ran-as Does r = rw (g, e) at r
+  pub ran-as : (Does : RuleTurn → Place → List ℕ → List ℕ → Type 0) (old new : ℕ → List ℕ) →
+      PairsRan t f left need codes (Does t) (n .from) (n .to) (old (t .words)) (new (t .words)) →
+      PairsRan t′ f left need codes (Does t′) (range .from) (range .to) (old (t′ .words)) (new (t′ .words))
+  ran-as Does old new r = rw (g, e) at r
+
+-- ---- lengths
+
+module _ (p : Prepared) (active : List ℕ) {u v : List ℕ} where
+  -- a turn keeps the length of the tables
+  pub ran-length : (bits : List ℕ) (r : ℕ) → RuleRan p active bits r u v → length v ≡ length u
+  ran-length bits r =
+      ⊎-elim (λ e. ap length (e .1)) (λ d. row-length (λ q a b s. s .given .lengths) (d .steps))
+
+  -- marks keep that of the bits
+  pub marked-length : (words : List ℕ) (last mark r : ℕ) → RuleMarked p active words last mark r u v →
+      length v ≡ length u
+  marked-length words last mark r =
+      ⊎-elim (λ e. ap length (e .1)) (λ d. row-length (λ q a b s. s .lengths) (d .1 .steps))
 
 -- ---- masks
 
@@ -44,24 +62,6 @@ module _ (m x r : ℕ) (out : (i : ℕ) → bit i x ≡ bit i m && not (eqb i r)
 
   pub among : (q : ℕ) → bit q x ≡ true → bit q m ≡ true
   among q e = and-true (bit q m) (not (eqb q r)) (sym (out q) ∙ e) .0
-
--- those of a mask that pass a test
-module _ (t : ℕ → Bool) (m x : ℕ) (those : (i : ℕ) → bit i x ≡ ltb i 64 && bit i m && t i) where
-  pub passes : (q : ℕ) → q < 64 → bit q m ≡ true → t q ≡ true → bit q x ≡ true
-  passes q l e f = those q ∙ and-intro (ltb q 64 && bit q m) (t q)
-      (and-intro (ltb q 64) (bit q m) (le-true (suc q) 64 l) e) f
-
-  pub passed : (q : ℕ) → bit q x ≡ true → (bit q m ≡ true) × (t q ≡ true)
-  passed q e =
-      let w = and-true (ltb q 64 && bit q m) (t q) (sym (those q) ∙ e) in
-      (and-true (ltb q 64) (bit q m) (w .0) .1, w .1)
-
-pub less-other : (a b q : ℕ) → bit q a ≡ true → (bit q b ≡ true → ⊥) → bit q (less a b) ≡ true
-less-other a b q e n = bit-less q a b
-    ∙ and-intro (bit q a) (not (bit q b)) e (cases (bit q b) (λ y. absurd (n y)) (λ y. rw y))
-
-pub less-in : (a b q : ℕ) → bit q (less a b) ≡ true → bit q a ≡ true
-less-in a b q e = and-true (bit q a) (not (bit q b)) (sym (bit-less q a b) ∙ e) .0
 
 -- ---- the end
 

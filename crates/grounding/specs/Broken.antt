@@ -30,7 +30,7 @@ use Rattle.grounding.specs.RuleSteps.{forceIn, brokenAt, brokenIn, Mark,
 use Rattle.grounding.specs.Meaning.{StandsIn, Kept, placeOf, pat-on, evaluated-at}
 use Rattle.grounding.specs.RuleTurns as turns
 use Rattle.grounding.specs.RuleTurns.{turnIn, RuleMarked, Marked}
-use Rattle.grounding.specs.Order.{Stage, Staged, mappingOf, ruleOf}
+use Rattle.grounding.specs.Order.{WindowInputs, Staged, mappingOf, ruleOf}
 use Rattle.grounding.specs.Order.{patternOf, turnOf, W, RightIn, DoneIn}
 use Rattle.grounding.specs.Order.{steps-along, steps-within, visited-within}
 
@@ -47,7 +47,7 @@ or-bit (suc zero) true h = refl
 or-bit (suc zero) false h = refl
 or-bit (suc (suc n)) b h = absurd (omega arith)
 
-module _ (o : Stage) where
+module _ (o : WindowInputs) where
   -- the bits of the rules of a set: a table for each, with the places of its left side
   abbrev pub brokenTables : ℕ → Tables
   brokenTables rules =

@@ -64,7 +64,7 @@ module _ {Does : Place → List ℕ → List ℕ → Type 0} {At : Place → Typ
 
 -- The tables of a question, the base with the rules that matter to it, the accesses that do and their places;
 -- and a window: its instants, those of each rule's interval, and what is kept of the windows before
-pub record Stage : Type 0 where
+pub record WindowInputs : Type 0 where
   pub prepared : Prepared
   pub base : Base
   pub matters : Access → Bool
@@ -75,7 +75,7 @@ pub record Stage : Type 0 where
   pub active : List ℕ
   pub bits : List ℕ
 
-module _ (o : Stage) where
+module _ (o : WindowInputs) where
   abbrev p : Prepared
   p = o .prepared
 
@@ -171,17 +171,17 @@ module _ (o : Stage) where
       abbrev pub Does : Place → List ℕ → List ℕ → Type 0
       Does = Step (turnOf r) (p .frame) (p .number) bits (p .right) (p .first)
 
-      abbrev pub Ran : List ℕ → List ℕ → Type 0
-      Ran = PairsRan (turnOf r) (p .frame) (p .left) (p .need) (p .codes) Does
+      abbrev pub TurnRan : List ℕ → List ℕ → Type 0
+      TurnRan = PairsRan (turnOf r) (p .frame) (p .left) (p .need) (p .codes) Does
           (rangeFor p active r .from) (rangeFor p active r .to)
 
-      abbrev pub Row : List ℕ → List ℕ → Type 0
-      Row = Steps Does (StandsIn mappingOf (ruleOf r))
+      abbrev pub StepRow : List ℕ → List ℕ → Type 0
+      StepRow = Steps Does (StandsIn mappingOf (ruleOf r))
 
-      pub row-of : {u v : List ℕ} → Ran u v → Row u v
+      pub row-of : {u v : List ℕ} → TurnRan u v → StepRow u v
       row-of ran = steps-within (staged .stands r n) (ran .steps)
 
-      pub visited-of : {u v : List ℕ} → Ran u v → (x : Access) → matters x ≡ true →
+      pub visited-of : {u v : List ℕ} → TurnRan u v → (x : Access) → matters x ≡ true →
           standsFor base (ruleOf r) x ≡ true →
           Visited Does (StandsIn mappingOf (ruleOf r)) (placeOf mappingOf x) u v
       visited-of {u} {v} ran x m s =
@@ -211,14 +211,15 @@ module _ (o : Stage) where
             (λ T. derivesFor base (patternOf T (s .access)) (ruleOf r))
             (staged .turn r n .gives (s .access) (s .matters) (s .stands)) (there .given)
 
-      pub steps-gained : {u v : List ℕ} → Row u v → Gained u v
+      pub steps-gained : {u v : List ℕ} → StepRow u v → Gained u v
       steps-gained {u} row = steps-along (Gained u)
           (λ a b q s d g T y k i e. joined-more (Kept mappingOf) (W a) (W b)
           (λ T. derivesFor base (patternOf T (s .access)) (ruleOf r)) (s .access) (there a b q s d .value)
           (row-joined a b q s d) T y k i (g T y k i e))
           row (λ T y k i e. e)
 
-      pub steps-grow : {u v : List ℕ} → Row u v → (T : ℕ) (y : Access) → Kept mappingOf T y → W u T y ≤ W v T
+      pub steps-grow : {u v : List ℕ} → StepRow u v → (T : ℕ) (y : Access) → Kept mappingOf T y →
+          W u T y ≤ W v T
           y
       steps-grow {u} row = steps-along (λ v. (T : ℕ) (y : Access) → Kept mappingOf T y → W u T y ≤ W v T y)
           (λ a b q s d g T y k. omega (arith, g T y k, row-grows a b q s d T y k))
@@ -229,7 +230,7 @@ module _ (o : Stage) where
       Untouched u v = (T : ℕ) (y : Access) → Kept mappingOf T y →
           (derivesFor base (patternOf T y) (ruleOf r) ≡ true → ⊥) → W v T y ≡ W u T y
 
-      pub steps-untouched : {u v : List ℕ} → Row u v → Untouched u v
+      pub steps-untouched : {u v : List ℕ} → StepRow u v → Untouched u v
       steps-untouched {u} row = steps-along (Untouched u)
           (λ a b q s d g T y k no. row-joined a b q s d .else-kept T y k
           (λ e t. no (subst (λ (x : Access). derivesFor base (patternOf T x) (ruleOf r) ≡ true) (sym e) t))
@@ -257,11 +258,11 @@ module _ (o : Stage) where
           absurd (false≢true (sym (ap (bit i) e ∙ bit-zero i) ∙ t′ .acts i h ∙ now .0))
 
       -- the rules that precede it have given what they derive
-      abbrev pub Fed : List ℕ → Type 0
-      Fed u = (q : Rule) → Mem q (base .rules) → precedes q (ruleOf r) ≡ true → DoneIn u q
+      abbrev pub PrecedersDone : List ℕ → Type 0
+      PrecedersDone u = (q : Rule) → Mem q (base .rules) → precedes q (ruleOf r) ≡ true → DoneIn u q
 
       -- then the rule gives what it derives
-      pub turn-done : {u v : List ℕ} → RuleRan p active bits r u v → RightIn u → Fed u →
+      pub turn-done : {u v : List ℕ} → RuleRan p active bits r u v → RightIn u → PrecedersDone u →
           RightIn v × DoneIn v (ruleOf r)
       turn-done {u} {v} (inl e) a fed = (subst RightIn (sym (e .1)) a, idle-done (e .0) v)
       turn-done {u} {v} (inr ran) a fed = (
@@ -300,7 +301,7 @@ module _ (o : Stage) where
     turns-done {rest} {u = u} (turns.Turns.then {rest′ = rest′} {v = b} r there free kept fewer ran more)
         within a done =
         let n = within r there in
-        let fed : Fed r n u = λ q m f.
+        let fed : PrecedersDone r n u = λ q m f.
         let c = staged .all q m in
         subst (DoneIn u) (sym (c .2)) (done (c .0) (c .1) (cases (bit (c .0) rest)
         (λ e. absurd (free (c .0) (staged .low (c .0) (c .1))

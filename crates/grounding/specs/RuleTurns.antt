@@ -4,7 +4,7 @@ use mathlib.Core.Path.{_≡_}
 use mathlib.Core.Logic.{_⊎_}
 use mathlib.Core.Bool.{Bool, true, false}
 use mathlib.Core.List.{List}
-use Prim.Native.Nat.{ℕ, zero, suc, _+_, _*_, _/_, _%_, _≤_, _<_}
+use Prim.Native.Nat.{ℕ, zero, suc, _+_, _*_, _/_, _%_, _^_, _≤_, _<_}
 use lib.Bits.{bitAnd}
 use lib.Dec.{eqb, ltb}
 use lib.ListN.{length, getD}
@@ -13,6 +13,8 @@ use Rattle.foundation.specs.BitMasks.{bit}
 use Rattle.model.specs.declared.Rule.{Rule}
 use Rattle.encoding.specs.Format.{ruleAt}
 use Rattle.words.specs.Sums.{SumGrown}
+use Rattle.sections.specs.Sections.{leftOf, feedOf, firstOf, startsOf, sidesOf, rightsOf, numberOf, listedOf}
+use Rattle.sections.specs.Sections.{fieldsOf, brokenOf}
 use Rattle.places.specs.declared.Grid.{Grid}
 use Rattle.places.specs.declared.Region.{Region}
 use Rattle.places.specs.Regions.{free, sizeOf}
@@ -47,6 +49,10 @@ rangeOf b g number =
 abbrev pub lookedBy : Frame → List ℕ → ℕ → ℕ
 lookedBy f sides r = pick (bit r (f .choosy)) (suc (suc r)) (getD sides (4 * r + 3) 0 / 2)
 
+-- how many words hold fields of 2^k bits
+abbrev pub wordsFor : ℕ → ℕ → ℕ
+wordsFor fields k = (fields * 2 ^ k + 63) / 64
+
 -- the turn of rule r, `active` having the instants of each rule's interval
 abbrev pub turnFrom : Frame → List ℕ → List ℕ → List ℕ → List ℕ → List ℕ → List ℕ → List ℕ → ℕ → RuleTurn
 turnFrom f body feed sides right first starts active r =
@@ -64,6 +70,7 @@ turnFrom f body feed sides right first starts active r =
       sign = getD sides (4 * r + 3) 0 % 2;
       bits = getD starts r 0;
       takers = bitAnd (getD feed (64 + r) 0) (f .choosy);
+      words = wordsFor (f .fields) (f .width);
     }
 
 -- the tables of a question
@@ -94,6 +101,30 @@ prepared body left feed sides right need codes number first starts f = record {
   starts = starts;
   frame = f;
 }
+
+-- the same by the slices that hold them
+abbrev pub preparedIn : (body outline coordinates need numbers : List ℕ) → Frame → Prepared
+preparedIn body outline coordinates need numbers =
+    prepared body (leftOf outline) (feedOf outline) (sidesOf coordinates) (rightsOf coordinates) need
+    (listedOf (length need) numbers) (numberOf (length need) numbers) (firstOf outline) (startsOf outline)
+
+-- which have room for all of it; `words` of the words that are worked in have fields
+pub record Sliced (outline coordinates need numbers work : List ℕ) (words : ℕ) : Type 0 where
+  pub outlined : length outline ≡ 472
+  pub placed : length coordinates ≡ 1666
+  pub numbered : 2 * length need ≤ length numbers
+  pub roomy : words ≤ length work
+
+-- fields and broken bits of a frame, in the words that are worked in
+abbrev pub fieldsIn : Frame → List ℕ → List ℕ
+fieldsIn f = fieldsOf (wordsFor (f .fields) (f .width))
+
+abbrev pub bitsIn : Frame → List ℕ → List ℕ
+bitsIn f = brokenOf (wordsFor (f .fields) (f .width))
+
+abbrev pub SlicedIn : (outline coordinates need numbers : List ℕ) → Frame → List ℕ → Type 0
+SlicedIn outline coordinates need numbers f work =
+    Sliced outline coordinates need numbers work (wordsFor (f .fields) (f .width))
 
 module _ (p : Prepared) where
   module _ (active : List ℕ) where

@@ -1,6 +1,6 @@
 -- What the rounds of the strata mean. The rules of a stratum have their turns until nothing is new that one
--- of them looks at. Then what each derives of the tables is in them (`Shut`), and so they have given all that
--- they derive (`rounds-done`); stratum by stratum all rules have (`strata-done`).
+-- of them looks at. Then what each derives of the tables is in them (`NothingNew`), and so they have given
+-- all that they derive (`rounds-done`); stratum by stratum all rules have (`strata-done`).
 use mathlib.Core.Path.{_≡_, refl, sym, ap, _∙_, subst}
 use mathlib.Core.Logic.{_⊎_, inl, inr, ⊎-elim}
 use mathlib.Core.Bool.{Bool, true, false, true≢false, false≢true}
@@ -22,19 +22,20 @@ use Rattle.model.specs.Rules.{standsFor, rightOf}
 use Rattle.laws.specs.Dependence.{Depends, depends-fed}
 use Rattle.derivation.specs.Joined.{rule-valued}
 use Rattle.derivation.specs.Turn.{Evaluated, evaluated-stays}
-use Rattle.derivation.specs.Fixpoint.{Shut, shut-stays, sound-stratum, shut-done}
+use Rattle.derivation.specs.Fixpoint.{NothingNew, shut-stays, sound-stratum, shut-done}
 use Rattle.grounding.specs.RuleSteps.{Steps, then}
 use Rattle.grounding.specs.Meaning.{StandsIn, Kept, placeOf, pat-on, step-joined, step-evaluated}
 use Rattle.grounding.specs.RuleTurns as turns
 use Rattle.grounding.specs.RuleTurns.{RuleRan, Turns, Rounds, Strata}
-use Rattle.grounding.specs.Order.{Stage, Staged, mappingOf, ruleOf}
+use Rattle.grounding.specs.Order.{WindowInputs, Staged, mappingOf, ruleOf}
 use Rattle.grounding.specs.Order.{patternOf, turnOf, W, RightIn, DoneIn}
-use Rattle.grounding.specs.Order.{Gained, done-gained, steps-along, Does, Ran, Row, row-of, visited-of}
+use Rattle.grounding.specs.Order.{Gained, done-gained, steps-along, Does, TurnRan, StepRow, row-of}
+use Rattle.grounding.specs.Order.{visited-of}
 use Rattle.grounding.specs.Order.{stands-there, there, row-joined, steps-gained, steps-grow}
 use Rattle.grounding.specs.Order.{steps-untouched, turn-gained, turn-untouched, idle-done, DoneBut}
 use Rattle.grounding.specs.Order.{none-left, turns-done}
 
-module _ (o : Stage) (staged : Staged o) where
+module _ (o : WindowInputs) (staged : Staged o) where
   abbrev rank : Rule → ℕ
   rank = stratum (o .base .rules)
 
@@ -43,7 +44,7 @@ module _ (o : Stage) (staged : Staged o) where
   Below k u = (q : Rule) → Mem q (o .base .rules) → rank q < k → DoneIn o u q
 
   abbrev pub ShutIn : List ℕ → Rule → Type 0
-  ShutIn u = Shut (o .base) (o .count) (o .ms) (patternOf o) (Kept (mappingOf o)) (W o u)
+  ShutIn u = NothingNew (o .base) (o .count) (o .ms) (patternOf o) (Kept (mappingOf o)) (W o u)
 
   below-gained : (k : ℕ) (u v : List ℕ) → Gained o u v → Below k u → Below k v
   below-gained k u v g b q m h = done-gained o u v g q (b q m h)
@@ -65,7 +66,7 @@ module _ (o : Stage) (staged : Staged o) where
           let m = staged .turn r n .mem in
           let e = there o staged r n a b q s d in
           let v = evaluated-of (s .access) (s .matters) (s .stands) a b e in
-          let one : Row o staged r n a b = then q s d Steps.none in (
+          let one : StepRow o staged r n a b = then q s d Steps.none in (
             rule-valued (o .base) (o .count) (o .ms) (patternOf o) (pat-on (ruleOf o)) (Kept (mappingOf o))
                 (W o a) (W o b) (ruleOf o r) (s .access) (e .value) (row-joined o staged r n a b q s d) m
                 (sound-stratum (o .base) (staged .strata) (o .count) (o .ms) (staged .window) (patternOf o)
@@ -85,7 +86,8 @@ module _ (o : Stage) (staged : Staged o) where
 
     module _ (u v : List ℕ) (still : (precedes (ruleOf o r) (ruleOf o r) ≡ false) ⊎ (v ≡ u)) where
       -- what it looked at did not change behind it
-      same-behind : (b : List ℕ) → Row o staged r n u b → Row o staged r n b v → (x : Access) (R : ℕ) →
+      same-behind : (b : List ℕ) → StepRow o staged r n u b → StepRow o staged r n b v →
+          (x : Access) (R : ℕ) →
           Depends (ruleOf o r) x (patternOf o R (rightOf (ruleOf o r) x .access)) →
           Kept (mappingOf o) R (rightOf (ruleOf o r) x .access) →
           W o v R (rightOf (ruleOf o r) x .access) ≡ W o b R (rightOf (ruleOf o r) x .access)
@@ -100,7 +102,7 @@ module _ (o : Stage) (staged : Staged o) where
           omega (arith, steps-grow o staged r n to R y k, steps-grow o staged r n from R y k))
           still
 
-      ran-shut : Ran o staged r n u v → ShutIn v (ruleOf o r)
+      ran-shut : TurnRan o staged r n u v → ShutIn v (ruleOf o r)
       ran-shut ran T x k d =
           let s = stands-there o staged r n T x d in
           let seen = visited-of o staged r n ran x (k .0) s in

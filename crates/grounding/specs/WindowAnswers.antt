@@ -12,9 +12,9 @@ use Rattle.model.specs.declared.Access.{Access}
 use Rattle.model.specs.Rules.{holds, may}
 use Rattle.derivation.specs.Exact.{exact}
 use Rattle.grounding.specs.Meaning.{Kept, pat-on}
-use Rattle.grounding.specs.Order.{Stage, mappingOf, ruleOf, patternOf, W, RightIn, DoneIn}
+use Rattle.grounding.specs.Order.{WindowInputs, mappingOf, ruleOf, patternOf, W, RightIn, DoneIn}
 
-module _ (o : Stage) (words : List ℕ) (right : RightIn o words)
+module _ (o : WindowInputs) (words : List ℕ) (right : RightIn o words)
     (done : (q : Rule) → Mem q (o .base .rules) → DoneIn o words q) where
   pub words-exact : (T : ℕ) (x : Access) → Kept (mappingOf o) T x → (i : ℕ) → i < o .count →
       bit i (W o words T x) ≡ holds always (o .base) (o .ms i) (patternOf o T x)

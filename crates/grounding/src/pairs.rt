@@ -1,23 +1,33 @@
 // What a rule derives over a window at each place where it stands, given to the tables.
 ghost use mathlib.Core.Path.{_≡_};
 ghost use mathlib.Core.Bool.{true};
-ghost use Prim.Native.Nat.{ℕ, _+_, _*_, _^_, _≤_, _<_};
+ghost use Prim.Native.Nat.{ℕ, _+_, _*_, _≤_, _<_};
 ghost use lib.ListN.{length, getD};
 ghost use Rattle.foundation.specs.BitMasks.{bit};
 ghost use Rattle.questions.specs.OperatorSteps.{lasting};
 ghost use Rattle.words.specs.Sums.{SumGrown};
 ghost use Rattle.places.specs.Regions.{sizeOf};
 ghost use Rattle.tables.specs.TableLayout.{wholeRegion};
+ghost use Rattle.sections.specs.Sections.{leftOf, firstOf, rightsOf, numberOf, listedOf};
+ghost use Rattle.sections.specs.Sections.{fieldsOf, brokenOf};
 ghost use Rattle.tables.specs.TableGiving.{TablesReady, Reaches};
 ghost use Rattle.derivation.specs.Derive.{Derived};
 ghost use Rattle.grounding.specs.RuleSteps.{turned, turnedPoint, pairIn, rightPlace, forceAt, forceIn};
 ghost use Rattle.grounding.specs.RuleSteps.{brokenIn, modesAt, Step, Mark, ModesReady, ModesRan};
+ghost use Rattle.grounding.specs.RuleTurns.{Sliced};
 ghost use Rattle.grounding.specs.RuleSteps.{PairsReady, PairsRan, Ordinary, StepReads};
+use crate::Range;
 use crate::RuleTurn;
 use evaluation::is_lasting;
 use places::Grid;
 use places::Point;
 use places::Region;
+use sections::FEED;
+use sections::FIRST;
+use sections::LEFT;
+use sections::RIGHT;
+use sections::STARTS;
+use sections::SUBJECTS;
 use tables::Frame;
 use tables::Place;
 use tables::all_places;
@@ -74,7 +84,7 @@ fn is_broken(t: RuleTurn, g: Grid, bits: &[u64], p: Place) -> bool
     }
     let b = t.left;
     let x = p.point;
-    field_at(bits, 0, t.bits + places::index_in(g, b, p.pair, x)) == 1
+    field_at(bits, 0, t.bits as u32 + places::index_in(g, b, p.pair, x)) == 1
 }
 
 // The instants at which the right side counts as held: a positive one where no denial of its place is.
@@ -96,19 +106,22 @@ fn instants_in_force(t: RuleTurn, f: Frame, words: &[u64], y: Place) -> u64
 
 // What the rule derives over the window at a place of its left side: where it is broken nothing, and then
 // nothing else is looked at.
-fn value_at(t: RuleTurn, f: Frame, number: &[u16], words: &[u64], bits: &[u64], p: Place) -> u64
-    requires { ⌜ StepReads t f (now number) (length (now words)) (length (now bits)) p ⌝ }
-    ensures { λ r. ⌜ Derived (t .operator) (forceIn t f (now (number .entry)) (now (words .entry)) (p .point))
-        (t .active) (brokenIn t (f .grid) (now (bits .entry)) p) r ⌝ }
+fn value_at(t: RuleTurn, f: Frame, number: &[u16], work: &[u64], p: Place) -> u64
+    requires { ⌜ StepReads t f (now number) (length (fieldsOf (t .words) (now work)))
+        (length (brokenOf (t .words) (now work))) p × (t .words ≤ length (now work)) ⌝ }
+    ensures { λ r. ⌜ Derived (t .operator)
+        (forceIn t f (now (number .entry)) (fieldsOf (t .words) (now (work .entry))) (p .point))
+        (t .active) (brokenIn t (f .grid) (brokenOf (t .words) (now (work .entry))) p) r ⌝ }
 {
     let g = f.grid;
-    if is_broken(t, g, bits, p) {
+    let k = t.words;
+    if is_broken(t, g, &work[k..], p) {
         return 0;
     }
     let x = p.point;
     let y = right_place(t, g, number, x);
     let o = t.operator;
-    evaluation::derive(o, instants_in_force(t, f, words, y), t.active, false)
+    evaluation::derive(o, instants_in_force(t, f, &work[..k], y), t.active, false)
 }
 
 // Gives what the rule derives at a place; whether something is new.
@@ -116,23 +129,26 @@ fn derive_at(
     t: RuleTurn,
     f: Frame,
     number: &[u16],
-    words: &mut [u64],
-    bits: &[u64],
-    right: &[u8; 256],
-    first: &[u32; 64],
+    right: &[u8],
+    first: &[u64],
+    work: &mut [u64],
     p: Place,
 ) -> bool
-    requires { ⌜ StepReads t f (now number) (length (now words)) (length (now bits)) p
-        × TablesReady f (now right) (now first) (length (now words)) ⌝ }
-    ensures { λ r. ⌜ Step t f (now (number .entry)) (now (bits .entry)) (now (right .entry))
-        (now (first .entry)) p (now (words .entry)) (now (words .exit))
-        × SumGrown r (now (words .entry)) (now (words .exit)) ⌝ }
+    requires { ⌜ StepReads t f (now number) (length (fieldsOf (t .words) (now work)))
+        (length (brokenOf (t .words) (now work))) p × (t .words ≤ length (now work))
+        × TablesReady f (now right) (now first) (length (fieldsOf (t .words) (now work))) ⌝ }
+    ensures { λ r. ⌜ Step t f (now (number .entry)) (brokenOf (t .words) (now (work .entry)))
+        (now (right .entry)) (now (first .entry)) p (fieldsOf (t .words) (now (work .entry)))
+        (fieldsOf (t .words) (now (work .exit)))
+        × SumGrown r (fieldsOf (t .words) (now (work .entry))) (fieldsOf (t .words) (now (work .exit)))
+        × (brokenOf (t .words) (now (work .exit)) ≡ brokenOf (t .words) (now (work .entry))) ⌝ }
 {
-    let v = value_at(t, f, number, words, bits, p);
+    let v = value_at(t, f, number, work, p);
     if v == 0 {
         return false;
     }
-    give(words, right, first, f, p, t.sign, t.takers, v)
+    let k = t.words;
+    give(&mut work[..k], right, first, f, p, t.sign, t.takers, v)
 }
 
 // The modes of a pair at which the rule stands, as bits: those that are needed, with both signs, and its own.
@@ -155,18 +171,20 @@ fn derive_modes(
     t: RuleTurn,
     f: Frame,
     number: &[u16],
-    words: &mut [u64],
-    bits: &[u64],
-    right: &[u8; 256],
-    first: &[u32; 64],
+    right: &[u8],
+    first: &[u64],
+    work: &mut [u64],
     pair: Place,
     modes: u64,
 ) -> bool
-    requires { ⌜ ModesReady t f (now number) (length (now words)) (length (now bits)) pair modes
-        × TablesReady f (now right) (now first) (length (now words)) ⌝ }
-    ensures { λ r. ⌜ ModesRan (Step t f (now (number .entry)) (now (bits .entry)) (now (right .entry))
-        (now (first .entry))) pair modes (now (words .entry)) (now (words .exit))
-        × SumGrown r (now (words .entry)) (now (words .exit)) ⌝ }
+    requires { ⌜ ModesReady t f (now number) (length (fieldsOf (t .words) (now work)))
+        (length (brokenOf (t .words) (now work))) pair modes × (t .words ≤ length (now work))
+        × TablesReady f (now right) (now first) (length (fieldsOf (t .words) (now work))) ⌝ }
+    ensures { λ r. ⌜ ModesRan (Step t f (now (number .entry)) (brokenOf (t .words) (now (work .entry)))
+        (now (right .entry)) (now (first .entry))) pair modes (fieldsOf (t .words) (now (work .entry)))
+        (fieldsOf (t .words) (now (work .exit)))
+        × SumGrown r (fieldsOf (t .words) (now (work .entry))) (fieldsOf (t .words) (now (work .exit)))
+        × (brokenOf (t .words) (now (work .exit)) ≡ brokenOf (t .words) (now (work .entry))) ⌝ }
 {
     let x = pair.point;
     let mut fresh = false;
@@ -180,15 +198,15 @@ fn derive_modes(
                 object: x.object,
             },
         };
-        fresh = fresh | derive_at(t, f, number, words, bits, right, first, p);
+        fresh = fresh | derive_at(t, f, number, right, first, work, p);
         m = next_bit(modes, m + 1);
     }
     fresh
 }
 
 // Whether the rule stands on an object and a subject.
-fn stands_at_pair(t: RuleTurn, left: &[u64; 152], o: usize, s: usize) -> bool
-    requires { ⌜ (o < 65) × (s < 65) × (t .rule < 64) ⌝ }
+fn stands_at_pair(t: RuleTurn, left: &[u64], o: usize, s: usize) -> bool
+    requires { ⌜ (o < 65) × (s < 65) × (t .rule < 64) × (152 ≤ length (now left)) ⌝ }
     ensures { λ r. ⌜ (r ≡ true → (bit (t .rule) (getD (now (left .entry)) o 0) ≡ true)
         × (bit (t .rule) (getD (now (left .entry)) (65 + s) 0) ≡ true))
         × (bit (t .rule) (getD (now (left .entry)) o 0) ≡ true →
@@ -198,8 +216,8 @@ fn stands_at_pair(t: RuleTurn, left: &[u64; 152], o: usize, s: usize) -> bool
 }
 
 // The modes of the pair with a code at which the rule stands; none where it does not.
-fn standing_modes(t: RuleTurn, g: Grid, left: &[u64; 152], need: &[u16], o: usize, s: usize) -> u64
-    requires { ⌜ (o < 65) × (s < 65) × (t .rule < 64) × (t .sign < 2)
+fn standing_modes(t: RuleTurn, g: Grid, left: &[u64], need: &[u16], o: usize, s: usize) -> u64
+    requires { ⌜ (o < 65) × (s < 65) × (t .rule < 64) × (t .sign < 2) × (152 ≤ length (now left))
         × (o * g .subjects + s < length (now need)) ⌝ }
     ensures { λ r. ⌜ ((m : ℕ) → bit m r ≡ true →
         (bit (t .rule) (getD (now (left .entry)) o 0) ≡ true)
@@ -219,30 +237,37 @@ fn standing_modes(t: RuleTurn, g: Grid, left: &[u64; 152], need: &[u16], o: usiz
 pub fn derive_pairs(
     t: RuleTurn,
     f: Frame,
-    left: &[u64; 152],
+    range: Range,
+    outline: &[u64],
+    coordinates: &[u8],
     need: &[u16],
-    codes: &[u16],
-    number: &[u16],
-    words: &mut [u64],
-    bits: &[u64],
-    right: &[u8; 256],
-    first: &[u32; 64],
-    from: u32,
-    to: u32,
+    numbers: &[u16],
+    work: &mut [u64],
 ) -> bool
-    requires { ⌜ PairsReady t f (now left) (now need) (now codes) (now number) (length (now words))
-        (length (now bits)) from to
-        × TablesReady f (now right) (now first) (length (now words)) ⌝ }
-    ensures { λ r. ⌜ PairsRan t f (now (left .entry)) (now (need .entry)) (now (codes .entry))
-        (Step t f (now (number .entry)) (now (bits .entry)) (now (right .entry)) (now (first .entry))) from to
-        (now (words .entry)) (now (words .exit))
-        × SumGrown r (now (words .entry)) (now (words .exit)) ⌝ }
+    requires { ⌜ PairsReady t f (leftOf (now outline)) (now need) (listedOf (length (now need)) (now numbers))
+        (numberOf (length (now need)) (now numbers)) (length (fieldsOf (t .words) (now work)))
+        (length (brokenOf (t .words) (now work))) (range .from) (range .to)
+        × TablesReady f (rightsOf (now coordinates)) (firstOf (now outline))
+        (length (fieldsOf (t .words) (now work)))
+        × Sliced (now outline) (now coordinates) (now need) (now numbers) (now work) (t .words) ⌝ }
+    ensures { λ r. ⌜ PairsRan t f (leftOf (now (outline .entry))) (now (need .entry))
+        (listedOf (length (now (need .entry))) (now (numbers .entry)))
+        (Step t f (numberOf (length (now (need .entry))) (now (numbers .entry)))
+        (brokenOf (t .words) (now (work .entry))) (rightsOf (now (coordinates .entry)))
+        (firstOf (now (outline .entry)))) (range .from) (range .to)
+        (fieldsOf (t .words) (now (work .entry))) (fieldsOf (t .words) (now (work .exit)))
+        × SumGrown r (fieldsOf (t .words) (now (work .entry))) (fieldsOf (t .words) (now (work .exit)))
+        × (brokenOf (t .words) (now (work .exit)) ≡ brokenOf (t .words) (now (work .entry))) ⌝ }
 {
     let g = f.grid;
+    let size = need.len();
+    let number = &numbers[..size];
+    let rest = &numbers[size..];
+    let listed = &rest[..size];
     let mut fresh = false;
-    let mut n = from;
-    while n < to {
-        let c = codes[n as usize] as usize;
+    let mut n = range.from;
+    while n < range.to {
+        let c = listed[n as usize] as usize;
         let o = c / 256;
         let s = c % 256;
         let pair = Place {
@@ -253,34 +278,40 @@ pub fn derive_pairs(
                 object: o as u32,
             },
         };
-        let modes = standing_modes(t, g, left, need, o, s);
-        fresh = fresh | derive_modes(t, f, number, words, bits, right, first, pair, modes);
+        let modes = standing_modes(t, g, &outline[LEFT..FEED], need, o, s);
+        fresh = fresh
+            | derive_modes(
+                t,
+                f,
+                number,
+                &coordinates[RIGHT..SUBJECTS],
+                &outline[FIRST..STARTS],
+                work,
+                pair,
+                modes,
+            );
         n += 1;
     }
     fresh
 }
 
 // Marks the rule as broken at a place, if it derives nothing there at the last instant.
-fn mark_broken_at(
-    t: RuleTurn,
-    f: Frame,
-    number: &[u16],
-    words: &[u64],
-    bits: &mut [u64],
-    last: u32,
-    p: Place,
-)
-    requires { ⌜ StepReads t f (now number) (length (now words)) (length (now bits)) p × (last < 64)
-        × (0 < length (now bits)) × (lasting (t .operator) ≡ true) ⌝ }
-    ensures { λ _. ⌜ Mark t f (now (number .entry)) (now (words .entry)) last p
-        (now (bits .entry)) (now (bits .exit)) ⌝ }
+fn mark_broken_at(t: RuleTurn, f: Frame, number: &[u16], work: &mut [u64], last: u32, p: Place)
+    requires { ⌜ StepReads t f (now number) (length (fieldsOf (t .words) (now work)))
+        (length (brokenOf (t .words) (now work))) p × (t .words ≤ length (now work)) × (last < 64)
+        × (0 < length (brokenOf (t .words) (now work))) × (lasting (t .operator) ≡ true) ⌝ }
+    ensures { λ _. ⌜ Mark t f (now (number .entry)) (fieldsOf (t .words) (now (work .entry))) last p
+        (brokenOf (t .words) (now (work .entry))) (brokenOf (t .words) (now (work .exit)))
+        × (fieldsOf (t .words) (now (work .exit)) ≡ fieldsOf (t .words) (now (work .entry))) ⌝ }
 {
-    let v = value_at(t, f, number, words, bits, p);
+    let v = value_at(t, f, number, work, p);
+    let k = t.words;
     let g = f.grid;
     let b = t.left;
     let x = p.point;
     if (v >> last) % 2 == 0 {
-        join_at(bits, 0, t.bits + places::index_in(g, b, p.pair, x), 1);
+        let at = t.bits as u32 + places::index_in(g, b, p.pair, x);
+        join_at(&mut work[k..], 0, at, 1);
     }
 }
 
@@ -289,16 +320,17 @@ fn mark_modes(
     t: RuleTurn,
     f: Frame,
     number: &[u16],
-    words: &[u64],
-    bits: &mut [u64],
+    work: &mut [u64],
     last: u32,
     pair: Place,
     modes: u64,
 )
-    requires { ⌜ ModesReady t f (now number) (length (now words)) (length (now bits)) pair modes × (last < 64)
-        × (0 < length (now bits)) × (lasting (t .operator) ≡ true) ⌝ }
-    ensures { λ _. ⌜ ModesRan (Mark t f (now (number .entry)) (now (words .entry)) last) pair modes
-        (now (bits .entry)) (now (bits .exit)) × (length (now (bits .exit)) ≡ length (now (bits .entry))) ⌝ }
+    requires { ⌜ ModesReady t f (now number) (length (fieldsOf (t .words) (now work)))
+        (length (brokenOf (t .words) (now work))) pair modes × (t .words ≤ length (now work)) × (last < 64)
+        × (0 < length (brokenOf (t .words) (now work))) × (lasting (t .operator) ≡ true) ⌝ }
+    ensures { λ _. ⌜ ModesRan (Mark t f (now (number .entry)) (fieldsOf (t .words) (now (work .entry))) last)
+        pair modes (brokenOf (t .words) (now (work .entry))) (brokenOf (t .words) (now (work .exit)))
+        × (fieldsOf (t .words) (now (work .exit)) ≡ fieldsOf (t .words) (now (work .entry))) ⌝ }
 {
     let x = pair.point;
     let mut m = next_bit(modes, 0);
@@ -311,7 +343,7 @@ fn mark_modes(
                 object: x.object,
             },
         };
-        mark_broken_at(t, f, number, words, bits, last, p);
+        mark_broken_at(t, f, number, work, last, p);
         m = next_bit(modes, m + 1);
     }
 }
@@ -320,27 +352,34 @@ fn mark_modes(
 pub fn mark_pairs(
     t: RuleTurn,
     f: Frame,
-    left: &[u64; 152],
-    need: &[u16],
-    codes: &[u16],
-    number: &[u16],
-    words: &[u64],
-    bits: &mut [u64],
+    range: Range,
     last: u32,
-    from: u32,
-    to: u32,
+    left: &[u64],
+    need: &[u16],
+    numbers: &[u16],
+    work: &mut [u64],
 )
-    requires { ⌜ PairsReady t f (now left) (now need) (now codes) (now number) (length (now words))
-        (length (now bits)) from to × (last < 64) × (0 < length (now bits))
+    requires { ⌜ PairsReady t f (now left) (now need) (listedOf (length (now need)) (now numbers))
+        (numberOf (length (now need)) (now numbers)) (length (fieldsOf (t .words) (now work)))
+        (length (brokenOf (t .words) (now work))) (range .from) (range .to)
+        × (152 ≤ length (now left)) × (2 * length (now need) ≤ length (now numbers))
+        × (t .words ≤ length (now work)) × (last < 64) × (0 < length (brokenOf (t .words) (now work)))
         × (lasting (t .operator) ≡ true) ⌝ }
-    ensures { λ _. ⌜ PairsRan t f (now (left .entry)) (now (need .entry)) (now (codes .entry))
-        (Mark t f (now (number .entry)) (now (words .entry)) last) from to
-        (now (bits .entry)) (now (bits .exit)) × (length (now (bits .exit)) ≡ length (now (bits .entry))) ⌝ }
+    ensures { λ _. ⌜ PairsRan t f (now (left .entry)) (now (need .entry))
+        (listedOf (length (now (need .entry))) (now (numbers .entry)))
+        (Mark t f (numberOf (length (now (need .entry))) (now (numbers .entry)))
+        (fieldsOf (t .words) (now (work .entry))) last) (range .from) (range .to)
+        (brokenOf (t .words) (now (work .entry))) (brokenOf (t .words) (now (work .exit)))
+        × (fieldsOf (t .words) (now (work .exit)) ≡ fieldsOf (t .words) (now (work .entry))) ⌝ }
 {
     let g = f.grid;
-    let mut n = from;
-    while n < to {
-        let c = codes[n as usize] as usize;
+    let size = need.len();
+    let number = &numbers[..size];
+    let rest = &numbers[size..];
+    let listed = &rest[..size];
+    let mut n = range.from;
+    while n < range.to {
+        let c = listed[n as usize] as usize;
         let o = c / 256;
         let s = c % 256;
         let pair = Place {
@@ -351,16 +390,8 @@ pub fn mark_pairs(
                 object: o as u32,
             },
         };
-        mark_modes(
-            t,
-            f,
-            number,
-            words,
-            bits,
-            last,
-            pair,
-            standing_modes(t, g, left, need, o, s),
-        );
+        let modes = standing_modes(t, g, left, need, o, s);
+        mark_modes(t, f, number, work, last, pair, modes);
         n += 1;
     }
 }

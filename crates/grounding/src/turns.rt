@@ -12,9 +12,11 @@ ghost use Rattle.places.specs.Regions.{sizeOf};
 ghost use Rattle.tables.specs.TableLayout.{regionAt, wholeRegion};
 ghost use Rattle.encoding.specs.Format.{ruleAt};
 ghost use Rattle.questions.specs.OperatorSteps.{lasting};
-ghost use Rattle.grounding.specs.RuleTurns.{rangeOf, pairNumberAt, turnFrom, Able, RuleRan, Turns};
-ghost use Rattle.grounding.specs.RuleTurns.{Rounds};
-ghost use Rattle.grounding.specs.RuleTurns.{prepared, Strata, RuleMarked, Marked};
+ghost use Rattle.sections.specs.Sections.{feedOf, firstOf, startsOf, activeOf, sidesOf, rightsOf};
+ghost use Rattle.grounding.specs.RuleTurns.{rangeOf, pairNumberAt, turnFrom, preparedIn, fieldsIn};
+ghost use Rattle.grounding.specs.RuleTurns.{bitsIn};
+ghost use Rattle.grounding.specs.RuleTurns.{SlicedIn, Able, RuleRan, Turns, Rounds, RuleMarked, Marked};
+use crate::Ending;
 use crate::Range;
 use crate::RuleTurn;
 use crate::pairs::derive_pairs;
@@ -24,12 +26,20 @@ use masks::Next;
 use masks::has_bit;
 use masks::next_dirty;
 use masks::next_ready;
-use masks::of_stratum;
 use masks::transpose;
 use masks::without;
+use masks::words_for;
 use model::RULE_BYTES;
 use places::Grid;
 use places::Region;
+use sections::ACTIVE;
+use sections::FEED;
+use sections::FIRST;
+use sections::LEFT;
+use sections::RIGHT;
+use sections::SIDES;
+use sections::STARTS;
+use sections::SUBJECTS;
 use tables::Frame;
 use tables::all_places;
 use tables::region_at;
@@ -71,13 +81,14 @@ fn range_of(b: Region, g: Grid, number: &[u16]) -> Range
 }
 
 // Where the table that a rule looks at starts: that of the rule itself, or of what is held or denied.
-fn table_start(f: Frame, first: &[u32; 64], i: usize, own: bool, denied: bool) -> u32
-    requires { ⌜ (i < 64) × (sizeOf (f .grid) wholeRegion < 4294967296) ⌝ }
+fn table_start(f: Frame, first: &[u64], i: usize, own: bool, denied: bool) -> u32
+    requires { ⌜ (i < 64) × (sizeOf (f .grid) wholeRegion < 4294967296) × (64 ≤ length (now first))
+        × (own ≡ true → getD (now first) i 0 < 4294967296) ⌝ }
     ensures { λ r. ⌜ r ≡ pick own (getD (now (first .entry)) i 0) (pick denied (sizeOf (f .grid) wholeRegion)
         0) ⌝ }
 {
     if own {
-        return first[i];
+        return first[i] as u32;
     }
     if denied {
         let g = f.grid;
@@ -87,8 +98,8 @@ fn table_start(f: Frame, first: &[u32; 64], i: usize, own: bool, denied: bool) -
 }
 
 // The region of that table.
-fn table_region(right: &[u8; 256], i: usize, own: bool) -> Region
-    requires { ⌜ i < 64 ⌝ }
+fn table_region(right: &[u8], i: usize, own: bool) -> Region
+    requires { ⌜ (i < 64) × (256 ≤ length (now right)) ⌝ }
     ensures { λ r. ⌜ r ≡ pick own (regionAt (now (right .entry)) i) wholeRegion ⌝ }
 {
     if own {
@@ -98,40 +109,40 @@ fn table_region(right: &[u8; 256], i: usize, own: bool) -> Region
 }
 
 // The turn of rule r.
-fn turn_of(
-    body: &[u8],
-    r: u32,
-    f: Frame,
-    feed: &[u64; 128],
-    sides: &[u8; 256],
-    right: &[u8; 256],
-    first: &[u32; 64],
-    starts: &[u32; 64],
-    active: &[u64; 64],
-) -> RuleTurn
-    requires { ⌜ (r < 64) × (28 * r + 28 ≤ length (now body)) × (getD (now sides) (4 * r + 3) 0 < 4)
-        × (sizeOf (f .grid) wholeRegion < 4294967296) ⌝ }
-    ensures { λ t. ⌜ t ≡ turnFrom f (now (body .entry)) (now (feed .entry)) (now (sides .entry))
-        (now (right .entry)) (now (first .entry)) (now (starts .entry)) (now (active .entry)) r ⌝ }
+fn turn_of(body: &[u8], r: u32, f: Frame, outline: &[u64], coordinates: &[u8]) -> RuleTurn
+    requires { ⌜ (r < 64)
+        × (28 * r + 28 ≤ length (now body))
+        × (getD (sidesOf (now coordinates)) (4 * r + 3) 0 < 4)
+        × (sizeOf (f .grid) wholeRegion < 4294967296)
+        × (bit r (f .choosy) ≡ true → getD (firstOf (now outline)) r 0 < 4294967296)
+        × (f .width ≤ 6)
+        × (length (now outline) ≡ 472)
+        × (length (now coordinates) ≡ 1666) ⌝ }
+    ensures { λ t. ⌜ t ≡ turnFrom f (now (body .entry)) (feedOf (now (outline .entry)))
+        (sidesOf (now (coordinates .entry))) (rightsOf (now (coordinates .entry)))
+        (firstOf (now (outline .entry))) (startsOf (now (outline .entry))) (activeOf (now (outline .entry))) r
+        ⌝ }
 {
     let i = r as usize;
     let q = rule_at(body, i * RULE_BYTES);
     let operator = q.operator;
-    let signs = sides[4 * i + 3];
+    let right = &coordinates[RIGHT..SUBJECTS];
+    let signs = coordinates[4 * i + 3];
     let denied = signs / 2 == 1;
     let own = has_bit(f.choosy, r);
     RuleTurn {
         rule: r,
         operator: operator,
-        active: active[i],
+        active: outline[ACTIVE + i],
         right: region_at(right, i),
         denied: denied,
-        first: table_start(f, first, i, own, denied),
+        first: table_start(f, &outline[FIRST..STARTS], i, own, denied),
         table: table_region(right, i, own),
-        left: region_at(sides, i),
+        left: region_at(&coordinates[SIDES..RIGHT], i),
         sign: (signs % 2) as u32,
-        bits: starts[i],
-        takers: feed[64 + i] & f.choosy,
+        bits: outline[STARTS + i],
+        takers: outline[FEED + 64 + i] & f.choosy,
+        words: words_for(f.fields, f.width),
     }
 }
 
@@ -141,51 +152,31 @@ fn derive_rule(
     body: &[u8],
     r: u32,
     f: Frame,
-    left: &[u64; 152],
-    feed: &[u64; 128],
-    sides: &[u8; 256],
-    right: &[u8; 256],
+    outline: &[u64],
+    coordinates: &[u8],
     need: &[u16],
-    codes: &[u16],
-    number: &[u16],
-    first: &[u32; 64],
-    starts: &[u32; 64],
-    active: &[u64; 64],
-    words: &mut [u64],
-    bits: &[u64],
+    numbers: &[u16],
+    work: &mut [u64],
 ) -> bool
-    requires { ⌜ Able (prepared (now body) (now left)
-        (now feed) (now sides) (now right) (now need) (now codes) (now number) (now first) (now starts) f)
-        (now active) (length (now words)) (length (now bits)) r ⌝ }
-    ensures { λ x. ⌜ RuleRan (prepared (now (body .entry)) (now (left .entry)) (now (feed .entry))
-        (now (sides .entry)) (now (right .entry)) (now (need .entry)) (now (codes .entry))
-        (now (number .entry)) (now (first .entry)) (now (starts .entry)) f)
-        (now (active .entry)) (now (bits .entry)) r (now (words .entry)) (now (words .exit))
-        × SumGrown x (now (words .entry)) (now (words .exit))
-        × (length (now (words .exit)) ≡ length (now (words .entry))) ⌝ }
+    requires { ⌜ Able (preparedIn (now body) (now outline) (now coordinates) (now need) (now numbers) f)
+        (activeOf (now outline)) (length (fieldsIn f (now work))) (length (bitsIn f (now work))) r
+        × SlicedIn (now outline) (now coordinates) (now need) (now numbers) f (now work) ⌝ }
+    ensures { λ x. ⌜ RuleRan (preparedIn (now (body .entry)) (now (outline .entry)) (now (coordinates .entry))
+        (now (need .entry)) (now (numbers .entry)) f) (activeOf (now (outline .entry)))
+        (bitsIn f (now (work .entry))) r (fieldsIn f (now (work .entry))) (fieldsIn f (now (work .exit)))
+        × SumGrown x (fieldsIn f (now (work .entry))) (fieldsIn f (now (work .exit)))
+        × (bitsIn f (now (work .exit)) ≡ bitsIn f (now (work .entry))) ⌝ }
 {
     let i = r as usize;
-    if active[i] == 0 {
+    if outline[ACTIVE + i] == 0 {
         return false;
     }
-    let t = turn_of(body, r, f, feed, sides, right, first, starts, active);
+    let t = turn_of(body, r, f, outline, coordinates);
     let g = f.grid;
     let b = t.left;
-    let n = range_of(b, g, number);
-    derive_pairs(
-        t,
-        f,
-        left,
-        need,
-        codes,
-        number,
-        words,
-        bits,
-        right,
-        first,
-        n.from,
-        n.to,
-    )
+    let size = need.len();
+    let n = range_of(b, g, &numbers[..size]);
+    derive_pairs(t, f, n, outline, coordinates, need, numbers, work)
 }
 
 // Gives each needed rule its turn, behind those that precede it; those that are left, on circles or behind
@@ -194,165 +185,66 @@ pub fn derive_rules(
     body: &[u8],
     needed: u64,
     f: Frame,
-    left: &[u64; 152],
-    feed: &[u64; 128],
-    sides: &[u8; 256],
-    right: &[u8; 256],
+    outline: &[u64],
+    coordinates: &[u8],
     need: &[u16],
-    codes: &[u16],
-    number: &[u16],
-    first: &[u32; 64],
-    starts: &[u32; 64],
-    active: &[u64; 64],
-    words: &mut [u64],
-    bits: &[u64],
+    numbers: &[u16],
+    work: &mut [u64],
 ) -> u64
-    requires { ⌜ ((r : ℕ) → bit r needed ≡ true → Able (prepared (now body) (now left)
-        (now feed) (now sides) (now right) (now need) (now codes) (now number) (now first) (now starts) f)
-        (now active) (length (now words)) (length (now bits)) r) ⌝ }
-    ensures { λ rest. ⌜ Turns (prepared (now (body .entry)) (now (left .entry)) (now (feed .entry))
-        (now (sides .entry)) (now (right .entry)) (now (need .entry)) (now (codes .entry))
-        (now (number .entry)) (now (first .entry)) (now (starts .entry)) f)
-        (now (active .entry)) (now (bits .entry)) needed (now (words .entry)) rest (now (words .exit))
-        × (length (now (words .exit)) ≡ length (now (words .entry)))
+    requires { ⌜ ((r : ℕ) → bit r needed ≡ true → Able (preparedIn (now body) (now outline) (now coordinates)
+        (now need) (now numbers) f) (activeOf (now outline)) (length (fieldsIn f (now work)))
+        (length (bitsIn f (now work))) r)
+        × SlicedIn (now outline) (now coordinates) (now need) (now numbers) f (now work) ⌝ }
+    ensures { λ rest. ⌜ Turns (preparedIn (now (body .entry)) (now (outline .entry))
+        (now (coordinates .entry)) (now (need .entry)) (now (numbers .entry)) f)
+        (activeOf (now (outline .entry))) (bitsIn f (now (work .entry))) needed
+        (fieldsIn f (now (work .entry))) rest (fieldsIn f (now (work .exit)))
+        × (bitsIn f (now (work .exit)) ≡ bitsIn f (now (work .entry)))
         × ((r : ℕ) → bit r rest ≡ true → bit r needed ≡ true) ⌝ }
 {
     let mut rest = needed;
-    let mut at = next_ready(feed, rest, 0, true);
+    let mut at = next_ready(&outline[FEED..FIRST], rest, 0, true);
     while at.rule < 64 {
         let r = at.rule;
-        derive_rule(
-            body,
-            r,
-            f,
-            left,
-            feed,
-            sides,
-            right,
-            need,
-            codes,
-            number,
-            first,
-            starts,
-            active,
-            words,
-            bits,
-        );
+        derive_rule(body, r, f, outline, coordinates, need, numbers, work);
         rest = without(rest, r);
-        at = next_ready(feed, rest, r, at.up);
+        at = next_ready(&outline[FEED..FIRST], rest, r, at.up);
     }
     rest
 }
 
 // Gives the rules of a set their turns, each again as long as something is new that it may look at.
-fn close(
+pub fn close(
     body: &[u8],
     rules: u64,
     f: Frame,
-    left: &[u64; 152],
-    feed: &[u64; 128],
-    sides: &[u8; 256],
-    right: &[u8; 256],
+    outline: &[u64],
+    coordinates: &[u8],
     need: &[u16],
-    codes: &[u16],
-    number: &[u16],
-    first: &[u32; 64],
-    starts: &[u32; 64],
-    active: &[u64; 64],
-    words: &mut [u64],
-    bits: &[u64],
+    numbers: &[u16],
+    work: &mut [u64],
 )
-    requires { ⌜ ((r : ℕ) → bit r rules ≡ true → Able (prepared (now body) (now left)
-        (now feed) (now sides) (now right) (now need) (now codes) (now number) (now first) (now starts) f)
-        (now active) (length (now words)) (length (now bits)) r) ⌝ }
-    ensures { λ _. ⌜ Rounds (prepared (now (body .entry)) (now (left .entry)) (now (feed .entry))
-        (now (sides .entry)) (now (right .entry)) (now (need .entry)) (now (codes .entry))
-        (now (number .entry)) (now (first .entry)) (now (starts .entry)) f)
-        (now (active .entry)) (now (bits .entry)) rules rules (now (words .entry)) (now (words .exit))
-        × (length (now (words .exit)) ≡ length (now (words .entry))) ⌝ }
+    requires { ⌜ ((r : ℕ) → bit r rules ≡ true → Able (preparedIn (now body) (now outline) (now coordinates)
+        (now need) (now numbers) f) (activeOf (now outline)) (length (fieldsIn f (now work)))
+        (length (bitsIn f (now work))) r)
+        × SlicedIn (now outline) (now coordinates) (now need) (now numbers) f (now work) ⌝ }
+    ensures { λ _. ⌜ Rounds (preparedIn (now (body .entry)) (now (outline .entry)) (now (coordinates .entry))
+        (now (need .entry)) (now (numbers .entry)) f) (activeOf (now (outline .entry)))
+        (bitsIn f (now (work .entry))) rules rules (fieldsIn f (now (work .entry)))
+        (fieldsIn f (now (work .exit)))
+        × (bitsIn f (now (work .exit)) ≡ bitsIn f (now (work .entry))) ⌝ }
 {
     let mut fed = [0u64; 64];
-    transpose(feed, rules, &mut fed);
+    transpose(&outline[FEED..FIRST], rules, &mut fed);
     let mut dirty = rules;
     let mut at = Next { rule: 63, up: true };
     while dirty != 0 {
         at = next_dirty(dirty, at.rule, at.up);
         let r = at.rule;
         dirty = without(dirty, r);
-        if derive_rule(
-            body,
-            r,
-            f,
-            left,
-            feed,
-            sides,
-            right,
-            need,
-            codes,
-            number,
-            first,
-            starts,
-            active,
-            words,
-            bits,
-        ) {
+        if derive_rule(body, r, f, outline, coordinates, need, numbers, work) {
             dirty = dirty | fed[r as usize];
         }
-    }
-}
-
-// The same for the rules that are left, stratum by stratum.
-pub fn derive_strata(
-    body: &[u8],
-    rest: u64,
-    strata: &[u16; 65],
-    f: Frame,
-    left: &[u64; 152],
-    feed: &[u64; 128],
-    sides: &[u8; 256],
-    right: &[u8; 256],
-    need: &[u16],
-    codes: &[u16],
-    number: &[u16],
-    first: &[u32; 64],
-    starts: &[u32; 64],
-    active: &[u64; 64],
-    words: &mut [u64],
-    bits: &[u64],
-)
-    requires { ⌜ ((r : ℕ) → bit r rest ≡ true → Able (prepared (now body) (now left)
-        (now feed) (now sides) (now right) (now need) (now codes) (now number) (now first) (now starts) f)
-        (now active) (length (now words)) (length (now bits)) r) ⌝ }
-    ensures { λ _. ⌜ Strata (prepared (now (body .entry)) (now (left .entry)) (now (feed .entry))
-        (now (sides .entry)) (now (right .entry)) (now (need .entry)) (now (codes .entry))
-        (now (number .entry)) (now (first .entry)) (now (starts .entry)) f)
-        (now (active .entry)) (now (bits .entry)) (now (strata .entry)) rest 0
-        (now (words .entry)) (now (words .exit))
-        × (length (now (words .exit)) ≡ length (now (words .entry))) ⌝ }
-{
-    let mut todo = rest;
-    let mut k: u16 = 0;
-    while (todo != 0) & (k <= 128) {
-        let now = of_stratum(strata, todo, k);
-        close(
-            body,
-            now,
-            f,
-            left,
-            feed,
-            sides,
-            right,
-            need,
-            codes,
-            number,
-            first,
-            starts,
-            active,
-            words,
-            bits,
-        );
-        todo = todo - (todo & now);
-        k += 1;
     }
 }
 
@@ -360,51 +252,35 @@ pub fn derive_strata(
 fn mark_rule(
     body: &[u8],
     r: u32,
-    f: Frame,
-    left: &[u64; 152],
-    feed: &[u64; 128],
-    sides: &[u8; 256],
-    right: &[u8; 256],
+    e: Ending,
+    outline: &[u64],
+    coordinates: &[u8],
     need: &[u16],
-    codes: &[u16],
-    number: &[u16],
-    first: &[u32; 64],
-    starts: &[u32; 64],
-    active: &[u64; 64],
-    words: &[u64],
-    bits: &mut [u64],
-    last: u32,
-    mark: u32,
+    numbers: &[u16],
+    work: &mut [u64],
 )
-    requires { ⌜ Able (prepared (now body) (now left)
-        (now feed) (now sides) (now right) (now need) (now codes) (now number) (now first) (now starts) f)
-        (now active) (length (now words)) (length (now bits)) r × (last < 64) × (0 < length (now bits))
+    requires { ⌜ Able (preparedIn (now body) (now outline) (now coordinates) (now need) (now numbers)
+        (e .frame)) (activeOf (now outline)) (length (fieldsIn (e .frame) (now work)))
+        (length (bitsIn (e .frame) (now work))) r
+        × SlicedIn (now outline) (now coordinates) (now need) (now numbers) (e .frame) (now work)
+        × (e .last < 64)
+        × (0 < length (bitsIn (e .frame) (now work)))
         × (lasting (ruleAt (now body) r .operator) ≡ true) ⌝ }
-    ensures { λ _. ⌜ RuleMarked (prepared (now (body .entry)) (now (left .entry)) (now (feed .entry))
-        (now (sides .entry)) (now (right .entry)) (now (need .entry)) (now (codes .entry))
-        (now (number .entry)) (now (first .entry)) (now (starts .entry)) f)
-        (now (active .entry)) (now (words .entry)) last mark r (now (bits .entry)) (now (bits .exit))
-        × (length (now (bits .exit)) ≡ length (now (bits .entry))) ⌝ }
+    ensures { λ _. ⌜ RuleMarked (preparedIn (now (body .entry)) (now (outline .entry))
+        (now (coordinates .entry)) (now (need .entry)) (now (numbers .entry)) (e .frame))
+        (activeOf (now (outline .entry))) (fieldsIn (e .frame) (now (work .entry))) (e .last) (e .mark) r
+        (bitsIn (e .frame) (now (work .entry))) (bitsIn (e .frame) (now (work .exit)))
+        × (fieldsIn (e .frame) (now (work .exit)) ≡ fieldsIn (e .frame) (now (work .entry))) ⌝ }
 {
     let q = rule_at(body, (r as usize) * RULE_BYTES);
-    if q.interval.start <= mark {
-        let t = turn_of(body, r, f, feed, sides, right, first, starts, active);
+    if q.interval.start <= e.mark {
+        let f = e.frame;
+        let t = turn_of(body, r, f, outline, coordinates);
         let g = f.grid;
         let b = t.left;
-        let n = range_of(b, g, number);
-        mark_pairs(
-            t,
-            f,
-            left,
-            need,
-            codes,
-            number,
-            words,
-            bits,
-            last,
-            n.from,
-            n.to,
-        );
+        let size = need.len();
+        let n = range_of(b, g, &numbers[..size]);
+        mark_pairs(t, f, n, e.last, &outline[LEFT..FEED], need, numbers, work);
     }
 }
 
@@ -412,54 +288,29 @@ fn mark_rule(
 pub fn mark_broken(
     body: &[u8],
     rules: u64,
-    f: Frame,
-    left: &[u64; 152],
-    feed: &[u64; 128],
-    sides: &[u8; 256],
-    right: &[u8; 256],
+    e: Ending,
+    outline: &[u64],
+    coordinates: &[u8],
     need: &[u16],
-    codes: &[u16],
-    number: &[u16],
-    first: &[u32; 64],
-    starts: &[u32; 64],
-    active: &[u64; 64],
-    words: &[u64],
-    bits: &mut [u64],
-    last: u32,
-    mark: u32,
+    numbers: &[u16],
+    work: &mut [u64],
 )
-    requires { ⌜ ((r : ℕ) → bit r rules ≡ true → Able (prepared (now body) (now left)
-        (now feed) (now sides) (now right) (now need) (now codes) (now number) (now first) (now starts) f)
-        (now active) (length (now words)) (length (now bits)) r) × (last < 64)
-        × (((r : ℕ) → bit r rules ≡ true → ⊥) ⊎ (0 < length (now bits)))
+    requires { ⌜ ((r : ℕ) → bit r rules ≡ true → Able (preparedIn (now body) (now outline) (now coordinates)
+        (now need) (now numbers) (e .frame)) (activeOf (now outline))
+        (length (fieldsIn (e .frame) (now work))) (length (bitsIn (e .frame) (now work))) r)
+        × SlicedIn (now outline) (now coordinates) (now need) (now numbers) (e .frame) (now work)
+        × (e .last < 64)
+        × (((r : ℕ) → bit r rules ≡ true → ⊥) ⊎ (0 < length (bitsIn (e .frame) (now work))))
         × ((r : ℕ) → bit r rules ≡ true → lasting (ruleAt (now body) r .operator) ≡ true) ⌝ }
-    ensures { λ _. ⌜ Marked (prepared (now (body .entry)) (now (left .entry)) (now (feed .entry))
-        (now (sides .entry)) (now (right .entry)) (now (need .entry)) (now (codes .entry))
-        (now (number .entry)) (now (first .entry)) (now (starts .entry)) f)
-        (now (active .entry)) (now (words .entry)) last mark rules 0 (now (bits .entry)) (now (bits .exit))
-        × (length (now (bits .exit)) ≡ length (now (bits .entry))) ⌝ }
+    ensures { λ _. ⌜ Marked (preparedIn (now (body .entry)) (now (outline .entry)) (now (coordinates .entry))
+        (now (need .entry)) (now (numbers .entry)) (e .frame)) (activeOf (now (outline .entry)))
+        (fieldsIn (e .frame) (now (work .entry))) (e .last) (e .mark) rules 0
+        (bitsIn (e .frame) (now (work .entry))) (bitsIn (e .frame) (now (work .exit)))
+        × (fieldsIn (e .frame) (now (work .exit)) ≡ fieldsIn (e .frame) (now (work .entry))) ⌝ }
 {
     let mut r = next_bit(rules, 0);
     while r < 64 {
-        mark_rule(
-            body,
-            r,
-            f,
-            left,
-            feed,
-            sides,
-            right,
-            need,
-            codes,
-            number,
-            first,
-            starts,
-            active,
-            words,
-            bits,
-            last,
-            mark,
-        );
+        mark_rule(body, r, e, outline, coordinates, need, numbers, work);
         r = next_bit(rules, r + 1);
     }
 }

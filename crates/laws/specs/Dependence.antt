@@ -18,7 +18,7 @@ use Rattle.model.specs.Stratification.{negating, negates, lasting}
 use Rattle.model.specs.StratificationFacts.{unlabelled}
 use Rattle.model.specs.Rules.{standsFor, rightOf, asked, rightHolds, operate}
 use Rattle.model.specs.RightFacts.{right-is}
-use Rattle.model.specs.HoldsLaws.{Fed, StrictlyFed, fit-precedes, strictly-fed, strictly-linked}
+use Rattle.model.specs.HoldsLaws.{PrecededOnly, StrictlyFed, fit-precedes, strictly-fed, strictly-linked}
 
 -- the same rule, under this label or another
 abbrev pub Twins : Rule → Rule → Type 0
@@ -65,7 +65,7 @@ module _ (r : Rule) (x : Access) (p : Pattern) where
   denials-strictly base d q f = strictly-linked base r x (d .0) q (rw (← d .1) f)
 
   -- what r looks at is derived by rules that precede it,
-  pub depends-fed : (base : Base) → Depends r x p → Fed base r p
+  pub depends-fed : (base : Base) → Depends r x p → PrecededOnly base r p
   unfolding Depends
   depends-fed base e q f = ⊎-elim (λ a. fit-precedes base q r x (rw (← a) f))
       (λ d. denials-strictly base d q f .0) e

@@ -56,7 +56,7 @@ module _ (B : Base) (sB : stratified (B .rules) ≡ true) where
 
 module _ (D : Access → Bool) where
   -- twins of A and B that stand for the same access of D
-  pub record Paired (A B : Base) (r s : Rule) (x : Access) : Type 0 where
+  pub record TwinsFor (A B : Base) (r s : Rule) (x : Access) : Type 0 where
     pub first : Mem r (A .rules)
     pub second : Mem s (B .rules)
     pub twins : Twins r s
@@ -64,7 +64,7 @@ module _ (D : Access → Bool) where
     pub first-stands : standsFor A r x ≡ true
     pub second-stands : standsFor B s x ≡ true
 
-  pub swap : (A B : Base) (r s : Rule) (x : Access) → Paired A B r s x → Paired B A s r x
+  pub swap : (A B : Base) (r s : Rule) (x : Access) → TwinsFor A B r s x → TwinsFor B A s r x
   swap A B r s x w = record {
     first = w .second;
     second = w .first;
@@ -96,7 +96,7 @@ module _ (D : Access → Bool) (h : ℕ) where
     pub fresh : (r : Rule) (x : Access) → Bears A r x → lasting (r .operator) ≡ true →
         h ≤ r .interval .start
 
-  pub pair-bears : (A B : Base) (r s : Rule) (x : Access) → Paired D A B r s x →
+  pub pair-bears : (A B : Base) (r s : Rule) (x : Access) → TwinsFor D A B r s x →
       h ≤ r .interval .end → Bears A r x
   pair-bears A B r s x w l = record {
     listed = w .first;
@@ -129,7 +129,7 @@ module _ (D : Access → Bool) (h : ℕ) where
 
   module _ (A B : Base) (match : Matched A B) (p : Pattern) (d : D (p .access) ≡ true) where
     twin-derives : (r : Rule) → Mem r (A .rules) → derivesFor A p r ≡ true → h ≤ r .interval .end →
-        (s : Rule) × Paired D A B r s (p .access) × (derivesFor B p s ≡ true)
+        (s : Rule) × TwinsFor D A B r s (p .access) × (derivesFor B p s ≡ true)
     twin-derives r m e l =
         let w = derives-is A p r .0 e in
         let v = match r (p .access) (record { listed = m; inside = d; stands = w .0; late = l }) in
@@ -153,7 +153,7 @@ module _ (D : Access → Bool) (h : ℕ) where
 
     -- so what holds of p by facts that B derives for the twins holds of p in B
     pub held-more : (S : Fact → Bool) (t : ℕ) → direct A t p ≡ direct B t p →
-        ((r s : Rule) → Paired D A B r s (p .access) → derivesFor A p r ≡ true → derivesFor B p s ≡ true →
+        ((r s : Rule) → TwinsFor D A B r s (p .access) → derivesFor A p r ≡ true → derivesFor B p s ≡ true →
         S (fact r (p .access) t) ≡ true → derived B (fact s (p .access) t) ≡ true) →
         ((r : Rule) → Mem r (A .rules) → S (fact r (p .access) t) ≡ true → h ≤ r .interval .end) →
         holdsBy always A S t p ≡ true → holds always B t p ≡ true
@@ -174,7 +174,7 @@ module _ (D : Access → Bool) (h : ℕ) where
   -- ---- one step: what a rule of A derives by facts that B has for the twins, its twin derives in B
 
   module _ (A B : Base) (sB : stratified (B .rules) ≡ true) (lower S : Fact → Bool)
-      (r s : Rule) (x : Access) (w : Paired D A B r s x) (t : ℕ) (l : h ≤ t) where
+      (r s : Rule) (x : Access) (w : TwinsFor D A B r s x) (t : ℕ) (l : h ≤ t) where
     pub carried : (lasting (r .operator) ≡ true → h ≤ r .interval .start) →
         ((p : Pattern) → Depends r x p → (u : ℕ) → h ≤ u →
         holdsBy always A S u p ≡ true → holds always B u p ≡ true) →

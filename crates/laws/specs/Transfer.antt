@@ -23,7 +23,7 @@ use Rattle.model.specs.HoldsLaws.{derived, holds-law, settled-at, strictly-sett
 use Rattle.laws.specs.Dependence.{DependsBelow, depends-access}
 use Rattle.laws.specs.Dependence.{below-depends, depends-fed, depends-strictly}
 use Rattle.laws.specs.Dependence.{depends-twin, below-twin}
-use Rattle.laws.specs.Matching.{direct, Bears, Matched, Alike, Paired, swap, pair-bears, late-twin}
+use Rattle.laws.specs.Matching.{direct, Bears, Matched, Alike, TwinsFor, swap, pair-bears, late-twin}
 use Rattle.laws.specs.Matching.{alike-swap, ongoing, held-more, carried}
 
 -- what a round of a stratum derives is derived at last
@@ -40,7 +40,7 @@ module _ (D : Access → Bool) (h : ℕ) (A B : Base)
     (forth : Matched D h A B) (back : Matched D h B A) (alike : Alike D h A B) where
   -- twins of which A's has a stratum below k derive the same
   abbrev Same : ℕ → Type 0
-  Same k = (r s : Rule) (x : Access) → Paired D A B r s x → stratum (A .rules) r < k →
+  Same k = (r s : Rule) (x : Access) → TwinsFor D A B r s x → stratum (A .rules) r < k →
       (t : ℕ) → h ≤ t → derived A (fact r x t) ≡ derived B (fact s x t)
 
   module _ (k : ℕ) (known : Same k) where
@@ -72,13 +72,13 @@ module _ (D : Access → Bool) (h : ℕ) (A B : Base)
     -- ---- what A's stratum k derives, B derives
 
     module _ (few : k ≤ 2 * length (A .rules)) where
-      lower-carried : (r s : Rule) (x : Access) → Paired D A B r s x → (t : ℕ) → h ≤ t →
+      lower-carried : (r s : Rule) (x : Access) → TwinsFor D A B r s x → (t : ℕ) → h ≤ t →
           derivedBelow always A k (fact r x t) ≡ true → derived B (fact s x t) ≡ true
       lower-carried r s x w t l e =
           let v = below-stratum A k (fact r x t) e in
           sym (known r s x w v t l) ∙ settled-at A k (fact r x t) (w .first) v (omega arith) ∙ e
 
-      found : (i : ℕ) → i ≤ enough always A → (r s : Rule) (x : Access) → Paired D A B r s x →
+      found : (i : ℕ) → i ≤ enough always A → (r s : Rule) (x : Access) → TwinsFor D A B r s x →
           (t : ℕ) → h ≤ t → rounds A k i (fact r x t) ≡ true → derived B (fact s x t) ≡ true
       unfolding iter
       found zero j r s x w t l e = lower-carried r s x w t l e
@@ -107,18 +107,18 @@ module _ (D : Access → Bool) (h : ℕ) (A B : Base)
     -- ---- and back: stratum by stratum of B, what twins of A's stratum k derive in B, they derive in A
 
     abbrev Returned : ℕ → Type 0
-    Returned j = (r s : Rule) (x : Access) → Paired D A B r s x → stratum (A .rules) r ≤ k →
+    Returned j = (r s : Rule) (x : Access) → TwinsFor D A B r s x → stratum (A .rules) r ≤ k →
         stratum (B .rules) s < j → (t : ℕ) → h ≤ t →
         derived B (fact s x t) ≡ true → derived A (fact r x t) ≡ true
 
     module _ (j : ℕ) (few : j ≤ 2 * length (B .rules)) (had : Returned j) where
-      lower-back : (r s : Rule) (x : Access) → Paired D A B r s x → stratum (A .rules) r ≤ k →
+      lower-back : (r s : Rule) (x : Access) → TwinsFor D A B r s x → stratum (A .rules) r ≤ k →
           (t : ℕ) → h ≤ t → derivedBelow always B j (fact s x t) ≡ true → derived A (fact r x t) ≡ true
       lower-back r s x w v t l e =
           let c = below-stratum B j (fact s x t) e in
           had r s x w v c t l (settled-at B j (fact s x t) (w .second) c (omega arith) ∙ e)
 
-      returns : (i : ℕ) → i ≤ enough always B → (r s : Rule) (x : Access) → Paired D A B r s x →
+      returns : (i : ℕ) → i ≤ enough always B → (r s : Rule) (x : Access) → TwinsFor D A B r s x →
           stratum (A .rules) r ≤ k → (t : ℕ) → h ≤ t → rounds B j i (fact s x t) ≡ true →
           derived A (fact r x t) ≡ true
       unfolding iter

@@ -15,9 +15,10 @@ use Rattle.model.specs.declared.Rule.{Rule}
 use Rattle.model.specs.Ranges.{between, isObject, isSubject, isMode, isLabel, isInstant}
 use Rattle.model.specs.Base.{listed}
 use Rattle.model.specs.Soundness.{privilegeIn, intervalIn, authorizationIn, sideIn, orStar, ruleIn}
-use Rattle.lookup.specs.NarrowedNumbers.{narrowed, existsIn, hasLabel, ofOther, labelled, ofOtherAuthor}
+use Rattle.lookup.specs.NarrowedNumbers.{narrowedTo, existsIn, hasLabel, ofOther, labelled}
+use Rattle.lookup.specs.NarrowedNumbers.{ofOtherAuthor}
 
-narrowed-eq : (m n : ℕ) → 1 ≤ m → m ≤ 65535 → eqb m (narrowed n) ≡ eqb m n
+narrowed-eq : (m n : ℕ) → 1 ≤ m → m ≤ 65535 → eqb m (narrowedTo n) ≡ eqb m n
 narrowed-eq m n p q = cases (leb n 65535)
     (λ e. rw e)
     (λ e. let l = false-le n 65535 e in
@@ -25,20 +26,20 @@ narrowed-eq m n p q = cases (leb n 65535)
 
 -- a number in a range
 in-range : (lowest highest m n : ℕ) → between lowest highest m ≡ true → 1 ≤ lowest → highest ≤ 65535 →
-    eqb m (narrowed n) ≡ eqb m n
+    eqb m (narrowedTo n) ≡ eqb m n
 in-range lowest highest m n e l h =
     let w = and-true (leb lowest m) (leb m highest) e in
     let a = true-le lowest m (w .0) in
     let b = true-le m highest (w .1) in
     narrowed-eq m n (omega arith) (omega arith)
 
-object-eq : (m n : ℕ) → isObject m ≡ true → eqb m (narrowed n) ≡ eqb m n
+object-eq : (m n : ℕ) → isObject m ≡ true → eqb m (narrowedTo n) ≡ eqb m n
 object-eq m n e = in-range 1 128 m n e (omega arith) (omega arith)
 
-subject-eq : (m n : ℕ) → isSubject m ≡ true → eqb m (narrowed n) ≡ eqb m n
+subject-eq : (m n : ℕ) → isSubject m ≡ true → eqb m (narrowedTo n) ≡ eqb m n
 subject-eq m n e = in-range 1 1023 m n e (omega arith) (omega arith)
 
-label-eq : (m n : ℕ) → isLabel m ≡ true → eqb m (narrowed n) ≡ eqb m n
+label-eq : (m n : ℕ) → isLabel m ≡ true → eqb m (narrowedTo n) ≡ eqb m n
 label-eq m n e = in-range 1 65535 m n e (omega arith) (omega arith)
 
 -- ---- among privileges
@@ -47,12 +48,12 @@ module _ (ps : List Privilege) (e : allb privilegeIn ps ≡ true) where
   privilege-in : (p : Privilege) → Mem p ps → (isObject (p .object) ≡ true) × (isSubject (p .subject) ≡ true)
   privilege-in p m = and-true (isObject (p .object)) (isSubject (p .subject)) (all-mem privilegeIn ps e p m)
 
-  pub exists-narrowed : (o : ℕ) → existsIn ps (narrowed o) ≡ existsIn ps o
-  exists-narrowed o = any-cong-mem (λ p. eqb (p .object) (narrowed o)) (λ p. eqb (p .object) o) ps
+  pub exists-narrowed : (o : ℕ) → existsIn ps (narrowedTo o) ≡ existsIn ps o
+  exists-narrowed o = any-cong-mem (λ p. eqb (p .object) (narrowedTo o)) (λ p. eqb (p .object) o) ps
       (λ p m. object-eq (p .object) o (privilege-in p m .0))
 
-  pub listed-narrowed : (o u : ℕ) → listed ps (narrowed o) (narrowed u) ≡ listed ps o u
-  listed-narrowed o u = any-cong-mem (λ p. eqb (p .object) (narrowed o) && eqb (p .subject) (narrowed u))
+  pub listed-narrowed : (o u : ℕ) → listed ps (narrowedTo o) (narrowedTo u) ≡ listed ps o u
+  listed-narrowed o u = any-cong-mem (λ p. eqb (p .object) (narrowedTo o) && eqb (p .subject) (narrowedTo u))
       (λ p. eqb (p .object) o && eqb (p .subject) u) ps
       (λ p m. let w = privilege-in p m in
       λ k. object-eq (p .object) o (w .0) k && subject-eq (p .subject) u (w .1) k)
@@ -70,12 +71,12 @@ module _ (xs : List Authorization) (e : allb authorizationIn xs ≡ true) where
       (all-mem authorizationIn xs e a m) in
       (t _ (inl refl), t _ (inr (inl refl)))
 
-  pub label-narrowed : (l : ℕ) → anyb (hasLabel (narrowed l)) xs ≡ anyb (hasLabel l) xs
-  label-narrowed l = any-cong-mem (hasLabel (narrowed l)) (hasLabel l) xs
+  pub label-narrowed : (l : ℕ) → anyb (hasLabel (narrowedTo l)) xs ≡ anyb (hasLabel l) xs
+  label-narrowed l = any-cong-mem (hasLabel (narrowedTo l)) (hasLabel l) xs
       (λ a m. label-eq (a .head .label) l (authorization-in a m .0))
 
-  pub other-narrowed : (l g : ℕ) → anyb (ofOther (narrowed l) (narrowed g)) xs ≡ anyb (ofOther l g) xs
-  other-narrowed l g = any-cong-mem (ofOther (narrowed l) (narrowed g)) (ofOther l g) xs
+  pub other-narrowed : (l g : ℕ) → anyb (ofOther (narrowedTo l) (narrowedTo g)) xs ≡ anyb (ofOther l g) xs
+  other-narrowed l g = any-cong-mem (ofOther (narrowedTo l) (narrowedTo g)) (ofOther l g) xs
       (λ a m. let w = authorization-in a m in
       λ k. label-eq (a .head .label) l (w .0) k && not (subject-eq (a .head .grantor) g (w .1) k))
 
@@ -88,12 +89,12 @@ module _ (rs : List Rule) (e : allb ruleIn rs ≡ true) where
       ∷ orStar isSubject (r .grantor) ∷ intervalIn (r .interval) ∷ []) (all-mem ruleIn rs e r m) in
       (t _ (inl refl), t _ (inr (inl refl)))
 
-  pub rule-narrowed : (l : ℕ) → anyb (labelled (narrowed l)) rs ≡ anyb (labelled l) rs
-  rule-narrowed l = any-cong-mem (labelled (narrowed l)) (labelled l) rs
+  pub rule-narrowed : (l : ℕ) → anyb (labelled (narrowedTo l)) rs ≡ anyb (labelled l) rs
+  rule-narrowed l = any-cong-mem (labelled (narrowedTo l)) (labelled l) rs
       (λ r m. label-eq (r .label) l (rule-in r m .0))
 
-  pub author-narrowed : (l u : ℕ) → anyb (ofOtherAuthor (narrowed l) (narrowed u)) rs
+  pub author-narrowed : (l u : ℕ) → anyb (ofOtherAuthor (narrowedTo l) (narrowedTo u)) rs
       ≡ anyb (ofOtherAuthor l u) rs
-  author-narrowed l u = any-cong-mem (ofOtherAuthor (narrowed l) (narrowed u)) (ofOtherAuthor l u) rs
+  author-narrowed l u = any-cong-mem (ofOtherAuthor (narrowedTo l) (narrowedTo u)) (ofOtherAuthor l u) rs
       (λ r m. let w = rule-in r m in
       λ k. label-eq (r .label) l (w .0) k && not (subject-eq (r .author) u (w .1) k))

@@ -11,8 +11,8 @@ use Rattle.model.specs.declared.Authorization.{Authorization}
 use Rattle.model.specs.declared.Rule.{Rule}
 
 -- n, if it has 16 bits, else 0
-abbrev pub narrowed : ℕ → ℕ
-narrowed n = pick (leb n 65535) n 0
+abbrev pub narrowedTo : ℕ → ℕ
+narrowedTo n = pick (leb n 65535) n 0
 
 -- an object is among those of a body
 abbrev pub existsIn : List Privilege → ℕ → Bool

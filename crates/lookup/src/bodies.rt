@@ -7,7 +7,7 @@ ghost use lib.ListN.{length};
 ghost use Rattle.foundation.specs.Lists.{anyb};
 ghost use Rattle.model.specs.Base.{isPrivilege, listed};
 ghost use Rattle.encoding.specs.Format.{privilegesIn, authorizationsIn, rulesIn};
-ghost use Rattle.lookup.specs.NarrowedNumbers.{narrowed, existsIn, hasLabel, ofOther, labelled};
+ghost use Rattle.lookup.specs.NarrowedNumbers.{narrowedTo, existsIn, hasLabel, ofOther, labelled};
 ghost use Rattle.lookup.specs.NarrowedNumbers.{ofOtherAuthor};
 use encoding::authorization_at;
 use encoding::privilege_at;
@@ -22,7 +22,7 @@ use model::Rule;
 // A request's number as the base has it. One that does not fit is taken for 0, which no object, subject or
 // label is.
 pub fn narrow(n: u32) -> u16
-    ensures { λ r. ⌜ r ≡ narrowed n ⌝ }
+    ensures { λ r. ⌜ r ≡ narrowedTo n ⌝ }
 {
     if n <= 65535 {
         return n as u16;

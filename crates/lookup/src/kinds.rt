@@ -97,7 +97,7 @@ pub fn is_labelling(q: Request) -> bool
 }
 
 // The four requests about privileges.
-pub fn is_privilege(q: Request) -> bool
+pub fn is_privilege_request(q: Request) -> bool
     ensures { λ r. ⌜ r ≡ is q (GRANTADM ∷ REVOKEADM ∷ GRANTREF ∷ REVOKEREF ∷ []) ⌝ }
 {
     let k = q.kind;

@@ -26,7 +26,7 @@ pub use denials::is_denied;
 pub use kinds::is_grant;
 pub use kinds::is_kind;
 pub use kinds::is_labelling;
-pub use kinds::is_privilege;
+pub use kinds::is_privilege_request;
 pub use kinds::names_interval;
 pub use kinds::names_label;
 pub use kinds::names_mode;

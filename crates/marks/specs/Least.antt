@@ -23,8 +23,8 @@ use Rattle.model.specs.Means.{boundaries, marksOf, ruleMarks, marks}
 
 module _ (t d : ℕ) where
   -- what is found: none, or a mark above t
-  abbrev pub Found : List ℕ → ℕ → Type 0
-  Found ms m = (m ≡ d) ⊎ (Mem m ms × (t < m) × (m < d))
+  abbrev pub MarkOrNone : List ℕ → ℕ → Type 0
+  MarkOrNone ms m = (m ≡ d) ⊎ (Mem m ms × (t < m) × (m < d))
 
   -- no mark above t is less
   pub next-least : (ms : List ℕ) (m : ℕ) → Mem m ms → t < m → m < d → next t ms d ≤ m
@@ -46,7 +46,7 @@ module _ (t d : ℕ) where
           omega (arith, false-le (suc x) (next t ms d) f)
       left e (inr n) i = i n
 
-  pub next-is : (ms : List ℕ) → Found ms (next t ms d)
+  pub next-is : (ms : List ℕ) → MarkOrNone ms (next t ms d)
   unfolding next
   next-is [] = inl refl
   next-is (x ∷ ms) = cases (ltb t x && ltb x (next t ms d))
@@ -54,11 +54,11 @@ module _ (t d : ℕ) where
       rw e (took (true-le (suc t) x (w .0)) (true-le (suc x) (next t ms d) (w .1)) (next-is ms)))
       (λ e. rw e (left (next-is ms)))
     where
-      took : t < x → x < next t ms d → Found ms (next t ms d) → Found (x ∷ ms) x
+      took : t < x → x < next t ms d → MarkOrNone ms (next t ms d) → MarkOrNone (x ∷ ms) x
       took h l (inl e) = inr (inl refl, h, omega arith)
       took h l (inr w) = inr (inl refl, h, omega (arith, w .2))
 
-      left : Found ms (next t ms d) → Found (x ∷ ms) (next t ms d)
+      left : MarkOrNone ms (next t ms d) → MarkOrNone (x ∷ ms) (next t ms d)
       left (inl e) = inl e
       left (inr w) = inr (inr (w .0), w .1, w .2)
 
@@ -66,7 +66,7 @@ module _ (t d : ℕ) where
   pub next-none : (ms : List ℕ) → (next t ms d ≡ d) ↔ ((m : ℕ) → Mem m ms → t < m → m < d → ⊥)
   next-none ms = ((λ e m k h l. omega (arith, next-least ms m k h l)), (λ f. go f (next-is ms)))
     where
-      go : ((m : ℕ) → Mem m ms → t < m → m < d → ⊥) → Found ms (next t ms d) → next t ms d ≡ d
+      go : ((m : ℕ) → Mem m ms → t < m → m < d → ⊥) → MarkOrNone ms (next t ms d) → next t ms d ≡ d
       go f (inl e) = e
       go f (inr w) = absurd (f (next t ms d) (w .0) (w .1) (w .2))
 
@@ -150,7 +150,7 @@ module _ (auths : List Authorization) (rules : List Rule) where
         );
       }
     where
-      there : {m : ℕ} → m < 4294967296 → Found t 4294967296 (marks auths rules) m → Ahead t m
+      there : {m : ℕ} → m < 4294967296 → MarkOrNone t 4294967296 (marks auths rules) m → Ahead t m
       there h (inl e) = absurd (omega arith)
       there h (inr w) = (mark-turns _ .0 (w .0), w .1, w .2)
 

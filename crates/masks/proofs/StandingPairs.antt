@@ -12,13 +12,13 @@ use Rattle.foundation.specs.Tests.{true-eq, false-eq}
 use Rattle.foundation.specs.BitMasks.{bit}
 use Rattle.words.specs.Bits.{bit-or}
 use Rattle.reach.specs.Net.{standing}
-use Rattle.masks.specs.RuleMasks.{StandsAt, needAt, Needed}
+use Rattle.masks.specs.RuleMasks.{StandsOnNeed, needAt, Needed}
 use Rattle.masks.proofs.SingleBits.{no-bit, in-both, both-in}
 
 -- both masks of a pair, and those on a mode that is needed
 pub stands-at : (left : List ℕ) (o s need m : ℕ) → ((k r : ℕ) → bit k need ≡ true →
     bit r (getD left (130 + k) 0) ≡ true → bit r m ≡ true) →
-    StandsAt left o s need (bitAnd (bitAnd (getD left o 0) (getD left (65 + s) 0)) m)
+    StandsOnNeed left o s need (bitAnd (bitAnd (getD left o 0) (getD left (65 + s) 0)) m)
 unfolding standing
 stands-at left o s need m f =
     let a : ℕ = getD left o 0 in
@@ -39,7 +39,8 @@ module _ (left need codes : List ℕ) (subjects : ℕ) where
   }
 
   pub needed-turn : (n m v : ℕ) → Needed left need codes subjects n m →
-      StandsAt left (getD codes n 0 / 256) (getD codes n 0 % 256) (needAt need subjects (getD codes n 0)) v →
+      StandsOnNeed left (getD codes n 0 / 256) (getD codes n 0 % 256) (needAt need subjects (getD codes n 0))
+      v →
       Needed left need codes subjects (n + 1) (bitOr m v)
   needed-turn n m v d s = record { all = all; only = only }
     where

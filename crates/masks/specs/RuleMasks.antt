@@ -27,7 +27,7 @@ pub record RuleReady (feed : List ℕ) (rest r : ℕ) : Type 0 where
 
 -- m has the rules that stand at an object and a subject with a bit that is needed, and none that does not
 -- stand on the object
-pub record StandsAt (left : List ℕ) (o s need m : ℕ) : Type 0 where
+pub record StandsOnNeed (left : List ℕ) (o s need m : ℕ) : Type 0 where
   pub all : (k r : ℕ) → bit k need ≡ true → bit r (standing left o s k) ≡ true → bit r m ≡ true
   pub only : (r : ℕ) → bit r m ≡ true → bit r (getD left o 0) ≡ true
 

@@ -9,7 +9,7 @@ ghost use lib.ListN.{length, getD};
 ghost use Rattle.foundation.specs.BitMasks.{bit};
 ghost use Rattle.encoding.specs.Format.{ruleAt};
 ghost use Rattle.windows.specs.Windows.{Rising, inside};
-ghost use Rattle.masks.specs.RuleMasks.{Alone, RuleReady, StandsAt, PairCode, Needed};
+ghost use Rattle.masks.specs.RuleMasks.{Alone, RuleReady, StandsOnNeed, PairCode, Needed};
 use encoding::rule_at;
 use model::RULE_BYTES;
 use words::next_bit;
@@ -71,8 +71,8 @@ pub fn hand_on(words: &mut [u64], from: usize, m: u64, r: u32)
 }
 
 // For each rule of a mask those of the mask that look at it. `feed` has for each rule those it looks at.
-pub fn transpose(feed: &[u64; 128], rules: u64, fed: &mut [u64; 64])
-    requires { ⌜ ((r : ℕ) → r < 64 → getD (now fed) r 0 ≡ 0) ⌝ }
+pub fn transpose(feed: &[u64], rules: u64, fed: &mut [u64; 64])
+    requires { ⌜ ((r : ℕ) → r < 64 → getD (now fed) r 0 ≡ 0) × (64 ≤ length (now feed)) ⌝ }
     ensures { λ _. ⌜ ((r q : ℕ) → r < 64 → bit q (getD (now (fed .exit)) r 0)
         ≡ bit q rules && (bit r (getD (now (feed .entry)) q 0) && bit r rules)) ⌝ }
 {
@@ -99,16 +99,16 @@ fn last_bit(m: u64, r: u32) -> u32
 }
 
 // Whether rule k looks at none of the rest. `feed` has for each rule those it looks at.
-fn is_ready(feed: &[u64; 128], rest: u64, k: u32) -> bool
-    requires { ⌜ k < 64 ⌝ }
+fn is_ready(feed: &[u64], rest: u64, k: u32) -> bool
+    requires { ⌜ (k < 64) × (64 ≤ length (now feed)) ⌝ }
     ensures { λ b. ⌜ (b ≡ true → Alone (now (feed .entry)) rest k) ⌝ }
 {
     feed[k as usize] & rest == 0
 }
 
 // The first rule of the rest, from r on, that looks at none of it, or 64.
-fn ready_from(feed: &[u64; 128], rest: u64, r: u32) -> u32
-    requires { ⌜ r ≤ 64 ⌝ }
+fn ready_from(feed: &[u64], rest: u64, r: u32) -> u32
+    requires { ⌜ (r ≤ 64) × (64 ≤ length (now feed)) ⌝ }
     ensures { λ k. ⌜ RuleReady (now (feed .entry)) rest k ⌝ }
 {
     let mut k = next_bit(rest, r);
@@ -122,8 +122,8 @@ fn ready_from(feed: &[u64; 128], rest: u64, r: u32) -> u32
 }
 
 // The last one below r, or 64.
-fn ready_below(feed: &[u64; 128], rest: u64, r: u32) -> u32
-    requires { ⌜ r ≤ 64 ⌝ }
+fn ready_below(feed: &[u64], rest: u64, r: u32) -> u32
+    requires { ⌜ (r ≤ 64) × (64 ≤ length (now feed)) ⌝ }
     ensures { λ k. ⌜ RuleReady (now (feed .entry)) rest k ⌝ }
 {
     let mut k = last_bit(rest, r);
@@ -138,8 +138,8 @@ fn ready_below(feed: &[u64; 128], rest: u64, r: u32) -> u32
 
 // A rule of the rest that looks at none of it, or 64: going on from the last one as long as there is one,
 // then back, so that a chain of rules is gone through once, whichever way it is numbered.
-pub fn next_ready(feed: &[u64; 128], rest: u64, r: u32, up: bool) -> Next
-    requires { ⌜ r ≤ 64 ⌝ }
+pub fn next_ready(feed: &[u64], rest: u64, r: u32, up: bool) -> Next
+    requires { ⌜ (r ≤ 64) × (64 ≤ length (now feed)) ⌝ }
     ensures { λ n. ⌜ RuleReady (now (feed .entry)) rest (n .rule) ⌝ }
 {
     if up {
@@ -199,7 +199,8 @@ pub fn next_dirty(dirty: u64, r: u32, up: bool) -> Next
 }
 
 // The rules that stand on one of the modes, with a sign, that are needed.
-fn on_modes(left: &[u64; 152], need: u16) -> u64
+fn on_modes(left: &[u64], need: u16) -> u64
+    requires { ⌜ 152 ≤ length (now left) ⌝ }
     ensures { λ m. ⌜ ((k r : ℕ) → bit k need ≡ true → bit r (getD (now (left .entry)) (130 + k) 0) ≡ true →
         bit r m ≡ true) ⌝ }
 {
@@ -214,24 +215,18 @@ fn on_modes(left: &[u64; 152], need: u16) -> u64
 }
 
 // The rules that stand at a pair with a mode and a sign that are needed there.
-fn at_pair(left: &[u64; 152], o: usize, s: usize, need: u16) -> u64
-    requires { ⌜ (o < 65) × (s < 65) ⌝ }
-    ensures { λ m. ⌜ StandsAt (now (left .entry)) o s need m ⌝ }
+fn at_pair(left: &[u64], o: usize, s: usize, need: u16) -> u64
+    requires { ⌜ (o < 65) × (s < 65) × (152 ≤ length (now left)) ⌝ }
+    ensures { λ m. ⌜ StandsOnNeed (now (left .entry)) o s need m ⌝ }
 {
     left[o] & left[65 + s] & on_modes(left, need)
 }
 
 // The rules that stand at a place that is needed, or more. `codes` has the pairs: 256 times the object, and
 // the subject.
-pub fn needed_rules(
-    left: &[u64; 152],
-    need: &[u16],
-    codes: &[u16],
-    pairs: usize,
-    subjects: usize,
-) -> u64
+pub fn needed_rules(left: &[u64], need: &[u16], codes: &[u16], pairs: usize, subjects: usize) -> u64
     requires { ⌜ (pairs ≤ length (now codes)) × ((n : ℕ) → n < pairs →
-        PairCode subjects (length (now need)) (getD (now codes) n 0)) ⌝ }
+        PairCode subjects (length (now need)) (getD (now codes) n 0)) × (152 ≤ length (now left)) ⌝ }
     ensures { λ m. ⌜ Needed (now (left .entry)) (now (need .entry)) (now (codes .entry)) subjects pairs m ⌝ }
 {
     let mut m = 0;
@@ -253,7 +248,7 @@ pub fn spans(
     needed: u64,
     marks: &[u32; 63],
     count: usize,
-    active: &mut [u64; 64],
+    active: &mut [u64],
 )
     requires { ⌜ ((r : ℕ) → bit r needed ≡ true → r < n) × (n * 28 ≤ length (now body)) × (n ≤ 64)
         × (count ≤ 63) × Rising count (now marks) × (length (now active) ≡ 64) ⌝ }

@@ -49,8 +49,8 @@ module _ (base : Base) where
   objects x = numbers (λ r. r .right .object) (x .object)
 
   -- y is an access that facts about x can rest on
-  abbrev pub Near : Access → Access → Type 0
-  Near x y = Mem (y .subject) (subjects x) × Mem (y .mode) (modes x) × Mem (y .object) (objects x)
+  abbrev pub WithinKeys : Access → Access → Type 0
+  WithinKeys x y = Mem (y .subject) (subjects x) × Mem (y .mode) (modes x) × Mem (y .object) (objects x)
 
   right-number : (f : Rule → ℕ) (n : ℕ) (r : Rule) → Mem r (base .rules) → Mem (f r) (numbers f n)
   right-number f n r m = inr (mem-map f (base .rules) r m)
@@ -60,7 +60,8 @@ module _ (base : Base) where
   starred-number f n k r m a = cases (isStar (f r)) (λ e. rw e a) (λ e. rw e (right-number f n r m))
 
   -- the right side of a rule leads to nothing that is not near
-  right-near : (x y : Access) (r : Rule) → Mem r (base .rules) → Near x y → Near x (rightOf r y .access)
+  right-near : (x y : Access) (r : Rule) → Mem r (base .rules) → WithinKeys x y →
+      WithinKeys x (rightOf r y .access)
   unfolding rightOf
   right-near x y r m a = (
     starred-number (λ r. r .right .subject) (x .subject) (y .subject) r m (a .0),
@@ -82,21 +83,21 @@ module _ (base : Base) where
   keys-enough x = le-step (le-of-eq
       (simp (combine-length, length-map, length-append, marks-length, rule-marks-length, mul-assoc)))
 
-  in-accesses : (x y : Access) → Near x y → Mem y (accesses x)
+  in-accesses : (x y : Access) → WithinKeys x y → Mem y (accesses x)
   unfolding accesses
   in-accesses x y a = in-combine (λ (f : ℕ → Access). f) (combine access (subjects x) (modes x)) (objects x)
       (access (y .subject) (y .mode)) (y .object)
       (in-combine access (subjects x) (modes x) (y .subject) (y .mode) (a .0) (a .1)) (a .2)
 
-  accesses-near : (x y : Access) → Mem y (accesses x) → Near x y
+  accesses-near : (x y : Access) → Mem y (accesses x) → WithinKeys x y
   unfolding accesses
   accesses-near x y m =
       let a = combine-mem (λ (f : ℕ → Access). f) (combine access (subjects x) (modes x)) (objects x) y m in
       let b = combine-mem access (subjects x) (modes x) (a .0) (a .2) in
       let e : y ≡ access (b .0) (b .1) (a .1) = a .4 ∙ ap (λ (f : ℕ → Access). f (a .1)) (b .4) in
-      subst (Near x) (sym e) (b .2, b .3, a .3)
+      subst (WithinKeys x) (sym e) (b .2, b .3, a .3)
 
-  pub in-keys : (x : Access) (r : Rule) (y : Access) (t : ℕ) → Mem r (base .rules) → Near x y →
+  pub in-keys : (x : Access) (r : Rule) (y : Access) (t : ℕ) → Mem r (base .rules) → WithinKeys x y →
       Mem t (0 ∷ allMarks base) →
       Mem (fact r y t) (keys x)
   unfolding keys
@@ -105,20 +106,21 @@ module _ (base : Base) where
       (fact r y) t
       (in-combine fact (base .rules) (accesses x) r y m (in-accesses x y a)) n
 
-  keys-near : (x : Access) (z : Fact) → Mem z (keys x) → Mem (z .rule) (base .rules) × Near x (z .access)
+  keys-near : (x : Access) (z : Fact) → Mem z (keys x) → Mem (z .rule) (base .rules) × WithinKeys x
+      (z .access)
   unfolding keys
   keys-near x z m =
       let a = combine-mem (λ (f : ℕ → Fact). f) (combine fact (base .rules) (accesses x)) (0 ∷ allMarks base)
       z m in
       let b = combine-mem fact (base .rules) (accesses x) (a .0) (a .2) in
       let e : z ≡ fact (b .0) (b .1) (a .1) = a .4 ∙ ap (λ (f : ℕ → Fact). f (a .1)) (b .4) in
-      subst (λ (z : Fact). Mem (z .rule) (base .rules) × Near x (z .access)) (sym e)
+      subst (λ (z : Fact). Mem (z .rule) (base .rules) × WithinKeys x (z .access)) (sym e)
       (b .2, accesses-near x (b .1) (b .3))
 
   -- two steady sets that agree on the keys of x agree on all that facts about x can rest on
   module _ (x : Access) (S Q : Fact → Bool) (c : Stead base S) (d : Stead base Q)
       (h : (z : Fact) → Mem z (keys x) → S z ≡ Q z) where
-    everywhere : (r : Rule) (y : Access) (u : ℕ) → Mem r (base .rules) → Near x y →
+    everywhere : (r : Rule) (y : Access) (u : ℕ) → Mem r (base .rules) → WithinKeys x y →
         S (fact r y u) ≡ Q (fact r y u)
     everywhere r y u m n =
         let a = rep (allMarks base) u in
@@ -126,11 +128,11 @@ module _ (base : Base) where
         ∙ h (fact r y (a .0)) (in-keys x r y (a .0) m n (a .1))
         ∙ sym (d r m y (a .0) u (a .2) (a .3))
 
-    right-local : (L : Fact → Bool) (p : Pattern) → Near x (p .access) → (u : ℕ) →
+    right-local : (L : Fact → Bool) (p : Pattern) → WithinKeys x (p .access) → (u : ℕ) →
         right L S p u ≡ right L Q p u
     right-local L p n u = right-cong (holding S u) (holding Q u) (holding L u) (holding L u) p
         (λ q e. holds-cong base S Q u u q refl
-        (λ r m. everywhere r (q .access) u m (subst (Near x) (sym e) n)))
+        (λ r m. everywhere r (q .access) u m (subst (WithinKeys x) (sym e) n)))
         (λ q e. refl)
 
     pub round-local : (k : ℕ) (L : Fact → Bool) (z : Fact) → Mem z (keys x) → stage k L S z ≡ stage k L Q z

@@ -31,8 +31,8 @@ pub fit-precedes : (base : Base) (q r : Rule) (x : Access) → derivesFor base (
 fit-precedes base q r x e = feeds-precedes q r (fit-feeds base q r x e)
 
 -- what holds of p is derived only by rules that r looks at
-abbrev pub Fed : Base → Rule → Pattern → Type 0
-Fed base r p = (q : Rule) → derivesFor base p q ≡ true → precedes q r ≡ true
+abbrev pub PrecededOnly : Base → Rule → Pattern → Type 0
+PrecededOnly base r p = (q : Rule) → derivesFor base p q ≡ true → precedes q r ≡ true
 
 -- and by steps that count in a rank
 abbrev pub StrictlyFed : Base → Rule → Pattern → Type 0
@@ -40,7 +40,8 @@ StrictlyFed base r p =
     (q : Rule) → derivesFor base p q ≡ true → (precedes q r ≡ true) × (heavy weight q r ≡ true)
 
 -- each step to a rule with WHENEVERNOT or UNLESS counts
-pub strictly-fed : (base : Base) (r : Rule) → negating (r .operator) ≡ true → (p : Pattern) → Fed base r p →
+pub strictly-fed : (base : Base) (r : Rule) → negating (r .operator) ≡ true → (p : Pattern) →
+    PrecededOnly base r p →
     StrictlyFed base r p
 strictly-fed base r g p h q e = (h q e, negates-heavy q r g)
 
@@ -55,7 +56,7 @@ strictly-linked base r x n q e =
 -- below it only at what those of them derive whose step counts: where that is settled, `all` being what holds
 -- at last, so is the right side.
 pub right-settled : (base : Base) (r : Rule) (x : Access) (same lower all : Pattern → Bool) →
-    ((p : Pattern) → Fed base r p → same p ≡ all p) →
+    ((p : Pattern) → PrecededOnly base r p → same p ≡ all p) →
     ((p : Pattern) → StrictlyFed base r p → lower p ≡ all p) →
     rightHolds same lower (rightOf r x) ≡ rightHolds all all (rightOf r x)
 unfolding rightOf
@@ -139,7 +140,7 @@ module _ (base : Base) where
   module _ (s : stratified (base .rules) ≡ true) where
     module _ (r : Rule) (m : Mem r (base .rules)) where
       -- what feeders derive is settled with the rule's stratum
-      fed-settled : (u : ℕ) (p : Pattern) → Fed base r p →
+      fed-settled : (u : ℕ) (p : Pattern) → PrecededOnly base r p →
           holdsBy always base (below (suc (stratum (base .rules) r))) u p ≡ holds always base u p
       fed-settled u p h = holds-same (below (suc (stratum (base .rules) r))) u p (λ q k e.
           settled-at (suc (stratum (base .rules) r)) (fact q (p .access) u) k

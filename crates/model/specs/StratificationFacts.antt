@@ -9,7 +9,7 @@ use lib.ListN.{length}
 use Rattle.foundation.specs.Tests.{and-true, and-intro, or-cases, not-true, not-false}
 use Rattle.foundation.specs.Lists.{Mem}
 use Rattle.foundation.specs.BitMasks.{asBit}
-use Rattle.foundation.specs.Graph.{Path, direct, onward, Walk, strictEdge, heavy, cyclic, cyclic-path}
+use Rattle.foundation.specs.Graph.{Path, direct, onward, CountedPath, strictEdge, heavy, cyclic, cyclic-path}
 use Rattle.foundation.specs.Graph.{cyclic-map}
 use Rattle.foundation.specs.GraphFacts.{Ranked, ranked, rank-most, rank-walk}
 use Rattle.model.specs.declared.Rule.{Rule}
@@ -28,7 +28,7 @@ FeedingPath rules q r = Path leads leads rules q r
 -- a path that ends in the rule; what it counts: the WHENEVERNOT and UNLESS rules on it, both ends included,
 -- and the links on it
 abbrev pub FeedingWalk : List Rule → ℕ → Rule → Type 0
-FeedingWalk rules n r = Walk leads (λ q r. asBit (negates r) + asBit (links q r)) negates rules n r
+FeedingWalk rules n r = CountedPath leads (λ q r. asBit (negates r) + asBit (links q r)) negates rules n r
 
 -- the paths of `precedes`, and what `weight` counts on them
 pub path-feeds : (rules : List Rule) (q r : Rule) → Path precedes precedes rules q r ≡ FeedingPath rules q r
@@ -37,8 +37,8 @@ path-feeds rules q r t =
     Path edge edge rules q r
 
 walk-feeds : (rules : List Rule) (n : ℕ) (r : Rule) →
-    Walk precedes weight negates rules n r ≡ FeedingWalk rules n r
-walk-feeds rules n r t = Walk (λ p s. precedes-either p s t) (λ p s. weight-is p s t) negates rules n r
+    CountedPath precedes weight negates rules n r ≡ FeedingWalk rules n r
+walk-feeds rules n r t = CountedPath (λ p s. precedes-either p s t) (λ p s. weight-is p s t) negates rules n r
 
 module _ (rules : List Rule) where
   abbrev Strictly : Rule → Rule → Type 0

@@ -1,5 +1,6 @@
--- Coordinates given one by one: what a store to the table makes (`added-none`, `added-one`), and that the
--- table has coordinates of one rule more then (`numbered-turn`).
+-- Coordinates given one by one: what a store to the table makes (`added-none`, `added-one`), that the table
+-- has coordinates of one rule more then (`numbered-turn`), and both tables in one slice (`both-subjects`,
+-- `both-objects`).
 use mathlib.Core.Path.{_≡_, refl, sym, ap, _∙_}
 use mathlib.Core.Bool.{Bool, true, false, not, _&&_, _||_}
 use mathlib.Core.List.{List}
@@ -7,12 +8,50 @@ use Prim.Native.Nat.{ℕ, zero, suc, _+_, _≤_, _<_}
 use native.Mathlib.Numerals.{add-one}
 use native.Mathlib.Omega.{arith}
 use lib.Dec.{eqb}
-use lib.ListN.{length, getD, set, length-set}
+use lib.ListN.{length, getD, set, take, length-set}
 use lib.Seq.{getD-set-same, getD-set-other}
 use Rattle.foundation.specs.Tests.{pick, cases, true-eq, false-eq, eq-true, ne-false, not-true, and-true}
 use Rattle.model.specs.declared.Rule.{Rule}
 use Rattle.encoding.specs.Format.{ruleAt}
+use Rattle.sections.specs.Sections.{subjectsOf, objectsOf}
+use Rattle.sections.specs.SectionWrites.{putBack, back-length, back-own, back-before, back-rest, same-part}
 use Rattle.outlines.specs.Coordinates.{unlisted, Added, namedIn, HasCoordinates}
+
+-- ---- both tables in their sections
+
+-- y came back to the place of subjects, then z to that of objects
+module _ (c y z : List ℕ) (long : length c ≡ 1666) (p : length y ≡ 1024) (q : length z ≡ 130) where
+  abbrev between : List ℕ
+  between = putBack c 512 1024 y
+
+  abbrev after : List ℕ
+  after = putBack between 1536 130 z
+
+  between-long : length between ≡ 1666
+  between-long = back-length c 512 1024 y (omega arith) p ∙ long
+
+  inside : 1536 + 130 ≤ length between
+  inside = omega (arith, between-long)
+
+  pub both-long : length after ≡ 1666
+  both-long = back-length between 1536 130 z inside q ∙ between-long
+
+  pub both-subjects : subjectsOf after ≡ y
+  both-subjects = same-part between after (both-long ∙ sym between-long) 512 1024
+      (λ k a b. back-before between 1536 130 z inside q k b)
+      ∙ back-own c 512 1024 y (omega arith) p
+
+  pub both-objects : objectsOf after ≡ z
+  both-objects = back-own between 1536 130 z inside q
+
+  pub objects-between : objectsOf between ≡ objectsOf c
+  objects-between = ap (take 130) (back-rest c 512 1024 y (omega arith) p)
+
+  pub both-front : (k : ℕ) → k < 512 → getD after k 0 ≡ getD c k 0
+  both-front k h = back-before between 1536 130 z inside q k (omega arith)
+      ∙ back-before c 512 1024 y (omega arith) p k h
+
+-- ---- one more coordinate
 
 -- the code's test, turned round
 turned-round : (a b : Bool) → not a && b ≡ not (a || not b)

@@ -13,7 +13,7 @@ use Rattle.model.specs.declared.Access.{Access}
 use Rattle.model.specs.Base.{Base}
 use Rattle.model.specs.Rules.{standsFor, rightOf}
 use Rattle.encoding.specs.Format.{ruleAt}
-use Rattle.reach.specs.Net.{aimBits, has, Closed}
+use Rattle.reach.specs.Net.{aimBits, has, ClosedNet}
 use Rattle.outlines.specs.Coordinates.{WellFormed, Chart, Charted, subjectOf, objectOf, known, modeOf}
 use Rattle.outlines.specs.Coordinates.{pairOf}
 use Rattle.outlines.specs.CoordinateFacts.{known-is}
@@ -60,7 +60,7 @@ module _ {n : ℕ} {body : List ℕ} (g : WellFormed n body) (C : Chart) (t : Ch
     ℕ)
     (codes : RightSides (C .subjects) (C .objects) n body right) (asked : Access) (b : Base)
     (stands : StandingMasks b n body C asked left) (need : List ℕ)
-    (closed : Closed (record { left = left; right = right; subjects = C .width }) need) where
+    (closed : ClosedNet (record { left = left; right = right; subjects = C .width }) need) where
   pub needed-right : (r : ℕ) → r < n → (x : Access) → standsFor b (ruleAt body r) x ≡ true →
       needed C asked need x ≡ true → needed C asked need (rightOf (ruleAt body r) x .access) ≡ true
   needed-right r h x s e =

@@ -25,12 +25,16 @@ codeIn U v = pick (eqb v 0) 255 (getD U v 0)
 abbrev pub modeCode : ℕ → ℕ
 modeCode m = pick (eqb m 0) 255 (m - 1)
 
--- the codes of a side at i
-pub record Coded (U O : List ℕ) (s : Side) (g : ℕ) (codes : List ℕ) (i : ℕ) : Type 0 where
-  pub object : getD codes (4 * i) 0 ≡ codeIn O (s .object)
-  pub subject : getD codes (4 * i + 1) 0 ≡ codeIn U (s .subject)
-  pub mode : getD codes (4 * i + 2) 0 ≡ modeCode (s .mode)
-  pub signs : getD codes (4 * i + 3) 0 ≡ g
+-- the codes of a side from `at` on
+pub record CodedAt (U O : List ℕ) (s : Side) (g : ℕ) (codes : List ℕ) (at : ℕ) : Type 0 where
+  pub object : getD codes at 0 ≡ codeIn O (s .object)
+  pub subject : getD codes (at + 1) 0 ≡ codeIn U (s .subject)
+  pub mode : getD codes (at + 2) 0 ≡ modeCode (s .mode)
+  pub signs : getD codes (at + 3) 0 ≡ g
+
+-- those of rule i
+abbrev pub Coded : List ℕ → List ℕ → Side → ℕ → List ℕ → ℕ → Type 0
+Coded U O s g codes i = CodedAt U O s g codes (4 * i)
 
 -- both signs of a place of a right side are looked at
 abbrev pub RightSides : List ℕ → List ℕ → ℕ → List ℕ → List ℕ → Type 0

@@ -43,10 +43,10 @@ fn join_controlled(
     starred: u64,
     v: usize,
     at: usize,
-    left: &mut [u64; 152],
+    left: &mut [u64],
 )
     requires { ⌜ (soundBytes (now s) ≡ true) × (n * 28 ≤ length (now body))
-        × ((q : ℕ) → bit q starred ≡ true → q < n) × (v < 130) × (at < 65) ⌝ }
+        × ((q : ℕ) → bit q starred ≡ true → q < n) × (v < 130) × (at < 65) × (length (now left) ≡ 152) ⌝ }
     ensures { λ _. ⌜ ((w r : ℕ) → 0 < w → bit r (getD (now (left .exit)) w 0)
         ≡ bit r (getD (now (left .entry)) w 0)
         || (eqb w at && (bit r starred && controlledBy (now (s .entry)) (now (body .entry)) v r)))
@@ -60,9 +60,10 @@ fn join_controlled(
 }
 
 // Joins to the word of each object that has a coordinate the starred rules whose author controls it.
-fn join_each(s: &[u8], body: &[u8], n: usize, objects: &[u8], left: &mut [u64; 152])
+fn join_each(s: &[u8], body: &[u8], n: usize, objects: &[u8], left: &mut [u64])
     requires { ⌜ (soundBytes (now s) ≡ true) × (n * 28 ≤ length (now body)) × Apart (now objects)
-        × ((q : ℕ) → bit q (getD (now left) 151 0) ≡ true → q < n) × (length (now objects) ≡ 130) ⌝ }
+        × ((q : ℕ) → bit q (getD (now left) 151 0) ≡ true → q < n) × (length (now objects) ≡ 130)
+        × (length (now left) ≡ 152) ⌝ }
     ensures { λ _. ⌜ Controlled (now (s .entry)) (now (body .entry)) (now (objects .entry))
         (now (left .entry)) (now (left .exit)) ⌝ }
 {
@@ -75,9 +76,10 @@ fn join_each(s: &[u8], body: &[u8], n: usize, objects: &[u8], left: &mut [u64; 1
 }
 
 // Joins the starred rules to the objects that their authors control. Bases without stars pay nothing.
-pub fn draw_controlled(s: &[u8], body: &[u8], n: usize, objects: &[u8; 130], left: &mut [u64; 152])
+pub fn draw_controlled(s: &[u8], body: &[u8], n: usize, objects: &[u8], left: &mut [u64])
     requires { ⌜ (soundBytes (now s) ≡ true) × (n * 28 ≤ length (now body)) × Apart (now objects)
-        × ((q : ℕ) → bit q (getD (now left) 151 0) ≡ true → q < n) ⌝ }
+        × ((q : ℕ) → bit q (getD (now left) 151 0) ≡ true → q < n) × (length (now objects) ≡ 130)
+        × (length (now left) ≡ 152) ⌝ }
     ensures { λ _. ⌜ Controlled (now (s .entry)) (now (body .entry)) (now (objects .entry))
         (now (left .entry)) (now (left .exit)) ⌝ }
 {

@@ -11,6 +11,7 @@ ghost use Rattle.model.specs.Rules.{fitsGrantor};
 ghost use Rattle.model.specs.Stratification.{fitsOption};
 ghost use Rattle.encoding.specs.Format.{rulesIn, ruleAt};
 ghost use Rattle.rules.specs.RankTables.{feedersOf, RuleTable};
+ghost use Rattle.sections.specs.Sections.{leftOf, feedOf, sidesOf, rightsOf};
 ghost use Rattle.outlines.specs.LeftMasks.{CodesPlaced};
 ghost use Rattle.outlines.specs.Feed.{rightModeWord, meetingWord, linkersWord, isChoosy, Outlined};
 ghost use Rattle.outlines.specs.Feed.{FeedTable};
@@ -21,6 +22,12 @@ use masks::hand_on;
 use model::OptionTerm;
 use model::RULE_BYTES;
 use model::Rule;
+use sections::FEED;
+use sections::FIRST;
+use sections::LEFT;
+use sections::RIGHT;
+use sections::SIDES;
+use sections::SUBJECTS;
 use words::next_bit;
 
 // Whether a rule's right side names a grantor or an option.
@@ -105,8 +112,8 @@ fn right_mode_word(code: usize, sign: usize) -> usize
 }
 
 // Of some rules those that meet a right side's subject.
-fn meet_subject(left: &[u64; 152], f: u64, code: usize) -> u64
-    requires { ⌜ ((code ≡ 255 → ⊥) → code < 65) ⌝ }
+fn meet_subject(left: &[u64], f: u64, code: usize) -> u64
+    requires { ⌜ ((code ≡ 255 → ⊥) → code < 65) × (length (now left) ≡ 152) ⌝ }
     ensures { λ x. ⌜ x ≡ pick (eqb code 255) f (bitAnd f (getD (now (left .entry)) (65 + code) 0)) ⌝ }
 {
     if code == 255 {
@@ -116,8 +123,8 @@ fn meet_subject(left: &[u64; 152], f: u64, code: usize) -> u64
 }
 
 // Of some rules those that meet a right side's object: those that name it, and the starred ones.
-fn meet_object(left: &[u64; 152], f: u64, code: usize) -> u64
-    requires { ⌜ ((code ≡ 255 → ⊥) → code < 65) ⌝ }
+fn meet_object(left: &[u64], f: u64, code: usize) -> u64
+    requires { ⌜ ((code ≡ 255 → ⊥) → code < 65) × (length (now left) ≡ 152) ⌝ }
     ensures { λ x. ⌜ x ≡ pick (eqb code 255) f
         (bitAnd f (bitOr (getD (now (left .entry)) 151 0) (getD (now (left .entry)) code 0))) ⌝ }
 {
@@ -128,8 +135,9 @@ fn meet_object(left: &[u64; 152], f: u64, code: usize) -> u64
 }
 
 // The rules whose left side has a sign and meets the right side of rule i in object, subject and mode.
-fn meeting(left: &[u64; 152], right: &[u8; 256], i: usize, sign: usize) -> u64
-    requires { ⌜ (i < 64) × (sign < 2) × CodesPlaced (now right) i ⌝ }
+fn meeting(left: &[u64], right: &[u8], i: usize, sign: usize) -> u64
+    requires { ⌜ (i < 64) × (sign < 2) × CodesPlaced (now right) i × (length (now left) ≡ 152)
+        × (256 ≤ length (now right)) ⌝ }
     ensures { λ x. ⌜ x ≡ meetingWord (now (left .entry)) (now (right .entry)) i sign ⌝ }
 {
     let w = right_mode_word(usize_of(right[4 * i + 2]), sign);
@@ -138,15 +146,9 @@ fn meeting(left: &[u64; 152], right: &[u8; 256], i: usize, sign: usize) -> u64
 }
 
 // The rules that feed rule i.
-fn feeders(
-    body: &[u8],
-    n: usize,
-    i: usize,
-    left: &[u64; 152],
-    right: &[u8; 256],
-    sides: &[u8; 256],
-) -> u64
-    requires { ⌜ (i < n) × Outlined n (now body) (now left) (now right) (now sides) ⌝ }
+fn feeders(body: &[u8], n: usize, i: usize, left: &[u64], right: &[u8], sides: &[u8]) -> u64
+    requires { ⌜ (i < n) × Outlined n (now body) (now left) (now right) (now sides)
+        × (length (now left) ≡ 152) × (256 ≤ length (now right)) × (256 ≤ length (now sides)) ⌝ }
     ensures { λ x. ⌜ x ≡ feedersOf (rulesIn n (now (body .entry))) (ruleAt (now (body .entry)) i) ⌝ }
 {
     let f = meeting(left, right, i, usize_of(sides[4 * i + 3]) / 2);
@@ -154,30 +156,33 @@ fn feeders(
 }
 
 // Puts the feeders of each rule in its place.
-fn draw_feeders(
-    body: &[u8],
-    n: usize,
-    left: &[u64; 152],
-    right: &[u8; 256],
-    sides: &[u8; 256],
-    feed: &mut [u64; 128],
-)
-    requires { ⌜ Outlined n (now body) (now left) (now right) (now sides) ⌝ }
+fn draw_feeders(body: &[u8], n: usize, coordinates: &[u8], outline: &mut [u64])
+    requires { ⌜ Outlined n (now body) (leftOf (now outline)) (rightsOf (now coordinates))
+        (sidesOf (now coordinates)) × (length (now outline) ≡ 472) × (length (now coordinates) ≡ 1666) ⌝ }
     ensures { λ _. ⌜ RuleTable n (now (body .entry)) (feedersOf (rulesIn n (now (body .entry))))
-        (now (feed .exit))
-        × ((k : ℕ) → n ≤ k → getD (now (feed .exit)) k 0 ≡ getD (now (feed .entry)) k 0) ⌝ }
+        (feedOf (now (outline .exit)))
+        × ((k : ℕ) → n ≤ k →
+        getD (feedOf (now (outline .exit))) k 0 ≡ getD (feedOf (now (outline .entry))) k 0)
+        × (leftOf (now (outline .exit)) ≡ leftOf (now (outline .entry))) ⌝ }
 {
     let mut i = 0;
     while i < n {
-        let f = feeders(body, n, i, left, right, sides);
-        put_word(feed, i, f);
+        let f = feeders(
+            body,
+            n,
+            i,
+            &outline[LEFT..FEED],
+            &coordinates[RIGHT..SUBJECTS],
+            &coordinates[SIDES..RIGHT],
+        );
+        put_word(outline, FEED + i, f);
         i += 1;
     }
 }
 
 // Hands the choosy rules on to those that feed them.
-fn draw_fed(choosy: u64, feed: &mut [u64; 128])
-    requires { ⌜ ((k : ℕ) → 64 ≤ k → getD (now feed) k 0 ≡ 0) ⌝ }
+fn draw_fed(choosy: u64, feed: &mut [u64])
+    requires { ⌜ ((k : ℕ) → 64 ≤ k → getD (now feed) k 0 ≡ 0) × (length (now feed) ≡ 128) ⌝ }
     ensures { λ _. ⌜ ((w : ℕ) → w < 64 → getD (now (feed .exit)) w 0 ≡ getD (now (feed .entry)) w 0)
         × ((i c : ℕ) → i < 64 → c < 64 → bit c (getD (now (feed .exit)) (64 + i) 0)
         ≡ bit c choosy && bit i (getD (now (feed .entry)) c 0)) ⌝ }
@@ -191,8 +196,9 @@ fn draw_fed(choosy: u64, feed: &mut [u64; 128])
 }
 
 // The rules that link to rule i: those with a denial on the left, where the right side is positive.
-fn linkers(left: &[u64; 152], right: &[u8; 256], sides: &[u8; 256], i: usize) -> u64
-    requires { ⌜ (i < 64) × CodesPlaced (now right) i ⌝ }
+fn linkers(left: &[u64], right: &[u8], sides: &[u8], i: usize) -> u64
+    requires { ⌜ (i < 64) × CodesPlaced (now right) i × (length (now left) ≡ 152) × (256 ≤ length (now right))
+        × (256 ≤ length (now sides)) ⌝ }
     ensures { λ x. ⌜ x ≡ linkersWord (now (left .entry)) (now (right .entry)) (now (sides .entry)) i ⌝ }
 {
     if usize_of(sides[4 * i + 3]) / 2 == 0 {
@@ -202,42 +208,38 @@ fn linkers(left: &[u64; 152], right: &[u8; 256], sides: &[u8; 256], i: usize) ->
 }
 
 // Joins to each rule's word those that link to the rule.
-fn draw_linkers(
-    n: usize,
-    left: &[u64; 152],
-    right: &[u8; 256],
-    sides: &[u8; 256],
-    feed: &mut [u64; 128],
-)
-    requires { ⌜ (n ≤ 64) × ((i : ℕ) → i < n → CodesPlaced (now right) i) ⌝ }
-    ensures { λ _. ⌜ ((w : ℕ) → getD (now (feed .exit)) w 0
-        ≡ pick (ltb w n) (bitOr (getD (now (feed .entry)) w 0)
-        (linkersWord (now (left .entry)) (now (right .entry)) (now (sides .entry)) w))
-        (getD (now (feed .entry)) w 0)) ⌝ }
+fn draw_linkers(n: usize, coordinates: &[u8], outline: &mut [u64])
+    requires { ⌜ (n ≤ 64) × ((i : ℕ) → i < n → CodesPlaced (rightsOf (now coordinates)) i)
+        × (length (now outline) ≡ 472) × (length (now coordinates) ≡ 1666) ⌝ }
+    ensures { λ _. ⌜ ((w : ℕ) → getD (feedOf (now (outline .exit))) w 0
+        ≡ pick (ltb w n) (bitOr (getD (feedOf (now (outline .entry))) w 0)
+        (linkersWord (leftOf (now (outline .entry))) (rightsOf (now (coordinates .entry)))
+        (sidesOf (now (coordinates .entry))) w))
+        (getD (feedOf (now (outline .entry))) w 0))
+        × (leftOf (now (outline .exit)) ≡ leftOf (now (outline .entry))) ⌝ }
 {
     let mut i = 0;
     while i < n {
-        let f = feed[i] | linkers(left, right, sides, i);
-        put_word(feed, i, f);
+        let f = linkers(
+            &outline[LEFT..FEED],
+            &coordinates[RIGHT..SUBJECTS],
+            &coordinates[SIDES..RIGHT],
+            i,
+        );
+        outline[FEED + i] = outline[FEED + i] | f;
         i += 1;
     }
 }
 
 // The rules that precede each rule, and from 64 on the choosy rules that each feeds.
-pub fn draw_feed(
-    body: &[u8],
-    n: usize,
-    left: &[u64; 152],
-    right: &[u8; 256],
-    sides: &[u8; 256],
-    choosy: u64,
-    feed: &mut [u64; 128],
-)
-    requires { ⌜ Outlined n (now body) (now left) (now right) (now sides)
-        × ((k : ℕ) → getD (now feed) k 0 ≡ 0) ⌝ }
-    ensures { λ _. ⌜ FeedTable n (now (body .entry)) choosy (now (feed .exit)) ⌝ }
+pub fn draw_feed(body: &[u8], n: usize, choosy: u64, coordinates: &[u8], outline: &mut [u64])
+    requires { ⌜ Outlined n (now body) (leftOf (now outline)) (rightsOf (now coordinates))
+        (sidesOf (now coordinates)) × (length (now outline) ≡ 472) × (length (now coordinates) ≡ 1666)
+        × ((k : ℕ) → getD (feedOf (now outline)) k 0 ≡ 0) ⌝ }
+    ensures { λ _. ⌜ FeedTable n (now (body .entry)) choosy (feedOf (now (outline .exit)))
+        × (leftOf (now (outline .exit)) ≡ leftOf (now (outline .entry))) ⌝ }
 {
-    draw_feeders(body, n, left, right, sides, feed);
-    draw_fed(choosy, feed);
-    draw_linkers(n, left, right, sides, feed);
+    draw_feeders(body, n, coordinates, outline);
+    draw_fed(choosy, &mut outline[FEED..FIRST]);
+    draw_linkers(n, coordinates, outline);
 }

@@ -78,8 +78,9 @@ fn put_four(left: &mut [u64], i: u32, a: usize, b: usize, d: usize, e: usize)
 }
 
 // Puts rule i into its words.
-fn put_masks(left: &mut [u64; 152], sides: &[u8; 256], i: usize)
-    requires { ⌜ (i < 64) × CodesPlaced (now sides) i ⌝ }
+fn put_masks(left: &mut [u64], sides: &[u8], i: usize)
+    requires { ⌜ (i < 64) × CodesPlaced (now sides) i × (256 ≤ length (now sides)) × (length (now left) ≡ 152)
+        ⌝ }
     ensures { λ _. ⌜ ((w r : ℕ) → bit r (getD (now (left .exit)) w 0)
         ≡ bit r (getD (now (left .entry)) w 0) || (eqb r i && inWord (now (sides .entry)) i w)) ⌝ }
 {
@@ -91,9 +92,10 @@ fn put_masks(left: &mut [u64; 152], sides: &[u8; 256], i: usize)
 }
 
 // Puts each rule into its words.
-fn gather(left: &mut [u64; 152], sides: &[u8; 256], n: usize)
+fn gather(left: &mut [u64], sides: &[u8], n: usize)
     requires { ⌜ (n ≤ 64) × ((r : ℕ) → r < n → CodesPlaced (now sides) r)
-        × ((w : ℕ) → getD (now left) w 0 ≡ 0) ⌝ }
+        × ((w : ℕ) → getD (now left) w 0 ≡ 0)
+        × (256 ≤ length (now sides)) × (length (now left) ≡ 152) ⌝ }
     ensures { λ _. ⌜ ((w r : ℕ) → bit r (getD (now (left .exit)) w 0)
         ≡ ltb r n && inWord (now (sides .entry)) r w) ⌝ }
 {
@@ -118,9 +120,9 @@ fn spread(left: &mut [u64], from: usize, to: usize, rules: u64)
 }
 
 // The masks of the left sides as written, by coordinate from 1 on, by mode and by sign.
-pub fn draw_masks(sides: &[u8; 256], n: usize, subjects: usize, left: &mut [u64; 152])
+pub fn draw_masks(sides: &[u8], n: usize, subjects: usize, left: &mut [u64])
     requires { ⌜ (n ≤ 64) × (subjects ≤ 65) × ((r : ℕ) → r < n → CodesPlaced (now sides) r)
-        × ((w : ℕ) → getD (now left) w 0 ≡ 0) ⌝ }
+        × ((w : ℕ) → getD (now left) w 0 ≡ 0) × (256 ≤ length (now sides)) × (length (now left) ≡ 152) ⌝ }
     ensures { λ _. ⌜ WrittenMasks n subjects (now (sides .entry)) (now (left .exit)) ⌝ }
 {
     gather(left, sides, n);
@@ -142,8 +144,9 @@ pub fn put_word(table: &mut [u64], at: usize, v: u64)
 }
 
 // The masks of coordinate 0, that of the asked object and of the asked subject.
-pub fn own_masks(s: &[u8], body: &[u8], n: usize, x: Access, left: &mut [u64; 152])
-    requires { ⌜ (soundBytes (now s) ≡ true) × (n * 28 ≤ length (now body)) × (n ≤ 64) ⌝ }
+pub fn own_masks(s: &[u8], body: &[u8], n: usize, x: Access, left: &mut [u64])
+    requires { ⌜ (soundBytes (now s) ≡ true) × (n * 28 ≤ length (now body)) × (n ≤ 64)
+        × (length (now left) ≡ 152) ⌝ }
     ensures { λ _. ⌜ Owned (decode (now (s .entry))) n (now (body .entry)) x (now (left .entry))
         (now (left .exit)) ⌝ }
 {

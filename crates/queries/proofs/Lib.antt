@@ -1,2 +1,6 @@
--- `QuestionBodies` has the bodies of a sound base: what the tables of a question may rest on.
+-- `Handing` has what is handed on to many questions, `QuestionBodies` the bodies of a sound base, which the
+-- tables of a question rest on.
+pub mod Handing
 pub mod QuestionBodies
+-- `Sectioning` has the tables in the sections of the slices that hold them.
+pub mod Sectioning

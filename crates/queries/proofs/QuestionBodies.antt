@@ -1,6 +1,6 @@
--- The bodies of a sound base are as a question wants them (`sound-bodies`), also where its rules are left out
--- (`ruleless-bodies`, `ruleless-listing`); and what is listed are WHEN's intervals (`filling`, `listing`). A
--- rule's number is its place (`numbers`).
+-- The bodies of a sound base are as a question wants them (`records-bodies`), also where its rules are left
+-- out (`ruleless-bodies`, `ruleless-listing`); and what is listed are WHEN's intervals (`filling`,
+-- `listing`). A rule's number is its place (`numbers`).
 use mathlib.Core.Path.{_≡_, refl, sym, ap, _∙_, subst}
 use mathlib.Core.Logic.{inl, inr}
 use mathlib.Core.Bool.{Bool, true, false, _&&_, _||_, Bool·beq}
@@ -9,7 +9,7 @@ use Prim.Native.Nat.{ℕ, zero, suc, _+_, _*_, _/_, _≤_, _<_}
 use native.Mathlib.Omega.{arith}
 use lib.Dec.{leb, ltb, eqb}
 use lib.ListN.{length, drop}
-use lib.Seq.{drop-nil}
+use lib.Seq.{drop-nil, drop-drop}
 use Rattle.foundation.specs.declared.Interval.{Interval}
 use Rattle.foundation.specs.Tests.{pick, cases, le-true, true-le, eq-true, true-eq, ne-false, and-true}
 use Rattle.foundation.specs.Tests.{and-three, beq-eq}
@@ -17,6 +17,7 @@ use Rattle.foundation.specs.Intervals.{maximal}
 use Rattle.foundation.specs.Lists.{anyb, Mem, all-mem, conjunct}
 use Rattle.foundation.specs.ByteRecords.{length-records, record-nth, record-mem, mem-record}
 use Rattle.model.specs.declared.Access.{Access}
+use Rattle.model.specs.declared.Authorization.{Authorization}
 use Rattle.model.specs.declared.Rule.{Rule}
 use Rattle.model.specs.declared.Side.{Side}
 use Rattle.model.specs.Base.{Base}
@@ -32,10 +33,10 @@ use Rattle.model.specs.Stratification.{isStar}
 use Rattle.laws.specs.Chained.{Pairwise, Passing, chained-all}
 use Rattle.laws.specs.RulesAfter.{stratified-less}
 use Rattle.encoding.specs.declared.Counts.{Counts}
-use Rattle.encoding.specs.Format.{countsOf, authorizationsAt, rulesAt, rulesIn, ruleAt}
+use Rattle.encoding.specs.Format.{countsOf, authorizationsAt, rulesAt, authorizationsIn, rulesIn, ruleAt}
 use Rattle.lookup.proofs.SoundBodies.{lent, base-sound, authorizations-in, rules-in, fitting, there}
-use Rattle.lookup.proofs.SoundBodies.{authorizations-lent, rules-lent}
-use Rattle.direct.specs.Direct.{ruleless-when}
+use Rattle.lookup.proofs.SoundBodies.{authorizations-lent, rules-lent, rest-of}
+use Rattle.direct.specs.Direct.{heldDirectly, direct-may, ruleless-when}
 use Rattle.questions.specs.RuleNumbers.{Numbering}
 use Rattle.relevance.specs.Needed.{placed-in}
 use Rattle.scan.specs.declared.Track.{Track}
@@ -43,7 +44,9 @@ use Rattle.scan.specs.Filled.{filled, filled-all}
 use Rattle.scan.specs.Runs.{ScannedTo, fewer}
 use Rattle.scan.specs.Listing.{Filling, Listing, listed-all, listed-short}
 use Rattle.outlines.specs.Coordinates.{Ranged}
+use Rattle.queries.specs.declared.Totals.{Totals}
 use Rattle.queries.specs.Starting.{Bodies}
+use Rattle.queries.specs.Asking.{BodiesIn}
 
 -- ---- ranges
 
@@ -146,13 +149,6 @@ module _ (s : List ℕ) (e : soundBytes s ≡ true) (c : Counts) (q : c ≡ coun
   as-rules : rulesIn (c .rules) (lent s ra) ≡ decode s .rules
   as-rules = rules-lent s c q ra ar
 
-  -- both bodies are within the base
-  pub la-in : la ≤ length s
-  la-in = omega (arith, al, fitting s e c q)
-
-  pub ra-in : ra ≤ length s
-  ra-in = omega (arith, ar, fitting s e c q)
-
   sides : (i : ℕ) → i < c .rules → Ranged (ruleAt (lent s ra) i .left) × Ranged (ruleAt (lent s ra) i .right)
   sides i h =
       let r = ruleAt (lent s ra) i in
@@ -168,7 +164,7 @@ module _ (s : List ℕ) (e : soundBytes s ≡ true) (c : Counts) (q : c ≡ coun
       rule-stars r (all-mem starsMeet (rulesIn (c .rules) (lent s ra)) (rw as-rules (base-sound s e .stars))
       r m)
 
-  pub sound-bodies : Bodies (decode s) (lent s la) (c .authorizations) (lent s ra) (c .rules) (decode s)
+  sound-bodies : Bodies (decode s) (lent s la) (c .authorizations) (lent s ra) (c .rules) (decode s)
   sound-bodies =
       let f = fitting s e c q in
       let w = base-sound s e in
@@ -197,6 +193,43 @@ module _ (s : List ℕ) (e : soundBytes s ≡ true) (c : Counts) (q : c ≡ coun
         );
         powers = λ o u. refl;
       }
+
+-- as they are lent from the authorizations on, with the rules behind these
+module _ (s : List ℕ) (e : soundBytes s ≡ true) (c : Counts) (q : c ≡ countsOf s) (at : ℕ)
+    (al : at ≡ authorizationsAt c) where
+  pub records-in : at ≤ length s
+  records-in = omega (arith, al, fitting s e c q)
+
+  rules-behind : lent s (rulesAt c) ≡ drop (c .authorizations * 24) (lent s at)
+  rules-behind =
+      rest-of s (rulesAt c) (authorizationsAt c + c .authorizations * 24) (omega arith)
+      ∙ sym (drop-drop (c .authorizations * 24) (authorizationsAt c) s)
+      ∙ ap (drop (c .authorizations * 24)) (sym (rest-of s at (authorizationsAt c) al))
+
+  pub records-bodies : BodiesIn (lent s at)
+      (record { authorizations = c .authorizations; rules = c .rules }) (decode s) (decode s)
+  records-bodies = subst (λ (body : List ℕ). Bodies (decode s) (lent s at) (c .authorizations) body
+      (c .rules) (decode s)) rules-behind (sound-bodies s e c q at (rulesAt c) al refl)
+
+-- rules that are lent
+pub rules-as : {holder : Base} {records : List ℕ} {n : Totals} {base : Base} →
+    BodiesIn records n holder base → base .rules ≡ rulesIn (n .rules) (lent records (n .authorizations * 24))
+rules-as {records = records} {n = n} b = b .rules-are
+    ∙ ap (rulesIn (n .rules)) (sym (rest-of records (n .authorizations * 24) (n .authorizations * 24) refl))
+
+pub rules-there : {holder : Base} {records : List ℕ} {n : Totals} {base : Base} →
+    BodiesIn records n holder base → n .rules * 28 ≤ length (lent records (n .authorizations * 24))
+rules-there {records = records} {n = n} b =
+    rw (rest-of records (n .authorizations * 24) (n .authorizations * 24) refl) (b .well-formed .there)
+
+-- where none stands for the access, the authorizations decide
+pub held-alone : {holder : Base} {records : List ℕ} {n : Totals} {base : Base} →
+    BodiesIn records n holder base → (x : Access) (t : ℕ) →
+    anyb (λ r. standsFor base r x) (base .rules) ≡ false → {yes : Bool} →
+    yes ≡ heldDirectly (authorizationsIn (n .authorizations) records) x t → yes ≡ may base x t
+held-alone {base = base} b x t none e = e
+    ∙ ap (λ (xs : List Authorization). heldDirectly xs x t) (sym (b .lines-are))
+    ∙ sym (direct-may base x t none)
 
 -- ---- a base without its rules
 

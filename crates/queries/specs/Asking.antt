@@ -9,7 +9,7 @@ use Prim.Native.Nat.{ℕ, suc, _+_, _*_, _-_, _^_, _≤_, _<_}
 use native.Mathlib.Omega.{arith}
 use native.Mathlib.Nat.{min-le-left}
 use lib.Dec.{leb, ltb}
-use lib.ListN.{length, getD, replicate, take, length-take, List·getD-eq-default}
+use lib.ListN.{length, getD, replicate, take, drop, length-take, List·getD-eq-default}
 use lib.Seq.{getD-take}
 use Rattle.foundation.specs.Tests.{not-true, pick, and-true, cases, true-le, false-le}
 use Rattle.foundation.specs.Intervals.{inInterval}
@@ -34,9 +34,13 @@ use Rattle.outlines.specs.NeededAccesses.{needed}
 use Rattle.grounding.specs.RuleTurns.{prepared}
 use Rattle.engine.specs.declared.Query.{Query}
 use Rattle.engine.specs.declared.Found.{Found}
+use Rattle.sections.specs.Sections.{leftOf, feedOf, sidesOf, rightsOf, subjectsOf, objectsOf}
+use Rattle.queries.specs.declared.Totals.{Totals}
+use Rattle.queries.specs.declared.Extent.{Extent}
+use Rattle.queries.specs.declared.Inquiry.{Inquiry}
 use Rattle.queries.specs.Bounds.{bits-few}
 use Rattle.outlines.specs.LeftMasks.{Owned}
-use Rattle.queries.specs.Drawing.{RulesDrawn, Blank, ownOf, Outline, chart-small, net-formed}
+use Rattle.queries.specs.Drawing.{RulesDrawn, Blank, chartFor, ownOf, Outline, chart-small, net-formed}
 use Rattle.queries.specs.Drawing.{own-known, own-pair, Mapped}
 use Rattle.queries.specs.Drawing.{map-gridded, needed-low, needed-in, asked-needed, Arranged}
 use Rattle.engine.specs.Posed.{Finds}
@@ -254,3 +258,31 @@ module _ {holder : Base} {n : ℕ} {subjects objects : List ℕ} {width height :
         pair = getD number (v * width + u) 0;
         point = record { subject = u; mode = x .mode - 1; object = v };
       }
+
+-- ---- by the slices that hold the tables
+
+module _ (records : List ℕ) (n : Totals) where
+  -- the rules stand behind the authorizations
+  abbrev pub bodyIn : List ℕ
+  bodyIn = drop (n .authorizations * 24) records
+
+  abbrev pub BodiesIn : Base → Base → Type 0
+  BodiesIn holder = Bodies holder records (n .authorizations) bodyIn (n .rules)
+
+  module _ (outline coordinates : List ℕ) where
+    abbrev pub DrawnIn : Base → Extent → Type 0
+    DrawnIn holder e = RulesDrawn holder (n .rules)
+        (chartFor (subjectsOf coordinates) (objectsOf coordinates) e) bodyIn (leftOf outline) (feedOf outline)
+        (sidesOf coordinates) (rightsOf coordinates) (e .choosy)
+
+    -- the slices have room
+    pub record SlicesWhole : Type 0 where
+      pub recorded : n .authorizations * 24 ≤ length records
+      pub outlined : length outline ≡ 472
+      pub placed : length coordinates ≡ 1666
+
+abbrev pub TaskIn : (records outline coordinates : List ℕ) → Inquiry → Base → Type 0
+TaskIn records outline coordinates k = Task records (k .totals .authorizations) (k .totals .rules)
+    (chartFor (subjectsOf coordinates) (objectsOf coordinates) (k .extent)) (k .asked .access) (k .own)
+    (k .subject) (k .object) (bodyIn records (k .totals)) (leftOf outline) (feedOf outline)
+    (sidesOf coordinates) (rightsOf coordinates) (k .extent .choosy)

@@ -22,7 +22,7 @@ use Rattle.encoding.specs.Format.{rulesIn, ruleAt}
 use Rattle.questions.specs.OperatorSteps.{lasting}
 use Rattle.words.specs.Bits.{bit-and}
 use Rattle.words.specs.Fields as fields
-use Rattle.reach.specs.Net.{Closed, Formed, Only, standing}
+use Rattle.reach.specs.Net.{ClosedNet, Formed, Only, standing}
 use Rattle.places.specs.declared.Grid.{Grid}
 use Rattle.places.specs.ReachedNumbers.{used, before, before-le, before-onto, codeOf}
 use Rattle.places.specs.Regions.{sizeOf}
@@ -198,7 +198,7 @@ module _ {holder : Base} {n : ℕ} {C : Chart} {x : Access} {body left feed side
 
 -- what is needed, and the numbers of its pairs
 pub record Mapped (C : Chart) (left right need number codes : List ℕ) (g : Grid) : Type 0 where
-  pub closed : Closed (record { left = left; right = right; subjects = C .width }) need
+  pub closed : ClosedNet (record { left = left; right = right; subjects = C .width }) need
   pub size : length need ≡ C .height * C .width
   -- at no other pairs than the asked one and those that rules lead to
   pub only : (pair : ℕ) × (pair < length need)
@@ -350,10 +350,10 @@ module _ {holder : Base} {n : ℕ} {C : Chart} {x : Access} {body left feed side
   )
 
   -- so they are drawn
-  pub drawn : (k words bits : ℕ) → k ≤ 6 → f .fields * 2 ^ k ≤ 64 * words → (0 < bits → total ≤ 64 * bits) →
-      Drawn holder n C (ownOf C x)
+  pub drawn : 256 ≤ length right → 64 ≤ length first → (k words bits : ℕ) → k ≤ 6 →
+      f .fields * 2 ^ k ≤ 64 * words → (0 < bits → total ≤ 64 * bits) → Drawn holder n C (ownOf C x)
       (prepared body left feed sides right need codes number first starts (sized f k)) rules words bits
-  drawn k words bits narrow fits room = record {
+  drawn rights firsts k words bits narrow fits room = record {
     well-formed = o .rules .well-formed;
     charted = o .rules .charted;
     subjects = record { all = o .rules .charted .subjects .onto; star = o .rules .charted .subjects .star };
@@ -381,7 +381,7 @@ module _ {holder : Base} {n : ℕ} {C : Chart} {x : Access} {body left feed side
     modes = m .modes;
     needs = needs;
     choosy = choosy-bits;
-    laid = record { laid = a .laid; narrow = narrow; fits = fits };
+    laid = record { laid = a .laid; narrow = narrow; fits = fits; rights = rights; firsts = firsts };
     fields = omega (arith, fields-small);
     lasts = lasts;
     lasts-is = a .lasts-is;

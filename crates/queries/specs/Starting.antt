@@ -1,15 +1,16 @@
 -- A question is put to the tables once they are drawn (`posed`), and the walk over them can start (`walks`).
 -- What it finds in the narrowed base is true of the whole one (`whole-found`).
 use mathlib.Core.Path.{_≡_, refl, sym, ap, _∙_, subst}
-use mathlib.Core.Logic.{_⊎_, ⊎-elim, _↔_, inl, inr}
+use mathlib.Core.Logic.{_⊎_, ⊎-elim, _↔_, inr}
 use mathlib.Core.Bool.{Bool, true, false, not, _&&_, _||_, true≢false}
-use mathlib.Core.List.{List, []}
-use Prim.Native.Nat.{ℕ, suc, _+_, _*_, _-_, _%_, _^_, _≤_, _<_}
-use native.Mathlib.Nat.{zero-div, mul-le-mul-right}
+use mathlib.Core.List.{List, _++_, append-nil}
+use Prim.Native.Nat.{ℕ, suc, _+_, _*_, _-_, _/_, _^_, _≤_, _<_}
+use native.Mathlib.Nat.{mul-le-mul-right}
 use native.Mathlib.Omega.{arith}
 use lib.Dec.{eqb, leb}
-use lib.ListN.{length, getD, replicate, length-replicate}
-use Rattle.foundation.specs.Tests.{cases, true-eq, false-eq, le-true, and-true, and-intro, and-false, or-none}
+use lib.ListN.{length, getD, replicate, take, drop, length-drop, drop-of-length-le}
+use lib.Seq.{getD-drop, drop-at, length-take-le}
+use Rattle.foundation.specs.Tests.{le-true, and-true, and-intro, and-false}
 use Rattle.foundation.specs.Lists.{Mem, kept}
 use Rattle.foundation.specs.Intervals.{interval, inInterval, maximal}
 use Rattle.foundation.specs.BitMasks.{bit}
@@ -43,7 +44,7 @@ use Rattle.outlines.specs.Coordinates.{WellFormed, Chart}
 use Rattle.outlines.specs.NeededAccesses.{needed}
 use Rattle.grounding.specs.RuleSteps.{brokenIn, brokenAt}
 use Rattle.grounding.specs.Meaning.{placeOf}
-use Rattle.grounding.specs.RuleTurns.{Prepared, prepared, turnIn}
+use Rattle.grounding.specs.RuleTurns.{Prepared, prepared, turnIn, wordsFor}
 use Rattle.engine.specs.declared.Query.{Query}
 use Rattle.engine.specs.declared.Found.{Found}
 use Rattle.engine.specs.Drawn.{SamePowers, Drawn, mappingOf}
@@ -57,7 +58,11 @@ use Rattle.engine.specs.NarrowedBase.{
   kept-line,
 }
 use Rattle.engine.specs.NarrowedBase.{narrowed-may}
-use Rattle.engine.specs.Going.{chartOf}
+use Rattle.engine.specs.Going.{chartOf, chartIn, preparedFor, Roomy}
+use Rattle.engine.specs.declared.WindowWalk.{WindowWalk}
+use Rattle.sections.specs.Sections.{leftOf, feedOf, firstOf, startsOf, sidesOf, rightsOf}
+use Rattle.sections.specs.Sections.{numberOf, listedOf, whichOf}
+use Rattle.sections.specs.SectionWrites.{part-long, same-front, same-part, putBack, back-length, back-before}
 use Rattle.engine.specs.Posed.{Posed, Walks, Finds}
 
 -- ---- the bodies of a base
@@ -225,14 +230,13 @@ Keeps q lasts bits = (q .from ≡ q .to) ⊎ (((r : ℕ) → bit r lasts ≡ tru
 
 module _ {holder : Base} {C : Chart} {p : Prepared} {lasts total : ℕ} {q : Query} {x : Access} (c : Chosen)
     (t : Tabled holder (c .rules) C p (c .needed) lasts total q x) (k : ℕ) (words bits : List ℕ)
-    (narrow : k ≤ 6)
+    (rights : 256 ≤ length (p .right)) (firsts : 64 ≤ length (p .first)) (narrow : k ≤ 6)
     (fits : p .frame .fields * 2 ^ k ≤ 64 * length words)
     (room : 0 < length bits → total ≤ 64 * length bits) where
   pub tables-drawn : Drawn holder (c .rules) C (ownOf C x) (withWidth p k) (c .needed) (length words)
       (length bits)
-  tables-drawn = drawn (t .outline) (t .mapped) (t .needs) (t .arranged) k (length words) (length bits)
-      narrow fits
-      room
+  tables-drawn = drawn (t .outline) (t .mapped) (t .needs) (t .arranged) rights firsts k (length words)
+      (length bits) narrow fits room
 
   module _ {lines : List ℕ} {count : ℕ} {base : Base}
       (b : Bodies holder lines count (p .body) (c .rules) base)
@@ -343,42 +347,11 @@ pub record Fresh (q : Query) (lasts total : ℕ) (bits : List ℕ) : Type 0 wher
   pub zero : (j : ℕ) → getD bits j 0 ≡ 0
   pub keeps : Keeps q lasts (length bits)
 
--- none are needed where one instant is asked or no rule looks back
-pub fresh-none : (q : Query) (lasts total : ℕ) → eqb (q .from) (q .to) || eqb lasts 0 ≡ true →
-    Fresh q lasts total []
-fresh-none q lasts total e = record {
-  room = λ h. absurd (omega arith);
-  zero = λ j. refl;
-  keeps = cases (eqb (q .from) (q .to))
-      (λ y. inl (true-eq (q .from) (q .to) y))
-      (λ y. let z : eqb lasts 0 ≡ true = rw y at e in
-      inr (inl (λ r w. true≢false (sym w ∙ ap (bit r) (true-eq lasts 0 z) ∙ no-bit r))));
-}
-  where
-    no-bit : (r : ℕ) → bit r 0 ≡ false
-    no-bit r = ap (λ (i : ℕ). eqb (i % 2) 1) (zero-div (2 ^ r))
-
 -- a table of zeros
 pub zeros-at : (n i : ℕ) → _≡_ {A = ℕ} (getD (replicate n 0) i 0) 0
 zeros-at ℕ.zero i = refl
 zeros-at (suc n) ℕ.zero = refl
 zeros-at (suc n) (suc i) = zeros-at n i
-
-pub fresh-zeros : (q : Query) (lasts total size : ℕ) → 0 < size → total ≤ 64 * size →
-    Fresh q lasts total (replicate size 0)
-fresh-zeros q lasts total size some room = record {
-  room = λ h. rw (length-replicate {A = ℕ} size 0) room;
-  zero = λ j. zeros-at size j;
-  keeps = inr (inr (rw (length-replicate {A = ℕ} size 0) some));
-}
-
--- where they are needed, more than one instant is asked
-pub fresh-kept : (q : Query) (lasts total size : ℕ) → eqb (q .from) (q .to) || eqb lasts 0 ≡ false →
-    0 < size → (q .from ≡ q .to) ⊎ (total ≤ 64 * size) → Fresh q lasts total (replicate size 0)
-fresh-kept q lasts total size kept some room =
-    let several = or-none (eqb (q .from) (q .to)) (eqb lasts 0) kept .0 in
-    fresh-zeros q lasts total size some
-    (⊎-elim (λ e. absurd (false-eq (q .from) (q .to) several e)) (λ h. h) room)
 
 -- a frame with fields of a width for which words of a length have room
 pub record Sized (f : Frame) (words : ℕ) (g : Frame) : Type 0 where
@@ -399,20 +372,22 @@ module _ {lines which : List ℕ} {c : Chosen} {lasts total : ℕ} {q : Query} {
     right need codes number first starts : List ℕ} {f : Frame} {base : Base} {x : Access}
     (b : Begun lines which c lasts total q (chartOf subjects objects f)
     (prepared body left feed sides right need codes number first starts f) base x) where
-  pub begun-starts : (g : Frame) (words bits : List ℕ) → Sized f (length words) g → Fresh q lasts total bits →
+  pub begun-starts : 256 ≤ length right → 64 ≤ length first → (g : Frame) (words bits : List ℕ) →
+      Sized f (length words) g → Fresh q lasts total bits →
       Starts lines which c lasts q (chartOf subjects objects g)
       (prepared body left feed sides right need codes number first starts g) words bits base x
-  begun-starts g words bits s h =
+  begun-starts rights firsts g words bits s h =
       let k = s .width in
       subst (λ (w : Frame). Starts lines which c lasts q (chartOf subjects objects w)
       (prepared body left feed sides right need codes number first starts w) words bits base x)
       (sym (s .same))
       (record {
-        small = less (tables-drawn c (b .tabled) k words bits (s .narrow) (s .fits) (h .room)) (b .bodies);
-        walks = walks c (b .tabled) k words bits (s .narrow) (s .fits) (h .room) (b .bodies) (b .entry) which
-            (b .chosen) (b .long) (h .zero) (h .keeps);
-        found = whole-found c (b .tabled) k words bits (s .narrow) (s .fits) (h .room) (b .bodies) (b .entry)
-            which (b .chosen) (b .long) (h .zero) (h .keeps);
+        small = less (tables-drawn c (b .tabled) k words bits rights firsts (s .narrow) (s .fits) (h .room))
+            (b .bodies);
+        walks = walks c (b .tabled) k words bits rights firsts (s .narrow) (s .fits) (h .room) (b .bodies)
+            (b .entry) which (b .chosen) (b .long) (h .zero) (h .keeps);
+        found = whole-found c (b .tabled) k words bits rights firsts (s .narrow) (s .fits) (h .room)
+            (b .bodies) (b .entry) which (b .chosen) (b .long) (h .zero) (h .keeps);
       })
 
   -- the tables are small
@@ -454,3 +429,189 @@ pub ground-ready : {lines : List ℕ} {total n rules lasts bits : ℕ} {q : Quer
     which
 ground-ready {p = p} g which room =
     choice-ready (g .tabled .outline) (g .bodies) (p .need) which (g .tabled .mapped .size) room
+
+-- ---- by the slices that hold the tables
+
+module _ (records outline coordinates need numbers : List ℕ) (w : WindowWalk) where
+  abbrev pub BegunIn : Base → Access → Type 0
+  BegunIn = Begun records (whichOf (length need) numbers) (w .chosen) (w .lasting) (w .bits) (w .query)
+      (chartIn coordinates (w .frame)) (preparedFor records outline coordinates need numbers w)
+
+  -- of all authorizations none is chosen yet
+  abbrev pub GroundIn : Base → Access → Type 0
+  GroundIn = Ground records (w .chosen .authorizations) (w .chosen .rules) (w .chosen .needed) (w .lasting)
+      (w .bits) (w .query) (chartIn coordinates (w .frame))
+      (preparedFor records outline coordinates need numbers w)
+
+  -- the slices have room
+  pub record Sectioned : Type 0 where
+    pub bodied : w .body ≤ length records
+    pub outlined : length outline ≡ 472
+    pub placed : length coordinates ≡ 1666
+    pub numbered : 2 * length need + w .chosen .authorizations ≤ length numbers
+
+-- how many words hold broken bits, and one more
+abbrev pub brokenWords : ℕ → ℕ
+brokenWords bits = bits / 64 + 1
+
+-- a number of words has room for them and for the fields, a bit each or more
+abbrev pub RoomFor : ℕ → WindowWalk → Type 0
+RoomFor words w =
+    (brokenWords (w .bits) ≤ words) × (w .frame .fields ≤ 64 * (words - brokenWords (w .bits)))
+
+-- the walk with another frame
+abbrev pub framed : WindowWalk → Frame → WindowWalk
+framed w f = record {
+  chosen = w .chosen;
+  body = w .body;
+  lasting = w .lasting;
+  bits = w .bits;
+  query = w .query;
+  frame = f;
+}
+
+-- with k authorizations that were chosen
+abbrev pub picking : WindowWalk → ℕ → WindowWalk
+picking w k = record {
+  chosen = record { authorizations = k; rules = w .chosen .rules; needed = w .chosen .needed };
+  body = w .body;
+  lasting = w .lasting;
+  bits = w .bits;
+  query = w .query;
+  frame = w .frame;
+}
+
+module _ {records outline coordinates need numbers : List ℕ} {w : WindowWalk}
+    (h : Sectioned records outline coordinates need numbers w) where
+  -- in words of which none is set
+  module _ (work : List ℕ) (room : brokenWords (w .bits) ≤ length work)
+      (clear : (i : ℕ) → getD work i 0 ≡ 0) (g : Frame)
+      (s : Sized (w .frame) (length work - brokenWords (w .bits)) g) where
+    abbrev words : ℕ
+    words = wordsFor (g .fields) (g .width)
+
+    words-are : words ≡ (w .frame .fields * 2 ^ s .width + 63) / 64
+    words-are = ap (λ (f : Frame). wordsFor (f .fields) (f .width)) (s .same)
+
+    words-few : words + brokenWords (w .bits) ≤ length work
+    words-few = omega (arith, words-are, s .fits, room)
+
+    words-long : length (take words work) ≡ words
+    words-long = length-take-le words work (omega (arith, words-few))
+
+    fields-sized : Sized (w .frame) (length (take words work)) g
+    fields-sized = record {
+      width = s .width;
+      narrow = s .narrow;
+      fits = omega (arith, words-are, words-long);
+      same = s .same;
+    }
+
+    bits-fresh : Fresh (w .query) (w .lasting) (w .bits) (drop words work)
+    bits-fresh = record {
+      room = λ e. omega (arith, words-few, length-drop words work);
+      zero = λ j. getD-drop words work j 0 ∙ clear (words + j);
+      keeps = inr (inr (omega (arith, words-few, length-drop words work)));
+    }
+
+    pub begun-roomy : Roomy records outline coordinates need numbers work (framed w g)
+    begun-roomy = record {
+      body = h .bodied;
+      held = record {
+        outlined = h .outlined;
+        placed = h .placed;
+        numbered = omega (arith, h .numbered);
+        roomy = omega (arith, words-few);
+      };
+    }
+
+    pub begun-walk : {base : Base} {x : Access} → BegunIn records outline coordinates need numbers w base x →
+        Starts records (whichOf (length need) numbers) (w .chosen) (w .lasting) (w .query)
+        (chartIn coordinates g) (preparedFor records outline coordinates need numbers (framed w g))
+        (take words work) (drop words work) base x
+    begun-walk b =
+        let p = h .placed in
+        let o = h .outlined in
+        let right = part-long 256 256 coordinates (omega arith) in
+        let first = part-long 280 64 outline (omega arith) in
+        begun-starts b (omega (arith, right)) (omega (arith, first)) g (take words work) (drop words work)
+        fields-sized bits-fresh
+
+  -- authorizations are chosen, and the numbers come back with theirs behind those of pairs
+  abbrev size : ℕ
+  size = length need
+
+  abbrev at : ℕ
+  at = 2 * size
+
+  abbrev entry : List ℕ
+  entry = take (length numbers - at) (drop at numbers)
+
+  long : at + (length numbers - at) ≤ length numbers
+  long = omega (arith, h .numbered)
+
+  entry-long : length entry ≡ length numbers - at
+  entry-long = part-long at (length numbers - at) numbers long
+
+  pub entry-room : w .chosen .authorizations ≤ length entry
+  entry-room = omega (arith, entry-long, h .numbered)
+
+  module _ {y : List ℕ} {k : ℕ} (c : Choice (chosenFor (chartIn coordinates (w .frame)) (w .query .own)
+      (preparedFor records outline coordinates need numbers w) (w .query)) records
+      (w .chosen .authorizations) entry y k) where
+    abbrev after : List ℕ
+    after = putBack numbers at (length numbers - at) y
+
+    y-long : length y ≡ length numbers - at
+    y-long = c .same-length ∙ entry-long
+
+    numbers-long : length after ≡ length numbers
+    numbers-long = back-length numbers at (length numbers - at) y long y-long
+
+    number-same : numberOf size after ≡ numberOf size numbers
+    number-same = same-front numbers after numbers-long size
+        (λ i l. back-before numbers at (length numbers - at) y long y-long i (omega arith))
+
+    listed-same : listedOf size after ≡ listedOf size numbers
+    listed-same = same-part numbers after numbers-long size size
+        (λ i l m. back-before numbers at (length numbers - at) y long y-long i (omega arith))
+
+    which-own : whichOf size after ≡ y
+    which-own =
+        drop-at (take at numbers) (y ++ drop (length numbers - at) (drop at numbers)) at
+        (length-take-le at numbers (omega (arith, h .numbered)))
+        ∙ ap (λ (l : List ℕ). y ++ l) (drop-of-length-le (drop at numbers) {i = length numbers - at}
+        (omega (arith, length-drop at numbers)))
+        ∙ append-nil y
+
+    pub picked-sectioned : Sectioned records outline coordinates need after (picking w k)
+    picked-sectioned = record {
+      bodied = h .bodied;
+      outlined = h .outlined;
+      placed = h .placed;
+      numbered = omega (arith, h .numbered, numbers-long, c .few);
+    }
+
+    pub picked-begun : {base : Base} {x : Access} →
+        GroundIn records outline coordinates need numbers w base x →
+        BegunIn records outline coordinates need after (picking w k) base x
+    picked-begun {base} {x} g =
+        let tables : preparedFor records outline coordinates need numbers w
+        ≡ preparedFor records outline coordinates need after w = λ i. record {
+          body = drop (w .body) records;
+          left = leftOf outline;
+          feed = feedOf outline;
+          sides = sidesOf coordinates;
+          right = rightsOf coordinates;
+          need = need;
+          codes = sym listed-same i;
+          number = sym number-same i;
+          first = firstOf outline;
+          starts = startsOf outline;
+          frame = w .frame;
+        } in
+        subst (λ (p : Prepared). Begun records (whichOf size after) (picking w k .chosen) (w .lasting)
+        (w .bits) (w .query) (chartIn coordinates (w .frame)) p base x) tables
+        (subst (λ (l : List ℕ). Begun records l (picking w k .chosen) (w .lasting) (w .bits) (w .query)
+        (chartIn coordinates (w .frame)) (preparedFor records outline coordinates need numbers w) base x)
+        (sym which-own) (ground-begun g entry y k entry-room c))

@@ -6,8 +6,10 @@ ghost use mathlib.Core.Path.{_≡_};
 ghost use mathlib.Core.Bool.{true, _||_};
 ghost use mathlib.Core.List.{List};
 ghost use Prim.Native.Nat.{ℕ, _+_, _*_, _^_, _≤_, _<_};
-ghost use lib.ListN.{length, getD};
+ghost use lib.ListN.{length, getD, take};
 ghost use Rattle.foundation.specs.BitMasks.{bit};
+ghost use Rattle.sections.specs.Sections.{leftOf, feedOf, sidesOf, rightsOf, subjectsOf, objectsOf};
+ghost use Rattle.sections.specs.Sections.{numberOf, listedOf};
 ghost use Rattle.reach.specs.Net.{Formed, has};
 ghost use Rattle.masks.specs.RuleMasks.{RulesIn};
 ghost use Rattle.model.specs.Base.{Base};
@@ -15,13 +17,18 @@ ghost use Rattle.model.specs.Encoding.{decode};
 ghost use Rattle.model.specs.Soundness.{soundBytes};
 ghost use Rattle.outlines.specs.Coordinates.{WellFormed};
 ghost use Rattle.queries.specs.Drawing.{Mapped, RulesDrawn, Blank, chartFor};
-ghost use Rattle.queries.specs.Starting.{Bodies};
-ghost use Rattle.queries.specs.Asking.{lastAsked, WalkStart, Task, Answers};
+ghost use Rattle.queries.specs.Asking.{lastAsked, WalkStart, Answers, TaskIn, BodiesIn, DrawnIn};
+ghost use Rattle.queries.specs.Asking.{SlicesWhole};
+use crate::AccessQuery;
 use crate::Extent;
-use crate::sizes::with_tables;
+use crate::Inquiry;
+use crate::Totals;
+use crate::sizes::with_lines;
 use engine::Found;
 use engine::Query;
+use engine::WindowWalk;
 use masks::needed_rules;
+use model::AUTHORIZATION_BYTES;
 use model::Access;
 use outlines::choosy_of;
 use outlines::draw_controlled;
@@ -33,6 +40,17 @@ use outlines::number_sides;
 use outlines::own_masks;
 use places::Grid;
 use places::Point;
+use relevance::Chosen;
+use sections::ACTIVE;
+use sections::COORDINATES;
+use sections::FEED;
+use sections::FIRST;
+use sections::LEFT;
+use sections::OBJECTS;
+use sections::RIGHT;
+use sections::SIDES;
+use sections::STARTS;
+use sections::SUBJECTS;
 use selection::history_start;
 use selection::lasting_of;
 use tables::Frame;
@@ -80,25 +98,28 @@ fn walk_start(one: bool, t: u32, body: &[u8], lasting: u64) -> u32
 
 // Reaches the pairs that the asked one can rest on, and numbers them.
 fn map_pairs(
-    left: &[u64; 152],
-    right: &[u8; 256],
-    width: u32,
-    height: u32,
+    e: Extent,
     pair: usize,
     mode: u32,
+    left: &[u64],
+    right: &[u8],
     need: &mut [u16],
-    number: &mut [u16],
-    codes: &mut [u16],
+    numbers: &mut [u16],
 ) -> Grid
-    requires { ⌜ ((i : ℕ) → (getD (now need) i 0 ≡ 0) × (getD (now number) i 0 ≡ 0))
-        × (length (now need) ≡ height * width) × (height ≤ 65)
-        × (length (now number) ≡ length (now need)) × (length (now codes) ≡ length (now need))
-        × (pair < length (now need)) × (mode < 8) × Formed (now right) width (length (now need)) ⌝ }
-    ensures { λ r. ⌜ ((U O : List ℕ) → Mapped
-        (record { subjects = U; objects = O; width = width; height = height }) (now (left .entry))
-        (now (right .entry)) (now (need .exit)) (now (number .exit)) (now (codes .exit)) r)
+    requires { ⌜ ((i : ℕ) → getD (now need) i 0 ≡ 0)
+        × ((i : ℕ) → getD (numberOf (length (now need)) (now numbers)) i 0 ≡ 0)
+        × (length (now need) ≡ e .objects * e .subjects) × (e .objects ≤ 65)
+        × (2 * length (now need) ≤ length (now numbers)) × (pair < length (now need)) × (mode < 8)
+        × Formed (now right) (e .subjects) (length (now need)) × (152 ≤ length (now left))
+        × (256 ≤ length (now right)) ⌝ }
+    ensures { λ r. ⌜ ((U O : List ℕ) → Mapped (chartFor U O e) (now (left .entry)) (now (right .entry))
+        (now (need .exit)) (numberOf (length (now (need .exit))) (now (numbers .exit)))
+        (listedOf (length (now (need .exit))) (now (numbers .exit))) r)
         × ((b : ℕ) → bit b (257 * 2 ^ mode) ≡ true → has (now (need .exit)) pair b ≡ true) ⌝ }
 {
+    let width = e.subjects;
+    let size = need.len();
+    let end = 2 * size;
     reach::reach(
         left,
         right,
@@ -106,291 +127,201 @@ fn map_pairs(
         pair,
         both_signs(mode),
         need,
-        number,
+        &mut numbers[..size],
     );
-    let pairs = places::number_pairs(need, number);
-    places::list_pairs(need, width, codes);
+    let pairs = places::number_pairs(need, &mut numbers[..size]);
+    places::list_pairs(need, width, &mut numbers[size..end]);
     Grid {
         subjects: width,
-        objects: height,
+        objects: e.objects,
         pairs: pairs as u32,
         modes: modes_in(need),
     }
 }
 
-// Answers by the tables of pairs, `s` and `o` being the coordinates of the asked subject and object: MAY at
-// t, or else WHEN.
+// Answers by the tables of pairs: MAY at an instant, or else WHEN.
 fn with_pairs(
-    lines: &[u8],
-    total: usize,
-    body: &[u8],
-    n: usize,
-    x: Access,
-    own: Access,
-    one: bool,
-    t: u32,
-    width: u32,
-    height: u32,
-    s: u32,
-    o: u32,
-    choosy: u64,
-    subjects: &[u8; 1024],
-    objects: &[u8; 130],
-    left: &[u64; 152],
-    feed: &[u64; 128],
-    sides: &[u8; 256],
-    right: &[u8; 256],
+    records: &[u8],
+    k: Inquiry,
+    outline: &mut [u64],
+    coordinates: &[u8],
     need: &mut [u16],
-    number: &mut [u16],
-    codes: &mut [u16],
+    numbers: &mut [u16],
     list: &mut [u32],
 ) -> Found
-    requires { ⌜ ((i : ℕ) → (getD (now need) i 0 ≡ 0) × (getD (now number) i 0 ≡ 0))
-        × (length (now need) ≡ height * width)
-        × (length (now number) ≡ length (now need)) × (length (now codes) ≡ length (now need))
-        × ((base : Base) × Task (now lines) total n (record {
-          subjects = now subjects;
-          objects = now objects;
-          width = width;
-          height = height;
-        }) x own s o (now body) (now left) (now feed) (now sides) (now right) choosy base) ⌝ }
-    ensures { λ r. ⌜ ((base : Base) → Task (now (lines .entry)) total n (record {
-      subjects = now (subjects .entry);
-      objects = now (objects .entry);
-      width = width;
-      height = height;
-    }) x own s o (now (body .entry)) (now (left .entry)) (now (feed .entry)) (now (sides .entry))
-        (now (right .entry)) choosy base → Answers one t base x r (now (list .entry)) (now (list .exit))) ⌝ }
+    requires { ⌜ SlicesWhole (now records) (k .totals) (now outline) (now coordinates)
+        × ((i : ℕ) → (getD (now need) i 0 ≡ 0) × (getD (now numbers) i 0 ≡ 0))
+        × (length (now need) ≡ k .extent .objects * k .extent .subjects)
+        × (2 * length (now need) + k .totals .authorizations ≤ length (now numbers))
+        × ((base : Base) × TaskIn (now records) (now outline) (now coordinates) k base) ⌝ }
+    ensures { λ r. ⌜ ((base : Base) →
+        TaskIn (now (records .entry)) (now (outline .entry)) (now (coordinates .entry)) k base →
+        Answers (k .asked .one) (k .asked .instant) base (k .asked .access) r (now (list .entry))
+        (now (list .exit))) × (take 280 (now (outline .exit)) ≡ take 280 (now (outline .entry))) ⌝ }
 {
-    let pair = (o * width + s) as usize;
-    let mode = x.mode - 1;
-    let g = map_pairs(left, right, width, height, pair, mode, need, number, codes);
-    let needed = needed_rules(left, need, codes, g.pairs as usize, width as usize);
+    let e = k.extent;
+    let a = k.asked;
+    let n = k.totals;
+    let size = need.len();
+    let from = n.authorizations * AUTHORIZATION_BYTES;
+    let body = &records[from..];
+    let pair = (k.object * e.subjects + k.subject) as usize;
+    let mode = a.access.mode - 1;
+    let g = map_pairs(
+        e,
+        pair,
+        mode,
+        &outline[LEFT..FEED],
+        &coordinates[RIGHT..SUBJECTS],
+        need,
+        numbers,
+    );
+    let needed = needed_rules(
+        &outline[LEFT..FEED],
+        need,
+        &numbers[size..],
+        g.pairs as usize,
+        e.subjects as usize,
+    );
     let lasting = lasting_of(body, needed);
-    let mut first = [0u32; 64];
-    let mut starts = [0u32; 64];
-    let fields = lay_all(right, choosy & needed, g, &mut first);
-    let bits = lay_out(sides, lasting, g, 0, &mut starts);
+    let fields = lay_all(
+        &coordinates[RIGHT..SUBJECTS],
+        e.choosy & needed,
+        g,
+        &mut outline[FIRST..STARTS],
+    );
+    let bits = lay_out(
+        &coordinates[SIDES..RIGHT],
+        lasting,
+        g,
+        0,
+        &mut outline[STARTS..ACTIVE],
+    );
     let f = Frame {
         grid: g,
         width: 0,
         fields: fields,
-        choosy: choosy & needed,
+        choosy: e.choosy & needed,
     };
     let point = Point {
-        subject: s,
+        subject: k.subject,
         mode: mode,
-        object: o,
+        object: k.object,
     };
     let place = Place {
-        pair: number[pair] as u32,
+        pair: numbers[pair] as u32,
         point: point,
     };
+    let own = k.own;
     let q = Query {
         own: own,
         place: place,
-        from: walk_start(one, t, body, lasting),
-        to: last_asked(one, t),
-        listing: !one,
+        from: walk_start(a.one, a.instant, body, lasting),
+        to: last_asked(a.one, a.instant),
+        listing: !a.one,
     };
-    with_tables(
-        lines,
-        total,
-        body,
-        n,
-        needed,
-        lasting,
-        bits,
-        q,
-        f,
-        subjects,
-        objects,
-        left,
-        feed,
-        sides,
-        right,
-        need,
-        codes,
-        number,
-        &first,
-        &starts,
-        list,
-    )
+    let c = Chosen {
+        authorizations: n.authorizations,
+        rules: n.rules,
+        needed: needed,
+    };
+    let w = WindowWalk {
+        chosen: c,
+        body: from,
+        lasting: lasting,
+        bits: bits,
+        query: q,
+        frame: f,
+    };
+    with_lines(records, w, outline, coordinates, need, numbers, list)
 }
 
-// The same with as much of tables of pairs as there are pairs.
+// The same with as much of the table of needs as there are pairs.
 fn with_part(
-    lines: &[u8],
-    total: usize,
-    body: &[u8],
-    n: usize,
-    x: Access,
-    own: Access,
-    one: bool,
-    t: u32,
-    e: Extent,
-    s: u32,
-    o: u32,
-    subjects: &[u8; 1024],
-    objects: &[u8; 130],
-    left: &[u64; 152],
-    feed: &[u64; 128],
-    sides: &[u8; 256],
-    right: &[u8; 256],
+    records: &[u8],
+    k: Inquiry,
+    outline: &mut [u64],
+    coordinates: &[u8],
     need: &mut [u16],
-    number: &mut [u16],
-    codes: &mut [u16],
+    numbers: &mut [u16],
     list: &mut [u32],
 ) -> Found
-    requires { ⌜ ((i : ℕ) → (getD (now need) i 0 ≡ 0) × (getD (now number) i 0 ≡ 0))
-        × (e .objects * e .subjects ≤ length (now need))
-        × (length (now number) ≡ length (now need)) × (length (now codes) ≡ length (now need))
-        × ((base : Base) × Task (now lines) total n (chartFor (now subjects) (now objects) e) x own s o
-        (now body) (now left) (now feed) (now sides) (now right) (e .choosy) base) ⌝ }
-    ensures { λ r. ⌜ ((base : Base) → Task (now (lines .entry)) total n
-        (chartFor (now (subjects .entry)) (now (objects .entry)) e) x own s o (now (body .entry))
-        (now (left .entry)) (now (feed .entry)) (now (sides .entry)) (now (right .entry)) (e .choosy) base →
-        Answers one t base x r (now (list .entry)) (now (list .exit))) ⌝ }
+    requires { ⌜ SlicesWhole (now records) (k .totals) (now outline) (now coordinates)
+        × ((i : ℕ) → (getD (now need) i 0 ≡ 0) × (getD (now numbers) i 0 ≡ 0))
+        × (k .extent .objects * k .extent .subjects ≤ length (now need))
+        × (2 * (k .extent .objects * k .extent .subjects) + k .totals .authorizations ≤ length (now numbers))
+        × ((base : Base) × TaskIn (now records) (now outline) (now coordinates) k base) ⌝ }
+    ensures { λ r. ⌜ ((base : Base) →
+        TaskIn (now (records .entry)) (now (outline .entry)) (now (coordinates .entry)) k base →
+        Answers (k .asked .one) (k .asked .instant) base (k .asked .access) r (now (list .entry))
+        (now (list .exit))) × (take 280 (now (outline .exit)) ≡ take 280 (now (outline .entry))) ⌝ }
 {
-    let w = e.subjects;
-    let h = e.objects;
-    let size = (h * w) as usize;
+    let e = k.extent;
+    let size = (e.objects * e.subjects) as usize;
     with_pairs(
-        lines,
-        total,
-        body,
-        n,
-        x,
-        own,
-        one,
-        t,
-        w,
-        h,
-        s,
-        o,
-        e.choosy,
-        subjects,
-        objects,
-        left,
-        feed,
-        sides,
-        right,
-        &mut need[0..size],
-        &mut number[0..size],
-        &mut codes[0..size],
+        records,
+        k,
+        outline,
+        coordinates,
+        &mut need[..size],
+        numbers,
         list,
     )
 }
 
-// The same with tables of pairs, made by size.
+// The same with tables of pairs and with room for the numbers of the authorizations, made by size.
 fn with_sizes(
-    lines: &[u8],
-    total: usize,
-    body: &[u8],
-    n: usize,
-    x: Access,
-    own: Access,
-    one: bool,
-    t: u32,
-    e: Extent,
-    s: u32,
-    o: u32,
-    subjects: &[u8; 1024],
-    objects: &[u8; 130],
-    left: &[u64; 152],
-    feed: &[u64; 128],
-    sides: &[u8; 256],
-    right: &[u8; 256],
+    records: &[u8],
+    k: Inquiry,
+    outline: &mut [u64],
+    coordinates: &[u8],
     list: &mut [u32],
 ) -> Found
-    requires { ⌜ ((base : Base) × Task (now lines) total n (chartFor (now subjects) (now objects) e) x own s o
-        (now body) (now left) (now feed) (now sides) (now right) (e .choosy) base) ⌝ }
-    ensures { λ r. ⌜ ((base : Base) → Task (now (lines .entry)) total n
-        (chartFor (now (subjects .entry)) (now (objects .entry)) e) x own s o (now (body .entry))
-        (now (left .entry)) (now (feed .entry)) (now (sides .entry)) (now (right .entry)) (e .choosy) base →
-        Answers one t base x r (now (list .entry)) (now (list .exit))) ⌝ }
+    requires { ⌜ SlicesWhole (now records) (k .totals) (now outline) (now coordinates)
+        × ((base : Base) × TaskIn (now records) (now outline) (now coordinates) k base) ⌝ }
+    ensures { λ r. ⌜ ((base : Base) →
+        TaskIn (now (records .entry)) (now (outline .entry)) (now (coordinates .entry)) k base →
+        Answers (k .asked .one) (k .asked .instant) base (k .asked .access) r (now (list .entry))
+        (now (list .exit))) × (take 280 (now (outline .exit)) ≡ take 280 (now (outline .entry))) ⌝ }
 {
+    let e = k.extent;
+    let n = k.totals;
     let size = e.objects * e.subjects;
-    if size <= 64 {
+    if (size <= 64) & (n.authorizations <= 64) {
         let mut need = [0u16; 64];
-        let mut number = [0u16; 64];
-        let mut codes = [0u16; 64];
+        let mut numbers = [0u16; 192];
         return with_part(
-            lines,
-            total,
-            body,
-            n,
-            x,
-            own,
-            one,
-            t,
-            e,
-            s,
-            o,
-            subjects,
-            objects,
-            left,
-            feed,
-            sides,
-            right,
+            records,
+            k,
+            outline,
+            coordinates,
             &mut need,
-            &mut number,
-            &mut codes,
+            &mut numbers,
             list,
         );
     }
     if size <= 512 {
         let mut need = [0u16; 512];
-        let mut number = [0u16; 512];
-        let mut codes = [0u16; 512];
+        let mut numbers = [0u16; 2048];
         return with_part(
-            lines,
-            total,
-            body,
-            n,
-            x,
-            own,
-            one,
-            t,
-            e,
-            s,
-            o,
-            subjects,
-            objects,
-            left,
-            feed,
-            sides,
-            right,
+            records,
+            k,
+            outline,
+            coordinates,
             &mut need,
-            &mut number,
-            &mut codes,
+            &mut numbers,
             list,
         );
     }
     let mut need = [0u16; 4225];
-    let mut number = [0u16; 4225];
-    let mut codes = [0u16; 4225];
+    let mut numbers = [0u16; 9474];
     with_part(
-        lines,
-        total,
-        body,
-        n,
-        x,
-        own,
-        one,
-        t,
-        e,
-        s,
-        o,
-        subjects,
-        objects,
-        left,
-        feed,
-        sides,
-        right,
+        records,
+        k,
+        outline,
+        coordinates,
         &mut need,
-        &mut number,
-        &mut codes,
+        &mut numbers,
         list,
     )
 }
@@ -411,27 +342,35 @@ pub fn draw(
     bytes: &[u8],
     body: &[u8],
     n: usize,
-    subjects: &mut [u8; 1024],
-    objects: &mut [u8; 130],
-    left: &mut [u64; 152],
-    feed: &mut [u64; 128],
-    sides: &mut [u8; 256],
-    right: &mut [u8; 256],
+    outline: &mut [u64],
+    coordinates: &mut [u8],
 ) -> Extent
-    requires { ⌜ WellFormed n (now body) × Blank (now subjects) × Blank (now objects) × Blank (now left)
-        × Blank (now feed) × Blank (now right) × (soundBytes (now bytes) ≡ true) ⌝ }
+    requires { ⌜ WellFormed n (now body) × Blank (now outline) × Blank (now coordinates)
+        × (length (now outline) ≡ 472) × (length (now coordinates) ≡ 1666)
+        × (soundBytes (now bytes) ≡ true) ⌝ }
     ensures { λ r. ⌜ RulesDrawn (decode (now (bytes .entry))) n
-        (chartFor (now (subjects .exit)) (now (objects .exit)) r)
-        (now (body .entry)) (now (left .exit)) (now (feed .exit)) (now (sides .exit)) (now (right .exit))
-        (r .choosy) ⌝ }
+        (chartFor (subjectsOf (now (coordinates .exit))) (objectsOf (now (coordinates .exit))) r)
+        (now (body .entry)) (leftOf (now (outline .exit))) (feedOf (now (outline .exit)))
+        (sidesOf (now (coordinates .exit))) (rightsOf (now (coordinates .exit))) (r .choosy) ⌝ }
 {
-    let sizes = number_sides(body, n, subjects, objects);
-    draw_right(body, n, subjects, objects, right);
-    draw_left(body, n, subjects, objects, sides);
-    draw_masks(sides, n, sizes.subjects as usize, left);
+    let sizes = number_sides(body, n, coordinates);
+    draw_right(body, n, coordinates);
+    draw_left(body, n, coordinates);
+    draw_masks(
+        &coordinates[SIDES..RIGHT],
+        n,
+        sizes.subjects as usize,
+        &mut outline[LEFT..FEED],
+    );
     let choosy = choosy_of(body, n);
-    draw_feed(body, n, left, right, sides, choosy, feed);
-    draw_controlled(bytes, body, n, objects, left);
+    draw_feed(body, n, choosy, coordinates, outline);
+    draw_controlled(
+        bytes,
+        body,
+        n,
+        &coordinates[OBJECTS..COORDINATES],
+        &mut outline[LEFT..FEED],
+    );
     Extent {
         subjects: sizes.subjects,
         objects: sizes.objects,
@@ -439,117 +378,76 @@ pub fn draw(
     }
 }
 
-// Answers by what is drawn: MAY at t, or else WHEN. What is drawn can be used again.
+// Answers by what is drawn: MAY at an instant, or else WHEN. What is drawn can be used again.
 pub fn with_drawn(
     bytes: &[u8],
-    lines: &[u8],
-    total: usize,
-    body: &[u8],
-    n: usize,
-    x: Access,
-    one: bool,
-    t: u32,
+    records: &[u8],
+    n: Totals,
+    a: AccessQuery,
     e: Extent,
-    subjects: &[u8; 1024],
-    objects: &[u8; 130],
-    left: &mut [u64; 152],
-    feed: &[u64; 128],
-    sides: &[u8; 256],
-    right: &[u8; 256],
+    outline: &mut [u64],
+    coordinates: &[u8],
     list: &mut [u32],
 ) -> Found
-    requires { ⌜ RulesDrawn (decode (now bytes)) n (chartFor (now subjects) (now objects) e) (now body)
-        (now left) (now feed) (now sides) (now right) (e .choosy) × (accessIn x ≡ true)
-        × ((base : Base) × Bodies (decode (now bytes)) (now lines) total (now body) n base)
-        × (soundBytes (now bytes) ≡ true) ⌝ }
-    ensures { λ r. ⌜ ((base : Base) →
-        Bodies (decode (now (bytes .entry))) (now (lines .entry)) total (now (body .entry)) n base →
-        Answers one t base x r (now (list .entry)) (now (list .exit)))
-        × RulesDrawn (decode (now (bytes .entry))) n
-        (chartFor (now (subjects .entry)) (now (objects .entry)) e) (now (body .entry)) (now (left .exit))
-        (now (feed .entry)) (now (sides .entry)) (now (right .entry)) (e .choosy) ⌝ }
+    requires { ⌜ SlicesWhole (now records) n (now outline) (now coordinates)
+        × DrawnIn (now records) n (now outline) (now coordinates) (decode (now bytes)) e
+        × (accessIn (a .access) ≡ true) × (soundBytes (now bytes) ≡ true)
+        × ((base : Base) × BodiesIn (now records) n (decode (now bytes)) base) ⌝ }
+    ensures { λ r. ⌜ ((base : Base) → BodiesIn (now (records .entry)) n (decode (now (bytes .entry))) base →
+        Answers (a .one) (a .instant) base (a .access) r (now (list .entry)) (now (list .exit)))
+        × DrawnIn (now (records .entry)) n (now (outline .exit)) (now (coordinates .entry))
+        (decode (now (bytes .entry))) e ⌝ }
 {
-    let s = subjects[x.subject as usize];
-    let o = objects[x.object as usize];
+    let x = a.access;
+    let s = coordinates[SUBJECTS + x.subject as usize];
+    let o = coordinates[OBJECTS + x.object as usize];
     let own = Access {
         subject: own_of(s, x.subject),
         mode: x.mode,
         object: own_of(o, x.object),
     };
-    own_masks(bytes, body, n, own, left);
-    with_sizes(
-        lines,
-        total,
-        body,
-        n,
-        x,
+    let from = n.authorizations * AUTHORIZATION_BYTES;
+    own_masks(
+        bytes,
+        &records[from..],
+        n.rules,
         own,
-        one,
-        t,
-        e,
-        s as u32,
-        o as u32,
-        subjects,
-        objects,
-        left,
-        feed,
-        sides,
-        right,
-        list,
-    )
+        &mut outline[LEFT..FEED],
+    );
+    let k = Inquiry {
+        asked: a,
+        own: own,
+        subject: s as u32,
+        object: o as u32,
+        totals: n,
+        extent: e,
+    };
+    with_sizes(records, k, outline, coordinates, list)
 }
 
-// Draws the rules, and answers: MAY at t, or else WHEN.
+// Draws the rules, and answers: MAY at an instant, or else WHEN.
 pub fn with_outline(
     bytes: &[u8],
-    lines: &[u8],
-    total: usize,
-    body: &[u8],
-    n: usize,
-    x: Access,
-    one: bool,
-    t: u32,
+    records: &[u8],
+    n: Totals,
+    a: AccessQuery,
     list: &mut [u32],
 ) -> Found
-    requires { ⌜ ((base : Base) × Bodies (decode (now bytes)) (now lines) total (now body) n base)
-        × (accessIn x ≡ true) × (soundBytes (now bytes) ≡ true) ⌝ }
-    ensures { λ r. ⌜ ((base : Base) →
-        Bodies (decode (now (bytes .entry))) (now (lines .entry)) total (now (body .entry)) n base →
-        Answers one t base x r (now (list .entry)) (now (list .exit))) ⌝ }
+    requires { ⌜ (n .authorizations * 24 ≤ length (now records)) × (accessIn (a .access) ≡ true)
+        × (soundBytes (now bytes) ≡ true)
+        × ((base : Base) × BodiesIn (now records) n (decode (now bytes)) base) ⌝ }
+    ensures { λ r. ⌜ ((base : Base) → BodiesIn (now (records .entry)) n (decode (now (bytes .entry))) base →
+        Answers (a .one) (a .instant) base (a .access) r (now (list .entry)) (now (list .exit))) ⌝ }
 {
-    let mut subjects = [0u8; 1024];
-    let mut objects = [0u8; 130];
-    let mut left = [0u64; 152];
-    let mut feed = [0u64; 128];
-    let mut sides = [0u8; 256];
-    let mut right = [0u8; 256];
+    let mut outline = [0u64; 472];
+    let mut coordinates = [0u8; 1666];
+    let from = n.authorizations * AUTHORIZATION_BYTES;
     let e = draw(
         bytes,
-        body,
-        n,
-        &mut subjects,
-        &mut objects,
-        &mut left,
-        &mut feed,
-        &mut sides,
-        &mut right,
+        &records[from..],
+        n.rules,
+        &mut outline,
+        &mut coordinates,
     );
-    with_drawn(
-        bytes,
-        lines,
-        total,
-        body,
-        n,
-        x,
-        one,
-        t,
-        e,
-        &subjects,
-        &objects,
-        &mut left,
-        &feed,
-        &sides,
-        &right,
-        list,
-    )
+    with_drawn(bytes, records, n, a, e, &mut outline, &coordinates, list)
 }

@@ -16,7 +16,7 @@ use Rattle.foundation.specs.Tests.{and-intro, and-true, eq-true, true-le, false
 use Rattle.foundation.specs.BitMasks.{bit}
 use Rattle.words.specs.Bits.{bit-or, bit-less, less}
 use Rattle.words.specs.Sums.{sum-set}
-use Rattle.reach.specs.Net.{Net, has, standing, aimPair, aimBits, Followed, ClosedBut, Closed}
+use Rattle.reach.specs.Net.{Net, has, standing, aimPair, aimBits, Followed, ClosedBut, ClosedNet}
 use Rattle.reach.specs.Net.{OnlyWhere, ClosedUnderRules}
 use Rattle.reach.specs.Reach.{remaining, Grown, KeepsWithin, ReachStep}
 use Rattle.reach.proofs.Tables.{has-set, sum-small, set-small, past}
@@ -135,16 +135,16 @@ grown-then a b = record {
 
 module _ (right : List ℕ) (rules subjects o s m : ℕ) where
   -- what the first r of the rules look at is needed
-  abbrev pub Done : ℕ → List ℕ → Type 0
-  Done r need = (q : ℕ) → q < r → bit q rules ≡ true → (b : ℕ) → bit b (aimBits right q m) ≡ true →
+  abbrev pub AimsNeeded : ℕ → List ℕ → Type 0
+  AimsNeeded r need = (q : ℕ) → q < r → bit q rules ≡ true → (b : ℕ) → bit b (aimBits right q m) ≡ true →
       has need (aimPair right subjects q o s) b ≡ true
 
-  pub done-start : (r : ℕ) (need : List ℕ) → ((i : ℕ) → i < r → bit i rules ≡ false) → Done r need
+  pub done-start : (r : ℕ) (need : List ℕ) → ((i : ℕ) → i < r → bit i rules ≡ false) → AimsNeeded r need
   done-start r need z q l e = absurd (false≢true (sym (z q l) ∙ e))
 
-  pub done-turn : (r r′ : ℕ) {n t n′ t′ : List ℕ} → Done r n → Grown n t n′ t′ →
+  pub done-turn : (r r′ : ℕ) {n t n′ t′ : List ℕ} → AimsNeeded r n → Grown n t n′ t′ →
       ((b : ℕ) → bit b (aimBits right r m) ≡ true → has n′ (aimPair right subjects r o s) b ≡ true) →
-      ((i : ℕ) → r + 1 ≤ i → i < r′ → bit i rules ≡ false) → Done r′ n′
+      ((i : ℕ) → r + 1 ≤ i → i < r′ → bit i rules ≡ false) → AimsNeeded r′ n′
   done-turn r r′ {n′ = n′} d g now z q l e b f = cases (leb q r)
       (λ x. let y = true-le q r x in cases (eqb q r)
       (λ u. let v : q ≡ r = true-eq q r u in
@@ -177,7 +177,7 @@ closed-start net need todo z j k e f = absurd (none-set k (ap (bit k) (sym (z j)
 
 -- where nothing is to do, all is
 pub closed-end : (net : Net) (need todo : List ℕ) → ((i : ℕ) → i < length todo → getD todo i 0 ≡ 0) →
-    ClosedBut net need todo → Closed net need
+    ClosedBut net need todo → ClosedNet net need
 closed-end net need todo z c j k e = c j k e (λ f. none-set k (ap (bit k) (sym (nothing j)) ∙ f))
   where
     nothing : (j : ℕ) → getD todo j 0 ≡ 0

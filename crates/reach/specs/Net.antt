@@ -76,8 +76,8 @@ ClosedBut net need todo = (j k : ℕ) → has need j k ≡ true → (has todo j 
     bit r (standing (net .left) (j / net .subjects) (j % net .subjects) k) ≡ true → Followed net j k r need
 
 -- with every place that is needed, those are that the rules standing there look at
-abbrev pub Closed : Net → List ℕ → Type 0
-Closed net need = (j k : ℕ) → has need j k ≡ true → (r : ℕ) → r < 64 →
+abbrev pub ClosedNet : Net → List ℕ → Type 0
+ClosedNet net need = (j k : ℕ) → has need j k ≡ true → (r : ℕ) → r < 64 →
     bit r (standing (net .left) (j / net .subjects) (j % net .subjects) k) ≡ true → Followed net j k r need
 
 -- ---- no more than that

@@ -5,7 +5,7 @@ ghost use mathlib.Core.Bool.{Bool, true};
 ghost use Prim.Native.Nat.{ℕ, _+_, _*_, _/_, _%_, _≤_, _<_};
 ghost use lib.ListN.{length, getD};
 ghost use Rattle.foundation.specs.BitMasks.{bit};
-ghost use Rattle.reach.specs.Net.{Net, standing, turned, aimPair, aimBits, Led, Formed, has, Closed};
+ghost use Rattle.reach.specs.Net.{Net, standing, turned, aimPair, aimBits, Led, Formed, has, ClosedNet};
 ghost use Rattle.reach.specs.Net.{Only};
 ghost use Rattle.reach.specs.Reach.{Grown, KeepsWithin, ReachStep};
 use words::next_bit;
@@ -30,9 +30,9 @@ fn turn(code: u8, own: usize) -> usize
 }
 
 // The pair on the right of rule r.
-fn aim_pair(right: &[u8; 256], r: usize, at: Origin) -> usize
+fn aim_pair(right: &[u8], r: usize, at: Origin) -> usize
     requires { ⌜ (r < 64) × (aimPair (now right) (at .subjects) r (at .object) (at .subject)
-        < 18446744073709551616) ⌝ }
+        < 18446744073709551616) × (256 ≤ length (now right)) ⌝ }
     ensures { λ p. ⌜ p ≡ aimPair (now (right .entry)) (at .subjects) r (at .object) (at .subject) ⌝ }
 {
     let o = turn(right[4 * r], at.object);
@@ -41,9 +41,9 @@ fn aim_pair(right: &[u8; 256], r: usize, at: Origin) -> usize
 }
 
 // What rule r needs there, seen from a mode.
-fn aim_bits(right: &[u8; 256], r: usize, mode: usize) -> u16
+fn aim_bits(right: &[u8], r: usize, mode: usize) -> u16
     requires { ⌜ (r < 64) × (turned (getD (now right) (4 * r + 2) 0) mode < 8)
-        × (getD (now right) (4 * r + 3) 0 < 4) ⌝ }
+        × (getD (now right) (4 * r + 3) 0 < 4) × (256 ≤ length (now right)) ⌝ }
     ensures { λ b. ⌜ b ≡ aimBits (now (right .entry)) r mode ⌝ }
 {
     let signs = fields::u16_of(right[4 * r + 3]);
@@ -65,9 +65,10 @@ fn ask(need: &mut [u16], todo: &mut [u16], pair: usize, bits: u16)
 }
 
 // Needs what rules look at that stand at a place.
-fn follow(right: &[u8; 256], rules: u64, at: Origin, need: &mut [u16], todo: &mut [u16])
+fn follow(right: &[u8], rules: u64, at: Origin, need: &mut [u16], todo: &mut [u16])
     requires { ⌜ (length (now todo) ≡ length (now need)) × ((r : ℕ) → r < 64 →
-        Led (now right) (at .subjects) (length (now need)) (at .object) (at .subject) (at .mode) r) ⌝ }
+        Led (now right) (at .subjects) (length (now need)) (at .object) (at .subject) (at .mode) r)
+        × (256 ≤ length (now right)) ⌝ }
     ensures { λ _. ⌜ Grown (now (need .entry)) (now (todo .entry)) (now (need .exit)) (now (todo .exit))
         × ((r : ℕ) → r < 64 → bit r rules ≡ true → (b : ℕ) →
         bit b (aimBits (now (right .entry)) r (at .mode)) ≡ true →
@@ -88,8 +89,8 @@ fn follow(right: &[u8; 256], rules: u64, at: Origin, need: &mut [u16], todo: &mu
 }
 
 // The rules that stand at an object and a subject with a mode and a sign.
-fn stand(left: &[u64; 152], o: usize, s: usize, k: usize) -> u64
-    requires { ⌜ (o < 65) × (s < 65) × (k < 16) ⌝ }
+fn stand(left: &[u64], o: usize, s: usize, k: usize) -> u64
+    requires { ⌜ (o < 65) × (s < 65) × (k < 16) × (152 ≤ length (now left)) ⌝ }
     ensures { λ r. ⌜ r ≡ standing (now (left .entry)) o s k ⌝ }
 {
     left[o] & left[65 + s] & left[130 + k]
@@ -114,15 +115,16 @@ fn without(x: u16, k: usize) -> u16
 
 // Follows one bit of what is to do at a pair.
 fn step(
-    left: &[u64; 152],
-    right: &[u8; 256],
+    left: &[u64],
+    right: &[u8],
     subjects: usize,
     pair: usize,
     need: &mut [u16],
     todo: &mut [u16],
 )
     requires { ⌜ Formed (now right) subjects (length (now need)) × (length (now todo) ≡ length (now need))
-        × (pair < length (now need)) × (0 < getD (now todo) pair 0) ⌝ }
+        × (pair < length (now need)) × (0 < getD (now todo) pair 0) × (152 ≤ length (now left))
+        × (256 ≤ length (now right)) ⌝ }
     ensures { λ _. ⌜ ReachStep
         (record { left = now (left .entry); right = now (right .entry); subjects = subjects })
         (now (need .entry)) (now (todo .entry)) (now (need .exit)) (now (todo .exit)) ⌝ }
@@ -175,8 +177,8 @@ fn next_todo(todo: &[u16], from: usize) -> usize
 // Puts into `need` what a question that starts with bits at a pair can rest on, and no other pair. `todo` is
 // a table to work in.
 pub fn reach(
-    left: &[u64; 152],
-    right: &[u8; 256],
+    left: &[u64],
+    right: &[u8],
     subjects: usize,
     pair: usize,
     bits: u16,
@@ -185,8 +187,9 @@ pub fn reach(
 )
     requires { ⌜ Formed (now right) subjects (length (now need)) × (length (now todo) ≡ length (now need))
         × (pair < length (now need))
-        × ((i : ℕ) → (getD (now need) i 0 ≡ 0) × (getD (now todo) i 0 ≡ 0)) ⌝ }
-    ensures { λ _. ⌜ Closed (record {
+        × ((i : ℕ) → (getD (now need) i 0 ≡ 0) × (getD (now todo) i 0 ≡ 0)) × (152 ≤ length (now left))
+        × (256 ≤ length (now right)) ⌝ }
+    ensures { λ _. ⌜ ClosedNet (record {
       left = now (left .entry);
       right = now (right .entry);
       subjects =

@@ -78,8 +78,7 @@ width-most Authorizations = omega arith
 width-most Rules = omega arith
 
 -- no body of a base whose counts hold is more numbers
-pub body-most : (b : Base) → countsHold b ≡ true → (source : Body) → widthOf source * length
-    (rows b source)
+pub body-most : (b : Base) → countsHold b ≡ true → (source : Body) → widthOf source * length (rows b source)
     ≤ 10240
 body-most b e Heading = omega arith
 body-most b e Objects = omega (arith, counts-fit b e, length-map (b .objects) privilegeNumbers)
@@ -94,8 +93,7 @@ pub whole-body : (s : List ℕ) (source : ℕ) (list : List ℕ) → soundBytes 
     10240 ≤ length list →
     let all = rows (decode s) (bodyOf source) in
     recordsAnswer s source 0 list
-    ≡ answering (Runs (length all)) (each all (λ r. r) ++ drop (widthOf (bodyOf source) * length all)
-    list)
+    ≡ answering (Runs (length all)) (each all (λ r. r) ++ drop (widthOf (bodyOf source) * length all) list)
 unfolding recordsAnswer pageAnswer
 whole-body s source list e h l =
     let b = bodyOf source in

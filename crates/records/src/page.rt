@@ -77,8 +77,7 @@ fn put(from: &[u32; 15], k: usize, list: &mut [u32], to: usize)
 // Copies k records that stand from a place on to the front of the list.
 fn fill(s: &[u8], source: Body, bytes: usize, width: usize, from: usize, k: usize, list: &mut [u32])
     requires { ⌜ (bytes ≡ recordBytes source) × (width ≡ widthOf source)
-        × (from + recordBytes source * k ≤ length (now s)) × (widthOf source * k ≤ length (now list))
-        ⌝ }
+        × (from + recordBytes source * k ≤ length (now s)) × (widthOf source * k ≤ length (now list)) ⌝ }
     ensures { λ _. ⌜ now (list .exit) ≡ joinedNumbers (recordBytes source) (numbersOf source) k
         (drop from (now (s .entry)))
         ++ drop (widthOf source * k) (now (list .entry)) ⌝ }

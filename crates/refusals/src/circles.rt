@@ -4,7 +4,7 @@ ghost use mathlib.Core.Bool.{true, false};
 ghost use Rattle.model.specs.Encoding.{decode};
 ghost use Rattle.model.specs.Soundness.{soundBytes};
 ghost use Rattle.model.specs.Step.{outOfRange, notStratified};
-use encoding::rule_of;
+use encoding::new_rule;
 use model::ADDRULE;
 use model::RULE_BYTES;
 use model::Request;
@@ -24,6 +24,6 @@ pub fn not_stratified(s: &[u8], q: Request) -> bool
     let n = c.rules as usize;
     let mut all = [0u8; 1820];
     fields::copy(&mut all, 0, &s[at..], n * RULE_BYTES);
-    encoding::put_rule(&mut all, n * RULE_BYTES, rule_of(q, 1));
+    encoding::put_rule(&mut all, n * RULE_BYTES, new_rule(q, 1));
     !rules::is_stratified(&all, n + 1)
 }

@@ -31,7 +31,7 @@ pub fn barred(s: &[u8], q: Request) -> bool
 
 // Row 9: the earliest instant of a new grant or denial that no authorization covers which may support it,
 // unless the requester owns or administers the object.
-pub fn uncovered(s: &[u8], q: Request) -> Gap
+pub fn first_uncovered(s: &[u8], q: Request) -> Gap
     requires { ⌜ (soundBytes (now s) ≡ true) × (outOfRange q ≡ false) ⌝ }
     ensures { λ r. ⌜ UncoveredIs (decode (now (s .entry))) q r ⌝ }
 {

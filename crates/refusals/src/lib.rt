@@ -7,7 +7,7 @@ mod rows;
 mod table;
 
 pub use circles::not_stratified;
-pub use grants::uncovered;
+pub use grants::first_uncovered;
 pub use ranges::bad_interval;
 pub use ranges::out_of_range;
 pub use rows::already_there;

@@ -13,7 +13,7 @@ use lookup::has_authorization;
 use lookup::has_rule;
 use lookup::is_granted_by_other;
 use lookup::is_kind;
-use lookup::is_privilege;
+use lookup::is_privilege_request;
 use lookup::is_set_up_by_other;
 use lookup::may_rule;
 use lookup::names_object;
@@ -96,7 +96,7 @@ pub fn not_permitted(s: &[u8], q: Request) -> bool
         let right = number_of(on_right);
         return !((left == 0) | may_rule(s, q.requester, left, right));
     }
-    if is_privilege(q) {
+    if is_privilege_request(q) {
         return !owns(s, q.object, q.requester);
     }
     false

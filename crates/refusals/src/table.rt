@@ -10,7 +10,7 @@ ghost use Rattle.refusals.specs.Early.{orElse};
 use crate::Early;
 use crate::circles::not_stratified;
 use crate::grants::barred;
-use crate::grants::uncovered;
+use crate::grants::first_uncovered;
 use crate::ranges::bad_interval;
 use crate::ranges::out_of_range;
 use crate::rows::already_there;
@@ -68,7 +68,7 @@ fn before_strata(s: &[u8], q: Request) -> Early
     if k != 0 {
         return Early::Number(k);
     }
-    let gap = uncovered(s, q);
+    let gap = first_uncovered(s, q);
     match gap {
         Gap::At(t) => Early::Uncovered(t),
         Gap::None => {

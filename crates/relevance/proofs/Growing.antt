@@ -10,7 +10,7 @@ use lib.ListN.{length, getD, set, length-set}
 use lib.Seq.{getD-set-same, getD-set-other}
 use Rattle.foundation.specs.Tests.{cases, le-true, true-le, false-le, and-intro}
 use Rattle.foundation.specs.Marks.{next, next-above, next-clear}
-use Rattle.marks.specs.Least.{Found, next-is}
+use Rattle.marks.specs.Least.{MarkOrNone, next-is}
 use Rattle.windows.specs.Windows.{Rising}
 use Rattle.relevance.specs.Filling.{Fills}
 
@@ -21,7 +21,7 @@ after ms m = next m ms 4294967296
 after-le : (ms : List ℕ) (m : ℕ) → after ms m ≤ 4294967296
 after-le ms m = go (next-is m 4294967296 ms)
   where
-    go : {n : ℕ} → Found m 4294967296 ms n → n ≤ 4294967296
+    go : {n : ℕ} → MarkOrNone m 4294967296 ms n → n ≤ 4294967296
     go (inl e) = omega arith
     go (inr w) = omega (arith, w .2)
 

@@ -15,7 +15,7 @@ use Rattle.foundation.specs.Tests.{cases, le-true, le-false, true-le, false-le}
 use Rattle.foundation.specs.Tests.{and-false, and-true}
 use Rattle.foundation.specs.Marks.{next, next-above}
 use Rattle.foundation.specs.BitMasks.{bit}
-use Rattle.marks.specs.Least.{Found, next-is, NextMark, next-mark}
+use Rattle.marks.specs.Least.{MarkOrNone, next-is, NextMark, next-mark}
 use Rattle.marks.specs.NextMarks.{sooner, next-append, next-nil}
 use Rattle.model.specs.declared.Authorization.{Authorization}
 use Rattle.model.specs.declared.Rule.{Rule}
@@ -348,7 +348,7 @@ next-least-of t (m ∷ ms) d h =
 next-bounded : (t : ℕ) (ms : List ℕ) → next t ms 4294967296 ≤ 4294967296
 next-bounded t ms = go (next-is t 4294967296 ms)
   where
-    go : {n : ℕ} → Found t 4294967296 ms n → n ≤ 4294967296
+    go : {n : ℕ} → MarkOrNone t 4294967296 ms n → n ≤ 4294967296
     go (inl e) = omega arith
     go (inr w) = omega (arith, w .2)
 

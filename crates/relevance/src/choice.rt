@@ -3,9 +3,11 @@
 ghost use mathlib.Core.Path.{_≡_};
 ghost use Prim.Native.Nat.{_+_, _≤_, _<_};
 ghost use lib.Dec.{eqb};
+ghost use lib.ListN.{length};
 ghost use Rattle.foundation.specs.Tests.{pick};
 ghost use Rattle.foundation.specs.BitMasks.{asBit};
 ghost use Rattle.foundation.specs.Intervals.{interval};
+ghost use Rattle.sections.specs.Sections.{subjectsOf, objectsOf};
 ghost use Rattle.relevance.specs.Chosen.{Picks};
 ghost use Rattle.relevance.specs.Needed.{bothAt, cellOf, neededIn, isChosen};
 ghost use Rattle.relevance.specs.Needed.{CellInTable, HeadInRange, ChoiceReady, Choice};
@@ -15,6 +17,8 @@ use foundation::Interval;
 use model::AUTHORIZATION_BYTES;
 use model::Access;
 use model::Head;
+use sections::OBJECTS;
+use sections::SUBJECTS;
 
 // The coordinate of a subject or object from its entry in the table, `own` being the one that is asked about;
 // 255 for one that has none.
@@ -37,16 +41,16 @@ pub struct Cell {
 }
 
 // The coordinates of what an authorization is about, x being asked.
-pub fn cell_of(h: Head, x: Access, subjects: &[u8; 1024], objects: &[u8; 130]) -> Cell
-    requires { ⌜ (h .subject < 1024) × (h .object < 130) ⌝ }
-    ensures { λ r. ⌜ (r ≡ cellOf (now (subjects .entry)) (now (objects .entry)) x h) × (r .subject ≤ 255)
-        × (r .object ≤ 255) ⌝ }
+pub fn cell_of(h: Head, x: Access, coordinates: &[u8]) -> Cell
+    requires { ⌜ (h .subject < 1024) × (h .object < 130) × (1666 ≤ length (now coordinates)) ⌝ }
+    ensures { λ r. ⌜ (r ≡ cellOf (subjectsOf (now (coordinates .entry)))
+        (objectsOf (now (coordinates .entry))) x h) × (r .subject ≤ 255) × (r .object ≤ 255) ⌝ }
 {
     let s = h.subject as usize;
     let o = h.object as usize;
     Cell {
-        subject: coordinate_of(subjects[s], h.subject as u32 == x.subject),
-        object: coordinate_of(objects[o], h.object as u32 == x.object),
+        subject: coordinate_of(coordinates[SUBJECTS + s], h.subject as u32 == x.subject),
+        object: coordinate_of(coordinates[OBJECTS + o], h.object as u32 == x.object),
     }
 }
 
@@ -97,15 +101,17 @@ fn choose_during(
     total: usize,
     x: Access,
     asked: Interval,
-    subjects: &[u8; 1024],
-    objects: &[u8; 130],
+    coordinates: &[u8],
     stride: u32,
     need: &[u16],
     which: &mut [u16],
 ) -> usize
-    requires { ⌜ ChoiceReady (now lines) total (now subjects) (now objects) stride (now need) (now which) ⌝ }
+    requires { ⌜ ChoiceReady (now lines) total (subjectsOf (now coordinates)) (objectsOf (now coordinates))
+        stride
+        (now need) (now which) × (1666 ≤ length (now coordinates)) ⌝ }
     ensures { λ r. ⌜ Choice
-        (isChosen asked (now (subjects .entry)) (now (objects .entry)) x stride (now (need .entry)))
+        (isChosen asked (subjectsOf (now (coordinates .entry))) (objectsOf (now (coordinates .entry))) x
+        stride (now (need .entry)))
         (now (lines .entry)) total (now (which .entry)) (now (which .exit)) r ⌝ }
 {
     let mut n = 0;
@@ -116,10 +122,7 @@ fn choose_during(
         let v = a.interval;
         if (asked.start <= v.end) & (v.start <= asked.end) {
             which[n] = i as u16;
-            n = counted(
-                n,
-                is_needed(h, cell_of(h, x, subjects, objects), stride, need),
-            );
+            n = counted(n, is_needed(h, cell_of(h, x, coordinates), stride, need));
         }
         i += 1;
     }
@@ -131,16 +134,17 @@ fn choose_needed(
     lines: &[u8],
     total: usize,
     x: Access,
-    subjects: &[u8; 1024],
-    objects: &[u8; 130],
+    coordinates: &[u8],
     stride: u32,
     need: &[u16],
     which: &mut [u16],
 ) -> usize
-    requires { ⌜ ChoiceReady (now lines) total (now subjects) (now objects) stride (now need) (now which) ⌝ }
+    requires { ⌜ ChoiceReady (now lines) total (subjectsOf (now coordinates)) (objectsOf (now coordinates))
+        stride
+        (now need) (now which) × (1666 ≤ length (now coordinates)) ⌝ }
     ensures { λ r. ⌜ Choice
-        (isChosen (interval 0 4294967295) (now (subjects .entry)) (now (objects .entry)) x stride
-        (now (need .entry)))
+        (isChosen (interval 0 4294967295) (subjectsOf (now (coordinates .entry)))
+        (objectsOf (now (coordinates .entry))) x stride (now (need .entry)))
         (now (lines .entry)) total (now (which .entry)) (now (which .exit)) r ⌝ }
 {
     let mut n = 0;
@@ -149,10 +153,7 @@ fn choose_needed(
         let a = authorization_at(lines, i * AUTHORIZATION_BYTES);
         let h = a.head;
         which[n] = i as u16;
-        n = counted(
-            n,
-            is_needed(h, cell_of(h, x, subjects, objects), stride, need),
-        );
+        n = counted(n, is_needed(h, cell_of(h, x, coordinates), stride, need));
         i += 1;
     }
     n
@@ -164,31 +165,23 @@ pub fn choose(
     total: usize,
     x: Access,
     asked: Interval,
-    subjects: &[u8; 1024],
-    objects: &[u8; 130],
+    coordinates: &[u8],
     stride: u32,
     need: &[u16],
     which: &mut [u16],
 ) -> usize
-    requires { ⌜ ChoiceReady (now lines) total (now subjects) (now objects) stride (now need) (now which) ⌝ }
+    requires { ⌜ ChoiceReady (now lines) total (subjectsOf (now coordinates)) (objectsOf (now coordinates))
+        stride
+        (now need) (now which) × (1666 ≤ length (now coordinates)) ⌝ }
     ensures { λ r. ⌜ Choice
-        (isChosen asked (now (subjects .entry)) (now (objects .entry)) x stride (now (need .entry)))
+        (isChosen asked (subjectsOf (now (coordinates .entry))) (objectsOf (now (coordinates .entry))) x
+        stride (now (need .entry)))
         (now (lines .entry)) total (now (which .entry)) (now (which .exit)) r ⌝ }
 {
     if (asked.start == 0) & (asked.end == 4294967295) {
-        return choose_needed(lines, total, x, subjects, objects, stride, need, which);
+        return choose_needed(lines, total, x, coordinates, stride, need, which);
     }
-    choose_during(
-        lines,
-        total,
-        x,
-        asked,
-        subjects,
-        objects,
-        stride,
-        need,
-        which,
-    )
+    choose_during(lines, total, x, asked, coordinates, stride, need, which)
 }
 
 // Forgets those of n authorizations that end before t; how many are left.

@@ -11,7 +11,7 @@ use Rattle.serving.specs.declared.steps.Stepped.{Stepped}
 use Rattle.serving.specs.LineTurns.{LineKept}
 use Rattle.serving.specs.Stream.{FedUpTo, feeds-then}
 use Rattle.serving.proofs.StreamFacts.{feeds-none}
-use Rattle.serving.specs.PieceSteps.{Steps}
+use Rattle.serving.specs.PieceSteps.{PieceStepped}
 
 -- what the borrow checker says of a buffer whose end came back: it is the end that was lent, behind the same
 -- front
@@ -35,7 +35,8 @@ module _ {s pending piece : List ℕ} {from : ℕ} where
 
   pub stands-then : {g r : Stepped} {s′ line′ out s″ line″ out′ : List ℕ} →
       (a : PieceFedTo s pending piece from g s′ line′ out) →
-      Steps s′ (a .left) piece (g .at) r s″ line″ (drop (g .n) out′) → take (g .n) out′ ≡ take (g .n) out →
+      PieceStepped s′ (a .left) piece (g .at) r s″ line″ (drop (g .n) out′) → take (g .n) out′
+      ≡ take (g .n) out →
       PieceFedTo s pending piece from (record { n = g .n + r .n; len = r .len; at = r .at }) s″ line″ out′
   stands-then {g} {r} {out′ = out′} a k e = record {
     left = k .left;

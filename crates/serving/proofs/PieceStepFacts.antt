@@ -15,13 +15,14 @@ use Rattle.serving.specs.Pieces.{Took, beforeNewline}
 use Rattle.serving.proofs.PieceFacts.{before-all, before-behind, before-none, kept-turned, kept-none}
 use Rattle.serving.specs.Stream.{finish, finishBytes}
 use Rattle.serving.proofs.StreamFacts.{feed-line, feed-goes-on}
-use Rattle.serving.specs.PieceSteps.{Steps}
+use Rattle.serving.specs.PieceSteps.{PieceStepped}
 
 -- a line was answered
 pub step-ended : {s pending piece : List ℕ} {from : ℕ} {r : Reached} {line′ : List ℕ} {n : ℕ}
     {out s′ : List ℕ} →
     Took pending piece from r line′ → r .ended ≡ true → Turned s (take (r .len) line′) n out s′ →
-    24001 ≤ length out → Steps s pending piece from (record { n = n; len = 0; at = r .at }) s′ line′ out
+    24001 ≤ length out → PieceStepped s pending piece from (record { n = n; len = 0; at = r .at }) s′ line′
+    out
 step-ended {s} {pending} {piece} {from} {r} {line′} {n} {out} {s′} k e t room =
     let u = kept-turned (k .kept) t in
     let w = drop from piece in
@@ -44,7 +45,7 @@ step-ended {s} {pending} {piece} {from} {r} {line′} {n} {out} {s′} k e t roo
 -- the piece ended before the line
 pub step-goes-on : {s pending piece : List ℕ} {from : ℕ} {r : Reached} {line′ out : List ℕ} →
     Took pending piece from r line′ → r .ended ≡ false → soundBytes s ≡ true →
-    Steps s pending piece from (record { n = 0; len = r .len; at = r .at }) s line′ out
+    PieceStepped s pending piece from (record { n = 0; len = r .len; at = r .at }) s line′ out
 step-goes-on {s} {pending} {piece} {from} {r} {line′} {out} k e h =
     let w = drop from piece in
     let none = sym (k .ended) ∙ e in

@@ -12,11 +12,12 @@ use Rattle.serving.specs.Stream.{FedUpTo}
 
 -- a step from the place `from` of a piece, on the bytes s, behind the bytes of a line: `left` are those of
 -- the line that is not ended yet.
-pub record Steps (s pending piece : List ℕ) (from : ℕ) (r : Stepped) (s′ line′ out : List ℕ) : Type 0 where
-  pub left : List ℕ
-  pub kept : LineKept left (r .len) line′
-  pub feeds : FedUpTo s pending (drop from piece) (drop (r .at) piece) (take (r .n) out) s′ left
-  pub sound : soundBytes s′ ≡ true
-  pub few : r .n ≤ length out
-  pub within : r .at ≤ length piece
-  pub further : from < length piece → from < r .at
+pub record PieceStepped (s pending piece : List ℕ) (from : ℕ) (r : Stepped) (s′ line′ out : List ℕ) : Type 0
+  where
+    pub left : List ℕ
+    pub kept : LineKept left (r .len) line′
+    pub feeds : FedUpTo s pending (drop from piece) (drop (r .at) piece) (take (r .n) out) s′ left
+    pub sound : soundBytes s′ ≡ true
+    pub few : r .n ≤ length out
+    pub within : r .at ≤ length piece
+    pub further : from < length piece → from < r .at

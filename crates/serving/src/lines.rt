@@ -6,7 +6,7 @@ ghost use Prim.Native.Nat.{ℕ, _+_, _≤_};
 ghost use lib.ListN.{length, take, drop};
 ghost use Rattle.model.specs.Soundness.{soundBytes};
 ghost use Rattle.serving.specs.LineTurns.{LineKept};
-ghost use Rattle.serving.specs.PieceSteps.{Steps};
+ghost use Rattle.serving.specs.PieceSteps.{PieceStepped};
 use crate::steps::Stepped;
 use crate::steps::serve_piece_step;
 use model::REPLY_BYTES;
@@ -23,7 +23,8 @@ fn serve_behind(
         × (g .at ≤ length (now piece))
         × (g .len ≤ 97) × (length (now line) ≡ 97) ⌝ }
     ensures { λ r. ⌜ ((pending : List ℕ) → LineKept pending (g .len) (now (line .entry)) →
-        Steps (now (s .entry)) pending (now (piece .entry)) (g .at) r (now (s .exit)) (now (line .exit))
+        PieceStepped (now (s .entry)) pending (now (piece .entry)) (g .at) r (now (s .exit))
+        (now (line .exit))
         (drop (g .n) (now (out .exit))))
         × (r .len ≤ 97) × (length (now (line .exit)) ≡ 97)
         × (take (g .n) (now (out .exit)) ≡ take (g .n) (now (out .entry)))
@@ -45,7 +46,7 @@ pub fn serve_lines(
     requires { ⌜ (soundBytes (now s) ≡ true) × (24001 ≤ length (now out)) × (from ≤ length (now piece))
         × (len ≤ 97) × (length (now line) ≡ 97) ⌝ }
     ensures { λ r. ⌜ ((pending : List ℕ) → LineKept pending len (now (line .entry)) →
-        Steps (now (s .entry)) pending (now (piece .entry)) from r (now (s .exit)) (now (line .exit))
+        PieceStepped (now (s .entry)) pending (now (piece .entry)) from r (now (s .exit)) (now (line .exit))
         (now (out .exit)))
         × (r .len ≤ 97) × (length (now (line .exit)) ≡ 97)
         × (length (now (out .exit)) ≡ length (now (out .entry))) ⌝ }

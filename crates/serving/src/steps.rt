@@ -7,7 +7,7 @@ ghost use lib.ListN.{length, take};
 ghost use Rattle.model.specs.Soundness.{soundBytes};
 ghost use Rattle.serving.specs.LineTurns.{LineKept, Turned};
 ghost use Rattle.serving.specs.Stream.{finish, finishBytes};
-ghost use Rattle.serving.specs.PieceSteps.{Steps};
+ghost use Rattle.serving.specs.PieceSteps.{PieceStepped};
 use crate::taking::take_line;
 use crate::turns::serve_line;
 
@@ -41,7 +41,7 @@ pub fn serve_piece_step(
     requires { ⌜ (soundBytes (now s) ≡ true) × (24001 ≤ length (now out)) × (from ≤ length (now piece))
         × (len ≤ 97) × (length (now line) ≡ 97) ⌝ }
     ensures { λ r. ⌜ ((pending : List ℕ) → LineKept pending len (now (line .entry)) →
-        Steps (now (s .entry)) pending (now (piece .entry)) from r (now (s .exit)) (now (line .exit))
+        PieceStepped (now (s .entry)) pending (now (piece .entry)) from r (now (s .exit)) (now (line .exit))
         (now (out .exit)))
         × (r .len ≤ 97) × (length (now (line .exit)) ≡ 97)
         × (length (now (out .exit)) ≡ length (now (out .entry))) ⌝ }

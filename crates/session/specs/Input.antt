@@ -22,7 +22,7 @@ use Rattle.serving.specs.Stream.{FeedResult, feed, finish, finishBytes, ending,
 use Rattle.serving.specs.Stream.{feeds-then, stream-session}
 use Rattle.serving.proofs.StreamFacts.{feeds-none, feeds-all, feeds-more, feeds-front}
 use Rattle.serving.specs.Stream.{stream-base}
-use Rattle.serving.specs.PieceSteps.{Steps}
+use Rattle.serving.specs.PieceSteps.{PieceStepped}
 use Rattle.session.specs.declared.InputState.{InputState}
 
 -- a sound base, room for a reply of any length, and of a line at most the first 97 bytes
@@ -108,7 +108,7 @@ module _ {s pending : List ℕ} where
   -- a step from the place `at` of a piece on
   pub answers-step : {piece s′ line′ s″ line″ out : List ℕ} {at sent len′ sent′ sent″ : ℕ} {r : Stepped} →
       (a : AnsweredUpTo s pending piece (drop at piece) sent len′ sent′ s′ line′) →
-      Steps s′ (a .left) piece at r s″ line″ out → sent″ ≡ digest sent′ (take (r .n) out) →
+      PieceStepped s′ (a .left) piece at r s″ line″ out → sent″ ≡ digest sent′ (take (r .n) out) →
       AnsweredUpTo s pending piece (drop (r .at) piece) sent (r .len) sent″ s″ line″
   answers-step {out = out} {r = r} a k e =
       answers-then a (

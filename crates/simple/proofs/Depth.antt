@@ -17,7 +17,7 @@ use Rattle.model.specs.Stratification.{precedes}
 use Rattle.model.specs.Circles.{circular, circular-cyclic}
 use Rattle.model.specs.Rules.{derivesFor, rightOf, asked}
 use Rattle.model.specs.SideFacts.{right-sign}
-use Rattle.model.specs.HoldsLaws.{Fed, fit-precedes, strictly-linked}
+use Rattle.model.specs.HoldsLaws.{PrecededOnly, fit-precedes, strictly-linked}
 
 module _ (b : Base) where
   -- how many rules are on the longest path that ends in r,
@@ -70,7 +70,7 @@ module _ (b : Base) where
     depth-less q r n m f = ranked precedes (λ q r. 1) (λ r. true) (b .rules) light free .less q r n m f refl
 
     -- what is derived only by rules that r looks at
-    reach-fed : (p : Pattern) (r : Rule) → Mem r (b .rules) → Fed b r p → reach p < depth r
+    reach-fed : (p : Pattern) (r : Rule) → Mem r (b .rules) → PrecededOnly b r p → reach p < depth r
     unfolding reach
     reach-fed p r m h = omega (
       arith,

@@ -34,8 +34,8 @@ abbrev pub grantedAt : List ℕ → Pattern → ℕ → Bool
 grantedAt s p t = anyb (fits p) (live t (decode s .authorizations))
 
 -- a rule of the base
-abbrev pub Listed : List ℕ → Rule → Type 0
-Listed s r = Mem r (decode s .rules)
+abbrev pub RuleOfBase : List ℕ → Rule → Type 0
+RuleOfBase s r = Mem r (decode s .rules)
 
 -- the rule gives p at t
 abbrev pub givesIn : Base → Pattern → ℕ → Rule → Bool

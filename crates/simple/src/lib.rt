@@ -13,7 +13,7 @@
 ghost use mathlib.Core.Path.{_≡_};
 ghost use Prim.Native.Nat.{_≤_};
 ghost use Rattle.model.specs.Simple.{simpleAnswer};
-ghost use Rattle.simple.specs.Engine.{ServedRules, Listed, heldAt, inForceAt, givenAt, wantedFrom};
+ghost use Rattle.simple.specs.Engine.{ServedRules, RuleOfBase, heldAt, inForceAt, givenAt, wantedFrom};
 
 mod sides;
 mod stored;
@@ -97,7 +97,7 @@ fn in_force(s: &[u8], p: Pattern, t: u32) -> bool
 // Whether a rule gives p at t: its left side is p, t is in its interval, and its right side is in force, or
 // not, as its operator says, at t or at all instants from the rule's start to t.
 fn gives(s: &[u8], r: Rule, p: Pattern, t: u32) -> bool
-    requires { ⌜ ServedRules (now s) × Listed (now s) r ⌝ }
+    requires { ⌜ ServedRules (now s) × RuleOfBase (now s) r ⌝ }
     ensures { λ x. ⌜ x ≡ givenAt (now (s .entry)) r p t ⌝ }
 {
     let i = r.interval;

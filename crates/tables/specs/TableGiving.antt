@@ -29,6 +29,8 @@ pub record TablesReady (f : Frame) (right first : List ℕ) (size : ℕ) : Type 
   pub laid : TablesLaid (tablesOf f right first) 0 (f .fields)
   pub narrow : f .width ≤ 6
   pub fits : starts (f .width) (f .fields) ≤ 64 * size
+  pub rights : 256 ≤ length right
+  pub firsts : 64 ≤ length first
 
 -- the table of a region that starts at a field has the place, and words of a length have room for it
 pub record Reaches (f : Frame) (from : ℕ) (b : Region) (p : Place) (size : ℕ) : Type 0 where

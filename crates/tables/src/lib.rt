@@ -47,8 +47,8 @@ pub fn all_places() -> Region
 }
 
 // The region whose codes stand with rule i: object, subject, mode.
-pub fn region_at(codes: &[u8; 256], i: usize) -> Region
-    requires { ⌜ i < 64 ⌝ }
+pub fn region_at(codes: &[u8], i: usize) -> Region
+    requires { ⌜ (i < 64) × (256 ≤ length (now codes)) ⌝ }
     ensures { λ r. ⌜ r ≡ regionAt (now (codes .entry)) i ⌝ }
 {
     Region {
@@ -73,17 +73,17 @@ fn is_in(b: Region, x: Point) -> bool
 }
 
 // Lays out a table for each rule of a mask, one behind the other from a field on; where they end.
-pub fn lay_out(codes: &[u8; 256], rules: u64, g: Grid, from: u32, first: &mut [u32; 64]) -> u32
-    requires { ⌜ from + roomOf g (now codes) rules 64 < 4294967296 ⌝ }
+pub fn lay_out(codes: &[u8], rules: u64, g: Grid, from: u32, first: &mut [u64]) -> u32
+    requires { ⌜ (from + roomOf g (now codes) rules 64 < 4294967296) × (256 ≤ length (now codes))
+        × (64 ≤ length (now first)) ⌝ }
     ensures { λ r. ⌜ (r ≡ from + roomOf g (now (codes .entry)) rules 64)
         × TablesLaid (ruleTables g (now (codes .entry)) rules (now (first .exit))) from r ⌝ }
 {
-    *first = [0; 64];
     let mut n = from;
     let mut r = next_bit(rules, 0);
     while r < 64 {
         let i = r as usize;
-        first[i] = n;
+        first[i] = n as u64;
         n = n + places::size_of(g, region_at(codes, i));
         r = next_bit(rules, r + 1);
     }
@@ -91,8 +91,8 @@ pub fn lay_out(codes: &[u8; 256], rules: u64, g: Grid, from: u32, first: &mut [u
 }
 
 // Lays out all tables, those of the rules of a mask behind the first two; how many fields they have.
-pub fn lay_all(right: &[u8; 256], choosy: u64, g: Grid, first: &mut [u32; 64]) -> u32
-    requires { ⌜ SmallGrid g ⌝ }
+pub fn lay_all(right: &[u8], choosy: u64, g: Grid, first: &mut [u64]) -> u32
+    requires { ⌜ SmallGrid g × (256 ≤ length (now right)) × (64 ≤ length (now first)) ⌝ }
     ensures { λ r. ⌜ (r ≡ 2 * sizeOf g wholeRegion + roomOf g (now (right .entry)) choosy 64)
         × TablesLaid (allTables g (now (right .entry)) choosy (now (first .exit))) 0 r ⌝ }
 {
@@ -133,8 +133,8 @@ fn join_in(words: &mut [u64], f: Frame, from: u32, b: Region, p: Place, v: u64) 
 // Joins v to the field of a place in the table of rule c, if it has the place; whether that is new.
 fn give_rule(
     words: &mut [u64],
-    right: &[u8; 256],
-    first: &[u32; 64],
+    right: &[u8],
+    first: &[u64],
     f: Frame,
     p: Place,
     c: u32,
@@ -151,7 +151,7 @@ fn give_rule(
     let b = region_at(right, i);
     let x = p.point;
     if is_in(b, x) {
-        return join_in(words, f, first[i], b, p, v);
+        return join_in(words, f, first[i] as u32, b, p, v);
     }
     false
 }
@@ -160,8 +160,8 @@ fn give_rule(
 // the place; whether something is new.
 pub fn give(
     words: &mut [u64],
-    right: &[u8; 256],
-    first: &[u32; 64],
+    right: &[u8],
+    first: &[u64],
     f: Frame,
     p: Place,
     sign: u32,

@@ -6,7 +6,8 @@ use lib.ListN.{length, drop}
 use Rattle.model.specs.Text.{Line, newline, readLine}
 use Rattle.model.specs.Session.{byteTurn, WrittenText, shortestBuffer, textAnswer}
 use Rattle.text.specs.declared.TextReply.{TextReply}
-use Rattle.text.specs.Writing.{written, Wrote, byteTurnText, answering, answerTo, has-room, text-answer}
+use Rattle.text.specs.Writing.{written, Wrote, byteTurnText, writtenAnswer, answerTo, has-room}
+use Rattle.text.specs.Writing.{text-answer}
 
 -- the same text by another name
 pub wrote-as : {text text′ before after : List ℕ} {w : TextReply} → text ≡ text′ → Wrote text before after w →
@@ -26,7 +27,7 @@ module _ (s : List ℕ) (l : Line) (out : List ℕ) where
     pub all-written : {s′ out′ : List ℕ} {w : TextReply} → Wrote (byteTurnText (byteTurn s l)) out out′ w →
         s′ ≡ byteTurn s l .lent → written w s′ out′ ≡ answerTo s l out
     all-written p e =
-        let q : written _ _ _ ≡ answering s l out =
+        let q : written _ _ _ ≡ writtenAnswer s l out =
         λ i. record { refusal = p .refusal i; count = p .count i; lent = e i; out = p .bytes i } in
         q ∙ sym (has-room s l out h room)
 

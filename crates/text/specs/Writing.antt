@@ -39,11 +39,11 @@ module _ (s : List ℕ) (l : Line) (out : List ℕ) where
   abbrev rows : List Row
   rows = row 13 tooShort ∷ []
 
-  abbrev pub refusing : ℕ → WrittenText
-  refusing k = record { refusal = k; count = 0; lent = s; out = out }
+  abbrev pub writtenRefusal : ℕ → WrittenText
+  writtenRefusal k = record { refusal = k; count = 0; lent = s; out = out }
 
-  abbrev pub answering : WrittenText
-  answering =
+  abbrev pub writtenAnswer : WrittenText
+  writtenAnswer =
       let text = byteTurnText (byteTurn s l) ++ (newline ∷ []) in
       record {
         refusal = 0;
@@ -54,21 +54,21 @@ module _ (s : List ℕ) (l : Line) (out : List ℕ) where
       }
 
   unfoldable pub answerTo : WrittenText
-  answerTo = refusedOr rows refusing answering
+  answerTo = refusedOr rows writtenRefusal writtenAnswer
 
-  refused-rows : tooShort ≡ true → answerTo ≡ refusing 13
+  refused-rows : tooShort ≡ true → answerTo ≡ writtenRefusal 13
   unfolding answerTo
   refused-rows e =
       let n : firstNumber rows ≡ 13 = rw e in
-      turned-away rows refusing answering (λ z. omega (arith, n)) ∙ ap refusing n
+      turned-away rows writtenRefusal writtenAnswer (λ z. omega (arith, n)) ∙ ap writtenRefusal n
 
   -- a buffer of fewer than 16 bytes
-  pub too-short : length out < shortestBuffer → answerTo ≡ refusing 13
+  pub too-short : length out < shortestBuffer → answerTo ≡ writtenRefusal 13
   too-short h = refused-rows (or-intro-left (ltb (length out) shortestBuffer) _
       (le-true (suc (length out)) 16 h))
 
   -- a buffer that has no room for the text and its newline
-  pub no-room : length out ≤ length (byteTurnText (byteTurn s l)) → answerTo ≡ refusing 13
+  pub no-room : length out ≤ length (byteTurnText (byteTurn s l)) → answerTo ≡ writtenRefusal 13
   no-room h =
       let text = byteTurnText (byteTurn s l) in
       let long : ltb (length out) (length (text ++ (newline ∷ []))) ≡ true =
@@ -78,7 +78,7 @@ module _ (s : List ℕ) (l : Line) (out : List ℕ) where
 
   module _ (h : shortestBuffer ≤ length out) (room : length (byteTurnText (byteTurn s l)) < length out) where
     -- a buffer that has
-    pub has-room : answerTo ≡ answering
+    pub has-room : answerTo ≡ writtenAnswer
     unfolding answerTo
     has-room =
         let text = byteTurnText (byteTurn s l) in
@@ -86,7 +86,7 @@ module _ (s : List ℕ) (l : Line) (out : List ℕ) where
         let b : ltb (length out) (length (text ++ (newline ∷ []))) ≡ false =
         le-false (suc (length out)) (length (text ++ (newline ∷ [])))
         (omega (arith, length-append text (newline ∷ []))) in
-        answered rows refusing answering (rw (a, b))
+        answered rows writtenRefusal writtenAnswer (rw (a, b))
 
 -- the answer to a line of text is that to what it says
 pub text-answer : (s line out : List ℕ) → textAnswer s line out ≡ answerTo s (readLine line) out

@@ -10,13 +10,13 @@ use Rattle.foundation.specs.Tests.{cases, le-true, le-false, true-le, false-le,
 use Rattle.windows.specs.Windows.{Rising}
 
 module _ (n : ℕ) (ms : List ℕ) (t : ℕ) where
-  pub record Cut (low high : ℕ) : Type 0 where
+  pub record HalvedBetween (low high : ℕ) : Type 0 where
     pub ordered : low ≤ high
     pub within : high ≤ n
     pub below : (j : ℕ) → j < low → getD ms j 0 < t
     pub above : (j : ℕ) → high ≤ j → j < n → t ≤ getD ms j 0
 
-  pub cut-start : Cut 0 n
+  pub cut-start : HalvedBetween 0 n
   cut-start = record {
     ordered = omega arith;
     within = omega arith;
@@ -24,9 +24,10 @@ module _ (n : ℕ) (ms : List ℕ) (t : ℕ) where
     above = λ j h l. absurd (omega arith);
   }
 
-  module _ (rising : Rising n ms) (low high k : ℕ) (c : Cut low high) (h : low < high) (e : k ≡ (low +
+  module _ (rising : Rising n ms) (low high k : ℕ) (c : HalvedBetween low high) (h : low < high)
+      (e : k ≡ (low +
       high) / 2) where
-    pub cut-up : getD ms k 0 < t → Cut (k + 1) high
+    pub cut-up : getD ms k 0 < t → HalvedBetween (k + 1) high
     cut-up l = record {
       ordered = omega (arith, c .ordered);
       within = c .within;
@@ -36,7 +37,7 @@ module _ (n : ℕ) (ms : List ℕ) (t : ℕ) where
       above = c .above;
     }
 
-    pub cut-down : t ≤ getD ms k 0 → Cut low k
+    pub cut-down : t ≤ getD ms k 0 → HalvedBetween low k
     cut-down l = record {
       ordered = omega (arith, c .ordered);
       within = omega (arith, c .within);
@@ -46,7 +47,8 @@ module _ (n : ℕ) (ms : List ℕ) (t : ℕ) where
           (λ y. omega (arith, rising k j (false-le j k y) m));
     }
 
-  pub cut-end : (low high : ℕ) → Cut low high → high ≤ low → (j : ℕ) → j < n → ltb (getD ms j 0) t ≡ ltb j low
+  pub cut-end : (low high : ℕ) → HalvedBetween low high → high ≤ low → (j : ℕ) → j < n → ltb (getD ms j 0) t
+      ≡ ltb j low
   cut-end low high c h j l = cases (ltb j low)
       (λ y. le-true (suc (getD ms j 0)) t (c .below j (true-le (suc j) low y)) ∙ sym y)
       (λ y. le-false (suc (getD ms j 0)) t (omega (

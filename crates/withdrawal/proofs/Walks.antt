@@ -29,14 +29,14 @@ module _ (root : Head → Bool) (c : Cut) (xs : List Authorization) (T U : ℕ) 
   Midway ys os pos = Round (stayed root c xs U) (stayed root c xs T) xs ys os pos
 
   -- the authorizations ys of the base are still to come, and the body has come to the place pos
-  pub record Walk (ys : List Authorization) (k pos : ℕ) (out sorted : List ℕ) : Type 0 where
+  pub record RoundAt (ys : List Authorization) (k pos : ℕ) (out sorted : List ℕ) : Type 0 where
     pub body : AnyBody k out sorted
     pub order : Sorted ys
     pub times : InTime T U ys
     pub round : Midway ys (authorizationsIn k out) pos
 
   pub walk-start : (m : ℕ) (out sorted : List ℕ) → Sorted xs → InTime T U xs →
-      BuiltBody m (stayers root c xs T) out sorted → Walk xs m 0 out sorted
+      BuiltBody m (stayers root c xs T) out sorted → RoundAt xs m 0 out sorted
   walk-start m out sorted s t b = record {
     body = body-own b;
     order = s;
@@ -44,7 +44,7 @@ module _ (root : Head → Bool) (c : Cut) (xs : List Authorization) (T U : ℕ) 
     round = round-start (stayed root c xs U) (stayed root c xs T) xs (authorizationsIn m out) (b .records);
   }
 
-  module _ (ys : List Authorization) (k pos : ℕ) (out sorted : List ℕ) (w : Walk ys k pos out sorted) where
+  module _ (ys : List Authorization) (k pos : ℕ) (out sorted : List ℕ) (w : RoundAt ys k pos out sorted) where
     abbrev os : List Authorization
     os = authorizationsIn k out
 
@@ -76,7 +76,7 @@ module _ (root : Head → Bool) (c : Cut) (xs : List Authorization) (T U : ℕ) 
 
       pub walk-next : (j p : ℕ) (out' sorted' : List ℕ) →
           BuiltBody j (placed pos ps os) out' sorted' × (p ≡ pos + length ps + byOf T a (drop pos os)) →
-          Walk rest j p out' sorted'
+          RoundAt rest j p out' sorted'
       walk-next j p out' sorted' t = record {
         body = body-own (t .0);
         order = order' .1;

@@ -64,8 +64,8 @@ use denote.Triple.Walked.{says, Stays, stay-slice, stay-none-slice, walkOf, Walk
 use denote.Triple.Walked.{goes-slice}
 use denote.Triple.Walked.{goes-none-slice, walk-meets}
 use Rattle.model.specs.Batch.{byteFor, batchRefusal, question}
-use Rattle.batch.specs.Prepared.{TablePrepared}
-use Rattle.batch.proofs.AnswerBytes.{filled, filled-none, filled-length, filled-next, Known, know}
+use Rattle.queries.specs.HandedOn.{HandedOn}
+use Rattle.batch.proofs.AnswerBytes.{bytesFilled, filled-none, filled-length, filled-next, Known, know}
 use Rattle.foundation.specs.Tests.{pick as choose}
 use Rattle.model.specs.declared.Question.{Question}
 use Rattle.model.specs.Soundness.{soundBytes}
@@ -127,7 +127,7 @@ sliceP = sliceTy (tyRef erased imm word)
 
 -- how many numbers are prepared
 abbrev width : ℕ
-width = 1
+width = 684
 
 abbrev table : Ty
 table = tyArray word width
@@ -172,7 +172,7 @@ module _ {M : Type 1} (𝓤 : URA M) (H : Heap 𝓤) (A : Atoms 𝓤) (W : Given
 
   -- what is there after i turns
   abbrev ys : ℕ → List ℕ
-  ys i = filled s qs out i
+  ys i = bytesFilled s qs out i
 
   abbrev x₂ : List ℕ → RefT (List ℕ)
   x₂ l = record { ptr = (b, o); name = γ; now = l }
@@ -315,7 +315,7 @@ module _ {M : Type 1} (𝓤 : URA M) (H : Heap 𝓤) (A : Atoms 𝓤) (W : Given
 
   -- what is prepared where n questions are answered
   abbrev Ready : ℕ → List ℕ → Type 0
-  Ready n t = 0 < n → TablePrepared s t
+  Ready n t = 0 < n → HandedOn s t
 
   abbrev to-prep : ℕ → Prep 𝓤 H A mem′ run .Ghost
   to-prep n = (((κ₀, tt), (q₀, tt), tt, (x₀, (n, tt)), (v₀ ∷ [], (vint w64 n ∷ [], tt))), tt)
@@ -345,7 +345,7 @@ module _ {M : Type 1} (𝓤 : URA M) (H : Heap 𝓤) (A : Atoms 𝓤) (W : Given
       tt,
     )
 
-    goes : soundBytes s ≡ true → TablePrepared s t → (d : Question) → Is T.the-row d (vals d) →
+    goes : soundBytes s ≡ true → HandedOn s t → (d : Question) → Is T.the-row d (vals d) →
         ent 𝓤 (sep 𝓤 (A .lft κ₀ q₀) (sep 𝓤 (sem 𝓤 H A Own₀)
         (sep 𝓤 (A .lft (α ∷ []) fullShare) (sem 𝓤 H A (OwnP α lP δ t))))) (Answer 𝓤 H A mem′ run .pre (to d))
     goes g e d p =

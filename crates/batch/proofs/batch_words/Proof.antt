@@ -10,13 +10,13 @@ use denote.Ref.{now}
 use Rattle.foundation.specs.Tests.{pick}
 use Rattle.model.specs.Batch.{byteFor, batchRefusal, question, questionsIn}
 use Rattle.model.specs.BatchFacts.{length-questions, nth-question}
-use Rattle.batch.proofs.AnswerBytes.{filled, filled-none, filled-next, Known, know}
+use Rattle.batch.proofs.AnswerBytes.{bytesFilled, filled-none, filled-next, Known, know}
 use Rattle.batch.proofs.batch_words.Statement.{statement}
 use Rattle.batch.proofs.batch_words.Tie as tie
 
 abbrev Inv-loop : tie.InvT-loop
 Inv-loop base words replies₀ m r n prepared i₀ replies i =
-    (i ≤ n) × (length replies ≡ length replies₀) × (replies ≡ filled base (questionsIn words) replies₀ i)
+    (i ≤ n) × (length replies ≡ length replies₀) × (replies ≡ bytesFilled base (questionsIn words) replies₀ i)
 
 abbrev μ-loop : tie.MeasureT-loop
 μ-loop base words replies₀ m r n prepared i₀ replies i = n - i
@@ -80,7 +80,7 @@ loop-again c =
           ∙ filled-next (now (a .base)) (questionsIn w) (now (a .replies)) x (l .i)
           (omega (arith, k .in-questions))
           (omega (arith, k .in-room))
-          ∙ ap (filled (now (a .base)) (questionsIn w) (now (a .replies))) (sym (add-one (l .i))),
+          ∙ ap (bytesFilled (now (a .base)) (questionsIn w) (now (a .replies))) (sym (add-one (l .i))),
     )
 
 returns : tie.Need-returns Inv-loop μ-loop
@@ -93,7 +93,7 @@ returns c =
     record {
       refusal = k .refusal;
       replies =
-          l .inv .2 ∙ ap (filled (now (a .base)) (questionsIn (now (a .words))) (now (a .replies))) e
+          l .inv .2 ∙ ap (bytesFilled (now (a .base)) (questionsIn (now (a .words))) (now (a .replies))) e
           ∙ k .bytes;
     }
 

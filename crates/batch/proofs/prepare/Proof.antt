@@ -1,11 +1,17 @@
--- `batch::prepare`: nothing is asked of the table.
-use Rattle.batch.specs.Prepared.{TablePrepared}
+-- `batch::prepare`: where there are questions, the rules are drawn.
+use borrow.Author.Needs.{needs}
+use native.Mathlib.Omega.{arith}
+use mathlib.Core.Path.{refl}
+use Rattle.queries.specs.Asking.{zeros-blank}
 use Rattle.batch.proofs.prepare.Statement.{statement}
 use Rattle.batch.proofs.prepare.Tie as tie
 
-returns : tie.Need-returns
-unfolding TablePrepared
-returns c = λ h. tt
+prepare-requires : tie.Need-prepare-requires
+prepare-requires c κs =
+    let d = c .before .before .before in (d .pre (c .before .if1 .taken), refl {a = 684}, zeros-blank 684)
+
+returns-2 : tie.Need-returns-2
+returns-2 c = λ h. absurd (omega (arith, h, c .if1 .left))
 
 pub prepare-spec : {M : Type 1} → statement M
-prepare-spec = tie.close (tie.spec returns)
+prepare-spec = tie.close (tie.spec (λ c. search needs) prepare-requires (λ c. search needs) returns-2)

@@ -32,8 +32,8 @@ next-label-requires c κs =
 stamp-requires : tie.Need-stamp-requires
 stamp-requires c κs = rule-addition _ _ (c .before .before .before .before .before .before .pre) .written
 
-rule-of-requires : tie.Need-rule-of-requires
-rule-of-requires c κs =
+new-rule-requires : tie.Need-new-rule-requires
+new-rule-requires c κs =
     let l = c .before .before .before .before .before .before in
     let d = l .before .before .before .before .before in (
       new-fits (rule-addition _ _ (d .pre)) (l .next-label .result) (l .next-label .ensures),
@@ -57,10 +57,10 @@ returns c =
     let n = l .before .before in
     put-last (rule-addition _ _ (n .before .before .before .pre)) (l .next-label .result)
     (l .next-label .ensures) _ (p .stamp .ensures)
-    (n .counts-of .result .rules) (place n) _ (r .before .rule-of .ensures) _ (r .insert-rule .ensures)
+    (n .counts-of .result .rules) (place n) _ (r .before .new-rule .ensures) _ (r .insert-rule .ensures)
 
 pub add-rule-spec : {M : Type 1} → statement M
 add-rule-spec =
     tie.close
-    (tie.spec counts-of-requires next-label-requires stamp-requires (λ c. search needs) rule-of-requires
+    (tie.spec counts-of-requires next-label-requires stamp-requires (λ c. search needs) new-rule-requires
     insert-rule-requires (λ c. search needs) returns)

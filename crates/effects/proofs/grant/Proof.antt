@@ -32,8 +32,8 @@ next-label-requires c κs =
 stamp-requires : tie.Need-stamp-requires
 stamp-requires c κs = grant-addition _ _ (c .before .before .before .before .before .before .pre) .written
 
-authorization-of-requires : tie.Need-authorization-of-requires
-authorization-of-requires c κs =
+new-authorization-requires : tie.Need-new-authorization-requires
+new-authorization-requires c κs =
     let l = c .before .before .before .before .before .before in
     let d = l .before .before .before .before .before in
     new-fits (grant-addition _ _ (d .pre)) (l .next-label .result) (l .next-label .ensures)
@@ -55,12 +55,12 @@ returns c =
     let n = l .before .before in
     put-last (grant-addition _ _ (n .before .before .before .pre)) (l .next-label .result)
     (l .next-label .ensures) _ (p .stamp .ensures)
-    (n .counts-of .result .authorizations) (place n) _ (r .before .authorization-of .ensures) _
+    (n .counts-of .result .authorizations) (place n) _ (r .before .new-authorization .ensures) _
     (r .insert-authorization .ensures)
 
 pub grant-spec : {M : Type 1} → statement M
 grant-spec =
     tie.close
     (tie.spec counts-of-requires next-label-requires stamp-requires
-    (λ c. search needs) authorization-of-requires
+    (λ c. search needs) new-authorization-requires
     insert-authorization-requires (λ c. search needs) returns)

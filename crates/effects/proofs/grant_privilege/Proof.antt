@@ -16,16 +16,16 @@ use Rattle.effects.proofs.grant_privilege.Tie as tie
 set-clock-requires : tie.Need-set-clock-requires
 set-clock-requires c κs = allowed-written (GRANTADM ∷ GRANTREF ∷ []) _ _ (c .before .before .pre)
 
-privilege-of-requires : tie.Need-privilege-of-requires
-privilege-of-requires c κs = named-fits (GRANTADM ∷ GRANTREF ∷ []) _ _
+named-privilege-requires : tie.Need-named-privilege-requires
+named-privilege-requires c κs = named-fits (GRANTADM ∷ GRANTREF ∷ []) _ _
     (c .before .before .before .before .before .before .before .pre) refl refl
 
 -- the effect, with the privilege as it was made
-effects : (c : tie.After-privilege-of) →
+effects : (c : tie.After-named-privilege) →
     effect plainly (decode (now (c .before .before .before .before .before .before .before .before .args .s)))
     (c .before .before .before .before .before .before .before .before .args .q)
     ≡ withPrivileges (c .before .privilege-body-of .result)
-    (insert (c .privilege-of .result) (privilegesOf (c .before .privilege-body-of .result)
+    (insert (c .named-privilege .result) (privilegesOf (c .before .privilege-body-of .result)
     (decode (now (c .before .before .before .before .before .before .before .before .args .s)))))
     (withStamp (c .before .before .before .before .before .before .before .before .args .q .now)
     (decode (now (c .before .before .before .before .before .before .before .before .args .s)) .last)
@@ -35,8 +35,8 @@ effects c =
     let b = decode (now (d .args .s)) in
     effect-privilege b (d .args .q) (d .pre .kind)
     ∙ (λ j. withPrivileges (sym (c .before .privilege-body-of .ensures) j)
-    (insert (sym (c .privilege-of .ensures) j) (privilegesOf (sym (c .before .privilege-body-of .ensures) j)
-    b))
+    (insert (sym (c .named-privilege .ensures) j)
+    (privilegesOf (sym (c .before .privilege-body-of .ensures) j) b))
     (withStamp (d .args .q .now) (b .last) b))
 
 insert-in-order-requires : tie.Need-insert-in-order-requires
@@ -59,5 +59,5 @@ returns c =
 pub grant-privilege-spec : {M : Type 1} → statement M
 grant-privilege-spec =
     tie.close
-    (tie.spec set-clock-requires (λ c κs. search needs) privilege-of-requires insert-in-order-requires
+    (tie.spec set-clock-requires (λ c κs. search needs) named-privilege-requires insert-in-order-requires
     (λ c. search needs) returns)

@@ -10,8 +10,8 @@ use Rattle.model.specs.Effects.{withAdministrators}
 use Rattle.effects.proofs.remove_administrator.Statement.{statement}
 use Rattle.effects.proofs.remove_administrator.Tie as tie
 
-privilege-of-requires : tie.Need-privilege-of-requires
-privilege-of-requires c κs = c .before .before .pre .1
+named-privilege-requires : tie.Need-named-privilege-requires
+named-privilege-requires c κs = c .before .before .pre .1
 
 take-privilege-requires : tie.Need-take-privilege-requires
 take-privilege-requires c κs =
@@ -19,7 +19,7 @@ take-privilege-requires c κs =
     let ps = decode (now (d .args .s)) .administrators in (
       d .pre .0,
       d .pre .2,
-      ap (λ (p : Privilege). listed ps (p .object) (p .subject)) (c .privilege-of .ensures) ∙ d .pre .3,
+      ap (λ (p : Privilege). listed ps (p .object) (p .subject)) (c .named-privilege .ensures) ∙ d .pre .3,
     )
 
 returns : tie.Need-returns
@@ -29,8 +29,8 @@ returns c =
     r .take-privilege .ensures
     ∙ ap (λ (p : Privilege). encode (withAdministrators
     (without (p .object) (p .subject) (b .administrators)) b))
-    (r .before .privilege-of .ensures)
+    (r .before .named-privilege .ensures)
 
 pub remove-administrator-spec : {M : Type 1} → statement M
-remove-administrator-spec = tie.close (tie.spec privilege-of-requires take-privilege-requires
+remove-administrator-spec = tie.close (tie.spec named-privilege-requires take-privilege-requires
     (λ c. search needs) returns)

@@ -9,8 +9,8 @@ use Rattle.effects.proofs.Changes.{named-fits, revoke-ready, revoke-hol
 use Rattle.effects.proofs.revoke_referrer.Statement.{statement}
 use Rattle.effects.proofs.revoke_referrer.Tie as tie
 
-privilege-of-requires : tie.Need-privilege-of-requires
-privilege-of-requires c κs = named-fits (REVOKEREF ∷ []) _ _ (c .before .pre) refl refl
+named-privilege-requires : tie.Need-named-privilege-requires
+named-privilege-requires c κs = named-fits (REVOKEREF ∷ []) _ _ (c .before .pre) refl refl
 
 administers-requires : tie.Need-administers-requires
 administers-requires c κs = c .before .before .before .pre .sound
@@ -24,7 +24,7 @@ take-privilege-requires c κs =
     let p = c .before .before .before in
     let n = p .before .before .before .before in
     let d = n .before .before in
-    revoke-ready (now (d .args .s)) (d .args .q) (d .pre) _ (n .privilege-of .ensures) _
+    revoke-ready (now (d .args .s)) (d .args .q) (d .pre) _ (n .named-privilege .ensures) _
     (p .set-clock .ensures)
 
 drop-rules-requires : tie.Need-drop-rules-requires
@@ -33,7 +33,7 @@ drop-rules-requires c κs =
     let p = t .before .before .before .before in
     let n = p .before .before .before .before in
     let d = n .before .before in
-    revoke-holds (now (d .args .s)) (d .args .q) (d .pre) _ (n .privilege-of .ensures) _
+    revoke-holds (now (d .args .s)) (d .args .q) (d .pre) _ (n .named-privilege .ensures) _
     (p .set-clock .ensures) _
     (t .take-privilege .ensures) .written
 
@@ -44,7 +44,7 @@ returns c =
     let p = t .before .before .before .before in
     let n = p .before .before .before .before in
     let d = n .before .before in
-    revoke-done (now (d .args .s)) (d .args .q) (d .pre) _ (n .privilege-of .ensures) _
+    revoke-done (now (d .args .s)) (d .args .q) (d .pre) _ (n .named-privilege .ensures) _
     (p .set-clock .ensures) _
     (t .take-privilege .ensures) (p .before .before .administers .result)
     (p .before .before .administers .ensures) _
@@ -53,6 +53,6 @@ returns c =
 pub revoke-referrer-spec : {M : Type 1} → statement M
 revoke-referrer-spec =
     tie.close
-    (tie.spec privilege-of-requires administers-requires set-clock-requires take-privilege-requires
+    (tie.spec named-privilege-requires administers-requires set-clock-requires take-privilege-requires
     drop-rules-requires
     (λ c. search needs) returns)

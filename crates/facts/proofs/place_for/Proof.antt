@@ -12,7 +12,7 @@ use Rattle.facts.proofs.place_for.Tie as tie
 mul-j : tie.Need-mul-j
 mul-j c =
     let e = c .before .before in
-    let s = e .before .before in
+    let s = e .before .before .before in
     let g = s .args .g in
     omega (
       arith,
@@ -24,7 +24,7 @@ mul-j c =
 add-j : tie.Need-add-j
 add-j c =
     let e = c .before .before .before in
-    let s = e .before .before in
+    let s = e .before .before .before in
     let g = s .args .g in
     omega (
       arith,
@@ -36,7 +36,7 @@ add-j c =
 cast-j : tie.Need-cast-j
 cast-j c =
     let e = c .before .before .before in
-    let s = e .before .before in
+    let s = e .before .before .before in
     let g = s .args .g in
     omega (
       arith,
@@ -45,10 +45,10 @@ cast-j c =
       s .pre .2,
     )
 
-mul-t11 : tie.Need-mul-t11
-mul-t11 c =
+mul-t10 : tie.Need-mul-t10
+mul-t10 c =
     let e = c .before .before .before in
-    let s = e .before .before in
+    let s = e .before .before .before in
     let g = s .args .g in
     omega (
       arith,
@@ -57,10 +57,10 @@ mul-t11 c =
       s .pre .2,
     )
 
-shared-slice-read-t13 : tie.Need-shared-slice-read-t13
-shared-slice-read-t13 c =
+shared-slice-read-t12 : tie.Need-shared-slice-read-t12
+shared-slice-read-t12 c =
     let e = c .before .before .before .before in
-    let s = e .before .before in
+    let s = e .before .before .before in
     let g = s .args .g in
     omega (
       arith,
@@ -69,16 +69,16 @@ shared-slice-read-t13 c =
       s .pre .2,
     )
 
-cast-t9 : tie.Need-cast-t9
-cast-t9 c =
+cast-t8 : tie.Need-cast-t8
+cast-t8 c =
     let r = c .before .before .before .before .cell-of .result in
-    let g = c .before .before .before .before .before .before .args .g in
-    omega (arith, c .shared-slice-known2 .given (r .object * g .subjects + r .subject))
+    let g = c .before .before .before .before .before .before .before .args .g in
+    omega (arith, c .shared-slice-known3 .given (r .object * g .subjects + r .subject))
 
 returns : tie.Need-returns
 returns c =
     let e = c .before .before .before .before .before in
-    let a = e .before .before .args in
+    let a = e .before .before .before .args in
     ap (λ (r : Cell). record {
       pair = getD (now (a .number)) (r .object * a .g .subjects + r .subject) 0;
       point = record { subject = r .subject; mode = a .h .mode - 1; object = r .object };
@@ -87,5 +87,5 @@ returns c =
 pub place-for-spec : {M : Type 1} → statement M
 place-for-spec =
     tie.close
-    (tie.spec (λ c κs. search needs) mul-j add-j cast-j mul-t11 shared-slice-read-t13 cast-t9
+    (tie.spec (λ c κs. search needs) mul-j add-j cast-j mul-t10 shared-slice-read-t12 cast-t8
     (λ c. search needs) (λ c. search needs) returns)

@@ -7,7 +7,7 @@ use Rattle.masks.proofs.at_pair.Tie as tie
 
 returns : tie.Need-returns
 returns c =
-    let a = c .before .before .before .args in
+    let a = c .before .before .before .before .args in
     stands-at (now (a .left)) (a .o) (a .s) (a .need) (c .on-modes .result) (c .on-modes .ensures)
 
 pub at-pair-spec : {M : Type 1} → statement M

@@ -17,41 +17,41 @@ abbrev μ-loop : tie.MeasureT-loop
 
 loop-holds : tie.Need-loop-holds Inv-loop μ-loop
 loop-holds c =
-    let a = c .before .before .args in
+    let a = c .before .before .before .args in
     (omega arith, needed-start (now (a .left)) (now (a .need)) (now (a .codes)) (a .subjects))
 
 cast-c : tie.Need-cast-c Inv-loop μ-loop
-cast-c c = omega (arith, c .shared-slice-known3 .given (c .before .before .loop .n))
+cast-c c = omega (arith, c .shared-slice-known4 .given (c .before .before .loop .n))
 
 mul-at-pair : tie.Need-mul-at-pair Inv-loop μ-loop
 mul-at-pair c =
-    let p = c .before .before .before .before .before .pre in
+    let p = c .before .before .before .before .before .before .pre in
     omega (arith, p .1 (c .before .before .loop .n) (omega arith) .inside)
 
 add-at-pair : tie.Need-add-at-pair Inv-loop μ-loop
 add-at-pair c =
-    let p = c .before .before .before .before .before .pre in
+    let p = c .before .before .before .before .before .before .pre in
     omega (arith, p .1 (c .before .before .loop .n) (omega arith) .inside)
 
 mul-at-pair-2 : tie.Need-mul-at-pair-2 Inv-loop μ-loop
 mul-at-pair-2 c =
-    let p = c .before .before .before .before .before .pre in
+    let p = c .before .before .before .before .before .before .pre in
     omega (arith, p .1 (c .before .before .loop .n) (omega arith) .inside)
 
 shared-slice-read-at-pair : tie.Need-shared-slice-read-at-pair Inv-loop μ-loop
 shared-slice-read-at-pair c =
-    let p = c .before .before .before .before .before .before .pre in
+    let p = c .before .before .before .before .before .before .before .pre in
     p .1 (c .before .before .before .loop .n) (omega arith) .inside
 
 at-pair-requires : tie.Need-at-pair-requires Inv-loop μ-loop
 at-pair-requires c κs =
-    let p = c .before .before .before .before .before .before .pre in
+    let p = c .before .before .before .before .before .before .before .pre in
     let d = p .1 (c .before .before .before .loop .n) (omega arith) in
-    (d .object, d .subject)
+    (d .object, d .subject, p .2)
 
 loop-again : tie.Need-loop-again Inv-loop μ-loop
 loop-again c =
-    let a = c .before .before .before .before .before .before .before .args in
+    let a = c .before .before .before .before .before .before .before .before .args in
     let l = c .before .before .before .before .loop in (
       omega arith,
       needed-turn (now (a .left)) (now (a .need)) (now (a .codes)) (a .subjects) (l .n) (l .m)
@@ -60,7 +60,7 @@ loop-again c =
 
 returns : tie.Need-returns Inv-loop μ-loop
 returns c =
-    let a = c .before .before .before .before .args in
+    let a = c .before .before .before .before .before .args in
     let l = c .before .loop in
     let e : l .n ≡ a .pairs = omega arith in
     rw e at (l .inv .1)

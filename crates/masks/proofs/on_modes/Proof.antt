@@ -28,19 +28,20 @@ abbrev μ-loop : tie.MeasureT-loop
 
 loop-holds : tie.Need-loop-holds Inv-loop μ-loop
 loop-holds c =
-    let a = c .before .args in
+    let a = c .before .before .args in
     let e = c .next-bit .ensures in
     (e .1, e .3, passed-start (a .need) (Has (now (a .left)) 0) (c .next-bit .result) (e .2))
 
-element-copy-out-m : tie.Need-element-copy-out-m Inv-loop μ-loop
-element-copy-out-m c =
-    let l = c .before .loop in
-    let a = c .before .before .before .args in
-    omega (arith, bit-inside 16 (a .need) (l .k) (omega arith) (l .inv .1 (omega arith)))
+shared-slice-read-m : tie.Need-shared-slice-read-m Inv-loop μ-loop
+shared-slice-read-m c =
+    let l = c .before .before .loop in
+    let a = c .before .before .before .before .before .args in
+    let p = c .before .before .before .before .before .pre in
+    omega (arith, p, bit-inside 16 (a .need) (l .k) (omega arith) (l .inv .1 (omega arith)))
 
 loop-again : tie.Need-loop-again Inv-loop μ-loop
 loop-again c =
-    let a = c .before .before .before .before .before .args in
+    let a = c .before .before .before .before .before .before .args in
     let l = c .before .before .before .loop in
     let e = c .next-bit2 .ensures in
     let x : ℕ = getD (now (a .left)) (130 + l .k) 0 in (
@@ -55,11 +56,11 @@ loop-again c =
 returns : tie.Need-returns Inv-loop μ-loop
 returns c = λ k r e.
     let l = c .before .loop in
-    let a = c .before .before .before .args in
+    let a = c .before .before .before .before .args in
     l .inv .2 k (omega (arith, bit-inside 16 (a .need) k (omega arith) e)) e r
 
 pub on-modes-spec : {M : Type 1} → statement M
 on-modes-spec =
     tie.close (tie.spec Inv-loop μ-loop (λ c κs. search needs) loop-holds (λ c. search needs)
-    (λ c. search needs) (λ c. search needs) element-copy-out-m (λ c. search needs) (λ c κs. search needs)
+    (λ c. search needs) (λ c. search needs) shared-slice-read-m (λ c. search needs) (λ c κs. search needs)
     (λ c. search needs) loop-again returns)

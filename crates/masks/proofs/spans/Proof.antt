@@ -1,7 +1,7 @@
 -- The rules passed have their instants.
 use borrow.Author.Needs.{needs}
 use native.Mathlib.Omega.{arith}
-use mathlib.Core.Path.{_≡_, ap, _∙_}
+use mathlib.Core.Path.{_≡_, sym, ap, _∙_}
 use mathlib.Core.Bool.{true}
 use mathlib.Core.List.{List}
 use Prim.Native.Nat.{ℕ, _-_, _≤_, _<_}
@@ -31,11 +31,11 @@ abbrev μ-loop : tie.MeasureT-loop
 
 loop-holds : tie.Need-loop-holds Inv-loop μ-loop
 loop-holds c =
-    let a = c .before .before .args in
+    let a = c .before .before .before .args in
     let e = c .next-bit .ensures in (
       e .1,
       e .3,
-      c .before .before .pre .5,
+      c .before .before .before .pre .5,
       passed-start (a .needed) (Spanned (now (a .body)) (now (a .marks)) (a .count) (now (a .active)))
           (c .next-bit .result) (e .2),
     )
@@ -43,12 +43,12 @@ loop-holds c =
 rule-at-requires : tie.Need-rule-at-requires Inv-loop μ-loop
 rule-at-requires c κs =
     let l = c .before .loop in
-    let p = c .before .before .before .before .pre in
+    let p = c .before .before .before .before .before .pre in
     omega (arith, p .0 (l .r) (l .inv .1 (omega arith)), p .1)
 
 loop-again : tie.Need-loop-again Inv-loop μ-loop
 loop-again c =
-    let a = c .before .before .before .before .before .before .before .args in
+    let a = c .before .before .before .before .before .before .before .before .args in
     let l = c .before .before .before .before .loop in
     let e = c .next-bit2 .ensures in
     let s = c .before .span in
@@ -65,14 +65,17 @@ loop-again c =
           (e .2),
     )
 
+same-length : tie.Need-same-length Inv-loop μ-loop
+same-length c = c .before .loop .inv .2 ∙ sym (c .before .before .before .before .before .pre .5)
+
 returns : tie.Need-returns Inv-loop μ-loop
 returns c =
     let l = c .before .loop in
-    let p = c .before .before .before .before .pre in
+    let p = c .before .before .before .before .before .pre in
     (λ r j h. l .inv .3 r (omega (arith, p .0 r h, p .2)) h j, l .inv .2)
 
 pub spans-spec : {M : Type 1} → statement M
 spans-spec =
     tie.close (tie.spec Inv-loop μ-loop (λ c κs. search needs) loop-holds (λ c. search needs)
     (λ c. search needs) rule-at-requires (λ c κs. search needs) (λ c. search needs) (λ c. search needs)
-    (λ c. search needs) (λ c κs. search needs) (λ c. search needs) loop-again returns)
+    (λ c. search needs) (λ c κs. search needs) (λ c. search needs) loop-again same-length returns)

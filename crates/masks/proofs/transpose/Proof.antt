@@ -33,18 +33,18 @@ abbrev μ-loop : tie.MeasureT-loop
 loop-holds : tie.Need-loop-holds Inv-loop μ-loop
 loop-holds c =
     let b = c .before in
-    let a = b .args in
+    let a = b .before .args in
     let e = c .next-bit .ensures in (
       e .1,
       e .3,
-      λ r p h. ap (bit p) (b .pre r h) ∙ no-bit p
+      λ r p h. ap (bit p) (b .before .pre .0 r h) ∙ no-bit p
           ∙ sym (ap (λ (x : Bool). x && looks (now (a .feed)) (a .rules) r p)
           (pass-start (λ k. bit k (a .rules)) (c .next-bit .result) p (e .2))),
     )
 
 loop-again : tie.Need-loop-again Inv-loop μ-loop
 loop-again c =
-    let a = c .before .before .before .before .before .before .before .args in
+    let a = c .before .before .before .before .before .before .before .before .args in
     let l = c .before .before .before .before .before .loop in
     let e = c .next-bit2 .ensures in
     let q = l .q in
@@ -65,7 +65,7 @@ loop-again c =
 
 returns : tie.Need-returns Inv-loop μ-loop
 returns c =
-    let a = c .before .before .before .args in
+    let a = c .before .before .before .before .args in
     let l = c .before .loop in
     λ r q h. l .inv .2 r q h
     ∙ ap₂ (λ (x y : Bool). x && y) (pass-end (a .rules) (l .q) q (omega arith) (omega arith))

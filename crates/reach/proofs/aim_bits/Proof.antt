@@ -13,8 +13,8 @@ use Rattle.reach.proofs.aim_bits.Tie as tie
 returns : tie.Need-returns
 unfolding aimBits
 returns c =
-    let a = c .before .before .before .before .args in
-    let p = c .before .before .before .before .pre in
+    let a = c .before .before .before .before .before .args in
+    let p = c .before .before .before .before .before .pre in
     let l = now (a .right) in
     ap₂ (λ (w m : ℕ). (w % 2 + 256 * (w / 2)) * 2 ^ m % 65536) (c .before .before .u16-of .ensures .0)
     (c .turn

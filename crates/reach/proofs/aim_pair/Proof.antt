@@ -11,23 +11,23 @@ use Rattle.reach.proofs.aim_pair.Tie as tie
 mul-result : tie.Need-mul-result
 unfolding aimPair
 mul-result c =
-    let a = c .before .before .before .before .before .args in
+    let a = c .before .before .before .before .before .before .args in
     let e = ap₂ (λ (o s : ℕ). o * a .at .subjects + s) (c .before .before .before .turn .ensures)
     (c .before .turn2 .ensures) in
-    omega (arith, c .before .before .before .before .before .pre .1)
+    omega (arith, c .before .before .before .before .before .before .pre .1)
 
 add-result : tie.Need-add-result
 unfolding aimPair
 add-result c =
-    let a = c .before .before .before .before .before .args in
+    let a = c .before .before .before .before .before .before .args in
     let e = ap₂ (λ (o s : ℕ). o * a .at .subjects + s) (c .before .before .before .turn .ensures)
     (c .before .turn2 .ensures) in
-    omega (arith, c .before .before .before .before .before .pre .1)
+    omega (arith, c .before .before .before .before .before .before .pre .1)
 
 returns : tie.Need-returns
 unfolding aimPair
 returns c =
-    let a = c .before .before .before .before .before .args in
+    let a = c .before .before .before .before .before .before .args in
     ap₂ (λ (o s : ℕ). o * a .at .subjects + s) (c .before .before .before .turn .ensures)
     (c .before .turn2 .ensures)
 

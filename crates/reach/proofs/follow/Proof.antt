@@ -9,14 +9,14 @@ use lib.ListN.{length}
 use Rattle.foundation.specs.BitMasks.{bit}
 use Rattle.reach.specs.Net.{has, aimPair}
 use Rattle.reach.specs.Reach.{Grown, KeepsWithin}
-use Rattle.reach.proofs.Growth.{grown-none, grown-then, Done, done-start, done-turn}
+use Rattle.reach.proofs.Growth.{grown-none, grown-then, AimsNeeded, done-start, done-turn}
 use Rattle.reach.proofs.follow.Statement.{statement}
 use Rattle.reach.proofs.follow.Tie as tie
 
 abbrev Inv-loop : tie.InvT-loop
 Inv-loop right rules at need₀ todo₀ r₀ need todo r =
     (r ≤ 64) × Grown need₀ todo₀ need todo
-    × Done right rules (at .subjects) (at .object) (at .subject) (at .mode) r need
+    × AimsNeeded right rules (at .subjects) (at .object) (at .subject) (at .mode) r need
     × (r < 64 → bit r rules ≡ true)
     × ((P : ℕ → Bool) → ((q : ℕ) → q < 64 → bit q rules ≡ true →
     P (aimPair right (at .subjects) q (at .object) (at .subject)) ≡ true) → KeepsWithin P need₀ todo₀ need
@@ -27,7 +27,7 @@ abbrev μ-loop : tie.MeasureT-loop
 
 loop-holds : tie.Need-loop-holds Inv-loop μ-loop
 loop-holds c =
-    let a = c .before .before .before .args in
+    let a = c .before .before .before .before .args in
     let e = c .next-bit .ensures in (
       e .1,
       grown-none (now (a .need)) (now (a .todo)),
@@ -41,19 +41,21 @@ aim-pair-requires : tie.Need-aim-pair-requires Inv-loop μ-loop
 aim-pair-requires c κo =
     let l = c .before .loop in
     let h : l .r < 64 = omega arith in
-    (h, omega (arith, c .before .before .before .before .before .pre .1 (l .r) h .pair))
+    let p = c .before .before .before .before .before .before .pre in
+    (h, omega (arith, p .1 (l .r) h .pair), p .2)
 
 aim-bits-requires : tie.Need-aim-bits-requires Inv-loop μ-loop
 aim-bits-requires c κo =
     let l = c .before .before .loop in
     let h : l .r < 64 = omega arith in
-    let d = c .before .before .before .before .before .before .pre .1 (l .r) h in
-    (h, d .mode, d .signs)
+    let p = c .before .before .before .before .before .before .before .pre in
+    let d = p .1 (l .r) h in
+    (h, d .mode, d .signs, p .2)
 
 ask-requires : tie.Need-ask-requires Inv-loop μ-loop
 ask-requires c κo =
     let l = c .before .before .before .before .before .loop in
-    let p = c .before .before .before .before .before .before .before .before .before .pre in
+    let p = c .before .before .before .before .before .before .before .before .before .before .pre in
     let h : l .r < 64 = omega arith in
     let d = p .1 (l .r) h .pair in
     let e = c .before .before .before .aim-pair .ensures in
@@ -62,7 +64,7 @@ ask-requires c κo =
 loop-again : tie.Need-loop-again Inv-loop μ-loop
 loop-again c =
     let a = c .before .before .before .before .before .before .before .before .before .before .before
-    .before .before .before .before .args in
+    .before .before .before .before .before .args in
     let l = c .before .before .before .before .before .before .before .before .before .before .before .loop in
     let e = c .before .before .before .before .before .ask .ensures in
     let x = c .next-bit2 .ensures in (

@@ -34,17 +34,22 @@ abbrev μ-loop : tie.MeasureT-loop
 μ-loop left right subjects pair bits need₀ todo₀ j₀ need todo j = remaining need todo
 
 ask-requires : tie.Need-ask-requires Inv-loop μ-loop
-ask-requires c κo = let p = c .before .before .before .before .pre in (p .2, omega (arith, p .1, p .2))
+ask-requires c κo =
+    let p = c .before .before .before .before .before .before .pre in
+    (p .2, omega (arith, p .1, p .2))
 
 next-todo-requires : tie.Need-next-todo-requires Inv-loop μ-loop
 next-todo-requires c κo =
-    let p = c .before .before .before .before .before .before .before .before .before .before .pre in
+    let p = c .before .before .before .before .before .before .before .before .before .before
+    .before .before .pre in
     omega (arith, c .before .before .before .before .before .ask .ensures .0 .todos, p .1, p .2)
 
 loop-holds : tie.Need-loop-holds Inv-loop μ-loop
 loop-holds c =
-    let a = c .before .before .before .before .before .before .before .before .before .before .before .args in
-    let p = c .before .before .before .before .before .before .before .before .before .before .before .pre in
+    let a = c .before .before .before .before .before .before .before .before .before .before
+    .before .before .before .args in
+    let p = c .before .before .before .before .before .before .before .before .before .before
+    .before .before .before .pre in
     let g = c .before .before .before .before .before .before .ask .ensures in
     let net : Net = record { left = now (a .left); right = now (a .right); subjects = a .subjects } in (
       closed-grown net (g .0) (closed-start net (now (a .need)) (now (a .todo)) (λ j. p .3 j .0)),
@@ -62,9 +67,9 @@ loop-holds c =
 step-requires : tie.Need-step-requires Inv-loop μ-loop
 step-requires c κo =
     let a = c .before .before .before .before .before .before .before .before .before .before .before
-    .before .before .before .before .args in
+    .before .before .before .before .before .before .args in
     let p = c .before .before .before .before .before .before .before .before .before .before .before
-    .before .before .before .before .pre in
+    .before .before .before .before .before .before .pre in
     let l = c .before .before .before .loop in
     let i = l .inv in
     let e : length (l .need) ≡ length (now (a .need)) = i .4
@@ -75,6 +80,8 @@ step-requires c κo =
       t,
       omega arith,
       i .2 (omega arith),
+      p .4,
+      p .5,
     )
 
 next-todo-requires-2 : tie.Need-next-todo-requires-2 Inv-loop μ-loop
@@ -86,7 +93,8 @@ loop-less c = c .before .before .before .before .before .before .step .ensures .
 loop-again : tie.Need-loop-again Inv-loop μ-loop
 loop-again c =
     let a = c .before .before .before .before .before .before .before .before .before .before .before
-    .before .before .before .before .before .before .before .before .before .before .before .args in
+    .before .before .before .before .before .before .before .before .before .before .before
+    .before .before .args in
     let i = c .before .before .before .before .before .before .before .before .before .before .loop .inv in
     let o = c .before .before .before .before .before .before .step .ensures in (
       o .closed (i .0),
@@ -107,12 +115,12 @@ same-length-2 : tie.Need-same-length-2 Inv-loop μ-loop
 same-length-2 c = c .before .loop .inv .5
     ∙ c .before .before .before .before .before .before .before .before .ask .ensures .0 .needs
     ∙ sym (c .before .before .before .before .before .before .before .before .before .before .before
-    .before .before .pre .1)
+    .before .before .before .before .pre .1)
 
 returns : tie.Need-returns Inv-loop μ-loop
 returns c =
     let a = c .before .before .before .before .before .before .before .before .before .before .before
-    .before .before .args in
+    .before .before .before .before .args in
     let l = c .before .loop in
     let i = l .inv in (
       closed-end (record { left = now (a .left); right = now (a .right); subjects = a .subjects }) (l

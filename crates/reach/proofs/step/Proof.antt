@@ -12,37 +12,39 @@ use Rattle.reach.proofs.step.Statement.{statement}
 use Rattle.reach.proofs.step.Tie as tie
 
 div-o : tie.Need-div-o
-div-o c = omega (arith, c .before .before .before .before .pre .0 .some)
+div-o c = omega (arith, c .before .before .before .before .before .before .pre .0 .some)
 
 rem-s : tie.Need-rem-s
-rem-s c = omega (arith, c .before .before .before .before .pre .0 .some)
+rem-s c = omega (arith, c .before .before .before .before .before .before .pre .0 .some)
 
 stand-requires : tie.Need-stand-requires
 stand-requires c κo =
-    let a = c .before .before .before .before .args in
-    let p = c .before .before .before .before .pre in
+    let a = c .before .before .before .before .before .before .args in
+    let p = c .before .before .before .before .before .before .pre in
     let f = p .0 in
     let n = length (now (a .need)) in (
       omega (arith, object-below (now (a .right)) (a .subjects) n (a .pair) f (p .2), f .few),
       omega (arith, subject-below (now (a .right)) (a .subjects) n (a .pair) f (p .2), f .low),
       c .lowest .ensures .0,
+      p .4,
     )
 
 follow-requires : tie.Need-follow-requires
 follow-requires c κo =
-    let a = c .before .before .before .before .before .before .before .args in
-    let p = c .before .before .before .before .before .before .before .pre in
+    let a = c .before .before .before .before .before .before .before .before .before .args in
+    let p = c .before .before .before .before .before .before .before .before .before .pre in
     let k = c .before .before .before .lowest .result in
     let m : k % 8 < 8 = omega arith in (
       p .1,
       λ r l. led (now (a .right)) (a .subjects) (length (now (a .need))) (a .pair) (p .0) (p .2) (k %
           8) r m l,
+      p .5,
     )
 
 slice-read-without : tie.Need-slice-read-without
 slice-read-without c =
     let p = c .before .before .before .before .before .before .before .before .before .before .before
-    .before .before .pre in
+    .before .before .before .before .pre in
     omega (arith, c .before .before .before .before .before .follow .ensures .0 .todos, p .1, p .2)
 
 without-requires : tie.Need-without-requires
@@ -53,15 +55,15 @@ without-requires c κo =
 slice-write-todo : tie.Need-slice-write-todo
 slice-write-todo c =
     let p = c .before .before .before .before .before .before .before .before .before .before .before
-    .before .before .before .pre in
+    .before .before .before .before .before .pre in
     omega (arith, c .before .before .before .before .before .before .follow .ensures .0 .todos, p .1, p .2)
 
 returns : tie.Need-returns
 returns c =
     let a = c .before .before .before .before .before .before .before .before .before .before .before
-    .before .before .before .args in
+    .before .before .before .before .before .args in
     let p = c .before .before .before .before .before .before .before .before .before .before .before
-    .before .before .before .pre in
+    .before .before .before .before .before .pre in
     let f = c .before .before .before .before .before .before .follow in
     let g = f .ensures .0 in
     let s = c .before .before .before .before .before .before .before .before .before .stand in

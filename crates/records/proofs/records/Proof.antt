@@ -25,8 +25,7 @@ returns c =
 returns-2 : tie.Need-returns-2
 returns-2 c =
     let a = c .before .before .before .before .before .args in
-    sym (no-body (now (a .s)) (a .source) (a .first) (now (a .list)) (sound-here (c .before))
-    (c .if2 .taken))
+    sym (no-body (now (a .s)) (a .source) (a .first) (now (a .list)) (sound-here (c .before)) (c .if2 .taken))
 
 page-requires : tie.Need-page-requires
 page-requires c κs = sound-here (c .before .before .before)

@@ -29,7 +29,7 @@ abbrev μ-loop : tie.MeasureT-loop
 
 size-of-requires : tie.Need-size-of-requires Inv-loop μ-loop
 size-of-requires c κs =
-    let s = c .before .before .before .before in
+    let s = c .before .before .before .before .before .before in
     let a = s .args in
     omega (
       arith,
@@ -39,7 +39,7 @@ size-of-requires c κs =
 
 mul-join-in : tie.Need-mul-join-in Inv-loop μ-loop
 mul-join-in c =
-    let s = c .before .before .before .before .before in
+    let s = c .before .before .before .before .before .before .before in
     let a = s .args in
     let e = c .size-of .ensures ∙ ap (sizeOf (a .f .grid)) (c .before .before .all-places .ensures) in
     omega (
@@ -50,7 +50,7 @@ mul-join-in c =
 
 join-in-requires : tie.Need-join-in-requires Inv-loop μ-loop
 join-in-requires c κs =
-    let s = c .before .before .before .before .before in
+    let s = c .before .before .before .before .before .before .before in
     let a = s .args in
     let p = s .pre in
     let b = ap (sizeOf (a .f .grid)) (c .before .before .all-places .ensures) in
@@ -61,7 +61,7 @@ join-in-requires c κs =
 loop-holds : tie.Need-loop-holds Inv-loop μ-loop
 loop-holds c =
     let w = c .before .before .before in
-    let a = w .before .before .before .before .before .before .args in
+    let a = w .before .before .before .before .before .before .before .before .args in
     let e = c .next-bit .ensures in (
       e .1,
       e .3,
@@ -74,12 +74,18 @@ loop-holds c =
 give-rule-requires : tie.Need-give-rule-requires Inv-loop μ-loop
 give-rule-requires c κs =
     let w = c .before .before .before .before .before .before in
-    let s = w .before .before .before .before .before .before in
+    let s = w .before .before .before .before .before .before .before .before in
     let l = c .before .before .loop in
     let p = s .pre in
     let e : length (l .words) ≡ length (now (s .args .words)) =
     l .inv .2 .lengths ∙ w .join-in .ensures .1 in (
-      record { laid = p .0 .laid; narrow = p .0 .narrow; fits = rw e (p .0 .fits) },
+      record {
+        laid = p .0 .laid;
+        narrow = p .0 .narrow;
+        fits = rw e (p .0 .fits);
+        rights = p .0 .rights;
+        firsts = p .0 .firsts;
+      },
       p .1,
       c .before .loop-test .taken,
       p .3 (l .c) (l .inv .1 (omega arith)),
@@ -90,7 +96,7 @@ loop-again : tie.Need-loop-again Inv-loop μ-loop
 loop-again c =
     let l = c .before .before .before .before .before .before .loop in
     let takers = c .before .before .before .before .before .before .before .before .before .before .before
-    .before .before .before .before .before .args .takers in
+    .before .before .before .before .before .before .before .args .takers in
     let e = c .next-bit2 .ensures in
     let k = c .next-bit2 .result in
     let g = c .before .before .before .give-rule in (
@@ -109,7 +115,7 @@ returns c =
     let z = c .before .before .before .before .before .before .size-of .ensures in
     let o = c .before .before .before .before .before .before .before .before in
     let b = o .all-places .ensures in
-    let s = o .before .before .before in
+    let s = o .before .before .before .before .before in
     let a = s .args in
     let p = s .pre in
     let l = c .before .loop in

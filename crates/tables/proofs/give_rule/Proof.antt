@@ -1,5 +1,6 @@
 -- The place's field in the table of the rule, or none.
 use borrow.Author.Needs.{needs}
+use native.Mathlib.Omega.{arith}
 use mathlib.Core.Path.{sym, ap, _∙_}
 use mathlib.Core.Bool.{true≢false}
 use Prim.Native.Nat.{suc, _+_}
@@ -15,9 +16,15 @@ use Rattle.tables.proofs.GivingSteps.{given-none}
 use Rattle.tables.proofs.give_rule.Statement.{statement}
 use Rattle.tables.proofs.give_rule.Tie as tie
 
+-- a table lies below the number of fields
+cast-join-in : tie.Need-cast-join-in
+cast-join-in c =
+    let s = c .before .before .before .before .before .before .before .before .before in
+    omega (arith, s .pre .0 .laid .high (suc (suc (s .args .c))) (s .pre .3))
+
 join-in-requires : tie.Need-join-in-requires
 join-in-requires c κs =
-    let s = c .before .before .before .before .before .before .before in
+    let s = c .before .before .before .before .before .before .before .before .before in
     let a = s .args in
     let p = s .pre in (
       rw (c .before .before .before .before .before .region-at .ensures)
@@ -27,7 +34,8 @@ join-in-requires c κs =
 
 returns : tie.Need-returns
 returns c =
-    let s = c .before .before .before .before .before .before .before .before .before .before in
+    let s = c .before .before .before .before .before .before .before .before .before .before
+    .before .before in
     let a = s .args in
     let p = s .pre in
     let e = c .before .before .join-in .ensures in
@@ -48,7 +56,7 @@ returns c =
 
 returns-2 : tie.Need-returns-2
 returns-2 c =
-    let s = c .before .before .before .before .before in
+    let s = c .before .before .before .before .before .before .before in
     let a = s .args in
     let b = c .before .before .before .region-at .ensures in
     let t = tablesOf (a .f) (now (a .right)) (now (a .first)) in (
@@ -61,5 +69,5 @@ pub give-rule-spec : {M : Type 1} → statement M
 give-rule-spec =
     tie.close
     (tie.spec (λ c κs. search needs) (λ c κs. search needs) (λ c. search needs) (λ c. search needs)
-    join-in-requires (λ c. search needs)
+    cast-join-in join-in-requires (λ c. search needs)
     returns returns-2)

@@ -18,7 +18,8 @@ use Rattle.tables.proofs.lay_out.Tie as tie
 
 abbrev Inv-loop : tie.InvT-loop
 Inv-loop codes rules g from first₀ n₀ r₀ first n r =
-    (r ≤ 64) × (n ≡ from + roomOf g codes rules r) × (length first ≡ 64) × (r < 64 → bit r rules ≡ true)
+    (r ≤ 64) × (n ≡ from + roomOf g codes rules r) × (length first ≡ length first₀)
+    × (r < 64 → bit r rules ≡ true)
     × ((c : ℕ) → c < r → bit c rules ≡ true → getD first c 0 ≡ from + roomOf g codes rules c)
 
 abbrev μ-loop : tie.MeasureT-loop
@@ -26,7 +27,7 @@ abbrev μ-loop : tie.MeasureT-loop
 
 loop-holds : tie.Need-loop-holds Inv-loop μ-loop
 loop-holds c =
-    let a = c .before .before .args in
+    let a = c .before .before .before .args in
     let e = c .next-bit .ensures in (
       e .1,
       omega (
@@ -39,21 +40,32 @@ loop-holds c =
       λ i h t. absurd (true≢false (sym t ∙ e .2 i (omega arith) h)),
     )
 
+cast-first : tie.Need-cast-first Inv-loop μ-loop
+cast-first c =
+    let a = c .before .before .before .before .before .args in
+    let l = c .before .loop in
+    omega (
+      arith,
+      l .inv .1,
+      room-mono (a .g) (now (a .codes)) (a .rules) (l .r) 64 (l .inv .0),
+      c .before .before .before .before .before .pre .0,
+    )
+
 size-of-requires : tie.Need-size-of-requires Inv-loop μ-loop
 size-of-requires c κs =
-    let a = c .before .before .before .before .before .args in
+    let a = c .before .before .before .before .before .before .args in
     let l = c .before .before .loop in
     omega (
       arith,
       ap (sizeOf (a .g)) (c .region-at .ensures),
       room-taken (a .g) (now (a .codes)) (a .rules) (l .r) (l .inv .3 (omega arith)),
       room-mono (a .g) (now (a .codes)) (a .rules) (suc (l .r)) 64 (omega arith),
-      c .before .before .before .before .before .pre,
+      c .before .before .before .before .before .before .pre,
     )
 
 add-n : tie.Need-add-n Inv-loop μ-loop
 add-n c =
-    let a = c .before .before .before .before .before .before .args in
+    let a = c .before .before .before .before .before .before .before .args in
     let l = c .before .before .before .loop in
     omega (
       arith,
@@ -62,12 +74,12 @@ add-n c =
       l .inv .1,
       room-taken (a .g) (now (a .codes)) (a .rules) (l .r) (l .inv .3 (omega arith)),
       room-mono (a .g) (now (a .codes)) (a .rules) (suc (l .r)) 64 (omega arith),
-      c .before .before .before .before .before .before .pre,
+      c .before .before .before .before .before .before .before .pre .0,
     )
 
 loop-again : tie.Need-loop-again Inv-loop μ-loop
 loop-again c =
-    let a = c .before .before .before .before .before .before .before .args in
+    let a = c .before .before .before .before .before .before .before .before .args in
     let l = c .before .before .before .before .loop in
     let i = l .inv in
     let e = c .next-bit2 .ensures in
@@ -96,7 +108,7 @@ loop-again c =
 
 returns : tie.Need-returns Inv-loop μ-loop
 returns c =
-    let a = c .before .before .before .before .args in
+    let a = c .before .before .before .before .before .args in
     let l = c .before .loop in
     let codes = now (a .codes) in
     let e : l .r ≡ 64 = omega (arith, l .inv .0) in
@@ -109,7 +121,6 @@ returns c =
 pub lay-out-spec : {M : Type 1} → statement M
 lay-out-spec =
     tie.close
-    (tie.spec Inv-loop μ-loop (λ c κs. search needs) loop-holds (λ c. search needs) (λ c. search needs)
-    (λ c. search needs) (λ c κs. search needs) size-of-requires add-n (λ c. search needs)
-    (λ c κs. search needs) (λ c. search needs) loop-again
-    returns)
+    (tie.spec Inv-loop μ-loop (λ c κs. search needs) loop-holds (λ c. search needs) cast-first
+    (λ c. search needs) (λ c. search needs) (λ c κs. search needs) size-of-requires add-n (λ c. search needs)
+    (λ c κs. search needs) (λ c. search needs) loop-again (λ c. search needs) returns)

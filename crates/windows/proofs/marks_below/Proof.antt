@@ -4,7 +4,7 @@ use native.Mathlib.Omega.{arith}
 use mathlib.Core.Path.{refl}
 use Prim.Native.Nat.{_+_, _-_, _/_}
 use denote.Ref.{now}
-use Rattle.windows.proofs.Halves.{Cut, cut-start, cut-up, cut-down, cut-end}
+use Rattle.windows.proofs.Halves.{HalvedBetween, cut-start, cut-up, cut-down, cut-end}
 use Rattle.windows.proofs.marks_below.Statement.{statement}
 use Rattle.windows.proofs.marks_below.Tie as tie
 use Rattle.windows.proofs.marks_below.Reads as reads
@@ -12,7 +12,7 @@ use Rattle.windows.proofs.marks_below.Lts as lts
 use Rattle.windows.proofs.u64_of.Reads as u64-of-reads
 
 abbrev Inv-loop : tie.InvT-loop
-Inv-loop marks n t low₀ high₀ low high = Cut n marks t low high
+Inv-loop marks n t low₀ high₀ low high = HalvedBetween n marks t low high
 
 abbrev μ-loop : tie.MeasureT-loop
 μ-loop marks n t low₀ high₀ low high = high - low

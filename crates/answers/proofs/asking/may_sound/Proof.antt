@@ -1,17 +1,12 @@
 -- `answers::asking::may_sound`: rows 3 and 6, then what the rules say.
 use borrow.Author.Needs.{needs}
 use native.Mathlib.Omega.{arith}
-use mathlib.Core.Path.{_≡_, sym, ap, _∙_}
+use mathlib.Core.Path.{_≡_}
 use mathlib.Core.Bool.{true}
 use denote.Ref.{now}
 use Rattle.foundation.specs.Tests.{le-true}
-use Rattle.model.specs.declared.Reply.the-variants.{Refused}
 use Rattle.model.specs.Ranges.{isInstant, lastInstant}
-use Rattle.model.specs.Encoding.{decode}
-use Rattle.model.specs.Step.{firstNumber}
-use Rattle.model.specs.Answers.{mayReply}
-use Rattle.answers.specs.AskingRows.{accessRows}
-use Rattle.answers.proofs.AnswersByRows.{asked-in, may-refused, may-answered}
+use Rattle.answers.proofs.AnswersByRows.{reply-refused, reply-asked, reply-said}
 use Rattle.answers.proofs.asking.may_sound.Statement.{statement}
 use Rattle.answers.proofs.asking.may_sound.Tie as tie
 
@@ -22,28 +17,24 @@ instant c = le-true (c .args .q .instant) lastInstant (omega arith)
 returns : tie.Need-returns
 returns c =
     let d = c .before .before .before .before in
-    let e = c .before .refusal-of .ensures in
-    let a = d .args in
-    ap Refused e
-    ∙ sym (may-refused (now (a .s)) (a .q) (d .pre) (instant d) (λ z. omega (arith, c .if1 .taken, e, z)))
-
--- neither row applies
-passes : (c : tie.Else1) →
-    (let a = c .before .before .before .before .args in
-    firstNumber (accessRows (decode (now (a .s))) (a .q .access)) ≡ 0)
-passes c = omega (arith, c .if1 .left, c .before .refusal-of .ensures)
+    let n = c .before .refusal-of in
+    reply-refused (now (d .args .s)) (d .args .q) (d .pre) (instant d) (n .result) (n .ensures)
+    (c .if1 .taken)
 
 holds-at-requires : tie.Need-holds-at-requires
 holds-at-requires c κs =
     let d = c .before .before .before .before in
-    (d .pre, asked-in (decode (now (d .args .s))) (d .args .q .access) (passes c))
+    let n = c .before .refusal-of in
+    let a = reply-asked (now (d .args .s)) (d .args .q) (d .pre) (instant d) (n .result) (n .ensures)
+    (c .if1 .left) in
+    (d .pre, a)
 
 returns-2 : tie.Need-returns-2
 returns-2 c =
     let d = c .before .before .before .before .before .before in
-    c .may-reply .ensures
-    ∙ ap mayReply (c .before .holds-at .ensures)
-    ∙ sym (may-answered (now (d .args .s)) (d .args .q) (d .pre) (instant d) (passes (c .before .before)))
+    let n = c .before .before .before .refusal-of in
+    reply-said (now (d .args .s)) (d .args .q) (d .pre) (instant d) (n .result) (n .ensures)
+    (c .before .before .if1 .left) (c .before .holds-at .ensures) (c .may-reply .ensures)
 
 pub may-sound-spec : {M : Type 1} → statement M
 may-sound-spec =

@@ -18,7 +18,7 @@ use Rattle.engine.proofs.window.answers_in.Tie as tie
 
 field-in-requires : tie.Need-field-in-requires
 field-in-requires c κs =
-    let s = c .before .before .before in
+    let s = c .before .before .before .before .before in
     let a = s .args in
     rw (c .before .all-places .ensures)
     (reaches (a .f) (now (a .right)) (now (a .first)) (length (now (a .words))) (a .p) (s .pre .0) (s .pre .1)
@@ -26,7 +26,7 @@ field-in-requires c κs =
 
 size-of-requires : tie.Need-size-of-requires
 size-of-requires c κs =
-    let s = c .before .before .before .before in
+    let s = c .before .before .before .before .before .before in
     let a = s .args in
     omega (
       arith,
@@ -36,7 +36,7 @@ size-of-requires c κs =
 
 field-in-requires-2 : tie.Need-field-in-requires-2
 field-in-requires-2 c κs =
-    let s = c .before .before .before .before .before in
+    let s = c .before .before .before .before .before .before .before in
     let a = s .args in
     let b = c .before .before .before .all-places .ensures in
     let e = c .size-of .ensures ∙ ap (sizeOf (a .f .grid)) b in
@@ -49,7 +49,7 @@ sub-result c = and-le-l (c .before .before .field-in .result) (c .field-in2 .res
 
 returns : tie.Need-returns
 returns c =
-    let s = c .before .before .before .before .before .before in
+    let s = c .before .before .before .before .before .before .before .before in
     let a = s .args in
     let b = c .before .before .before .before .all-places .ensures in
     let e = c .before .size-of .ensures ∙ ap (sizeOf (a .f .grid)) b in

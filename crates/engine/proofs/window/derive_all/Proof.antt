@@ -4,30 +4,50 @@ use native.Mathlib.Omega.{arith}
 use mathlib.Core.Path.{refl, _∙_}
 use mathlib.Core.Logic.{inl, inr}
 use mathlib.Core.List.{[]}
+use denote.Ref.{now}
+use Rattle.grounding.specs.RuleTurns.{wordsFor}
 use Rattle.engine.proofs.Evaluating.{no-bit}
+use Rattle.engine.proofs.Sectioned.{part-alike}
 use Rattle.engine.proofs.window.derive_all.Statement.{statement}
 use Rattle.engine.proofs.window.derive_all.Tie as tie
 
-derive-strata-requires : tie.Need-derive-strata-requires
-derive-strata-requires c κs =
-    let d = c .before .before .before .before .before .before .before in
-    let s = d .before .before .before .before .before .before .before .before in
-    λ r e. rw (d .derive-rules .ensures .1) (s .pre .0 r (d .derive-rules .ensures .2 r e))
+derive-rest-requires : tie.Need-derive-rest-requires
+derive-rest-requires c κs =
+    let k = c .before .before in
+    let d = k .before .before in
+    let s = d .before .before .before .before .before .before .before .before .before .before in
+    let f = s .args .w .frame in
+    let n = wordsFor (f .fields) (f .width) in
+    let held = s .pre .0 .1 in
+    let long = k .before .work .given in
+    let e = d .derive-rules .ensures in (
+      (
+        (λ r b. rw (part-alike n _ (now (s .args .work)) long, e .1) (s .pre .0 .0 r (e .2 r b))),
+        record {
+          outlined = held .outlined;
+          placed = held .placed;
+          numbered = held .numbered;
+          roomy = rw long (held .roomy);
+        },
+      ),
+      s .pre .1,
+    )
 
 returns : tie.Need-returns
 returns c =
     let t = c .before .before in
-    let o = t .before .before .before in
-    let d = o .before .before .before .before .before in (
+    let d = t .before .before .before .before .before in
+    let e = d .derive-rules .ensures in
+    let r = t .derive-rest .ensures .0 .ran in (
       record {
         rest = d .derive-rules .result;
         turned = _;
-        turns = d .derive-rules .ensures .0;
-        fewer = d .derive-rules .ensures .2;
+        turns = e .0;
+        fewer = e .2;
         strata = _;
-        closed = inr (o .strata-of .ensures, t .derive-strata .ensures .0);
+        closed = inr (t .derive-rest .ensures .0 .numbered, rw (e .1) at r);
       },
-      t .derive-strata .ensures .1 ∙ d .derive-rules .ensures .1,
+      t .derive-rest .ensures .1 ∙ e .1,
     )
 
 returns-2 : tie.Need-returns-2
@@ -47,5 +67,5 @@ returns-2 c =
 pub derive-all-spec : {M : Type 1} → statement M
 derive-all-spec =
     tie.close
-    (tie.spec (λ c κs. search needs) (λ c κs. search needs) derive-strata-requires (λ c. search needs) returns
+    (tie.spec (λ c κs. search needs) derive-rest-requires (λ c. search needs) returns
     (λ c. search needs) returns-2)

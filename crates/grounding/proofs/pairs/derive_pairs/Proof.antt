@@ -1,91 +1,169 @@
 -- The pairs passed have their steps.
 use borrow.Author.Needs.{needs}
 use native.Mathlib.Omega.{arith}
-use mathlib.Core.Path.{_≡_}
+use mathlib.Core.Path.{_≡_, refl, sym, ap, _∙_}
 use Prim.Native.Nat.{_-_, _≤_}
 use denote.Ref.{now}
 use lib.ListN.{length}
+use lib.Seq.{length-take-le}
 use Rattle.words.specs.Sums.{SumGrown, grown-none, grown-both}
-use Rattle.grounding.specs.RuleSteps.{Step}
+use Rattle.sections.specs.Sections.{leftOf, firstOf, rightsOf, numberOf, fieldsOf, brokenOf}
+use Rattle.grounding.specs.RuleSteps.{Step, PairsReady, PairsRan}
+use Rattle.grounding.proofs.Parts.{lentOf, lent-all, lent-length, both-length}
 use Rattle.grounding.proofs.StepRows.{row-length, PairsTo, pairs-start, pairs-turn, pairs-end}
 use Rattle.grounding.proofs.pairs.derive_pairs.Statement.{statement}
 use Rattle.grounding.proofs.pairs.derive_pairs.Tie as tie
 
 abbrev Inv-loop : tie.InvT-loop
-Inv-loop t f left need codes number words₀ bits right first from to g fresh₀ n₀ words fresh n =
-    (from ≤ n) × PairsTo t f left need codes (Step t f number bits right first) from to n words₀ words
-    × SumGrown fresh words₀ words
+Inv-loop t f range outline coordinates need numbers work₀ g size number listed fresh₀ n₀ work fresh n =
+    (range .from ≤ n)
+    × PairsTo t f (leftOf outline) need listed
+    (Step t f number (brokenOf (t .words) work₀) (rightsOf coordinates) (firstOf outline)) (range .from)
+    (range .to) n (fieldsOf (t .words) work₀) (fieldsOf (t .words) work)
+    × SumGrown fresh (fieldsOf (t .words) work₀) (fieldsOf (t .words) work)
+    × (brokenOf (t .words) work ≡ brokenOf (t .words) work₀)
 
 abbrev μ-loop : tie.MeasureT-loop
-μ-loop t f left need codes number words₀ bits right first from to g fresh₀ n₀ words fresh n = to - n
+μ-loop t f range outline coordinates need numbers work₀ g size number listed fresh₀ n₀ work fresh n =
+    range .to - n
+
+slice-aggregate-number : tie.Need-slice-aggregate-number Inv-loop μ-loop
+slice-aggregate-number c =
+    let s = c .before .before .before .before .before .before .before in
+    sym (length-take-le (length (now (s .args .need))) (now (s .args .numbers))
+    (omega (arith, s .pre .2 .numbered)))
+
+slice-aggregate-listed : tie.Need-slice-aggregate-listed Inv-loop μ-loop
+slice-aggregate-listed c =
+    let s = c .before .before .before .before .before .before .before .before .before in
+    sym (lent-length (length (now (s .args .need))) (now (s .args .numbers)) (s .pre .2 .numbered))
 
 loop-holds : tie.Need-loop-holds Inv-loop μ-loop
 loop-holds c =
-    let a = c .before .before .before .before .before .before .args in (
+    let a = c .before .before .before .before .before .before .before .before .before .args in
+    let size = length (now (a .need)) in (
       omega arith,
-      pairs-start (a .t) (a .f) (now (a .left)) (now (a .need)) (now (a .codes)) (a .from) (a .to)
-          (now (a .words)),
-      grown-none (now (a .words)),
+      pairs-start (a .t) (a .f) (leftOf (now (a .outline))) (now (a .need)) (lentOf size (now (a .numbers)))
+          (a .range .from) (a .range .to) (fieldsOf (a .t .words) (now (a .work))),
+      grown-none (fieldsOf (a .t .words) (now (a .work))),
+      refl,
+    )
+
+shared-slice-read-c : tie.Need-shared-slice-read-c Inv-loop μ-loop
+shared-slice-read-c c =
+    let early = c .before .before .before .before .before .before in
+    let s = early .before .before .before .before .before .before .before in
+    let a = s .args in
+    omega (
+      arith,
+      c .before .if1 .taken,
+      s .pre .0 .listed,
+      ap length (lent-all (length (now (a .need))) (now (a .numbers))),
     )
 
 cast-c-2 : tie.Need-cast-c-2 Inv-loop μ-loop
-cast-c-2 c = omega (arith, c .shared-slice-known5 .given (c .before .before .loop .n))
+cast-c-2 c = omega (arith, c .shared-slice-known5 .given (c .before .before .before .loop .n))
 
-cast-t26 : tie.Need-cast-t26 Inv-loop μ-loop
-cast-t26 c = omega (arith, c .shared-slice-known5 .given (c .before .before .loop .n))
+cast-t32 : tie.Need-cast-t32 Inv-loop μ-loop
+cast-t32 c = omega (arith, c .shared-slice-known5 .given (c .before .before .before .loop .n))
 
-cast-t27 : tie.Need-cast-t27 Inv-loop μ-loop
-cast-t27 c = omega (arith, c .shared-slice-known5 .given (c .before .before .loop .n))
+cast-t33 : tie.Need-cast-t33 Inv-loop μ-loop
+cast-t33 c = omega (arith, c .shared-slice-known5 .given (c .before .before .before .loop .n))
 
 standing-modes-requires : tie.Need-standing-modes-requires Inv-loop μ-loop
 standing-modes-requires c κs =
-    let p = c .before .before .before .before .before .before .before .before .before .pre .0 in
-    let d = p .low (c .before .before .loop .n) (c .before .loop-test .taken) in
-    (d .0, d .1, p .rule, p .sign, d .2)
+    let early = c .before .before .before .before .before .before .before in
+    let s = early .before .before .before .before .before .before .before in
+    let a = s .args in
+    let k = a .t .words in
+    let size = length (now (a .need)) in
+    let p : PairsReady (a .t) (a .f) (leftOf (now (a .outline))) (now (a .need))
+    (lentOf size (now (a .numbers))) (numberOf size (now (a .numbers))) (length (fieldsOf k (now (a .work))))
+    (length (brokenOf k (now (a .work)))) (a .range .from) (a .range .to) =
+    rw (lent-all size (now (a .numbers))) (s .pre .0) in
+    let d = p .low (c .before .before .before .before .loop .n) (c .before .before .if1 .taken) in (
+      d .0,
+      d .1,
+      p .rule,
+      p .sign,
+      omega (arith, length-take-le 152 (now (a .outline)) (omega (arith, s .pre .2 .outlined))),
+      d .2,
+    )
 
 derive-modes-requires : tie.Need-derive-modes-requires Inv-loop μ-loop
 derive-modes-requires c κs =
-    let s = c .before .before .before .before .before .before .before .before .before .before .before in
-    let l = c .before .before .before .before .loop in
-    let e : length (l .words) ≡ length (now (s .args .words)) =
-    row-length (λ p u v d. d .given .lengths) (l .inv .1 .steps) in (
-      λ m h b.
-          let w = c .before .standing-modes .ensures .0 m b in
-          rw e (s .pre .0 .reads (l .n) m (l .inv .0) (c .before .before .before .loop-test .taken)
-          record { object = w .0; subject = w .1; mode = w .2 }),
+    let i = c .before .before .before .before .before .before in
+    let l = i .before .before .loop in
+    let early = i .before .before .before .before .before .before in
+    let s = early .before .before .before .before .before .before in
+    let a = s .args in
+    let k = a .t .words in
+    let w = now (a .work) in
+    let size = length (now (a .need)) in
+    let p : PairsReady (a .t) (a .f) (leftOf (now (a .outline))) (now (a .need))
+    (lentOf size (now (a .numbers))) (numberOf size (now (a .numbers))) (length (fieldsOf k w))
+    (length (brokenOf k w)) (a .range .from) (a .range .to) =
+    rw (lent-all size (now (a .numbers))) (s .pre .0) in
+    let e : length (fieldsOf k (l .work)) ≡ length (fieldsOf k w) =
+    row-length (λ p u v d. d .given .lengths) (l .inv .1 .steps) in
+    let b : brokenOf k (l .work) ≡ brokenOf k w = l .inv .3 in (
+      λ m h y.
+          let u = c .before .before .before .standing-modes .ensures .0 m y in
+          rw (e, b) (p .reads (l .n) m (l .inv .0) (i .if1 .taken)
+          record { object = u .0; subject = u .1; mode = u .2 }),
+      omega (arith, both-length k (l .work) w e (ap length b), s .pre .2 .roomy),
       rw e (s .pre .1),
     )
 
 loop-again : tie.Need-loop-again Inv-loop μ-loop
 loop-again c =
-    let i = c .before .before .before .before .before .before in
-    let l = i .before .loop in
-    let a = i .before .before .before .before .before .before .before .before .args in
+    let i = c .before .before .before .before .before .before .before .before .before in
+    let l = i .before .before .loop in
+    let early = i .before .before .before .before .before .before in
+    let a = early .before .before .before .before .before .before .args in
+    let size = length (now (a .need)) in
     let g = c .before .before .derive-modes in
-    let w = c .before .before .before .before .standing-modes in (
+    let w = c .before .before .before .before .before .before .standing-modes in (
       omega arith,
-      pairs-turn (a .t) (a .f) (now (a .left)) (now (a .need)) (now (a .codes)) (a .from) (a .to) (l .n)
-          (w .result) (l .inv .0) (i .loop-test .taken)
+      pairs-turn (a .t) (a .f) (leftOf (now (a .outline))) (now (a .need)) (lentOf size (now (a .numbers)))
+          (a .range .from) (a .range .to) (l .n) (w .result) (l .inv .0) (i .if1 .taken)
           (λ m b. let u = w .ensures .0 m b in record { object = u .0; subject = u .1; mode = u .2 })
-          (λ m u. w .ensures .1 m (u .object) (u .subject) (u .mode)) (l .inv .1) (g .ensures .0),
+          (λ m u. w .ensures .1 m (u .object) (u .subject) (u .mode)) (l .inv .1)
+          (rw (l .inv .3) at (g .ensures .0)),
       grown-both (l .fresh) (g .result) (l .inv .2) (g .ensures .1),
+      g .ensures .2 ∙ l .inv .3,
     )
 
 same-length : tie.Need-same-length Inv-loop μ-loop
-same-length c = row-length (λ p u v d. d .given .lengths) (c .before .loop .inv .1 .steps)
+same-length c =
+    let early = c .before .before .before .before .before .before in
+    let a = early .before .before .before .before .before .before .args in
+    let l = c .before .before .loop in
+    both-length (a .t .words) (l .work) (now (a .work))
+    (row-length (λ p u v d. d .given .lengths) (l .inv .1 .steps)) (ap length (l .inv .3))
 
 returns : tie.Need-returns Inv-loop μ-loop
 returns c =
-    let a = c .before .before .before .before .before .before .before .before .args in
-    let l = c .before .loop in (
-      pairs-end (a .t) (a .f) (now (a .left)) (now (a .need)) (now (a .codes)) (l .n) (omega arith)
-          (l .inv .1),
-      l .inv .2,
-    )
+    let early = c .before .before .before .before .before .before in
+    let a = early .before .before .before .before .before .before .args in
+    let k = a .t .words in
+    let size = length (now (a .need)) in
+    let l = c .before .before .loop in
+    let r : PairsRan (a .t) (a .f) (leftOf (now (a .outline))) (now (a .need))
+    (lentOf size (now (a .numbers)))
+    (Step (a .t) (a .f) (numberOf size (now (a .numbers))) (brokenOf k (now (a .work)))
+    (rightsOf (now (a .coordinates))) (firstOf (now (a .outline)))) (a .range .from) (a .range .to)
+    (fieldsOf k (now (a .work))) (fieldsOf k (l .work)) =
+    pairs-end (a .t) (a .f) (leftOf (now (a .outline))) (now (a .need)) (lentOf size (now (a .numbers)))
+    (l .n) (omega (arith, c .if1 .left)) (l .inv .1) in
+    (rw (lent-all size (now (a .numbers))) at r, l .inv .2, l .inv .3)
 
 pub derive-pairs-spec : {M : Type 1} → statement M
 derive-pairs-spec =
     tie.close
-    (tie.spec Inv-loop μ-loop loop-holds (λ c. search needs) (λ c. search needs) (λ c. search needs)
-    cast-c-2 cast-t26 cast-t27 standing-modes-requires derive-modes-requires (λ c. search needs)
-    (λ c. search needs) loop-again same-length returns)
+    (tie.spec Inv-loop μ-loop slice-aggregate-number (λ c. search needs) (λ c. search needs)
+    (λ c. search needs) (λ c. search needs) slice-aggregate-listed loop-holds (λ c. search needs)
+    (λ c. search needs) shared-slice-read-c cast-c-2 cast-t32 cast-t33 (λ c. search needs)
+    (λ c. search needs) (λ c. search needs) standing-modes-requires (λ c. search needs) (λ c. search needs)
+    (λ c. search needs) (λ c. search needs) (λ c. search needs) (λ c. search needs) derive-modes-requires
+    (λ c. search needs) (λ c. search needs) loop-again same-length returns)

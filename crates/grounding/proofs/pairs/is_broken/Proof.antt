@@ -23,6 +23,20 @@ returns c =
     (eqb (fieldOf 0 (now (a .bits)) (brokenAt (a .t) (a .g) (a .p))) 1)
     (ap (λ (b : Bool). not b || z) (sym (c .before .is-lasting .ensures)) ∙ c .if1 .taken))
 
+cast-field-at : tie.Need-cast-field-at
+cast-field-at c =
+    let d = c .before .before .before in
+    let s = d .before .before .before in
+    let a = s .args in
+    let w = or-none (not (d .before .is-lasting .result)) (eqb (length (now (a .bits))) 0) (d .if1 .left) in
+    let n = false-eq (length (now (a .bits))) 0 (w .1) in
+    omega (
+      arith,
+      s .pre .number
+          (sym (d .before .is-lasting .ensures) ∙ not-false (d .before .is-lasting .result) (w .0))
+          (omega (arith, n)),
+    )
+
 add-field-at : tie.Need-add-field-at
 add-field-at c =
     let d = c .before .before .before .before in
@@ -32,7 +46,7 @@ add-field-at c =
     let n = false-eq (length (now (a .bits))) 0 (w .1) in
     omega (
       arith,
-      c .before .index-in .ensures,
+      c .index-in .ensures,
       bit-number (a .t) (a .g) (length (now (a .bits))) (a .p) (s .pre)
           (sym (d .before .is-lasting .ensures) ∙ not-false (d .before .is-lasting .result) (w .0))
           (omega (arith, n)),
@@ -48,7 +62,7 @@ field-at-requires c κs =
       omega arith,
       omega (
         arith,
-        c .before .index-in .ensures,
+        c .index-in .ensures,
         bit-room (a .t) (a .g) (length (now (a .bits))) (a .p) (s .pre)
             (sym (d .before .is-lasting .ensures) ∙ not-false (d .before .is-lasting .result) (w .0))
             (omega (arith, n)),
@@ -62,11 +76,12 @@ returns-2 c =
     let w = now (a .bits) in
     let z = eqb (length w) 0 in
     ap (λ (n : ℕ). eqb n 1) (c .field-at .ensures
-    ∙ ap (λ (i : ℕ). fieldOf 0 w (a .t .bits + i)) (c .before .before .index-in .ensures))
+    ∙ ap (λ (i : ℕ). fieldOf 0 w (a .t .bits + i)) (c .before .index-in .ensures))
     ∙ sym (by-bit (lasting (a .t .operator)) z (eqb (fieldOf 0 w (brokenAt (a .t) (a .g) (a .p))) 1)
     (ap (λ (b : Bool). not b || z) (sym (d .before .is-lasting .ensures)) ∙ d .if1 .left))
 
 pub is-broken-spec : {M : Type 1} → statement M
 is-broken-spec =
     tie.close
-    (tie.spec (λ c κs. search needs) returns (λ c κs. search needs) add-field-at field-at-requires returns-2)
+    (tie.spec (λ c κs. search needs) returns cast-field-at (λ c κs. search needs) add-field-at
+    field-at-requires returns-2)

@@ -1,58 +1,100 @@
 -- A turn is a row of steps, each of which keeps the length of the tables.
 use borrow.Author.Needs.{needs}
-use mathlib.Core.Path.{_≡_, refl, _∙_}
+use native.Mathlib.Omega.{arith}
+use mathlib.Core.Path.{refl, sym, ap, _∙_}
 use mathlib.Core.Logic.{inl, inr}
-use mathlib.Core.List.{List}
-use Prim.Native.Nat.{ℕ}
+use Prim.Native.Nat.{suc, _<_}
 use denote.Ref.{now}
 use lib.ListN.{length}
+use lib.Seq.{length-take-le}
 use Rattle.words.specs.Sums.{grown-none}
-use Rattle.grounding.specs.RuleSteps.{Steps, Step, none, then}
-use Rattle.tables.specs.declared.Place.{Place}
+use Rattle.sections.specs.Sections.{leftOf, firstOf, rightsOf, numberOf, listedOf, fieldsOf, brokenOf}
+use Rattle.grounding.specs.declared.RuleTurn.{RuleTurn}
+use Rattle.grounding.specs.RuleSteps.{Step}
+use Rattle.grounding.specs.RuleTurns.{fieldsIn}
+use Rattle.sections.specs.SectionWrites.{in-part}
+use Rattle.grounding.proofs.Parts.{both-length}
+use Rattle.grounding.proofs.StepRows.{row-length}
 use Rattle.grounding.proofs.TurnRounds.{ready-as, ran-as}
 use Rattle.grounding.proofs.turns.derive_rule.Statement.{statement}
 use Rattle.grounding.proofs.turns.derive_rule.Tie as tie
 
-steps-length : {Does : Place → List ℕ → List ℕ → Type 0} {At : Place → Type 0} {u w : List ℕ} →
-    ((p : Place) (a b : List ℕ) → Does p a b → length b ≡ length a) → Steps Does At u w → length w ≡ length u
-steps-length kept none = refl
-steps-length kept (then {u = u} {v = v} p a d s) = steps-length kept s ∙ kept p u v d
-
-derive-pairs-requires : tie.Need-derive-pairs-requires
-derive-pairs-requires c κs =
-    let d = c .before .before .before .before in
-    let s = d .before .before .before .before .before .before .before .before .before in
-    let a = s .args in (
-      ready-as (a .f) (now (a .left)) (now (a .need)) (now (a .codes)) (now (a .number)) (d .turn-of .ensures)
-          (c .before .range-of .ensures) (length (now (a .words))) (length (now (a .bits))) (s .pre .pairs),
-      s .pre .ready,
-    )
-
 returns : tie.Need-returns
 returns c =
     let s = c .before .before .before .before .before .before .before .before in
-    (inl (c .if1 .taken, refl), grown-none (now (s .args .words)), refl)
+    let a = s .args in (
+      inl (in-part 408 64 (now (a .outline)) (a .r) (s .pre .0 .low) ∙ c .if1 .taken, refl),
+      grown-none (fieldsIn (a .f) (now (a .work))),
+      refl,
+    )
+
+turn-of-requires : tie.Need-turn-of-requires
+turn-of-requires c κs =
+    let s = c .before .before .before .before .before .before .before .before in
+    let a = s .args in
+    let p = s .pre .0 in
+    let n : a .f .fields < 4294967296 = search needs in (
+      p .low,
+      p .there,
+      p .signs,
+      p .size,
+      λ e. omega (arith, p .ready .laid .high (suc (suc (a .r))) e, n),
+      p .ready .narrow,
+      s .pre .1 .outlined,
+      s .pre .1 .placed,
+    )
+
+slice-aggregate-range-of : tie.Need-slice-aggregate-range-of
+slice-aggregate-range-of c =
+    let early = c .before .before .before .before .before .before in
+    let s = early .before .before .before .before .before .before in
+    sym (length-take-le (length (now (s .args .need))) (now (s .args .numbers))
+    (omega (arith, s .pre .1 .numbered)))
+
+derive-pairs-requires : tie.Need-derive-pairs-requires
+derive-pairs-requires c κs =
+    let d = c .before .before .before .before .before in
+    let s = d .before .before .before .before .before .before .before .before .before in
+    let a = s .args in
+    let size = length (now (a .need)) in
+    let q = ap (λ (t : RuleTurn). t .words) (d .turn-of .ensures) in (
+      ready-as (a .f) (leftOf (now (a .outline))) (now (a .need)) (listedOf size (now (a .numbers)))
+          (numberOf size (now (a .numbers))) (d .turn-of .ensures) (c .before .range-of .ensures)
+          (now (a .work)) (s .pre .0 .pairs),
+      rw q (s .pre .0 .ready),
+      rw q (s .pre .1),
+    )
 
 same-length : tie.Need-same-length
 same-length c =
-    steps-length (λ p u v s. s .given .lengths) (c .before .before .derive-pairs .ensures .0 .steps)
+    let g = c .before .before in
+    let d = g .before .before .before .before .before .before in
+    let a = d .before .before .before .before .before .before .before .before .before .args in
+    let new = g .derive-pairs .last .1 .1 .1 .1 .1 .1 .1 .0 in
+    let e = g .derive-pairs .ensures in
+    both-length (d .turn-of .result .words) new (now (a .work))
+    (row-length (λ p u v s. s .given .lengths) (e .0 .steps)) (ap length (e .2))
 
 returns-2 : tie.Need-returns-2
 returns-2 c =
     let g = c .before .before in
-    let d = g .before .before .before .before .before in
-    let s = d .before .before .before .before .before .before .before .before .before in
-    let a = s .args in
+    let d = g .before .before .before .before .before .before in
+    let a = d .before .before .before .before .before .before .before .before .before .args in
+    let size = length (now (a .need)) in
+    let q = ap (λ (t : RuleTurn). t .words) (d .turn-of .ensures) in
+    let new = g .derive-pairs .last .1 .1 .1 .1 .1 .1 .1 .0 in
     let e = g .derive-pairs .ensures in (
-      inr (ran-as (a .f) (now (a .left)) (now (a .need)) (now (a .codes)) (now (a .number))
-          (d .turn-of .ensures) (g .before .before .range-of .ensures)
-          (λ t. Step t (a .f) (now (a .number)) (now (a .bits)) (now (a .right)) (now (a .first))) (e .0)),
-      e .1,
-      steps-length (λ p u v s. s .given .lengths) (e .0 .steps),
+      inr (ran-as (a .f) (leftOf (now (a .outline))) (now (a .need)) (listedOf size (now (a .numbers)))
+          (numberOf size (now (a .numbers))) (d .turn-of .ensures) (g .before .before .range-of .ensures)
+          (λ t. Step t (a .f) (numberOf size (now (a .numbers))) (brokenOf (t .words) (now (a .work)))
+          (rightsOf (now (a .coordinates))) (firstOf (now (a .outline))))
+          (λ k. fieldsOf k (now (a .work))) (λ k. fieldsOf k new) (e .0)),
+      rw q at (e .1),
+      rw q at (e .2),
     )
 
 pub derive-rule-spec : {M : Type 1} → statement M
 derive-rule-spec =
     tie.close
-    (tie.spec (λ c. search needs) (λ c. search needs) returns (λ c κs. search needs) (λ c κs. search needs)
-    derive-pairs-requires same-length returns-2)
+    (tie.spec (λ c. search needs) (λ c. search needs) (λ c. search needs) returns turn-of-requires
+    slice-aggregate-range-of (λ c κs. search needs) derive-pairs-requires same-length returns-2)

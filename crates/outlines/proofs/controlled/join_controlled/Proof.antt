@@ -14,22 +14,23 @@ use Rattle.outlines.proofs.controlled.join_controlled.Tie as tie
 
 returns : tie.Need-returns
 returns c =
-    let a = c .before .before .before .args in
+    let a = c .before .before .before .before .args in
     ((λ w r h. rw (c .if1 .taken) (no-word w (bit r (getD (now (a .left)) w 0)) _ h)), λ w h. refl)
 
 returns-2 : tie.Need-returns-2
 returns-2 c =
-    let b = c .before .before .before .before .before .before .before in
+    let b = c .before .before .before .before .before .before .before .before .before .before in
     let a = b .args in
     let l = now (a .left) in
-    let x = c .before .before .by-control in
-    let e = stored-word l (c .put-word .last .0) (a .at) (x .result) (c .put-word .ensures) in (
+    let x = c .before .before .before .before .by-control in
+    let p = c .before .before .put-word in
+    let e = stored-word l (p .last .0) (a .at) (x .result) (p .ensures) in (
       (λ w r h. e w r ∙ ap (λ (y : Bool). bit r (getD l w 0) || (eqb w (a .at) && y)) (x .ensures r)),
-      λ w h. c .put-word .ensures w ∙ rw (ne-false w (a .at) (λ z. omega (arith, b .pre .4))),
+      λ w h. p .ensures w ∙ rw (ne-false w (a .at) (λ z. omega (arith, b .pre .4))),
     )
 
 pub join-controlled-spec : {M : Type 1} → statement M
 join-controlled-spec =
     tie.close
     (tie.spec returns (λ c. search needs) (λ c. search needs) (λ c. search needs) (λ c κs. search needs)
-    (λ c κs. search needs) returns-2)
+    (λ c κs. search needs) (λ c. search needs) returns-2)

@@ -4,7 +4,7 @@ use mathlib.Core.Path.{_≡_, refl, ap, _∙_}
 use mathlib.Core.Bool.{false}
 use Prim.Native.Nat.{_≤_}
 use denote.Ref.{now}
-use Rattle.foundation.specs.BitMasks.{Built, build-start, build-room, build-turn, build-end}
+use Rattle.foundation.specs.BitMasks.{MaskBuilt, build-start, build-room, build-turn, build-end}
 use Rattle.model.specs.Encoding.{ruleOf}
 use Rattle.outlines.specs.Feed.{isChoosy}
 use Rattle.outlines.proofs.feed.choosy_of.Statement.{statement}
@@ -12,7 +12,7 @@ use Rattle.outlines.proofs.feed.choosy_of.Tie as tie
 
 abbrev Inv-loop : tie.InvT-loop
 Inv-loop body n m₀ i₀ m i =
-    (i ≤ n) × Built 28 ruleOf isChoosy n body m i
+    (i ≤ n) × MaskBuilt 28 ruleOf isChoosy n body m i
 
 abbrev μ-loop : tie.MeasureT-loop
 μ-loop body n m₀ i₀ m i = i

@@ -5,7 +5,7 @@ use mathlib.Core.Bool.{Bool, true, _&&_, _||_}
 use Prim.Native.Nat.{ℕ, _+_, _≤_, _<_, _-_}
 use denote.Ref.{now}
 use lib.Dec.{eqb, ltb}
-use lib.ListN.{getD}
+use lib.ListN.{length, getD}
 use Rattle.foundation.specs.BitMasks.{bit}
 use Rattle.foundation.specs.Tests.{true-eq}
 use Rattle.masks.proofs.SingleBits.{no-bit}
@@ -15,7 +15,8 @@ use Rattle.outlines.proofs.feed.draw_fed.Tie as tie
 
 abbrev Inv-loop : tie.InvT-loop
 Inv-loop choosy feed₀ c₀ feed c =
-    (c ≤ 64) × (c < 64 → bit c choosy ≡ true) × ((w : ℕ) → w < 64 → getD feed w 0 ≡ getD feed₀ w 0)
+    (c ≤ 64) × (c < 64 → bit c choosy ≡ true) × (length feed ≡ 128)
+    × ((w : ℕ) → w < 64 → getD feed w 0 ≡ getD feed₀ w 0)
     × ((i r : ℕ) → i < 64 → bit r (getD feed (64 + i) 0)
     ≡ (ltb r c && bit r choosy) && bit i (getD feed₀ r 0))
 
@@ -24,29 +25,31 @@ abbrev μ-loop : tie.MeasureT-loop
 
 loop-holds : tie.Need-loop-holds Inv-loop μ-loop
 loop-holds c =
-    let b = c .before in
+    let b = c .before .before in
     let e = c .next-bit .ensures in (
       e .1,
       e .3,
+      b .pre .1,
       (λ w h. refl),
-      λ i r h. ap (bit r) (b .pre (64 + i) (omega arith)) ∙ no-bit r
+      λ i r h. ap (bit r) (b .pre .0 (64 + i) (omega arith)) ∙ no-bit r
           ∙ sym (ap (λ (x : Bool). x && bit i (getD (now (b .args .feed)) r 0))
           (pass-start (λ k. bit k (b .args .choosy)) (c .next-bit .result) r (e .2))),
     )
 
 loop-again : tie.Need-loop-again Inv-loop μ-loop
 loop-again c =
-    let a = c .before .before .before .before .before .before .before .args in
-    let l = c .before .before .before .before .before .loop in
+    let a = c .before .before .before .before .before .before .before .before .before .before .args in
+    let l = c .before .before .before .before .before .before .before .loop in
     let e = c .next-bit2 .ensures in
-    let f = c .before .hand-on .ensures in
+    let f = c .before .before .before .hand-on .ensures in
     let p : bit (l .c) (a .choosy) ≡ true = l .inv .1 (omega arith) in
     let s : l .c < 64 = omega arith in (
       e .1,
       e .3,
-      (λ w h. f .0 w h ∙ l .inv .2 w h),
+      c .before .before .before .hand-on .kept .0 ∙ l .inv .2,
+      (λ w h. f .0 w h ∙ l .inv .3 w h),
       λ i r h. f .1 i r
-          ∙ ap₂ (λ (x y : Bool). x || (eqb r (l .c) && y)) (l .inv .3 i r h) (ap (bit i) (l .inv .2 (l .c) s))
+          ∙ ap₂ (λ (x y : Bool). x || (eqb r (l .c) && y)) (l .inv .4 i r h) (ap (bit i) (l .inv .3 (l .c) s))
           ∙ bring-one (ltb r (l .c) && bit r (a .choosy)) (eqb r (l .c)) (bit i (getD (now (a .feed)) r 0))
           (bit i (getD (now (a .feed)) (l .c) 0))
           (λ y. ap (λ (k : ℕ). bit i (getD (now (a .feed)) k 0)) (sym (true-eq r (l .c) y)))
@@ -56,10 +59,10 @@ loop-again c =
 
 returns : tie.Need-returns Inv-loop μ-loop
 returns c =
-    let a = c .before .before .before .args in
+    let a = c .before .before .before .before .args in
     let l = c .before .loop in (
-      l .inv .2,
-      λ i r h k. l .inv .3 i r h ∙ ap (λ (x : Bool). x && bit i (getD (now (a .feed)) r 0))
+      l .inv .3,
+      λ i r h k. l .inv .4 i r h ∙ ap (λ (x : Bool). x && bit i (getD (now (a .feed)) r 0))
           (pass-end (a .choosy) (l .c) r (omega arith) (omega arith)),
     )
 
@@ -68,4 +71,5 @@ draw-fed-spec =
     tie.close
     (tie.spec Inv-loop μ-loop (λ c κs. search needs) loop-holds (λ c. search needs) (λ c. search needs)
     (λ c. search needs)
-    (λ c κs. search needs) (λ c. search needs) (λ c κs. search needs) (λ c. search needs) loop-again returns)
+    (λ c κs. search needs) (λ c. search needs) (λ c κs. search needs) (λ c. search needs) loop-again
+    (λ c. search needs) returns)

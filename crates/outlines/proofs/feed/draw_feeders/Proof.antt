@@ -1,54 +1,82 @@
 use borrow.Author.Needs.{needs}
 use native.Mathlib.Omega.{arith}
 use mathlib.Core.Path.{_≡_, refl, sym, ap, _∙_}
-use Prim.Native.Nat.{ℕ, _≤_, _-_}
+use Prim.Native.Nat.{ℕ, _+_, _≤_, _<_, _-_}
 use denote.Ref.{now}
 use lib.Dec.{eqb}
-use lib.ListN.{getD}
+use lib.ListN.{length, getD}
+use lib.Seq.{length-take-le}
 use Rattle.foundation.specs.Tests.{cases, true-eq, false-eq, ne-false}
 use Rattle.encoding.specs.Format.{rulesIn, ruleAt}
 use Rattle.rules.specs.RankTables.{feedersOf, RuleTable}
+use Rattle.sections.specs.Sections.{leftOf, feedOf}
+use Rattle.sections.specs.SectionWrites.{part-long, part-word, same-front}
 use Rattle.outlines.proofs.feed.draw_feeders.Statement.{statement}
 use Rattle.outlines.proofs.feed.draw_feeders.Tie as tie
 
 abbrev Inv-loop : tie.InvT-loop
-Inv-loop body n left right sides feed₀ i₀ feed i =
-    (i ≤ n) × RuleTable i body (feedersOf (rulesIn n body)) feed
-    × ((k : ℕ) → i ≤ k → getD feed k 0 ≡ getD feed₀ k 0)
+Inv-loop body n coordinates outline₀ i₀ outline i =
+    (i ≤ n) × RuleTable i body (feedersOf (rulesIn n body)) (feedOf outline)
+    × ((k : ℕ) → i ≤ k → getD (feedOf outline) k 0 ≡ getD (feedOf outline₀) k 0)
+    × (leftOf outline ≡ leftOf outline₀) × (length outline ≡ 472)
 
 abbrev μ-loop : tie.MeasureT-loop
-μ-loop body n left right sides feed₀ i₀ feed i = n - i
+μ-loop body n coordinates outline₀ i₀ outline i = n - i
 
 loop-holds : tie.Need-loop-holds Inv-loop μ-loop
-loop-holds c = (search needs, (λ i h. absurd (omega arith)), λ k h. refl)
+loop-holds c =
+    (search needs, (λ i h. absurd (omega arith)), (λ k h. refl), refl, c .before .before .before .pre .1)
 
 feeders-requires : tie.Need-feeders-requires Inv-loop μ-loop
-feeders-requires c κs = (omega arith, c .before .before .before .pre)
+feeders-requires c κs =
+    let l = c .before .before .before .before .before .loop in
+    let b = c .before .before .before .before .before .before .before .before .before in
+    let s = now (b .args .coordinates) in
+    let p = b .pre .2 in (
+      omega arith,
+      rw (l .inv .3) (b .pre .0),
+      length-take-le 152 (l .outline) (omega (arith, l .inv .4)),
+      omega (arith, part-long 256 256 s (omega (arith, p))),
+      omega (arith, length-take-le 256 s (omega (arith, p))),
+    )
 
 put-word-requires : tie.Need-put-word-requires Inv-loop μ-loop
-put-word-requires c κs = omega (arith, c .before .before .before .before .before .pre .well-formed .few)
+put-word-requires c κs =
+    let l = c .before .before .before .before .before .before .before in
+    omega (arith, l .loop .inv .4, l .before .before .before .before .pre .0 .well-formed .few)
 
 loop-again : tie.Need-loop-again Inv-loop μ-loop
 loop-again c =
-    let b = now (c .before .before .before .before .before .before .args .body) in
-    let l = c .before .before .before .before .loop in
-    let w = c .put-word .ensures in (
+    let i = c .before .before .before .before .before .before .before .before .before in
+    let j = i .before in
+    let b = j .before .before .before .before in
+    let n = b .args .n in
+    let body = now (b .args .body) in
+    let l = j .loop in
+    let f = c .before .before .before .before .feeders in
+    let p = c .before .before .put-word in
+    let few : l .i < 64 = omega (arith, i .loop-test .taken, b .pre .0 .well-formed .few) in
+    let w = part-word 152 128 (l .outline) (p .last .0) (l .i) (f .result) (omega arith) (p .ensures) in (
       search needs,
-      (λ j h. cases (eqb j (l .i))
-          (λ e. w j ∙ rw e (c .before .before .feeders .ensures
-          ∙ ap (λ (k : ℕ). feedersOf (rulesIn (c .before .before .before .before .before .before .args .n)
-          b) (ruleAt b k)) (sym (true-eq j (l .i) e))))
-          (λ e. let z = false-eq j (l .i) e in w j ∙ rw e (l .inv .1 j (omega arith)))),
-      λ k h. w k ∙ rw (ne-false k (l .i) (λ z. omega arith)) (l .inv .2 k (omega arith)),
+      (λ k h. cases (eqb k (l .i))
+          (λ e. w k ∙ rw e (f .ensures
+          ∙ ap (λ (q : ℕ). feedersOf (rulesIn n body) (ruleAt body q)) (sym (true-eq k (l .i) e))))
+          (λ e. let z = false-eq k (l .i) e in w k ∙ rw e (l .inv .1 k (omega arith)))),
+      (λ k h. w k ∙ rw (ne-false k (l .i) (λ z. omega arith)) (l .inv .2 k (omega arith))),
+      same-front (l .outline) (p .last .0) (p .kept .0) 152
+          (λ k h. p .ensures k ∙ rw (ne-false k (152 + l .i) (λ z. omega arith))) ∙ l .inv .3,
+      p .kept .0 ∙ l .inv .4,
     )
 
 returns : tie.Need-returns Inv-loop μ-loop
 returns c =
     let l = c .before .loop in
-    (λ j h. l .inv .1 j (omega arith), λ k h. l .inv .2 k (omega arith))
+    (λ k h. l .inv .1 k (omega arith), (λ k h. l .inv .2 k (omega arith)), l .inv .3)
 
 pub draw-feeders-spec : {M : Type 1} → statement M
 draw-feeders-spec =
     tie.close
-    (tie.spec Inv-loop μ-loop loop-holds feeders-requires put-word-requires (λ c. search needs)
-    (λ c. search needs) loop-again returns)
+    (tie.spec Inv-loop μ-loop loop-holds (λ c. search needs) (λ c. search needs) (λ c. search needs)
+    (λ c. search needs) (λ c. search needs) (λ c. search needs) (λ c. search needs) (λ c. search needs)
+    (λ c. search needs) feeders-requires (λ c. search needs) put-word-requires (λ c. search needs)
+    (λ c. search needs) loop-again (λ c. search needs) returns)

@@ -11,17 +11,19 @@ use Rattle.outlines.proofs.feed.feeders.Statement.{statement}
 use Rattle.outlines.proofs.feed.feeders.Tie as tie
 
 mul-usize-of : tie.Need-mul-usize-of
-mul-usize-of c = omega (arith, c .before .pre .1 .well-formed .few)
+mul-usize-of c = omega (arith, c .before .before .before .before .pre .1 .well-formed .few)
 
 add-usize-of : tie.Need-add-usize-of
-add-usize-of c = omega (arith, c .before .pre .1 .well-formed .few)
+add-usize-of c = omega (arith, c .before .before .before .before .pre .1 .well-formed .few)
 
-element-copy-out-usize-of : tie.Need-element-copy-out-usize-of
-element-copy-out-usize-of c = omega (arith, c .before .pre .1 .well-formed .few)
+shared-slice-read-usize-of : tie.Need-shared-slice-read-usize-of
+shared-slice-read-usize-of c =
+    let b = c .before .before .before .before .before in
+    omega (arith, b .pre .4, b .pre .1 .well-formed .few)
 
 meeting-requires : tie.Need-meeting-requires
 meeting-requires c κs =
-    let b = c .before .before .before in
+    let b = c .before .before .before .before .before .before in
     let o = b .pre .1 in
     let h = b .pre .0 in
     let i = b .args .i in
@@ -29,17 +31,21 @@ meeting-requires c κs =
       omega (arith, o .well-formed .few),
       omega (arith, s, sign-bit o i h, c .usize-of .ensures .0),
       right-placed o i h,
+      b .pre .2,
+      b .pre .3,
     )
 
 mul-rule-at : tie.Need-mul-rule-at
-mul-rule-at c = omega (arith, c .before .before .before .before .pre .1 .well-formed .few)
+mul-rule-at c =
+    omega (arith, c .before .before .before .before .before .before .before .pre .1 .well-formed .few)
 
 rule-at-requires : tie.Need-rule-at-requires
-rule-at-requires c κs = omega (arith, c .before .before .before .before .pre .1 .well-formed .there)
+rule-at-requires c κs =
+    omega (arith, c .before .before .before .before .before .before .before .pre .1 .well-formed .there)
 
 narrowed-requires : tie.Need-narrowed-requires
 narrowed-requires c κs =
-    let b = c .before .before .before .before .before in
+    let b = c .before .before .before .before .before .before .before .before in
     let a = b .args in (
       b .pre .1 .well-formed .there,
       meeting-inside (b .pre .1) (a .i) (b .pre .0) _ (c .before .meeting .ensures
@@ -49,7 +55,7 @@ narrowed-requires c κs =
 
 returns : tie.Need-returns
 returns c =
-    let b = c .before .before .before .before .before .before in
+    let b = c .before .before .before .before .before .before .before .before .before in
     let a = b .args in
     feeders-same (b .pre .1) (a .i) (b .pre .0) (c .before .before .meeting .result)
     (c .narrowed .result)
@@ -61,6 +67,6 @@ returns c =
 pub feeders-spec : {M : Type 1} → statement M
 feeders-spec =
     tie.close
-    (tie.spec mul-usize-of add-usize-of element-copy-out-usize-of (λ c κs. search needs) meeting-requires
+    (tie.spec mul-usize-of add-usize-of shared-slice-read-usize-of (λ c κs. search needs) meeting-requires
     mul-rule-at
     rule-at-requires narrowed-requires returns)

@@ -11,7 +11,7 @@ use Rattle.outlines.proofs.feed.linkers.Tie as tie
 returns : tie.Need-returns
 unfolding linkersWord
 returns c =
-    let a = c .before .before .before .before .args in
+    let a = c .before .before .before .before .before .before .before .args in
     let s : getD (now (a .sides)) (4 * a .i + 3) 0 / 2 ≡ 0 =
     ap (λ (k : ℕ). k / 2) (sym (c .before .before .usize-of .ensures .0)) ∙ c .before .if1 .taken in
     rw (eq-true (getD (now (a .sides)) (4 * a .i + 3) 0 / 2) 0 s) (c .meeting .ensures)
@@ -19,7 +19,7 @@ returns c =
 returns-2 : tie.Need-returns-2
 unfolding linkersWord
 returns-2 c =
-    let a = c .before .before .before .args in
+    let a = c .before .before .before .before .before .before .args in
     rw (ne-false (getD (now (a .sides)) (4 * a .i + 3) 0 / 2) 0
     (λ z. c .if1 .left (ap (λ (k : ℕ). k / 2) (c .before .usize-of .ensures .0) ∙ z)))
 

@@ -14,32 +14,34 @@ use Rattle.outlines.proofs.feed.meeting.Tie as tie
 
 mul-meet-subject : tie.Need-mul-meet-subject
 mul-meet-subject c =
-    let b = c .before .before .before in
+    let b = c .before .before .before .before .before in
     let e = c .right-mode-word .ensures
     ∙ ap (λ (m : ℕ). rightModeWord m (b .args .sign)) (c .before .usize-of .ensures .0) in
     omega (arith, depends-below (now (b .args .right)) (b .args .i) (b .pre .2) (b .args .sign) (b .pre .1))
 
-element-copy-out-meet-subject : tie.Need-element-copy-out-meet-subject
-element-copy-out-meet-subject c =
-    let b = c .before .before .before in
-    let e = c .right-mode-word .ensures
-    ∙ ap (λ (m : ℕ). rightModeWord m (b .args .sign)) (c .before .usize-of .ensures .0) in
-    omega (arith, depends-below (now (b .args .right)) (b .args .i) (b .pre .2) (b .args .sign) (b .pre .1))
+shared-slice-read-meet-subject : tie.Need-shared-slice-read-meet-subject
+shared-slice-read-meet-subject c =
+    let b = c .before .before .before .before .before .before in
+    let e = c .before .right-mode-word .ensures
+    ∙ ap (λ (m : ℕ). rightModeWord m (b .args .sign)) (c .before .before .usize-of .ensures .0) in
+    let d = depends-below (now (b .args .right)) (b .args .i) (b .pre .2) (b .args .sign) (b .pre .1) in
+    omega (arith, b .pre .3, d)
 
 meet-subject-requires : tie.Need-meet-subject-requires
 meet-subject-requires c κs =
-    let p = c .before .before .before .before .before .before .pre .2 .subject in
-    rw (c .usize-of2 .ensures .0) p
+    let b = c .before .before .before .before .before .before .before .before in
+    (rw (c .usize-of2 .ensures .0) (b .pre .2 .subject), b .pre .3)
 
 meet-object-requires : tie.Need-meet-object-requires
 meet-object-requires c κs =
-    let p = c .before .before .before .before .before .before .before .before .before .pre .2 .object in
-    rw (c .usize-of3 .ensures .0) p
+    let b = c .before .before .before .before .before .before .before .before .before .before .before in
+    (rw (c .usize-of3 .ensures .0) (b .pre .2 .object), b .pre .3)
 
 returns : tie.Need-returns
 unfolding meetingWord
 returns c =
-    let a = c .before .before .before .before .before .before .before .before .before .before .args in
+    let a = c .before .before .before .before .before .before .before .before .before .before
+    .before .before .args in
     let l = now (a .left) in
     let k = c .before .before .before .before .before .before .before in
     let e = k .right-mode-word .ensures ∙ ap (λ (m : ℕ). rightModeWord m (a .sign))
@@ -56,6 +58,6 @@ pub meeting-spec : {M : Type 1} → statement M
 meeting-spec =
     tie.close
     (tie.spec (λ c. search needs) (λ c. search needs) (λ c. search needs) (λ c κs. search needs)
-    (λ c κs. search needs) mul-meet-subject element-copy-out-meet-subject (λ c. search needs)
+    (λ c κs. search needs) mul-meet-subject shared-slice-read-meet-subject (λ c. search needs)
     (λ c. search needs) (λ c. search needs) (λ c κs. search needs) meet-subject-requires (λ c. search needs)
     (λ c. search needs) (λ c κs. search needs) meet-object-requires returns)

@@ -5,7 +5,7 @@ use mathlib.Core.Bool.{Bool, false}
 use Prim.Native.Nat.{ℕ, _≤_}
 use denote.Ref.{now}
 use Rattle.foundation.specs.Tests.{ne-false}
-use Rattle.foundation.specs.BitMasks.{Built, build-start, build-room, build-turn, build-end}
+use Rattle.foundation.specs.BitMasks.{MaskBuilt, build-start, build-room, build-turn, build-end}
 use mathlib.Core.List.{List}
 use Rattle.model.specs.declared.Rule.{Rule}
 use Rattle.model.specs.Encoding.{ruleOf, decode}
@@ -19,15 +19,15 @@ onObject s o r = standsOn (decode s) r o
 
 abbrev Inv-loop : tie.InvT-loop
 Inv-loop s body n x left objects₀ subjects₀ i₀ objects subjects i =
-    (i ≤ n) × Built 28 ruleOf (onObject s (x .object)) n body objects i
-    × Built 28 ruleOf (onSubject (x .subject)) n body subjects i
+    (i ≤ n) × MaskBuilt 28 ruleOf (onObject s (x .object)) n body objects i
+    × MaskBuilt 28 ruleOf (onSubject (x .subject)) n body subjects i
 
 abbrev μ-loop : tie.MeasureT-loop
 μ-loop s body n x left objects₀ subjects₀ i₀ objects subjects i = i
 
 loop-holds : tie.Need-loop-holds Inv-loop μ-loop
 loop-holds c =
-    let a = c .before .before .args in (
+    let a = c .before .before .before .args in (
       search needs,
       build-start 28 ruleOf (onObject (now (a .s)) (a .x .object)) (a .n) (now (a .body)),
       build-start 28 ruleOf (onSubject (a .x .subject)) (a .n) (now (a .body)),
@@ -35,7 +35,7 @@ loop-holds c =
 
 mul-objects : tie.Need-mul-objects Inv-loop μ-loop
 mul-objects c =
-    let b = c .before .before .before .before .before .before .before .before .before in
+    let b = c .before .before .before .before .before .before .before .before .before .before in
     let l = c .before .before .before .before .before .before .loop in
     omega (
       arith,
@@ -45,7 +45,7 @@ mul-objects c =
 
 add-objects : tie.Need-add-objects Inv-loop μ-loop
 add-objects c =
-    let b = c .before .before .before .before .before .before .before .before .before in
+    let b = c .before .before .before .before .before .before .before .before .before .before in
     let l = c .before .before .before .before .before .before .loop in
     let t = onObject (now (b .args .s)) (b .args .x .object) in
     omega (
@@ -57,7 +57,7 @@ add-objects c =
 
 mul-subjects : tie.Need-mul-subjects Inv-loop μ-loop
 mul-subjects c =
-    let b = c .before .before .before .before .before .before .before .before .before in
+    let b = c .before .before .before .before .before .before .before .before .before .before in
     let l = c .before .before .before .before .before .before .loop in
     omega (
       arith,
@@ -68,7 +68,7 @@ mul-subjects c =
 
 add-subjects : tie.Need-add-subjects Inv-loop μ-loop
 add-subjects c =
-    let b = c .before .before .before .before .before .before .before .before .before in
+    let b = c .before .before .before .before .before .before .before .before .before .before in
     let l = c .before .before .before .before .before .before .loop in
     let t = onSubject (b .args .x .subject) in
     omega (
@@ -80,7 +80,7 @@ add-subjects c =
 
 loop-again : tie.Need-loop-again Inv-loop μ-loop
 loop-again c =
-    let b = c .before .before .before .before .before .before .before .before .before in
+    let b = c .before .before .before .before .before .before .before .before .before .before in
     let l = c .before .before .before .before .before .before .loop in
     let r = c .before .before .before .before .rule-at in
     let o = c .before .before .before .stands-on in
@@ -96,10 +96,11 @@ loop-again c =
 
 returns : tie.Need-returns Inv-loop μ-loop
 returns c =
-    let b = c .before .before .before .before .before .before .before .before in
-    let l = c .before .before .before .before .before .loop in
-    let e = c .put-word2 .ensures in
-    let f = c .before .before .put-word .ensures in
+    let b = c .before .before .before .before .before .before .before .before .before .before
+    .before .before .before in
+    let l = c .before .before .before .before .before .before .before .before .before .loop in
+    let e = c .before .before .put-word2 .ensures in
+    let f = c .before .before .before .before .before .before .put-word .ensures in
     record {
       object = e 0 ∙ f 0
           ∙ build-end 28 ruleOf (onObject (now (b .args .s)) (b .args .x .object)) (b .args .n)
@@ -118,4 +119,4 @@ own-masks-spec =
     (λ c κs. search needs)
     (λ c. search needs) mul-objects (λ c. search needs) add-objects mul-subjects (λ c. search needs)
     add-subjects
-    (λ c. search needs) loop-again (λ c κs. search needs) (λ c κs. search needs) returns)
+    (λ c. search needs) loop-again (λ c κs. search needs) (λ c κs. search needs) (λ c. search needs) returns)

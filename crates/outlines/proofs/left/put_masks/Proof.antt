@@ -16,7 +16,7 @@ put-four-requires : tie.Need-put-four-requires
 put-four-requires c κs =
     let j = c .before .before .before .before in
     let k = c .before .before .before .before .before .before .before in
-    let b = k .before .before .before .before .before in
+    let b = k .before .before .before .before .before .before .before in
     let s = now (b .args .sides) in
     let i = b .args .i in
     let p = b .pre .1 in
@@ -34,21 +34,22 @@ put-four-requires c κs =
 
 returns : tie.Need-returns
 returns c =
-    let j = c .before .before .before .before .before in
-    let k = c .before .before .before .before .before .before .before .before in
+    let j = c .before .before .before .before .before .before .before in
+    let k = c .before .before .before .before .before .before .before .before .before .before in
     let g = k .before .before .before in
-    let b = g .before .before in
+    let b = g .before .before .before .before in
     let s = now (b .args .sides) in
     let i = b .args .i in
     let d = k .object-word .ensures ∙ ap objectWord (k .before .usize-of2 .ensures .0) in
     let e = j .subject-word .ensures ∙ ap subjectWord (j .before .usize-of3 .ensures .0) in
-    let f = c .before .before .mode-word .ensures
-    ∙ ap₂ (λ (m x : ℕ). modeWord m (x % 2)) (c .before .before .before .usize-of4 .ensures .0)
+    let f = c .before .before .before .before .mode-word .ensures
+    ∙ ap₂ (λ (m x : ℕ). modeWord m (x % 2)) (c .before .before .before .before .before .usize-of4 .ensures .0)
     (g .usize-of .ensures .0) in
-    λ w r. c .put-four .ensures w r
+    λ w r. c .before .before .put-four .ensures w r
     ∙ ap (λ (x : Bool). bit r (getD (now (b .args .left)) w 0) || (eqb r i && x))
-    (in-word s i w (k .object-word .result) (j .subject-word .result) (c .before .before .mode-word .result)
-    (146 + g .usize-of .result % 2) d e f (ap (λ (x : ℕ). 146 + x % 2) (g .usize-of .ensures .0)))
+    (in-word s i w (k .object-word .result) (j .subject-word .result)
+    (c .before .before .before .before .mode-word .result) (146 + g .usize-of .result % 2) d e f
+    (ap (λ (x : ℕ). 146 + x % 2) (g .usize-of .ensures .0)))
 
 pub put-masks-spec : {M : Type 1} → statement M
 put-masks-spec =
@@ -58,4 +59,5 @@ put-masks-spec =
     (λ c κs. search needs) (λ c κs. search needs) (λ c. search needs) (λ c. search needs) (λ c. search needs)
     (λ c κs. search needs)
     (λ c κs. search needs) (λ c. search needs) (λ c. search needs) (λ c. search needs) (λ c κs. search needs)
-    (λ c κs. search needs) (λ c. search needs) (λ c. search needs) put-four-requires returns)
+    (λ c κs. search needs) (λ c. search needs) (λ c. search needs) put-four-requires
+    (λ c. search needs) returns)

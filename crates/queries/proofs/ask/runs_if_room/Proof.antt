@@ -9,7 +9,7 @@ use lib.ListN.{length}
 use Rattle.model.specs.Base.{Base}
 use Rattle.model.specs.Encoding.{decode}
 use Rattle.model.specs.Rules.{when}
-use Rattle.queries.specs.Starting.{Bodies}
+use Rattle.queries.specs.Asking.{BodiesIn}
 use Rattle.queries.proofs.QuestionBodies.{most, listing, listing-short}
 use Rattle.queries.proofs.ask.runs_if_room.Statement.{statement}
 use Rattle.queries.proofs.ask.runs_if_room.Tie as tie
@@ -23,7 +23,7 @@ returns c =
 
 -- behind the test there is room
 room : (c : tie.Joined1) → (let a = c .before .before .before .before .before .args in
-    (base : Base) → Bodies (decode (now (a .s))) (now (a .lines)) (a .total) (now (a .body)) (a .n) base →
+    (base : Base) → BodiesIn (now (a .records)) (a .n) (decode (now (a .s))) base →
     length (when base (a .x)) ≤ length (now (a .list)) / 2)
 room c base b =
     let a = c .before .before .before .before .before .args in
@@ -35,7 +35,7 @@ returns-2 : tie.Need-returns-2
 returns-2 c =
     let r = c .before .before .runs-in2 in
     let j = c .before .before .before .before in
-    let a = j .before .before .before .before .before .args in
+    let a = c .before .before .before .before .before .before .before .before .before .args in
     λ base b. listing b (a .x) (r .result) (now (a .list)) _ (room j base b) (r .ensures base b)
 
 pub runs-if-room-spec : {M : Type 1} → statement M

@@ -31,21 +31,21 @@ ruleless {body = body} {base = base} b e x = fun-ext (λ t.
 
 walk-directly-requires : tie.Need-walk-directly-requires
 walk-directly-requires c κs =
-    let s = c .before .before .before .before .before .before in
+    let s = c .before .before .before .before .before .before .before in
     let a = s .args in
-    let few = and-true (eqb (a .n) 0) (leb (a .total) 64) (c .before .if1 .taken) .1 in (
-      true-le (a .total) 64 few,
-      s .pre .0 .1 .there,
-      omega (arith, access-ranges (a .x) (s .pre .1) .0),
-      omega (arith, access-ranges (a .x) (s .pre .1) .3),
+    let few = and-true (eqb (a .n .rules) 0) (leb (a .n .authorizations) 64) (c .before .if1 .taken) .1 in (
+      true-le (a .n .authorizations) 64 few,
+      s .pre .0,
+      omega (arith, access-ranges (a .x) (s .pre .2) .0),
+      omega (arith, access-ranges (a .x) (s .pre .2) .3),
     )
 
 returns : tie.Need-returns
 returns c =
     let w = c .before .before in
-    let t = w .before .before in
-    let a = t .before .before .before .before .before .args in
-    let none = true-eq (a .n) 0 (and-true (eqb (a .n) 0) (leb (a .total) 64) (t .if1 .taken) .0) in
+    let a = c .before .before .before .before .before .before .before .before .before .before .args in
+    let none = true-eq (a .n .rules) 0 (and-true (eqb (a .n .rules) 0) (leb (a .n .authorizations) 64)
+    (c .before .before .before .before .if1 .taken) .0) in
     λ base b. subst (λ (f : ℕ → Bool). ScannedTo f 4294967295 (now (a .list)) 4294967296
     (w .walk-directly .result) (w .walk-directly .last .1 .1 .1 .0)) (ruleless b none (a .x))
     (w .walk-directly .ensures)

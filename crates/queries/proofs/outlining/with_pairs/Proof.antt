@@ -1,212 +1,545 @@
 -- Each step has what it wants of the ones before it; in the end all tables stand.
 use borrow.Author.Needs.{needs}
 use native.Mathlib.Omega.{arith}
-use mathlib.Core.Path.{refl, sym, ap, _∙_}
+use mathlib.Core.Path.{_≡_, refl, sym, ap, _∙_, subst}
+use mathlib.Core.Bool.{not, _&&_}
 use mathlib.Core.List.{List}
-use Prim.Native.Nat.{ℕ, _+_, _*_}
+use Prim.Native.Nat.{ℕ, _+_, _*_, _-_, _≤_, _<_}
 use denote.Ref.{now}
-use lib.ListN.{length}
+use lib.Bits.{bitAnd}
+use lib.ListN.{length, getD, take, drop, length-drop}
+use lib.Seq.{getD-take}
+use Rattle.foundation.specs.BitMasks.{bit}
+use Rattle.model.specs.Base.{Base}
+use Rattle.encoding.specs.Format.{ruleAt}
+use Rattle.questions.specs.OperatorSteps.{lasting}
+use Rattle.sections.specs.Sections.{leftOf, firstOf, startsOf, rightsOf, subjectsOf, objectsOf}
+use Rattle.sections.specs.Sections.{numberOf, listedOf}
+use Rattle.sections.specs.SectionFacts.{lent-rest}
+use Rattle.sections.specs.SectionWrites.{putBack, back-length, part-long}
 use Rattle.places.specs.ReachedNumbers.{before-le}
-use Rattle.queries.specs.Drawing.{chart-small, map-small, code-pair, needed-in}
-use Rattle.queries.specs.Asking.{pair-in, pair-few, sketch-formed, lasts-in, lasts-room, sketch-tabled}
-use Rattle.queries.specs.Asking.{finds-answers}
+use Rattle.masks.specs.RuleMasks.{Needed, PairCode, RulesIn}
+use Rattle.engine.specs.declared.WindowWalk.{WindowWalk}
+use Rattle.queries.specs.Drawing.{Mapped, chartFor, chart-small, map-small, code-pair, needed-in}
+use Rattle.queries.specs.Asking.{TaskIn, WalkStart, pair-in, pair-few, sketch-formed, lasts-in}
+use Rattle.queries.specs.Asking.{lasts-room, sketch-tabled, finds-answers, part-blank, pairs-few}
+use Rattle.queries.specs.Starting.{GroundIn}
+use Rattle.queries.proofs.Sectioning.{listed-at, needed-listed, laid-long, laid-front, laid-first}
+use Rattle.queries.proofs.Sectioning.{laid-starts, front-left, front-feed, ground-moved}
 use Rattle.queries.proofs.outlining.with_pairs.Statement.{statement}
 use Rattle.queries.proofs.outlining.with_pairs.Tie as tie
 
+-- the places of the code that are gone back to
+abbrev start : (c : tie.After-map-pairs) → tie.Start
+start c = c .before .before .before .before .before .before .before .before .before .before .before .before
+    .before .before .before .before .before .before .before .before .before
+
+abbrev pairs-at : (c : tie.After-needed-rules) → tie.After-map-pairs
+pairs-at c = c .before .before .before .before .before .before .before .before .before .before .before
+    .before
+
+abbrev rules-at : (c : tie.After-lay-out) → tie.After-needed-rules
+rules-at c = c .before .before .before .before .before .before .before .before .before .before
+
+abbrev laid-at : (c : tie.After-last-asked) → tie.After-lay-out
+laid-at c = c .before .before .before .before .before .before .before
+
+mul-from : tie.Need-mul-from
+mul-from c =
+    let s = c .before .before .before .before .before .before .before .before .before .before in
+    omega (arith, s .pre .4 .1 .bodies .few)
+
+part-body-start : tie.Need-part-body-start
+part-body-start c =
+    let s = c .before .before .before .before .before .before .before .before .before .before in
+    s .pre .0 .recorded
+
 mul-pair : tie.Need-mul-pair
 mul-pair c =
-    let s = c .before .before .before .before .before .before in
+    let s = c .before .before .before .before .before .before .before .before .before .before .before
+    .before .before in
     omega (arith, pair-few (s .pre .4 .1 .sketch))
 
 add-pair : tie.Need-add-pair
 add-pair c =
-    let s = c .before .before .before .before .before .before in
+    let s = c .before .before .before .before .before .before .before .before .before .before .before
+    .before .before .before in
     omega (arith, pair-few (s .pre .4 .1 .sketch))
 
 cast-pair : tie.Need-cast-pair
 cast-pair c =
-    let s = c .before .before .before .before .before .before in
+    let s = c .before .before .before .before .before .before .before .before .before .before .before
+    .before .before .before in
     omega (arith, pair-few (s .pre .4 .1 .sketch))
+
+sub-mode : tie.Need-sub-mode
+sub-mode c =
+    let s = c .before .before .before .before .before .before .before .before .before .before .before
+    .before .before .before .before in
+    s .pre .4 .1 .sketch .some
+
+part-map-pairs-end : tie.Need-part-map-pairs-end
+part-map-pairs-end c =
+    let s = c .before .before .before .before .before .before .before .before .before .before .before
+    .before .before .before .before .before in
+    omega (arith, s .pre .0 .outlined)
+
+part-map-pairs-end-2 : tie.Need-part-map-pairs-end-2
+part-map-pairs-end-2 c =
+    let s = c .before .before .before .before .before .before .before .before .before .before .before
+    .before .before .before .before .before .before in
+    omega (arith, s .pre .0 .placed)
+
+-- the rules are all of what is behind the authorizations
+body-is : (c : tie.Start) →
+    (let from : ℕ = c .args .k .totals .authorizations * 24 in
+    take (length (now (c .args .records)) - from) (drop from (now (c .args .records)))
+    ≡ drop from (now (c .args .records)))
+body-is c = lent-rest (c .args .k .totals .authorizations * 24) (now (c .args .records))
+
+left-whole : (c : tie.Start) → length (leftOf (now (c .args .outline))) ≡ 152
+left-whole c = part-long 0 152 (now (c .args .outline)) (omega (arith, c .pre .0 .outlined))
+
+rights-whole : (c : tie.Start) → length (rightsOf (now (c .args .coordinates))) ≡ 256
+rights-whole c = part-long 256 256 (now (c .args .coordinates)) (omega (arith, c .pre .0 .placed))
 
 map-pairs-requires : tie.Need-map-pairs-requires
 map-pairs-requires c κs =
-    let s = c .before .before .before .before .before .before .before .before .before .before in
-    let k = s .pre .4 .1 .sketch in (
-      s .pre .0,
-      s .pre .1,
-      chart-small _ (k .outline .rules .well-formed .few) (k .outline .rules .charted) .2,
+    let s = c .before .before .before .before .before .before .before .before .before .before .before
+    .before .before .before .before .before .before .before .before .before in
+    let k = s .pre .4 .1 .sketch in
+    let need : List ℕ = now (s .args .need) in (
+      (λ i. s .pre .1 i .0),
+      part-blank (length need) (now (s .args .numbers)) (λ i. s .pre .1 i .1),
       s .pre .2,
-      s .pre .3,
-      pair-in k (now (s .args .need)) (s .pre .1),
+      chart-small _ (k .outline .rules .well-formed .few) (k .outline .rules .charted) .2,
+      omega (arith, s .pre .3),
+      pair-in k need (s .pre .2),
       omega (arith, k .some, k .few),
-      sketch-formed k (now (s .args .need)) (s .pre .1),
+      sketch-formed k need (s .pre .2),
+      omega (arith, left-whole s),
+      omega (arith, rights-whole s),
     )
+
+-- the needs and the numbers
+abbrev needed : (c : tie.After-map-pairs) → List ℕ
+needed c = c .map-pairs .last .1 .1 .1 .1 .1 .0
+
+abbrev numbered : (c : tie.After-map-pairs) → List ℕ
+numbered c = c .map-pairs .last .1 .1 .1 .1 .1 .1 .0
+
+needed-long : (c : tie.After-map-pairs) →
+    (let s = start c in
+    length (needed c) ≡ length (now (s .args .need)))
+needed-long c = c .map-pairs .kept .1 .1 .1 .1 .1 .0
+
+numbered-long : (c : tie.After-map-pairs) →
+    (let s = start c in
+    length (numbered c) ≡ length (now (s .args .numbers)))
+numbered-long c = c .map-pairs .kept .1 .1 .1 .1 .1 .1 .0
+
+mapped : (c : tie.After-map-pairs) →
+    (let s = start c in
+    Mapped (chartFor (subjectsOf (now (s .args .coordinates)))
+    (objectsOf (now (s .args .coordinates))) (s .args .k .extent)) (leftOf (now (s .args .outline)))
+    (rightsOf (now (s .args .coordinates))) (needed c) (numberOf (length (needed c)) (numbered c))
+    (listedOf (length (needed c)) (numbered c)) (c .map-pairs .result))
+mapped c =
+    let s = start c in
+    c .map-pairs .ensures .0 (subjectsOf (now (s .args .coordinates)))
+    (objectsOf (now (s .args .coordinates)))
+
+few-pairs : (c : tie.After-map-pairs) → c .map-pairs .result .pairs ≤ length (needed c)
+few-pairs c = omega (arith, mapped c .grid .2, before-le (needed c) (length (needed c)))
+
+part-needed-rules-end : tie.Need-part-needed-rules-end
+part-needed-rules-end c =
+    let s = start (c .before .before .before .before .before) in
+    omega (arith, s .pre .0 .outlined)
+
+mul-needed-rules : tie.Need-mul-needed-rules
+mul-needed-rules c =
+    let s = start (c .before .before .before .before .before .before .before) in
+    omega (arith, s .pre .2, pairs-few (s .pre .4 .1 .sketch))
+
+sub-needed-rules-2 : tie.Need-sub-needed-rules-2
+sub-needed-rules-2 c =
+    let y = c .before .before .before .before .before .before .before in
+    let s = start y in
+    omega (arith, s .pre .3, numbered-long y)
+
+part-needed-rules-start-2 : tie.Need-part-needed-rules-start-2
+part-needed-rules-start-2 c =
+    let y = c .before .before .before .before .before .before .before .before in
+    let s = start y in
+    omega (arith, s .pre .3, numbered-long y)
 
 needed-rules-requires : tie.Need-needed-rules-requires
 needed-rules-requires c κs =
-    let y = c .before .before .before .before .before .before .before .before .before in
-    let s = y .before .before .before .before .before .before .before .before .before .before .before in
-    let m = y .map-pairs .ensures .0 (now (s .args .subjects)) (now (s .args .objects)) in
-    let need : List ℕ = y .map-pairs .last .1 .1 .1 .1 .1 .1 .0 in (
-      omega (arith, m .grid .2, before-le need (length need), m .codes-are .0),
-      λ i h. code-pair (s .pre .4 .1 .sketch .outline) m i h,
+    let y = c .before .before .before .before .before .before .before .before .before .before .before in
+    let s = start y in
+    let m = mapped y in
+    let few = few-pairs y in
+    let long = needed-long y in
+    let size : ℕ = length (now (s .args .need)) in
+    let rest = lent-rest size (numbered y) in (
+      omega (arith, few, long, numbered-long y, s .pre .3, length-drop size (numbered y), ap length rest),
+      (λ i h. subst (λ (u : ℕ). PairCode (s .args .k .extent .subjects) (length (needed y)) u)
+          (listed-at (numbered y) size (length (needed y)) long i (omega (arith, few))
+          ∙ ap (λ (l : List ℕ). getD l i 0) (sym rest))
+          (code-pair (s .pre .4 .1 .sketch .outline) m i h)),
+      omega (arith, left-whole s),
     )
+
+rules-needed : (c : tie.After-needed-rules) →
+    (let y = pairs-at c in
+    let s = start y in
+    Needed (leftOf (now (s .args .outline))) (needed y)
+    (listedOf (length (needed y)) (numbered y)) (s .args .k .extent .subjects)
+    (y .map-pairs .result .pairs) (c .needed-rules .result))
+rules-needed c =
+    let y = pairs-at c in
+    let s = start y in
+    let size : ℕ = length (now (s .args .need)) in
+    needed-listed (numbered y) size (length (needed y)) (needed-long y) (few-pairs y)
+    (subst (λ (l : List ℕ). Needed (leftOf (now (s .args .outline))) (needed y) l
+    (s .args .k .extent .subjects) (y .map-pairs .result .pairs) (c .needed-rules .result))
+    (lent-rest size (numbered y)) (c .needed-rules .ensures))
 
 lasting-of-requires : tie.Need-lasting-of-requires
 lasting-of-requires c κs =
-    let y = c .before .before .before .before .before .before .before .before .before .before in
-    let s = y .before .before .before .before .before .before .before .before .before .before .before in
-    let m = y .map-pairs .ensures .0 (now (s .args .subjects)) (now (s .args .objects)) in
-    needed-in (s .pre .4 .1 .sketch .outline) m (c .needed-rules .ensures)
+    let y = pairs-at c in
+    let s = start y in
+    subst (λ (b : List ℕ). RulesIn (c .needed-rules .result) b) (sym (body-is s))
+    (needed-in (s .pre .4 .1 .sketch .outline) (mapped y) (rules-needed c))
+
+lasts : (c : tie.After-lasting-of) →
+    (let n = c .before in
+    let s = start (pairs-at n) in
+    (r : ℕ) → bit r (c .lasting-of .result)
+    ≡ bit r (n .needed-rules .result)
+    && lasting (ruleAt (drop (s .args .k .totals .authorizations * 24) (now (s .args .records))) r .operator))
+lasts c r =
+    let n = c .before in
+    let s = start (pairs-at n) in
+    c .lasting-of .ensures r
+    ∙ ap (λ (b : List ℕ). bit r (n .needed-rules .result) && lasting (ruleAt b r .operator))
+    (body-is s)
+
+part-lay-all-end : tie.Need-part-lay-all-end
+part-lay-all-end c =
+    let s = start (pairs-at (c .before)) in
+    omega (arith, s .pre .0 .placed)
+
+part-lay-all-end-2 : tie.Need-part-lay-all-end-2
+part-lay-all-end-2 c =
+    let s = start (pairs-at (c .before .before .before)) in
+    omega (arith, s .pre .0 .outlined)
+
+first-whole : (c : tie.Start) → length (take 64 (drop 280 (now (c .args .outline)))) ≡ 64
+first-whole c = part-long 280 64 (now (c .args .outline)) (omega (arith, c .pre .0 .outlined))
 
 lay-all-requires : tie.Need-lay-all-requires
 lay-all-requires c κs =
-    let y = c .before .before .before .before .before .before .before .before .before .before .before
-    .before in
-    let s = y .before .before .before .before .before .before .before .before .before .before .before in
-    map-small (s .pre .4 .1 .sketch .outline)
-    (y .map-pairs .ensures .0 (now (s .args .subjects)) (now (s .args .objects)))
+    let y = pairs-at (c .before .before .before .before) in
+    let s = start y in (
+      map-small (s .pre .4 .1 .sketch .outline) (mapped y),
+      omega (arith, rights-whole s),
+      omega (arith, first-whole s),
+    )
+
+-- the outline with where the fields start
+abbrev half : (c : tie.After-lay-all) → List ℕ
+half c =
+    let s = start (pairs-at (c .before .before .before .before .before)) in
+    putBack (now (s .args .outline)) 280 64 (c .lay-all .last .1 .1 .1 .0)
+
+first-long : (c : tie.After-lay-all) → length (c .lay-all .last .1 .1 .1 .0) ≡ 64
+first-long c =
+    let s = start (pairs-at (c .before .before .before .before .before)) in
+    c .lay-all .kept .1 .1 .1 .0 ∙ first-whole s
+
+half-long : (c : tie.After-lay-all) → length (half c) ≡ 472
+half-long c =
+    let s = start (pairs-at (c .before .before .before .before .before)) in
+    back-length (now (s .args .outline)) 280 64 (c .lay-all .last .1 .1 .1 .0)
+    (omega (arith, s .pre .0 .outlined)) (first-long c) ∙ s .pre .0 .outlined
+
+part-lay-out-end : tie.Need-part-lay-out-end
+part-lay-out-end c =
+    let s = start (pairs-at (c .before .before .before .before .before .before .before)) in
+    omega (arith, s .pre .0 .placed)
+
+part-lay-out-end-2 : tie.Need-part-lay-out-end-2
+part-lay-out-end-2 c =
+    let u = c .before .before .before in
+    omega (arith, half-long u)
+
+starts-whole : (c : tie.After-lay-all) → length (take 64 (drop 344 (half c))) ≡ 64
+starts-whole c = part-long 344 64 (half c) (omega (arith, half-long c))
 
 lay-out-requires : tie.Need-lay-out-requires
 lay-out-requires c κs =
-    let l = c .before .before .before in
-    let r = c .before .before .before .before in
-    let y = c .before .before .before .before .before .before .before .before .before .before .before
-    .before .before .before in
-    let s = y .before .before .before .before .before .before .before .before .before .before .before in
-    let m = y .map-pairs .ensures .0 (now (s .args .subjects)) (now (s .args .objects)) in
-    omega (
-      arith,
-      lasts-room (s .pre .4 .1 .sketch) m (r .needed-rules .ensures) (l .lasting-of .result)
-          (l .lasting-of .ensures),
+    let u = c .before .before .before .before in
+    let f = u .before .before .before .before in
+    let n = f .before in
+    let y = pairs-at n in
+    let s = start y in
+    let l = f .lasting-of in (
+      omega (
+        arith,
+        lasts-room (s .pre .4 .1 .sketch) (mapped y) (rules-needed n) (l .result)
+            (lasts f),
+      ),
+      omega (
+        arith,
+        part-long 0 256 (now (s .args .coordinates)) (omega (arith, s .pre .0 .placed)),
+      ),
+      omega (arith, starts-whole u),
     )
 
-mul-t49 : tie.Need-mul-t49
-mul-t49 c = let s = c .before .before .before .before .before .before .before .before .before .before
-    .before .before .before .before .before .before .before .before .before .before .before .before .before
-    .before .before .before in omega (arith, pair-few (s .pre .4 .1 .sketch))
+starts-long : (c : tie.After-lay-out) → length (c .lay-out .last .1 .1 .1 .1 .0) ≡ 64
+starts-long c =
+    let u = c .before .before .before .before .before in
+    c .lay-out .kept .1 .1 .1 .1 .0 ∙ starts-whole u
 
-slice-read-t55 : tie.Need-slice-read-t55
-slice-read-t55 c =
-    let y = c .before .before .before .before .before .before .before .before .before .before .before
-    .before .before .before .before .before in
-    let s = y .before .before .before .before .before .before .before .before .before .before .before in
-    let m = y .map-pairs .ensures .0 (now (s .args .subjects)) (now (s .args .objects)) in
-    let need : List ℕ = y .map-pairs .last .1 .1 .1 .1 .1 .1 .0 in
-    omega (arith, pair-in (s .pre .4 .1 .sketch) need (m .size), m .numbers .0)
+-- and with where the broken bits do
+abbrev full : (c : tie.After-lay-out) → List ℕ
+full c =
+    let u = c .before .before .before .before .before in
+    putBack (half u) 344 64 (c .lay-out .last .1 .1 .1 .1 .0)
 
-cast-t37 : tie.Need-cast-t37
-cast-t37 c =
-    let y = c .before .before .before .before .before .before .before .before .before .before .before
-    .before .before .before .before .before in
-    let s = y .before .before .before .before .before .before .before .before .before .before .before in
-    let m = y .map-pairs .ensures .0 (now (s .args .subjects)) (now (s .args .objects)) in
-    let need : List ℕ = y .map-pairs .last .1 .1 .1 .1 .1 .1 .0 in
-    let at : ℕ = s .args .o * s .args .width + s .args .s in
+full-long : (c : tie.After-lay-out) → length (full c) ≡ 472
+full-long c =
+    let u = c .before .before .before .before .before in
+    let s = start (pairs-at (u .before .before .before .before .before)) in
+    laid-long (now (s .args .outline)) (u .lay-all .last .1 .1 .1 .0)
+    (c .lay-out .last .1 .1 .1 .1 .0) (s .pre .0 .outlined) (first-long u) (starts-long c)
+
+full-front : (c : tie.After-lay-out) →
+    (let s = start (pairs-at (rules-at c)) in
+    take 280 (full c) ≡ take 280 (now (s .args .outline)))
+full-front c =
+    let u = c .before .before .before .before .before in
+    let s = start (pairs-at (u .before .before .before .before .before)) in
+    laid-front (now (s .args .outline)) (u .lay-all .last .1 .1 .1 .0)
+    (c .lay-out .last .1 .1 .1 .1 .0) (s .pre .0 .outlined) (first-long u) (starts-long c)
+
+full-first : (c : tie.After-lay-out) →
+    (let u = c .before .before .before .before .before in
+    firstOf (full c) ≡ u .lay-all .last .1 .1 .1 .0)
+full-first c =
+    let u = c .before .before .before .before .before in
+    let s = start (pairs-at (u .before .before .before .before .before)) in
+    laid-first (now (s .args .outline)) (u .lay-all .last .1 .1 .1 .0)
+    (c .lay-out .last .1 .1 .1 .1 .0) (s .pre .0 .outlined) (first-long u) (starts-long c)
+
+full-starts : (c : tie.After-lay-out) → startsOf (full c) ≡ c .lay-out .last .1 .1 .1 .1 .0
+full-starts c =
+    let u = c .before .before .before .before .before in
+    let s = start (pairs-at (u .before .before .before .before .before)) in
+    laid-starts (now (s .args .outline)) (u .lay-all .last .1 .1 .1 .0)
+    (c .lay-out .last .1 .1 .1 .1 .0) (s .pre .0 .outlined) (first-long u) (starts-long c)
+
+-- the asked pair
+pair-there : (c : tie.After-map-pairs) →
+    (let s = start c in
+    s .args .k .object * s .args .k .extent .subjects + s .args .k .subject < length (needed c))
+pair-there c =
+    let s = start c in
+    pair-in (s .pre .4 .1 .sketch) (needed c) (mapped c .size)
+
+mul-t54 : tie.Need-mul-t54
+mul-t54 c =
+    let s = start (pairs-at (rules-at (c .before .before .before))) in
+    omega (arith, pair-few (s .pre .4 .1 .sketch))
+
+slice-read-t69 : tie.Need-slice-read-t69
+slice-read-t69 c =
+    let y = pairs-at (rules-at (c .before .before .before .before)) in
+    let s = start y in
+    omega (arith, pair-there y, needed-long y, numbered-long y, s .pre .3)
+
+cast-t32 : tie.Need-cast-t32
+cast-t32 c =
+    let y = pairs-at (rules-at (c .before .before .before .before)) in
+    let s = start y in
+    let at : ℕ = s .args .k .object * s .args .k .extent .subjects + s .args .k .subject in
     omega (
       arith,
-      m .numbers .1 at (pair-in (s .pre .4 .1 .sketch) need (m .size)),
-      before-le need at,
+      getD-take (length (needed y)) (numbered y) at 0 (pair-there y),
+      mapped y .numbers .1 at (pair-there y),
+      before-le (needed y) at,
       pair-few (s .pre .4 .1 .sketch),
     )
 
 walk-start-requires : tie.Need-walk-start-requires
 walk-start-requires c κs =
-    let l = c .before .before .before .before .before in
-    let r = c .before .before .before .before .before .before in
-    let y = c .before .before .before .before .before .before .before .before .before .before .before
-    .before .before .before .before .before in
-    let s = y .before .before .before .before .before .before .before .before .before .before .before in
-    let m = y .map-pairs .ensures .0 (now (s .args .subjects)) (now (s .args .objects)) in
-    lasts-in (s .pre .4 .1 .sketch) m (r .needed-rules .ensures) (l .lasting-of .result)
-    (l .lasting-of .ensures)
-
-with-tables-requires : tie.Need-with-tables-requires
-with-tables-requires c κs =
-    let z = c .before .before .before .before .before .before in
-    let v = c .before .before .before .before .before .before .before in
-    let h = c .before .before .before .before .before .before .before .before .before in
-    let u = c .before .before .before .before .before .before .before .before .before .before .before in
-    let l = c .before .before .before .before .before .before .before .before .before .before .before
-    .before .before in
-    let r = c .before .before .before .before .before .before .before .before .before .before .before
+    let f = c .before .before .before .before .before .before .before .before .before .before .before
     .before .before .before in
-    let y = c .before .before .before .before .before .before .before .before .before .before .before
-    .before .before .before .before .before .before .before .before .before .before .before .before
-    .before in
-    let s = y .before .before .before .before .before .before .before .before .before .before .before in
-    let m = y .map-pairs .ensures .0 (now (s .args .subjects)) (now (s .args .objects)) in (
-      s .pre .4 .0,
-      s .args .x,
-      record {
-        holder = s .pre .4 .1 .holder;
-        tabled = sketch-tabled (s .pre .4 .1 .sketch) m (r .needed-rules .ensures) (l .lasting-of .result)
-            (h .lay-out .result) _ (s .args .one) (s .args .t) (y .map-pairs .ensures .1) (record {
-              chosen = refl;
-              count = u .lay-all .ensures .0;
-              laid = u .lay-all .ensures .1;
-              lasts-is = l .lasting-of .ensures;
-              total-is = omega (arith, h .lay-out .ensures .0);
-              starts-laid = h .lay-out .ensures .1;
-            }) refl refl (z .last-asked .ensures) refl (v .walk-start .ensures);
-        bodies = s .pre .4 .1 .bodies;
-      },
-    )
+    let n = f .before in
+    let y = pairs-at n in
+    let s = start y in
+    let l = f .lasting-of in
+    subst (λ (b : List ℕ). RulesIn (l .result) b) (sym (body-is s))
+    (lasts-in (s .pre .4 .1 .sketch) (mapped y) (rules-needed n) (l .result)
+    (lasts f))
 
-same-length : tie.Need-same-length
-same-length c = c .before .before .before .before .before .before .before .before .before .before .before
-    .before .before .before .before .before .before .before .before .before .before .before .before .before
-    .before .before .need .given
-
-same-length-2 : tie.Need-same-length-2
-same-length-2 c = c .before .before .before .before .before .before .before .before .before .before .before
-    .before .before .before .before .before .before .before .before .before .before .before .before .before
-    .number .given
-
-same-length-3 : tie.Need-same-length-3
-same-length-3 c = c .before .before .before .before .before .before .before .before .before .before .before
-    .before .before .before .before .before .before .before .before .before .before .before .codes .given
-
-returns : tie.Need-returns
-returns c =
-    let w = c .before .before in
-    let z = c .before .before .before .before .before .before .before .before .before in
-    let v = c .before .before .before .before .before .before .before .before .before .before in
-    let h = c .before .before .before .before .before .before .before .before .before .before .before
-    .before in
-    let u = c .before .before .before .before .before .before .before .before .before .before .before
-    .before .before .before in
-    let l = c .before .before .before .before .before .before .before .before .before .before .before
-    .before .before .before .before .before in
-    let r = c .before .before .before .before .before .before .before .before .before .before .before
-    .before .before .before .before .before .before in
-    let y = c .before .before .before .before .before .before .before .before .before .before .before
-    .before .before .before .before .before .before .before .before .before .before .before .before
+looks : (c : tie.After-walk-start) →
+    (let f = c .before .before .before .before .before .before .before .before .before .before .before
     .before .before .before .before in
-    let s = y .before .before .before .before .before .before .before .before .before .before .before in
-    let m = y .map-pairs .ensures .0 (now (s .args .subjects)) (now (s .args .objects)) in
-    λ base b.
-    finds-answers (s .args .one) (s .args .t) _ base (s .args .x) _ _ _ (z .last-asked .ensures)
-    (v .walk-start .ensures .all) refl (w .with-tables .ensures base (s .args .x) (record {
+    let s = start (pairs-at (f .before)) in
+    WalkStart (s .args .k .asked .one) (s .args .k .asked .instant)
+    (drop (s .args .k .totals .authorizations * 24) (now (s .args .records)))
+    (f .lasting-of .result) (c .walk-start .result))
+looks c =
+    let f = c .before .before .before .before .before .before .before .before .before .before .before
+    .before .before .before .before in
+    let s = start (pairs-at (f .before)) in
+    subst (λ (b : List ℕ). WalkStart (s .args .k .asked .one) (s .args .k .asked .instant) b
+    (f .lasting-of .result) (c .walk-start .result)) (body-is s) (c .walk-start .ensures)
+
+-- the walk
+abbrev going : (c : tie.After-last-asked) → WindowWalk
+going c =
+    let v = c .before in
+    let h = v .before .before .before .before .before .before in
+    let u = h .before .before .before .before .before in
+    let f = u .before .before .before .before in
+    let n = f .before in
+    let y = pairs-at n in
+    let s = start y in
+    let k = s .args .k in
+    let at : ℕ = k .object * k .extent .subjects + k .subject in
+    let rules : ℕ = n .needed-rules .result in
+    record {
+      chosen = record {
+        authorizations = k .totals .authorizations;
+        rules = k .totals .rules;
+        needed = rules;
+      };
+      body = k .totals .authorizations * 24;
+      lasting = f .lasting-of .result;
+      bits = h .lay-out .result;
+      query = record {
+        own = k .own;
+        place = record {
+          pair = getD (numbered y) at 0;
+          point = record { subject = k .subject; mode = k .asked .access .mode - 1; object = k .object };
+        };
+        from = v .walk-start .result;
+        to = c .last-asked .result;
+        listing = not (k .asked .one);
+      };
+      frame = record {
+        grid = y .map-pairs .result;
+        width = 0;
+        fields = u .lay-all .result;
+        choosy = bitAnd (k .extent .choosy) rules;
+      };
+    }
+
+ground : (c : tie.After-last-asked) →
+    (let h = laid-at c in
+    let y = pairs-at (rules-at h) in
+    let s = start y in
+    (base : Base) →
+    TaskIn (now (s .args .records)) (now (s .args .outline)) (now (s .args .coordinates)) (s .args .k) base →
+    GroundIn (now (s .args .records)) (full h) (now (s .args .coordinates))
+    (needed y) (numbered y) (going c) base (s .args .k .asked .access))
+ground c base b =
+    let v = c .before in
+    let h = v .before .before .before .before .before .before in
+    let u = h .before .before .before .before .before in
+    let l = u .before .before .before .before in
+    let n = l .before in
+    let y = pairs-at n in
+    let s = start y in
+    let k = s .args .k in
+    let at : ℕ = k .object * k .extent .subjects + k .subject in
+    let e = getD-take (length (needed y)) (numbered y) at 0 (pair-there y) in
+    ground-moved (front-left (now (s .args .outline)) (full h) (full-front h))
+    (front-feed (now (s .args .outline)) (full h) (full-front h)) (full-first h) (full-starts h)
+    (record {
       holder = b .holder;
-      tabled = sketch-tabled (b .sketch) m (r .needed-rules .ensures) (l .lasting-of .result) (h .lay-out
-          .result) _
-          (s .args .one) (s .args .t) (y .map-pairs .ensures .1) (record {
+      tabled = sketch-tabled (b .sketch) (mapped y) (rules-needed n) (l .lasting-of .result)
+          (h .lay-out .result) (going c .query) (k .asked .one) (k .asked .instant)
+          (y .map-pairs .ensures .1) (record {
             chosen = refl;
             count = u .lay-all .ensures .0;
             laid = u .lay-all .ensures .1;
-            lasts-is = l .lasting-of .ensures;
+            lasts-is = lasts l;
             total-is = omega (arith, h .lay-out .ensures .0);
             starts-laid = h .lay-out .ensures .1;
-          }) refl refl (z .last-asked .ensures) refl (v .walk-start .ensures);
+          }) refl
+          (λ i. record {
+            pair = sym e i;
+            point = record { subject = k .subject; mode = k .asked .access .mode - 1; object = k .object };
+          }) (c .last-asked .ensures) refl (looks v);
       bodies = b .bodies;
-    }))
+    })
+
+with-lines-requires : tie.Need-with-lines-requires
+with-lines-requires c κs =
+    let z = c .before .before .before .before .before in
+    let h = laid-at z in
+    let y = pairs-at (rules-at h) in
+    let s = start y in (
+      record {
+        bodied = s .pre .0 .recorded;
+        outlined = full-long h;
+        placed = s .pre .0 .placed;
+        numbered = omega (arith, s .pre .3, needed-long y, numbered-long y);
+      },
+      (s .pre .4 .0, s .args .k .asked .access, ground z (s .pre .4 .0) (s .pre .4 .1)),
+    )
+
+same-length : tie.Need-same-length
+same-length c =
+    let t = c .before .before .before .before .before .before in
+    let h = laid-at (t .before .before .before .before .before .before) in
+    let s = start (pairs-at (rules-at h)) in
+    t .with-lines .kept .1 .1 .0 ∙ full-long h
+    ∙ sym (s .pre .0 .outlined)
+
+same-length-2 : tie.Need-same-length-2
+same-length-2 c =
+    let y = pairs-at (rules-at (laid-at (c .before .before .before .before .before .before .before .before
+    .before .before .before .before))) in
+    needed-long y
+
+same-length-3 : tie.Need-same-length-3
+same-length-3 c =
+    let t = c .before .before .before .before .before .before in
+    let y = pairs-at (rules-at (laid-at (t .before .before .before .before .before .before))) in
+    t .with-lines .kept .1 .1 .1 .1 .1 .0 ∙ numbered-long y
+
+returns : tie.Need-returns
+returns c =
+    let t = c .before .before .before .before .before .before in
+    let z = t .before .before .before .before .before .before in
+    let v = z .before in
+    let h = v .before .before .before .before .before .before in
+    let s = start (pairs-at (rules-at h)) in
+    let k = s .args .k in
+    let w = t .with-lines in (
+      (λ base b. finds-answers (k .asked .one) (k .asked .instant) (going z .query) base
+          (k .asked .access) _ _ _ (z .last-asked .ensures)
+          (looks v .all) refl
+          (w .ensures .0 base (k .asked .access) (ground z base b))),
+      w .ensures .1 ∙ full-front h,
+    )
 
 pub with-pairs-spec : {M : Type 1} → statement M
 with-pairs-spec =
     tie.close
-    (tie.spec mul-pair add-pair cast-pair (λ c. search needs) map-pairs-requires (λ c. search needs)
-    needed-rules-requires lasting-of-requires lay-all-requires lay-out-requires mul-t49 slice-read-t55
-    cast-t37
-    walk-start-requires (λ c κs. search needs) with-tables-requires same-length same-length-2 same-length-3
-    (λ c. search needs) returns)
+    (tie.spec mul-from (λ c. search needs) part-body-start (λ c. search needs) mul-pair add-pair
+    cast-pair sub-mode (λ c. search needs) (λ c. search needs) part-map-pairs-end (λ c. search needs)
+    (λ c. search needs) part-map-pairs-end-2 map-pairs-requires (λ c. search needs) (λ c. search needs)
+    part-needed-rules-end mul-needed-rules sub-needed-rules-2 part-needed-rules-start-2
+    (λ c. search needs) (λ c. search needs) (λ c. search needs) needed-rules-requires
+    lasting-of-requires (λ c. search needs) (λ c. search needs) part-lay-all-end (λ c. search needs)
+    (λ c. search needs) part-lay-all-end-2 lay-all-requires (λ c. search needs) (λ c. search needs)
+    part-lay-out-end (λ c. search needs) (λ c. search needs) part-lay-out-end-2 lay-out-requires mul-t54
+    slice-read-t69 cast-t32 walk-start-requires (λ c κs. search needs) with-lines-requires same-length
+    same-length-2 same-length-3 (λ c. search needs) returns)

@@ -1,47 +1,35 @@
--- The fields have room, and so have the bits where they are kept.
+-- The words have room, and none is set.
 use borrow.Author.Needs.{needs}
-use native.Mathlib.Omega.{arith}
-use Rattle.queries.specs.Starting.{fresh-none, fresh-kept}
+use mathlib.Core.Path.{sym, subst}
+use Prim.Native.Nat.{ℕ}
+use lib.ListN.{length-replicate}
+use Rattle.queries.specs.Starting.{RoomFor, zeros-at}
 use Rattle.queries.proofs.sizes.with_few_tables.Statement.{statement}
 use Rattle.queries.proofs.sizes.with_few_tables.Tie as tie
 
-walk-in-requires : tie.Need-walk-in-requires
-walk-in-requires c κs =
-    let y = c .before .before .before .before in
-    let s = y .before .before .before .before .before .before .before .before .before in
-    let h = fresh-none (s .args .q) (s .args .lasting) (s .args .total) (y .if1 .taken) in
-    (s .pre .0, (s .pre .2 .0, s .pre .2 .1, s .args .total, s .pre .2 .2, h))
+walk-narrow-requires : tie.Need-walk-narrow-requires
+walk-narrow-requires c κs =
+    let s = c .before .before .before .before .before .before .before .before .before .before .before .before
+    .before in (
+      s .pre .0,
+      subst (λ (k : ℕ). RoomFor k (s .args .w)) (sym (length-replicate {A = ℕ} 128 0)) (s .pre .1),
+      zeros-at 128,
+      s .pre .2,
+    )
 
-returns : tie.Need-returns
-returns c =
-    let w = c .before .before .before .before .before .before in
-    let y = w .before .before .before .before .before in
-    let s = y .before .before .before .before .before .before .before .before .before in
-    λ base x b.
-    let h = fresh-none (s .args .q) (s .args .lasting) (s .args .total) (y .if1 .taken) in
-    w .walk-in .ensures base x (s .args .total) b h
-
-walk-in-requires-2 : tie.Need-walk-in-requires-2
-walk-in-requires-2 c κs =
-    let y = c .before .before .before .before in
-    let s = y .before .before .before .before .before .before .before .before .before in
-    let h = fresh-kept (s .args .q) (s .args .lasting) (s .args .total) 64 (y .if1 .left) (omega arith)
-    (s .pre .1) in
-    (s .pre .0, (s .pre .2 .0, s .pre .2 .1, s .args .total, s .pre .2 .2, h))
-
-returns-2 : tie.Need-returns-2
-returns-2 c =
-    let w = c .before .before .before .before .before .before in
-    let y = w .before .before .before .before .before in
-    let s = y .before .before .before .before .before .before .before .before .before in
-    λ base x b.
-    let h = fresh-kept (s .args .q) (s .args .lasting) (s .args .total) 64 (y .if1 .left) (omega arith)
-    (s .pre .1) in
-    w .walk-in2 .ensures base x (s .args .total) b h
+walk-wide-requires : tie.Need-walk-wide-requires
+walk-wide-requires c κs =
+    let s = c .before .before .before .before .before .before .before .before .before .before .before .before
+    .before in (
+      s .pre .0,
+      subst (λ (k : ℕ). RoomFor k (s .args .w)) (sym (length-replicate {A = ℕ} 128 0)) (s .pre .1),
+      zeros-at 128,
+      s .pre .2,
+    )
 
 pub with-few-tables-spec : {M : Type 1} → statement M
 with-few-tables-spec =
     tie.close
-    (tie.spec (λ c. search needs) (λ c. search needs) walk-in-requires (λ c. search needs) (λ c. search needs)
-    returns (λ c. search needs) (λ c. search needs) walk-in-requires-2 (λ c. search needs) (λ c. search needs)
-    returns-2)
+    (tie.spec (λ c. search needs) walk-narrow-requires (λ c. search needs) (λ c. search needs)
+    (λ c. search needs) (λ c. search needs) (λ c. search needs) walk-wide-requires (λ c. search needs)
+    (λ c. search needs) (λ c. search needs) (λ c. search needs))

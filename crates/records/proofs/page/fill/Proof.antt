@@ -19,11 +19,9 @@ use Rattle.records.proofs.page.fill.Tie as tie
 
 abbrev Inv-loop : tie.InvT-loop
 Inv-loop s source bytes width from k list₀ at₀ to₀ i₀ list at to i =
-    (i ≤ k) × (length list ≡ length list₀) × (at ≡ from + recordBytes source * i)
-    × (to ≡ widthOf source * i)
+    (i ≤ k) × (length list ≡ length list₀) × (at ≡ from + recordBytes source * i) × (to ≡ widthOf source * i)
     × (list ≡ joinedNumbers (recordBytes source) (numbersOf source) i (drop from s)
-    ++ drop (widthOf source * i)
-    list₀)
+    ++ drop (widthOf source * i) list₀)
 
 abbrev μ-loop : tie.MeasureT-loop
 μ-loop s source bytes width from k list₀ at₀ to₀ i₀ list at to i = k - i

@@ -61,8 +61,8 @@ copy-requires c κs =
     let l = c .before .before .before in
     (omega (arith, fits (l .before) .counts), long l)
 
-rule-of-requires : tie.Need-rule-of-requires
-rule-of-requires c κs =
+new-rule-requires : tie.Need-new-rule-requires
+new-rule-requires c κs =
     let e = c .before .before .before .before .before .before .before .before in
     let d = e .before .before .before in
     let w = rule-request-in (d .args .q) (d .pre .1) (e .if1 .left) in
@@ -104,7 +104,7 @@ returns-2 c =
     (p .put-rule .last .0) (newRule 1 q) (w .rule) (long l) (omega (arith, fits n .counts)) (y .copy .ensures)
     (p .put-rule .ensures
     ∙ ap (λ (x : Rule). splice (n .counts-of .result .rules * 28) (ruleBytes x) (y .copy .last .0))
-    (r .rule-of .ensures)) in
+    (r .new-rule .ensures)) in
     ap not (c .is-stratified .ensures ∙ ap stratified (all ∙ ap (λ (rs : List Rule). rs ++ (newRule 1 q ∷ []))
     (rules-lent s (n .counts-of .result) (n .counts-of .ensures) (l .rules-at .result)
     (l .rules-at .ensures))))
@@ -117,4 +117,5 @@ not-stratified-spec =
     (λ c. search needs) sub-copy
     part-copy-start (λ c. search needs) (λ c. search needs) copy-requires (λ c. search needs)
     (λ c. search needs)
-    rule-of-requires put-rule-requires (λ c. search needs) add-is-stratified is-stratified-requires returns-2)
+    new-rule-requires put-rule-requires (λ c. search needs) add-is-stratified is-stratified-requires
+    returns-2)

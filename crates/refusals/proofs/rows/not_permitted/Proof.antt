@@ -36,7 +36,7 @@ returns-4 c =
     (λ t. not (c .owns .ensures t))
     ∙ permit-privilege (decode (now (a .s))) (a .q) (e .before .before .if1 .left) (e .before .if2 .left)
     (e .if3 .left)
-    (sym (p .is-privilege .ensures) ∙ c .before .if4 .taken)
+    (sym (p .is-privilege-request .ensures) ∙ c .before .if4 .taken)
 
 returns-5 : tie.Need-returns-5
 returns-5 c =
@@ -45,7 +45,7 @@ returns-5 c =
     let a = e .before .before .before .before .args in
     permit-none (decode (now (a .s))) (a .q) (e .before .before .if1 .left) (e .before .if2 .left)
     (e .if3 .left)
-    (sym (p .is-privilege .ensures) ∙ c .if4 .left)
+    (sym (p .is-privilege-request .ensures) ∙ c .if4 .left)
 
 pub not-permitted-spec : {M : Type 1} → statement M
 not-permitted-spec =

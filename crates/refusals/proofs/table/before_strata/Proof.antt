@@ -27,15 +27,15 @@ supported : (c : tie.After-enum-told) →
 supported c =
     let u = c .before .before in
     let a = u .before .before .before .before .args in
-    subst (UncoveredIs (decode (now (a .s))) (a .q)) (c .enum-told .given .1) (u .uncovered .ensures)
+    subst (UncoveredIs (decode (now (a .s))) (a .q)) (c .enum-told .given .1) (u .first-uncovered .ensures)
 
 returns : tie.Need-returns
 returns c =
     let a = c .before .before .before .args in
     before-stands (decode (now (a .s))) (a .q) _ (c .before .before-cover .ensures) (c .if1 .taken)
 
-uncovered-requires : tie.Need-uncovered-requires
-uncovered-requires c κs =
+first-uncovered-requires : tie.Need-first-uncovered-requires
+first-uncovered-requires c κs =
     let d = c .before .before .before in
     (d .pre, before-range (decode (now (d .args .s))) (d .args .q) (passes c))
 
@@ -52,7 +52,7 @@ returns-3 c =
     let a = u .before .before .before .before .args in
     let b = decode (now (a .s)) in
     let w : UncoveredIs b (a .q) (At _) =
-    subst (UncoveredIs b (a .q)) (c .before .gap .given .1) (u .uncovered .ensures) in
+    subst (UncoveredIs b (a .q)) (c .before .gap .given .1) (u .first-uncovered .ensures) in
     (cover-decides b (a .q) true (passes (u .before)) (w .0), w .1)
 
 returns-4 : tie.Need-returns-4
@@ -66,5 +66,5 @@ returns-4 c =
 pub before-strata-spec : {M : Type 1} → statement M
 before-strata-spec =
     tie.close
-    (tie.spec (λ c κs. search needs) returns uncovered-requires (λ c. search needs) (λ c. search needs)
+    (tie.spec (λ c κs. search needs) returns first-uncovered-requires (λ c. search needs) (λ c. search needs)
     (λ c κs. search needs) returns-2 returns-3 returns-4)

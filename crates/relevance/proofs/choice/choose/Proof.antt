@@ -8,7 +8,7 @@ use Rattle.relevance.proofs.choice.choose.Tie as tie
 returns : tie.Need-returns
 returns c =
     let t = c .before .before .before .before in
-    let v = t .before .before .before .before .before .before .args .asked in
+    let v = t .before .before .before .before .before .before .before .args .asked in
     let w = and-true (eqb (v .start) 0) (eqb (v .end) 4294967295) (t .if1 .taken) in
     let s = true-eq (v .start) 0 (w .0) in
     let e = true-eq (v .end) 4294967295 (w .1) in

@@ -8,6 +8,7 @@ use mathlib.Core.List.{List}
 use Prim.Native.Nat.{ℕ, _+_, _-_}
 use denote.Ref.{now}
 use Rattle.model.specs.declared.Authorization.{Authorization}
+use Rattle.sections.specs.Sections.{subjectsOf, objectsOf}
 use Rattle.relevance.specs.Chosen.{number-inside}
 use Rattle.relevance.specs.Needed.{isNeeded, isChosen}
 use Rattle.relevance.proofs.KeptNumbers.{Chose, chose-start, chose-skip, chose-end}
@@ -16,88 +17,92 @@ use Rattle.relevance.proofs.choice.choose_during.Statement.{statement}
 use Rattle.relevance.proofs.choice.choose_during.Tie as tie
 
 abbrev Inv-loop : tie.InvT-loop
-Inv-loop lines total x asked subjects objects stride need which₀ n₀ i₀ which n i =
-    Chose (isChosen asked subjects objects x stride need) lines total which₀ which n i
+Inv-loop lines total x asked coordinates stride need which₀ n₀ i₀ which n i =
+    Chose (isChosen asked (subjectsOf coordinates) (objectsOf coordinates) x stride need) lines total which₀
+    which n i
 
 abbrev μ-loop : tie.MeasureT-loop
-μ-loop lines total x asked subjects objects stride need which₀ n₀ i₀ which n i = total - i
+μ-loop lines total x asked coordinates stride need which₀ n₀ i₀ which n i = total - i
 
 loop-holds : tie.Need-loop-holds Inv-loop μ-loop
 loop-holds c =
-    let a = c .before .before .before .args in
-    chose-start (isChosen (a .asked) (now (a .subjects)) (now (a .objects)) (a .x) (a .stride)
-    (now (a .need))) (now (a .lines)) (a .total) (now (a .which))
+    let a = c .before .before .before .before .args in
+    chose-start (isChosen (a .asked) (subjectsOf (now (a .coordinates))) (objectsOf (now (a .coordinates)))
+    (a .x) (a .stride) (now (a .need))) (now (a .lines)) (a .total) (now (a .which))
 
 mul-authorization-at : tie.Need-mul-authorization-at Inv-loop μ-loop
 mul-authorization-at c =
-    let b = c .before .before .before .before .before in
+    let b = c .before .before .before .before .before .before in
     omega (
       arith,
       number-inside (c .before .loop .i) (b .args .total) (now (b .args .lines)) (omega arith)
-          (b .pre .bytes),
+          (b .pre .0 .bytes),
     )
 
 authorization-at-requires : tie.Need-authorization-at-requires Inv-loop μ-loop
 authorization-at-requires c κs =
-    let b = c .before .before .before .before .before in
-    number-inside (c .before .loop .i) (b .args .total) (now (b .args .lines)) (omega arith) (b .pre .bytes)
+    let b = c .before .before .before .before .before .before in
+    number-inside (c .before .loop .i) (b .args .total) (now (b .args .lines)) (omega arith)
+    (b .pre .0 .bytes)
 
 -- the test of the instants is passed
 cast-which : tie.Need-cast-which Inv-loop μ-loop
 cast-which c =
     let k = c .before .before .before .before .before .before .before in
-    omega (arith, k .before .before .before .before .before .before .pre .numbers)
+    omega (arith, k .before .before .before .before .before .before .before .pre .0 .numbers)
 
 slice-write-which : tie.Need-slice-write-which Inv-loop μ-loop
 slice-write-which c =
     let k = c .before .before .before .before .before .before .before in
-    let b = k .before .before .before .before .before .before in
+    let b = k .before .before .before .before .before .before .before in
     let v = k .before .before .loop .inv in
-    omega (arith, v .few, v .same-length, b .pre .room)
+    omega (arith, v .few, v .same-length, b .pre .0 .room)
 
 cell-of-requires : tie.Need-cell-of-requires Inv-loop μ-loop
 cell-of-requires c κs =
     let k = c .before .before .before .before .before .before .before in
-    let b = k .before .before .before .before .before .before in
-    let p = placed-at (b .pre) (k .before .before .loop .i) (omega arith) (k .authorization-at .ensures) in
-    (p .subject, p .object)
+    let b = k .before .before .before .before .before .before .before in
+    let p = placed-at (b .pre .0) (k .before .before .loop .i) (omega arith) (k .authorization-at .ensures) in
+    (p .subject, p .object, b .pre .1)
 
 is-needed-requires : tie.Need-is-needed-requires Inv-loop μ-loop
 is-needed-requires c κs =
     let k = c .before .before .before .before .before .before .before .before in
-    let b = k .before .before .before .before .before .before in
+    let b = k .before .before .before .before .before .before .before in
     let r = k .authorization-at in
     let e = c .cell-of .ensures in (
-      placed-at (b .pre) (k .before .before .loop .i) (omega arith) (r .ensures),
-      charted (b .pre) (b .args .x) (r .result .head) (c .cell-of .result) (e .0) (e .1) (e .2),
+      placed-at (b .pre .0) (k .before .before .loop .i) (omega arith) (r .ensures),
+      charted (b .pre .0) (b .args .x) (r .result .head) (c .cell-of .result) (e .0) (e .1) (e .2),
     )
 
 counted-requires : tie.Need-counted-requires Inv-loop μ-loop
 counted-requires c κs =
     let k = c .before .before .before .before .before .before .before .before .before in
-    let b = k .before .before .before .before .before .before in
-    omega (arith, k .before .before .loop .inv .few, b .pre .numbers)
+    let b = k .before .before .before .before .before .before .before in
+    omega (arith, k .before .before .loop .inv .few, b .pre .0 .numbers)
 
 -- one that passes it is chosen if it is needed, and one that does not is not
 loop-again : tie.Need-loop-again Inv-loop μ-loop
 loop-again c =
     let k = c .before .before .before .before .before .before .before in
-    let b = k .before .before .before .before .before .before in
+    let b = k .before .before .before .before .before .before .before in
     let a = b .args in
     let l = k .before .before .loop in
     let r = k .authorization-at in
     let test : Authorization → Bool =
-    isChosen (a .asked) (now (a .subjects)) (now (a .objects)) (a .x) (a .stride) (now (a .need)) in
+    isChosen (a .asked) (subjectsOf (now (a .coordinates))) (objectsOf (now (a .coordinates)))
+    (a .x) (a .stride) (now (a .need)) in
     ⊎-elim
     (λ w. subst (λ (v : List ℕ). Chose test (now (a .lines)) (a .total) (now (a .which)) v (c .if1 .n)
     (l .i + 1)) (sym (w .4))
-    (chose-during (b .pre) (l .i) (omega arith) (r .ensures) (a .asked) (a .x) (l .which) (l .n) (c .if1 .n)
-    (w .1 .result) (w .2 .result) (l .inv) (w .0 .taken) (w .1 .ensures .0) (w .2 .ensures)
+    (chose-during (b .pre .0) (l .i) (omega arith) (r .ensures) (a .asked) (a .x) (l .which) (l .n)
+    (c .if1 .n) (w .1 .result) (w .2 .result) (l .inv) (w .0 .taken) (w .1 .ensures .0) (w .2 .ensures)
     (w .5 ∙ w .3 .ensures)))
     (λ w. rw (w .1, w .2) (chose-skip test (now (a .lines)) (a .total) (now (a .which)) (l .which) (l .n)
     (l .i) (l .inv) (omega arith)
-    (ap test (sym (r .ensures)) ∙ ap (λ (d : Bool). d && isNeeded (now (a .subjects)) (now (a .objects))
-    (a .x) (a .stride) (now (a .need)) (r .result)) (w .0 .left))))
+    (ap test (sym (r .ensures)) ∙ ap (λ (d : Bool). d
+    && isNeeded (subjectsOf (now (a .coordinates))) (objectsOf (now (a .coordinates))) (a .x)
+    (a .stride) (now (a .need)) (r .result)) (w .0 .left))))
     (c .if1 .came)
 
 same-length : tie.Need-same-length Inv-loop μ-loop
@@ -105,11 +110,11 @@ same-length c = c .before .loop .inv .same-length
 
 returns : tie.Need-returns Inv-loop μ-loop
 returns c =
-    let a = c .before .before .before .before .before .args in
+    let a = c .before .before .before .before .before .before .args in
     let l = c .before .loop in
-    chose-end (isChosen (a .asked) (now (a .subjects)) (now (a .objects)) (a .x) (a .stride)
-    (now (a .need))) (now (a .lines)) (a .total) (now (a .which)) (l .which) (l .n) (l .i) (l .inv)
-    (omega arith)
+    chose-end (isChosen (a .asked) (subjectsOf (now (a .coordinates))) (objectsOf (now (a .coordinates)))
+    (a .x) (a .stride) (now (a .need))) (now (a .lines)) (a .total) (now (a .which)) (l .which) (l .n)
+    (l .i) (l .inv) (omega arith)
 
 pub choose-during-spec : {M : Type 1} → statement M
 choose-during-spec =

@@ -5,6 +5,7 @@ use Prim.Native.Nat.{_-_}
 use denote.Ref.{now}
 use Rattle.foundation.specs.declared.Interval.{Interval}
 use Rattle.foundation.specs.Intervals.{interval}
+use Rattle.sections.specs.Sections.{subjectsOf, objectsOf}
 use Rattle.relevance.specs.Chosen.{number-inside}
 use Rattle.relevance.specs.Needed.{isChosen}
 use Rattle.relevance.proofs.KeptNumbers.{Chose, chose-start, chose-end}
@@ -17,71 +18,74 @@ abbrev ever : Interval
 ever = interval 0 4294967295
 
 abbrev Inv-loop : tie.InvT-loop
-Inv-loop lines total x subjects objects stride need which₀ n₀ i₀ which n i =
-    Chose (isChosen ever subjects objects x stride need) lines total which₀ which n i
+Inv-loop lines total x coordinates stride need which₀ n₀ i₀ which n i =
+    Chose (isChosen ever (subjectsOf coordinates) (objectsOf coordinates) x stride need) lines total which₀
+    which n i
 
 abbrev μ-loop : tie.MeasureT-loop
-μ-loop lines total x subjects objects stride need which₀ n₀ i₀ which n i = total - i
+μ-loop lines total x coordinates stride need which₀ n₀ i₀ which n i = total - i
 
 loop-holds : tie.Need-loop-holds Inv-loop μ-loop
 loop-holds c =
-    let a = c .before .before .before .args in
-    chose-start (isChosen ever (now (a .subjects)) (now (a .objects)) (a .x) (a .stride) (now (a .need)))
-    (now (a .lines)) (a .total) (now (a .which))
+    let a = c .before .before .before .before .args in
+    chose-start (isChosen ever (subjectsOf (now (a .coordinates))) (objectsOf (now (a .coordinates)))
+    (a .x) (a .stride) (now (a .need))) (now (a .lines)) (a .total) (now (a .which))
 
 mul-authorization-at : tie.Need-mul-authorization-at Inv-loop μ-loop
 mul-authorization-at c =
-    let b = c .before .before .before .before .before in
+    let b = c .before .before .before .before .before .before in
     omega (
       arith,
       number-inside (c .before .loop .i) (b .args .total) (now (b .args .lines)) (omega arith)
-          (b .pre .bytes),
+          (b .pre .0 .bytes),
     )
 
 authorization-at-requires : tie.Need-authorization-at-requires Inv-loop μ-loop
 authorization-at-requires c κs =
-    let b = c .before .before .before .before .before in
-    number-inside (c .before .loop .i) (b .args .total) (now (b .args .lines)) (omega arith) (b .pre .bytes)
+    let b = c .before .before .before .before .before .before in
+    number-inside (c .before .loop .i) (b .args .total) (now (b .args .lines)) (omega arith)
+    (b .pre .0 .bytes)
 
 cast-which : tie.Need-cast-which Inv-loop μ-loop
-cast-which c = omega (arith, c .before .before .before .before .before .before .before .pre .numbers)
+cast-which c =
+    omega (arith, c .before .before .before .before .before .before .before .before .pre .0 .numbers)
 
 slice-write-which : tie.Need-slice-write-which Inv-loop μ-loop
 slice-write-which c =
-    let b = c .before .before .before .before .before .before .before in
+    let b = c .before .before .before .before .before .before .before .before in
     let v = c .before .before .before .loop .inv in
-    omega (arith, v .few, v .same-length, b .pre .room)
+    omega (arith, v .few, v .same-length, b .pre .0 .room)
 
 cell-of-requires : tie.Need-cell-of-requires Inv-loop μ-loop
 cell-of-requires c κs =
-    let b = c .before .before .before .before .before .before .before in
+    let b = c .before .before .before .before .before .before .before .before in
     let i = c .before .before .before .loop .i in
-    let p = placed-at (b .pre) i (omega arith) (c .before .authorization-at .ensures) in
-    (p .subject, p .object)
+    let p = placed-at (b .pre .0) i (omega arith) (c .before .authorization-at .ensures) in
+    (p .subject, p .object, b .pre .1)
 
 is-needed-requires : tie.Need-is-needed-requires Inv-loop μ-loop
 is-needed-requires c κs =
-    let b = c .before .before .before .before .before .before .before .before in
+    let b = c .before .before .before .before .before .before .before .before .before in
     let r = c .before .before .authorization-at in
     let i = c .before .before .before .before .loop .i in
     let e = c .cell-of .ensures in (
-      placed-at (b .pre) i (omega arith) (r .ensures),
-      charted (b .pre) (b .args .x) (r .result .head) (c .cell-of .result) (e .0) (e .1) (e .2),
+      placed-at (b .pre .0) i (omega arith) (r .ensures),
+      charted (b .pre .0) (b .args .x) (r .result .head) (c .cell-of .result) (e .0) (e .1) (e .2),
     )
 
 counted-requires : tie.Need-counted-requires Inv-loop μ-loop
 counted-requires c κs =
-    let b = c .before .before .before .before .before .before .before .before .before in
-    omega (arith, c .before .before .before .before .before .loop .inv .few, b .pre .numbers)
+    let b = c .before .before .before .before .before .before .before .before .before .before in
+    omega (arith, c .before .before .before .before .before .loop .inv .few, b .pre .0 .numbers)
 
 loop-again : tie.Need-loop-again Inv-loop μ-loop
 loop-again c =
-    let b = c .before .before .before .before .before .before .before .before .before .before in
+    let b = c .before .before .before .before .before .before .before .before .before .before .before in
     let a = b .args in
     let l = c .before .before .before .before .before .before .loop in
     let r = c .before .before .before .before .authorization-at in
     let k = c .before .before .cell-of in
-    chose-during (b .pre) (l .i) (omega arith) (r .ensures) ever (a .x) (l .which) (l .n)
+    chose-during (b .pre .0) (l .i) (omega arith) (r .ensures) ever (a .x) (l .which) (l .n)
     (c .counted .result) (k .result) (c .before .is-needed .result) (l .inv)
     (during-all (r .result) (omega (arith, r .ok))) (k .ensures .0) (c .before .is-needed .ensures)
     (c .counted .ensures)
@@ -91,10 +95,11 @@ same-length c = c .before .loop .inv .same-length
 
 returns : tie.Need-returns Inv-loop μ-loop
 returns c =
-    let a = c .before .before .before .before .before .args in
+    let a = c .before .before .before .before .before .before .args in
     let l = c .before .loop in
-    chose-end (isChosen ever (now (a .subjects)) (now (a .objects)) (a .x) (a .stride) (now (a .need)))
-    (now (a .lines)) (a .total) (now (a .which)) (l .which) (l .n) (l .i) (l .inv) (omega arith)
+    chose-end (isChosen ever (subjectsOf (now (a .coordinates))) (objectsOf (now (a .coordinates)))
+    (a .x) (a .stride) (now (a .need))) (now (a .lines)) (a .total) (now (a .which)) (l .which) (l .n)
+    (l .i) (l .inv) (omega arith)
 
 pub choose-needed-spec : {M : Type 1} → statement M
 choose-needed-spec =

@@ -1,4 +1,4 @@
--- The loop's invariant: the state of the walk (`Walk`), and that the bodies keep their lengths.
+-- The loop's invariant: the state of the walk (`RoundAt`), and that the bodies keep their lengths.
 use borrow.Author.Needs.{needs}
 use native.Mathlib.Omega.{arith}
 use mathlib.Core.Path.{_≡_, refl, sym, ap, _∙_, subst}
@@ -14,7 +14,7 @@ use Rattle.encoding.specs.Format.{authorizationsIn}
 use Rattle.foundation.specs.ByteRecords.{rest, rest-all, rest-step, rest-end}
 use Rattle.pieces.specs.Cuts.{behindAll}
 use Rattle.withdrawal.proofs.TurnFacts.{turns-at, turns-full}
-use Rattle.withdrawal.proofs.Walks.{Walk, walk-start, walk-pos, walk-end, walk-next, walk-full}
+use Rattle.withdrawal.proofs.Walks.{RoundAt, walk-start, walk-pos, walk-end, walk-next, walk-full}
 use Rattle.withdrawal.proofs.Instants.{end-below}
 use Rattle.withdrawal.proofs.rounds.do_round.Statement.{statement}
 use Rattle.withdrawal.proofs.rounds.do_round.Tie as tie
@@ -27,7 +27,7 @@ Inv-loop owners no' administrators na s n c from to out₀ sorted₀ m k₀ pos�
     (i ≤ n)
     × (length out ≡ length out₀)
     × (length sorted ≡ length sorted₀)
-    × Walk (rootsIn no' owners na administrators) c (authorizationsIn n s) from to
+    × RoundAt (rootsIn no' owners na administrators) c (authorizationsIn n s) from to
     (left n s i) k pos out sorted
 
 abbrev μ-loop : tie.MeasureT-loop
@@ -44,7 +44,7 @@ loop-holds c =
       refl,
       refl,
       subst (λ (y : List Authorization).
-          Walk root (a .c) xs (a .from) (a .to) y (a .m) 0 (now (a .out)) (now (a .sorted)))
+          RoundAt root (a .c) xs (a .from) (a .to) y (a .m) 0 (now (a .out)) (now (a .sorted)))
           (sym (rest-all 24 authorizationOf (a .n) (now (a .s))))
           (walk-start _ _ _ _ _ _ _ _ (p .0 .1) (p .0 .2) (p .1)),
     )

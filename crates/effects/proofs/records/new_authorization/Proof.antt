@@ -1,11 +1,11 @@
--- `effects::records::authorization_of` meets its contract, field by field.
+-- `effects::records::new_authorization` meets its contract, field by field.
 use borrow.Author.Needs.{needs}
 use mathlib.Core.Path.{sym}
 use mathlib.Core.Bool.{_&&_}
 use lib.Dec.{eqb}
 use Rattle.foundation.specs.Tests.{or-false}
-use Rattle.effects.proofs.records.authorization_of.Statement.{statement}
-use Rattle.effects.proofs.records.authorization_of.Tie as tie
+use Rattle.effects.proofs.records.new_authorization.Statement.{statement}
+use Rattle.effects.proofs.records.new_authorization.Tie as tie
 
 returns : tie.Need-returns
 returns c =
@@ -25,7 +25,7 @@ returns c =
       interval = q .interval;
     }
 
-pub authorization-of-spec : {M : Type 1} → statement M
-authorization-of-spec =
+pub new-authorization-spec : {M : Type 1} → statement M
+new-authorization-spec =
     tie.close (tie.spec (λ c. search needs) (λ c. search needs) (λ c. search needs)
     (λ c. search needs) returns)

@@ -1,7 +1,7 @@
--- `encoding::terms::rule_of` meets its contract, field by field.
+-- `encoding::terms::new_rule` meets its contract, field by field.
 use borrow.Author.Needs.{needs}
-use Rattle.encoding.proofs.terms.rule_of.Statement.{statement}
-use Rattle.encoding.proofs.terms.rule_of.Tie as tie
+use Rattle.encoding.proofs.terms.new_rule.Statement.{statement}
+use Rattle.encoding.proofs.terms.new_rule.Tie as tie
 
 returns : tie.Need-returns
 returns c =
@@ -18,8 +18,8 @@ returns c =
       interval = q .interval;
     }
 
-pub rule-of-spec : {M : Type 1} → statement M
-rule-of-spec =
+pub new-rule-spec : {M : Type 1} → statement M
+new-rule-spec =
     tie.close
     (tie.spec (λ c. search needs) (λ c κs. search needs) (λ c. search needs) (λ c κs. search needs)
     (λ c κs. search needs)

@@ -1,4 +1,4 @@
--- `refusals::grants::uncovered`: the first gap of the authorizations as they are lent (`uncovered-is`).
+-- `refusals::grants::first_uncovered`: the first gap of the authorizations as they are lent (`uncovered-is`).
 use borrow.Author.Needs.{needs}
 use borrow.Author.Tests.{not-true, not-false}
 use mathlib.Core.Path.{_≡_, sym, _∙_, subst}
@@ -17,8 +17,8 @@ use Rattle.encoding.specs.Format.{authorizationsAt}
 use Rattle.cover.specs.Gaps.{GapIs}
 use Rattle.refusals.proofs.AskedFacts.{GrantIn, grant-in, no-grant, in-control, uncovered-is}
 use Rattle.lookup.proofs.SoundBodies.{fitting, there, authorizations-lent}
-use Rattle.refusals.proofs.grants.uncovered.Statement.{statement}
-use Rattle.refusals.proofs.grants.uncovered.Tie as tie
+use Rattle.refusals.proofs.grants.first_uncovered.Statement.{statement}
+use Rattle.refusals.proofs.grants.first_uncovered.Tie as tie
 
 -- behind the test of the kind
 granting : (c : tie.Else1) → grants (c .before .before .before .args .q) ≡ true
@@ -103,8 +103,8 @@ returns-3 c =
       before = q .now;
     })))
 
-pub uncovered-spec : {M : Type 1} → statement M
-uncovered-spec =
+pub first-uncovered-spec : {M : Type 1} → statement M
+first-uncovered-spec =
     tie.close
     (tie.spec (λ c κs. search needs) returns (λ c κs. search needs) returns-2 counts-of-requires
     (λ c κs. search needs) cast-object cast-mode cast-grantor sub-first-gap part-first-gap-start
