@@ -11,6 +11,7 @@ ghost use Rattle.model.specs.Batch.{replyByte, byteFor, batchRefusal, Batched, 
 use model::Access;
 use model::Question;
 use model::Reply;
+use sections::HANDED;
 
 // A reply as a byte.
 fn byte_of(r: Reply) -> u8
@@ -28,11 +29,11 @@ fn byte_of(r: Reply) -> u8
 }
 
 // What is the same for all questions, worked out once where there are any.
-fn prepare(base: &[u8], questions: usize) -> [u64; 684]
+fn prepare(base: &[u8], questions: usize) -> [u64; HANDED]
     requires { ⌜ (0 < questions → soundBytes (now base) ≡ true) ⌝ }
     ensures { λ t. ⌜ (0 < questions → HandedOn (now (base .entry)) t) ⌝ }
 {
-    let mut words = [0u64; 684];
+    let mut words = [0u64; HANDED];
     if 0 < questions {
         queries::prepare(base, &mut words);
     }

@@ -18,7 +18,7 @@ fn put_right(column: &mut [u8], text: &[u8])
     ensures { λ _. ⌜ now (column .exit) ≡ aligned (length (now (column .entry))) (now (text .entry)) ⌝ }
 {
     let n = column.len() - text.len();
-    fields::fill(column, b' ');
+    fields::fill_bytes(column, b' ');
     fields::copy(column, n, text, text.len());
 }
 

@@ -7,7 +7,7 @@ ghost use Rattle.foundation.specs.Intervals.{interval};
 ghost use Rattle.model.specs.Encoding.{authorizationOf};
 ghost use Rattle.cover.specs.Cover.{wanted, covers, gapIn};
 ghost use Rattle.encoding.specs.Format.{authorizationsIn};
-ghost use Rattle.cover.specs.Sweep.{reachOf, sweepOf};
+ghost use Rattle.cover.specs.Sweep.{endFrom, sweepOf};
 ghost use Rattle.cover.specs.Gaps.{FirstGap};
 use model::AUTHORIZATION_BYTES;
 use model::Authorization;
@@ -46,9 +46,9 @@ fn covers_at(w: Want, t: u64, a: Authorization) -> bool
 }
 
 // Where the authorization at a place gets from an instant that it covers, if it is wanted: behind its end.
-pub fn reach(s: &[u8], at: usize, w: Want, t: u64) -> u64
+pub fn end_from(s: &[u8], at: usize, w: Want, t: u64) -> u64
     requires { ⌜ at + 24 ≤ length (now s) ⌝ }
-    ensures { λ r. ⌜ r ≡ reachOf w (authorizationOf (drop at (now (s .entry)))) t ⌝ }
+    ensures { λ r. ⌜ r ≡ endFrom w (authorizationOf (drop at (now (s .entry)))) t ⌝ }
 {
     let a = encoding::authorization_at(s, at);
     if covers_at(w, t, a) {
@@ -66,7 +66,7 @@ pub fn sweep(s: &[u8], n: usize, w: Want, t: u64, b: u64) -> u64
     let mut u = t;
     let mut i = 0;
     while i < n {
-        u = reach(s, i * AUTHORIZATION_BYTES, w, u);
+        u = end_from(s, i * AUTHORIZATION_BYTES, w, u);
         if b <= u {
             return u;
         }

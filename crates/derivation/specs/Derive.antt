@@ -2,20 +2,19 @@
 -- over the window (`derived-made`).
 use mathlib.Core.Path.{_≡_, refl, sym, ap, _∙_}
 use mathlib.Core.Bool.{Bool, true, false, not}
-use Prim.Native.Nat.{ℕ, zero, suc, _^_, _≤_, _<_}
-use native.Mathlib.Nat.{pow-succ'}
+use Prim.Native.Nat.{ℕ, zero, suc, _≤_, _<_}
 use native.Mathlib.Omega.{arith}
 use lib.Dec.{ltb}
 use Rattle.foundation.specs.Tests.{cases, true-le, false-le}
 use Rattle.foundation.specs.Intervals.{inInterval, inInterval-in, inInterval-true}
-use Rattle.foundation.specs.BitMasks.{bit}
+use Rattle.foundation.specs.BitMasks.{bit, power-above, bit-zero}
 use Rattle.model.specs.declared.Operator.{Operator}
 use Rattle.model.specs.declared.Rule.{Rule}
 use Rattle.questions.specs.OperatorSteps.{lasting}
 use Rattle.words.specs.Bits.{no-bits}
 use Rattle.derivation.specs.Window.{made}
 use Rattle.derivation.specs.Lasting.{made-idle, made-plain}
-use Rattle.derivation.specs.Words.{bit-zero, derivedWord, Framed, word-made}
+use Rattle.derivation.specs.Words.{derivedWord, Framed, word-made}
 
 -- a is the first bit of a word
 pub record FirstBit (a active : ℕ) : Type 0 where
@@ -26,11 +25,6 @@ pub record FirstBit (a active : ℕ) : Type 0 where
 pub record Derived (o : Operator) (held active : ℕ) (broken : Bool) (r : ℕ) : Type 0 where
   pub within : r ≤ active
   pub word : (a : ℕ) → FirstBit a active → (i : ℕ) → bit i r ≡ bit i (derivedWord o held active broken a)
-
--- a number is below a power of two, so that a word with no bit is 0
-below-power : (n : ℕ) → n < 2 ^ n
-below-power zero = omega arith
-below-power (suc n) = rw (pow-succ' 2 n) (omega (arith, below-power n))
 
 -- a word has a first bit below n, or none there
 first-or-none : {X : Type 0} (active n : ℕ) → ((a : ℕ) → a < n → FirstBit a active → X) →
@@ -61,7 +55,7 @@ module _ (r : Rule) (k : ℕ) (ms : ℕ → ℕ) (f : Framed r k ms) (right : �
   idle-made : ((i : ℕ) → i < k → bit i active ≡ false) → (i : ℕ) → i < k →
       bit i v ≡ made r ms right before i
   idle-made z i h =
-      let none : active ≡ 0 = no-bits active active (below-power active) (λ j l. cases (bit j active)
+      let none : active ≡ 0 = no-bits active active (power-above active) (λ j l. cases (bit j active)
       (λ e. z j (inside j e)) (λ e. e)) in
       let w : v ≡ 0 = omega (arith, d .within) in
       ap (bit i) w ∙ bit-zero i

@@ -8,7 +8,7 @@ use mathlib.Core.Bool.{Bool, true, _&&_, false≢true}
 use Rattle.foundation.specs.Tests.{agree, and-true, and-intro, or-cases, or-intro-left, or-true-right}
 use Rattle.foundation.specs.Lists.{anyb, Mem, any-mem, mem-any}
 use Rattle.foundation.specs.Intervals.{inInterval, always}
-use Rattle.foundation.specs.BitMasks.{bit}
+use Rattle.foundation.specs.BitMasks.{bit, bit-zero}
 use Rattle.model.specs.declared.Authorization.{Authorization}
 use Rattle.model.specs.declared.Rule.{Rule}
 use Rattle.model.specs.declared.Access.{Access}
@@ -19,7 +19,6 @@ use Rattle.model.specs.declared.Pattern.{Pattern}
 use Rattle.model.specs.Rules.{Fact, fact, fits, derivesFor, holdsBy, holds}
 use Rattle.model.specs.HoldsLaws.{derived, holds-law}
 use Rattle.questions.specs.Table.{truth}
-use Rattle.derivation.specs.Words.{bit-zero}
 
 -- the word of each access in each table
 abbrev pub AccessWords : Type 0
@@ -47,8 +46,8 @@ module _ (base : Base) (count : ℕ) (ms : ℕ → ℕ) (pat : ℕ → Access �
   GivenAt W r x = (T : ℕ) → Kept T x → derivesFor base (pat T x) r ≡ true → (i : ℕ) → i < count →
       truth base (ms i) r x ≡ true → bit i (W T x) ≡ true
 
-  abbrev pub Done : AccessWords → Rule → Type 0
-  Done W r = (x : Access) → GivenAt W r x
+  abbrev pub GivenEverywhere : AccessWords → Rule → Type 0
+  GivenEverywhere W r = (x : Access) → GivenAt W r x
 
   -- words with no bit say nothing wrong
   pub none-sound : (W : AccessWords) → ((T : ℕ) (x : Access) → Kept T x → W T x ≡ 0) → SoundWords W

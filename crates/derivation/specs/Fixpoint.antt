@@ -34,7 +34,7 @@ use Rattle.questions.specs.OperatorSteps.{lasting, sense, operate-back, operate
 use Rattle.questions.specs.Table.{truth, instant-before}
 use Rattle.derivation.specs.Window.{Window, made}
 use Rattle.derivation.specs.Lasting.{prior, made-by}
-use Rattle.derivation.specs.Exact.{AccessWords, Valued, Done, held-cases}
+use Rattle.derivation.specs.Exact.{AccessWords, Valued, GivenEverywhere, held-cases}
 use Rattle.derivation.specs.Turn.{Evaluated, evaluated-stays, right-seen, right-sound}
 use Rattle.derivation.specs.Turn.{right-exact, evaluated-made, right-made}
 
@@ -85,7 +85,7 @@ module _ (base : Base) (s : stratified (base .rules) ≡ true) (count : ℕ) (ms
     (on : (T : ℕ) (x : Access) → pat T x .access ≡ x) (Kept : ℕ → Access → Type 0)
     (W : AccessWords) (a : Valued base count ms pat Kept W) (k : ℕ)
     (below : (q : Rule) → Mem q (base .rules) → stratum (base .rules) q < k →
-    Done base count ms pat Kept W q) where
+    GivenEverywhere base count ms pat Kept W q) where
   module _ (r : Rule) (m : Mem r (base .rules)) (h : stratum (base .rules) r ≡ k) (x : Access) (v : ℕ)
       (e : Evaluated base count ms pat Kept W r x v) where
     -- what is seen of the right side, and what is to be seen
@@ -96,7 +96,8 @@ module _ (base : Base) (s : stratified (base .rules) ≡ true) (count : ℕ) (ms
     right i = holding base (ms i) (rightOf r x)
 
     -- denials of the right side's access are derived in the strata below alone
-    linked-done : (q : Rule) → Mem q (base .rules) → links q r ≡ true → Done base count ms pat Kept W q
+    linked-done : (q : Rule) → Mem q (base .rules) → links q r ≡ true → GivenEverywhere base count ms pat Kept
+        W q
     linked-done q n l = below q n (omega (
       arith,
       feeder-below (base .rules) s q r n m (links-precedes q r l) (links-heavy q r l),
@@ -136,7 +137,7 @@ module _ (base : Base) (s : stratified (base .rules) ≡ true) (count : ℕ) (ms
 
   module _ (few : k ≤ 2 * length (base .rules))
       (shut : (r : Rule) → Mem r (base .rules) → stratum (base .rules) r ≡ k →
-      Done base count ms pat Kept W r ⊎ NothingNew base count ms pat Kept W r) where
+      GivenEverywhere base count ms pat Kept W r ⊎ NothingNew base count ms pat Kept W r) where
     -- what a round derives is derived at last, and by a rule of this stratum or one below
     round-true : (n : ℕ) → n ≤ enough always base → (r : Rule) → Mem r (base .rules) → (x : Access) (u : ℕ) →
         stage n (fact r x u) ≡ true → (stratum (base .rules) r < suc k) × (truth base u r x ≡ true)
@@ -161,7 +162,7 @@ module _ (base : Base) (s : stratified (base .rules) ≡ true) (count : ℕ) (ms
             stage n (fact q y (ms i)) ≡ true → bit i (W (e .table) y) ≡ true
         given q p d b =
             let g = round-true n (omega arith) q p y (ms i) b in
-            let done : Done base count ms pat Kept W q → bit i (W (e .table) y) ≡ true =
+            let done : GivenEverywhere base count ms pat Kept W q → bit i (W (e .table) y) ≡ true =
             λ f. f y (e .table) (e .kept) d i inside (g .1) in
             cases (ltb (stratum (base .rules) q) k)
             (λ z. done (below q p (true-le (suc (stratum (base .rules) q)) k z)))
@@ -276,13 +277,14 @@ module _ (base : Base) (s : stratified (base .rules) ≡ true) (count : ℕ) (ms
         subst MadeAt p (made-at i (omega arith)))
 
     shut-given : (r : Rule) → Mem r (base .rules) → stratum (base .rules) r ≡ k →
-        NothingNew base count ms pat Kept W r → Done base count ms pat Kept W r
+        NothingNew base count ms pat Kept W r → GivenEverywhere base count ms pat Kept W r
     shut-given r m h f x T t d i g b =
         let u = f T x t d in u .2 i g (made-at i g r m h x (u .0) (u .1) b)
 
   -- every rule of the stratum has given what it derives
   pub shut-done : ((r : Rule) → Mem r (base .rules) → stratum (base .rules) r ≡ k →
-      Done base count ms pat Kept W r ⊎ NothingNew base count ms pat Kept W r) →
-      (r : Rule) → Mem r (base .rules) → stratum (base .rules) r ≡ k → Done base count ms pat Kept W r
+      GivenEverywhere base count ms pat Kept W r ⊎ NothingNew base count ms pat Kept W r) →
+      (r : Rule) → Mem r (base .rules) → stratum (base .rules) r ≡ k → GivenEverywhere base count ms pat Kept
+      W r
   shut-done shut r m h = ⊎-elim (λ d. d)
       (shut-given (omega (arith, stratum-few (base .rules) s r m)) shut r m h) (shut r m h)

@@ -8,7 +8,7 @@ use native.Mathlib.Omega.{arith}
 use mathlib.Core.Bool.{Bool, true, false, not, _&&_, _||_}
 use lib.Dec.{eqb, leb}
 use lib.Pow.{shr-shr}
-use Rattle.foundation.specs.Tests.{cases, le-true, le-false, true-le, false-le}
+use Rattle.foundation.specs.Tests.{cases, le-true, le-false, true-le, false-le, and-yes}
 use Rattle.foundation.specs.Intervals.{inInterval}
 use Rattle.foundation.specs.BitMasks.{bit}
 use Rattle.model.specs.declared.Rule.{Rule}
@@ -64,27 +64,20 @@ module _ (r : Rule) (ms : ℕ → ℕ) (right : ℕ → Bool) (before : Bool) wh
   made-idle i e = made-by i ∙ rw e
 
   pub made-plain : lasting (r .operator) ≡ false → (i : ℕ) → made r ms right before i ≡ active i && wanted i
-  made-plain l i = made-by i ∙ rw l (ap (λ (b : Bool). b && wanted i) (and-one (active i)))
-    where
-      and-one : (b : Bool) → b && true ≡ b
-      and-one true = refl
-      and-one false = refl
+  made-plain l i = made-by i ∙ rw l (ap (λ (b : Bool). b && wanted i) (and-yes (active i)))
+
+  -- what fails in the middle fails
+  none : (a b : Bool) → (a && false) && b ≡ false
+  none true b = refl
+  none false b = refl
 
   module _ (l : lasting (r .operator) ≡ true) where
     pub made-broken : before ≡ false → (k : ℕ) → ((i : ℕ) → i < k → first i ≡ false) →
         (i : ℕ) → i < k → made r ms right before i ≡ false
     made-broken e k f zero h = made-by zero ∙ rw (l, f 0 h, e) (none (active 0) (wanted 0))
-      where
-        none : (a b : Bool) → (a && false) && b ≡ false
-        none true b = refl
-        none false b = refl
     made-broken e k f (suc i) h =
         let q = made-broken e k f i (omega arith) in
         made-by (suc i) ∙ rw (l, f (suc i) h, q) (none (active (suc i)) (wanted (suc i)))
-      where
-        none : (a b : Bool) → (a && false) && b ≡ false
-        none true b = refl
-        none false b = refl
 
     -- a is the first instant of the interval, and the gate is open there
     module _ (a k x : ℕ) (outside : (i : ℕ) → i < a → active i ≡ false)

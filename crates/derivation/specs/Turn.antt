@@ -23,7 +23,7 @@ use Rattle.questions.specs.Table.{truth, Before, right-truth}
 use Rattle.derivation.specs.Window.{Window, made, word-right}
 use Rattle.derivation.specs.Derive.{Derived, derived-made}
 use Rattle.derivation.specs.Carried.{Carried, window-framed}
-use Rattle.derivation.specs.Exact.{AccessWords, Valued, Done, exact}
+use Rattle.derivation.specs.Exact.{AccessWords, Valued, GivenEverywhere, exact}
 
 -- what was derived at the instant before
 pub before-right : (base : Base) (D : Access → Bool) (t : ℕ) → Before base D (λ r x. truth base (t - 1) r x) t
@@ -104,7 +104,7 @@ module _ (base : Base) (s : stratified (base .rules) ≡ true) (count : ℕ) (ms
 
   -- the rules by which denials of the right side's access are derived have given what they derive
   module _ (linked : (q : Rule) → Mem q (base .rules) → links q r ≡ true →
-      Done base count ms pat Kept W q) where
+      GivenEverywhere base count ms pat Kept W q) where
     denials-exact : r .right .negative ≡ false → (i : ℕ) → i < count →
         bit i (W (e .denials) (rightOf r x .access))
         ≡ holds always base (ms i) (asked (rightOf r x .access) true)
@@ -137,7 +137,7 @@ module _ (base : Base) (s : stratified (base .rules) ≡ true) (count : ℕ) (ms
 
     -- what is seen is right, if the rules that derive for the right side have given what they derive, too
     pub right-exact : ((q : Rule) → Mem q (base .rules) → derivesFor base (rightOf r x) q ≡ true →
-        Done base count ms pat Kept W q) →
+        GivenEverywhere base count ms pat Kept W q) →
         (i : ℕ) → i < count → rightBit i ≡ holding base (ms i) (rightOf r x)
     right-exact fed i h =
         let y = rightOf r x .access in
@@ -161,7 +161,7 @@ module _ (base : Base) (s : stratified (base .rules) ≡ true) (count : ℕ) (ms
       (e .carried .fresh) (e .carried .past) (e .derived)
 
   pub turn-right : standsFor base r x ≡ true →
-      ((q : Rule) → Mem q (base .rules) → precedes q r ≡ true → Done base count ms pat Kept W q) →
+      ((q : Rule) → Mem q (base .rules) → precedes q r ≡ true → GivenEverywhere base count ms pat Kept W q) →
       (i : ℕ) → i < count → bit i v ≡ truth base (ms i) r x
   turn-right n fed i h =
       let right = right-exact (λ q k l. fed q k (links-precedes q r l))

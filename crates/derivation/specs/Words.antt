@@ -1,18 +1,16 @@
 -- What a rule derives over a window, as a word (`word-made`): of the words that say at which instants the
 -- rule is active and its right side is held, and of whether the rule is broken, as a rule is that looks back,
 -- has started before the window and gave nothing at the instant before it.
-use mathlib.Core.Path.{_≡_, refl, sym, ap, ap₂, _∙_}
-use Prim.Native.Nat.{ℕ, zero, suc, _+_, _-_, _*_, _/_, _%_, _^_, _≤_, _<_}
-use native.Mathlib.Nat.{zero-div}
+use mathlib.Core.Path.{_≡_, sym, ap, ap₂, _∙_}
+use Prim.Native.Nat.{ℕ, zero, suc, _-_, _*_, _/_, _^_, _≤_, _<_}
 use native.Mathlib.Omega.{arith}
 use mathlib.Core.Bool.{Bool, true, false, not, _&&_, _||_, true≢false, false≢true}
 use lib.Bits.{bitAnd}
-use lib.Dec.{eqb, leb, ltb}
-use Rattle.foundation.specs.Tests.{pick, cases, le-true, le-false, true-le, false-le, eq-true, ne-false}
-use Rattle.foundation.specs.Tests.{true-eq}
+use lib.Dec.{eqb, ltb}
+use Rattle.foundation.specs.Tests.{pick, cases, true-le, false-le, eq-true, ne-false}
 use Rattle.foundation.specs.Tests.{or-intro-left, or-true-right}
 use Rattle.foundation.specs.Intervals.{inInterval, inInterval-in, inInterval-true}
-use Rattle.foundation.specs.BitMasks.{bit}
+use Rattle.foundation.specs.BitMasks.{bit, bit-zero}
 use Rattle.model.specs.declared.Rule.{Rule}
 use Rattle.model.specs.declared.Operator.{Operator}
 use Rattle.model.specs.declared.Operator.the-variants.{Whenever, AsLongAs, WheneverNot, Unless}
@@ -22,9 +20,6 @@ use Rattle.words.specs.Ones.{ones, ones-from}
 use Rattle.words.specs.Bits.{bit-and, bit-less, less}
 use Rattle.derivation.specs.Window.{made}
 use Rattle.derivation.specs.Lasting.{prior, made-plain, made-broken, made-lasting}
-
-pub bit-zero : (i : ℕ) → bit i 0 ≡ false
-bit-zero i = ap (λ (n : ℕ). eqb (n % 2) 1) (zero-div (2 ^ i))
 
 -- the active instants at which the right side is as the operator wants
 abbrev pub wantedWord : Operator → ℕ → ℕ → ℕ

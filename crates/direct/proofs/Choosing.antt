@@ -1,16 +1,17 @@
 -- The authorizations for an access say what all say (`chosen-held`), change at their own marks only
 -- (`among-onward`), and have few intervals (`among-few`).
-use mathlib.Core.Path.{_≡_, refl, sym, ap, ap₂, _∙_, fun-ext, subst}
+use mathlib.Core.Path.{_≡_, refl, sym, ap, ap₂, _∙_, fun-ext}
 use mathlib.Core.Bool.{Bool, true, false, not, _&&_, _||_, Bool·beq}
-use mathlib.Core.List.{List, [], _∷_, _++_, append-nil}
+use mathlib.Core.List.{List, [], _∷_, append-nil}
 use mathlib.Core.Logic.{inl, inr}
-use Prim.Native.Nat.{ℕ, suc, _+_, _*_, _≤_, _<_}
+use Prim.Native.Nat.{ℕ, _+_, _*_, _≤_, _<_}
 use native.Mathlib.Numerals.{add-one}
 use native.Mathlib.Omega.{arith}
 use lib.Dec.{eqb}
 use lib.ListN.{length, take, getD, length-map}
 use lib.Seq.{length-take-le}
-use Rattle.foundation.specs.Tests.{cases, or-assoc, or-false, true-eq, eq-true, ne-false, false-eq, and-true}
+use Rattle.foundation.specs.Tests.{cases, or-false, true-eq, eq-true, ne-false, false-eq}
+use Rattle.foundation.specs.Tests.{and-yes}
 use Rattle.foundation.specs.Lists.{anyb, any-append, keepIf}
 use Rattle.foundation.specs.Intervals.{inInterval, maximal}
 use Rattle.foundation.specs.Marks.{Steady, clear-both, next, next-above, next-clear}
@@ -44,11 +45,7 @@ side-by-side a b c d h k = cases (eqb a c)
     rw e (ne-false (a + 65536 * b) (c + 65536 * d) (λ z. p (omega arith))))
 
 turned : (s m o : Bool) → s && o && m ≡ s && m && o
-turned true true o = and-last o
-  where
-    and-last : (o : Bool) → o && true ≡ o
-    and-last true = refl
-    and-last false = refl
+turned true true o = and-yes o
 turned true false true = refl
 turned true false false = refl
 turned false m o = refl

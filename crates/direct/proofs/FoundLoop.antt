@@ -11,8 +11,8 @@ use Rattle.foundation.specs.Tests.{cases, or-assoc, or-false, true-eq, and-true
 use Rattle.foundation.specs.Bytes.{le}
 use Rattle.foundation.specs.Lists.{anyb}
 use Rattle.foundation.specs.Intervals.{inInterval}
-use Rattle.foundation.specs.ByteRecords.{rest, rest-all, rest-end, rest-step}
-use Rattle.fields.proofs.ByteLaws.{le-add-at, le-at}
+use Rattle.foundation.specs.ByteRecords.{rest-all, rest-end, rest-step}
+use Rattle.foundation.specs.BytesFacts.{le-add-at, le-at}
 use Rattle.model.specs.declared.Access.{Access}
 use Rattle.model.specs.declared.Authorization.{Authorization}
 use Rattle.model.specs.declared.Pattern.{Pattern}
@@ -20,7 +20,7 @@ use Rattle.model.specs.Encoding.{authorizationOf}
 use Rattle.model.specs.Support.{live}
 use Rattle.model.specs.Rules.{fits, asked}
 use Rattle.model.specs.SideFacts.{fits-eq}
-use Rattle.encoding.specs.Format.{authorizationsIn}
+use Rattle.encoding.specs.Format.{authorizationsIn, authorizationsFrom}
 use Rattle.direct.specs.Direct.{heldDirectly, liveFor}
 
 -- a question asks for any grantor and any option
@@ -67,14 +67,14 @@ module _ (lines : List ℕ) (total : ℕ) (x : Access) (t : ℕ) where
 
   -- some authorization from the i-th on fits
   abbrev pub heldFrom : Bool → ℕ → Bool
-  heldFrom negative i = anyb (fits (asked x negative)) (live t (rest 24 authorizationOf total lines i))
+  heldFrom negative i = anyb (fits (asked x negative)) (live t (authorizationsFrom total lines i))
 
   held-step : (negative : Bool) (i : ℕ) → i < total → heldFrom negative i
       ≡ (liveFor x t (lineAt i) && Bool·beq (lineAt i .head .negative) negative) || heldFrom negative (i + 1)
   held-step negative i h =
       ap (λ (xs : List Authorization). anyb (fits (asked x negative)) (live t xs))
       (rest-step 24 authorizationOf total lines i h)
-      ∙ live-step (asked x negative) t (lineAt i) (rest 24 authorizationOf total lines (i + 1))
+      ∙ live-step (asked x negative) t (lineAt i) (authorizationsFrom total lines (i + 1))
       ∙ ap (λ (b : Bool). b || heldFrom negative (i + 1)) (by-sign x t negative (lineAt i))
 
   -- one authorization more, g being what is found before it

@@ -14,28 +14,14 @@ ghost use Rattle.encoding.specs.Format.{authorizationsIn, rulesIn};
 ghost use Rattle.direct.specs.Direct.{heldDirectly, liveFor};
 pub use intervals::walk_directly;
 use lookup::has_instant;
-use lookup::stands_on;
+use lookup::stands_for;
 use model::AUTHORIZATION_BYTES;
 use model::Access;
 use model::Authorization;
 use model::RULE_BYTES;
-use model::Rule;
 
-// Whether a rule stands for one that derives an access.
-fn stands(s: &[u8], q: Rule, x: Access) -> bool
-    requires { ⌜ soundBytes (now s) ≡ true ⌝ }
-    ensures { λ r. ⌜ r ≡ standsFor (decode (now (s .entry))) q x ⌝ }
-{
-    let l = q.left;
-    if ((l.subject == 0) | (l.subject as u32 == x.subject))
-        & ((l.mode == 0) | (l.mode as u32 == x.mode))
-    {
-        return stands_on(s, q, x.object);
-    }
-    false
-}
-
-// Whether some rule does, in a base that has these rules, and the owners and administrators of the base of s.
+// Whether some rule stands for one that derives the access, in a base that has these rules, and the owners
+// and administrators of the base of s.
 pub fn stands_some(s: &[u8], body: &[u8], n: usize, x: Access) -> bool
     requires { ⌜ (soundBytes (now s) ≡ true) × (n * 28 ≤ length (now body)) ⌝ }
     ensures { λ r. ⌜ ((b : Base) → b .rules ≡ rulesIn n (now (body .entry)) →
@@ -44,7 +30,7 @@ pub fn stands_some(s: &[u8], body: &[u8], n: usize, x: Access) -> bool
 {
     let mut i = 0;
     while i < n {
-        if stands(s, encoding::rule_at(body, i * RULE_BYTES), x) {
+        if stands_for(s, encoding::rule_at(body, i * RULE_BYTES), x) {
             return true;
         }
         i += 1;

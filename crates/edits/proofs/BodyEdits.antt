@@ -9,7 +9,7 @@ use native.Mathlib.Numerals.{add-one}
 use mathlib.Core.List.{List, [], _∷_, _++_, append-assoc, append-nil}
 use lib.ListN.{length, take, drop, length-append, length-drop, take-append-drop}
 use lib.Seq.{length-take-le, drop-drop}
-use Rattle.foundation.specs.Lists.{each, length-each, each-append, placed, insertAt}
+use Rattle.foundation.specs.Lists.{each, length-each, each-append, placed, insertAt, length-insertAt}
 use Rattle.model.specs.declared.Privilege.{Privilege}
 use Rattle.model.specs.declared.Authorization.{Authorization}
 use Rattle.model.specs.declared.Rule.{Rule}
@@ -26,9 +26,9 @@ use Rattle.edits.specs.Edits.{removeAt, Written, privilegesOf, withPrivi
 use Rattle.model.specs.Effects.{withAuthorizations, withRules}
 use Rattle.edits.specs.Edits.{privilegesAt, privilegeCount, withPrivilegeCount}
 use Rattle.edits.specs.Edits.{withAuthorizationCount, withRuleCount}
-use Rattle.edits.proofs.Kept.{length-insertAt, length-removeAt, counts-privileges}
+use Rattle.edits.proofs.Kept.{length-removeAt, counts-privileges}
 use Rattle.edits.proofs.Kept.{counts-authorizations, counts-rules}
-use Rattle.edits.proofs.EditedBytes.{countsIn, Differ, Edit, edit, within, written-counts}
+use Rattle.edits.proofs.EditedBytes.{countsIn, Differ, Edit, edit, record-within, written-counts}
 
 -- ---- any body
 
@@ -91,7 +91,7 @@ module _ {R : Type 0} (k : BodyKind R) (s : List ℕ) (W : Written s) (c : Count
       omega (
         arith,
         start-is,
-        within b (k .before b) (each (k .of b) (k .bytes)) (k .behind b) (W .fits .counts)
+        record-within b (k .before b) (each (k .of b) (k .bytes)) (k .behind b) (W .fits .counts)
             (k .differ (k .of b) b .before),
       )
 

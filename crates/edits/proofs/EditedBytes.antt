@@ -19,7 +19,7 @@ use Rattle.model.specs.FitsFacts.{CountsFit}
 use Rattle.model.specs.EncodingFacts.{bodies-length, length-fits}
 use Rattle.encoding.specs.declared.Counts.{Counts}
 use Rattle.encoding.specs.Format.{countsOf, contentsOf, countsFit}
-use Rattle.fields.specs.Field.{splice, gapped, closed}
+use Rattle.fields.specs.Field.{splice, gapped, gapClosed}
 use Rattle.edits.specs.Edits.{resized, Written, withStamp}
 
 -- ---- lists
@@ -142,9 +142,9 @@ pub record Differ (b b′ : Base) (A x x′ B : List ℕ) : Type 0 where
   pub after : bodies b′ ≡ A ++ (x′ ++ B)
 
 -- the bodies end within the size
-pub within : (b : Base) (A x B : List ℕ) → CountsFit b → bodies b ≡ A ++ (x ++ B) →
+pub record-within : (b : Base) (A x B : List ℕ) → CountsFit b → bodies b ≡ A ++ (x ++ B) →
     32 + length A + length x + length B ≤ size
-within b A x B f e =
+record-within b A x B f e =
     let l : length (A ++ (x ++ B)) ≡ length A + length x + length B = simp length-append (omega arith) in
     omega (arith, bodies-length b, ap length e, l, f)
 
@@ -160,8 +160,8 @@ module _ (b b′ : Base) (A x x′ B : List ℕ) (at : ℕ) (d : Differ b b′ A
       let z = size - (32 + length A + length x + length B) in
       let g : List ℕ = take (length x′) (x ++ (B ++ replicate z 0)) in
       let C = contentsOf (countsIn b′) in
-      let w = within b A x B f (d .before) in
-      let w′ = within b′ A x′ B f′ (d .after) in
+      let w = record-within b A x B f (d .before) in
+      let w′ = record-within b′ A x′ B f′ (d .after) in
       let n : length x + (size - (32 + length A + length x + length B)) - length x′
       ≡ size - (32 + length A + length x′ + length B) = omega arith in
       ap (λ (s : List ℕ). splice 12 C (resized at (length x) (length x′) s))
@@ -177,8 +177,8 @@ module _ (b b′ : Base) (A x x′ B : List ℕ) (at : ℕ) (d : Differ b b′ A
       ≡ encode b′
   replaced =
       let R : List ℕ = x ++ (B ++ replicate (size - (32 + length A + length x + length B)) 0) in
-      let w = within b A x B f (d .before) in
-      let w′ = within b′ A x′ B f′ (d .after) in
+      let w = record-within b A x B f (d .before) in
+      let w′ = record-within b′ A x′ B f′ (d .after) in
       let l : length (x ++ (B ++ replicate {A = ℕ} (size - (32 + length A + length x + length B)) 0))
       ≡ size - 32 - length A = simp (length-append, length-replicate) (omega arith) in
       let g : length x′ ≡ length (take (length x′) R) =
@@ -221,8 +221,8 @@ pub edit : (s : List ℕ) (b : Base) (A x x′ B : List ℕ) (at : ℕ) (c : Cou
 edit s b A x x′ B at c W d f p q =
     let l = written-length s W in
     let e = sym (W .encoded) in
-    let w = within (decode s) A x B (W .fits .counts) (d .before) in
-    let w′ = within b A x′ B f (d .after) in
+    let w = record-within (decode s) A x B (W .fits .counts) (d .before) in
+    let w′ = record-within b A x′ B f (d .after) in
     record {
       long = l;
       old-room = omega arith;
@@ -265,8 +265,8 @@ opened at old new s h k =
 
 -- the bytes behind the new ones taken out
 pub shut : (at old new : ℕ) (s : List ℕ) → new ≤ old → at + old ≤ length s →
-    closed (at + new) (length s) (old - new) s ≡ resized at old new s
-unfolding closed resized
+    gapClosed (at + new) (length s) (old - new) s ≡ resized at old new s
+unfolding gapClosed resized
 shut at old new s h k =
     let a : at + new + (old - new) ≡ at + old = omega arith in
     let d : List ℕ = drop (at + old) s in
@@ -292,10 +292,12 @@ last-put : (b : Base) (last : ℕ) → splice 8 (bytesOf 2 last) (encode b) ≡ 
 unfolding splice encode
 last-put b last = refl
 
-pub clock-written : (s : List ℕ) (clock : ℕ) → Written s →
-    splice 4 (bytesOf 4 clock) s ≡ encode (withStamp clock (decode s .last) (decode s))
-clock-written s clock W = ap (splice 4 (bytesOf 4 clock)) (sym (W .encoded)) ∙ clock-put (decode s) clock
+pub clock-written : (s z : List ℕ) (clock : ℕ) → Written s → z ≡ splice 4 (bytesOf 4 clock) s →
+    z ≡ encode (withStamp clock (decode s .last) (decode s))
+clock-written s z clock W e =
+    e ∙ ap (splice 4 (bytesOf 4 clock)) (sym (W .encoded)) ∙ clock-put (decode s) clock
 
-pub last-written : (s : List ℕ) (last : ℕ) → Written s →
-    splice 8 (bytesOf 2 last) s ≡ encode (withStamp (decode s .clock) last (decode s))
-last-written s last W = ap (splice 8 (bytesOf 2 last)) (sym (W .encoded)) ∙ last-put (decode s) last
+pub last-written : (s z : List ℕ) (last : ℕ) → Written s → z ≡ splice 8 (bytesOf 2 last) s →
+    z ≡ encode (withStamp (decode s .clock) last (decode s))
+last-written s z last W e =
+    e ∙ ap (splice 8 (bytesOf 2 last)) (sym (W .encoded)) ∙ last-put (decode s) last

@@ -20,11 +20,6 @@ use Rattle.model.specs.Effects.{withAuthorizations, withRules}
 
 -- ---- lists
 
-pub length-insertAt : {A : Type 0} (i : ℕ) (x : A) (xs : List A) → length (insertAt i x xs) ≡ suc (length xs)
-unfolding placed
-length-insertAt i x xs =
-    length-append (take i xs) (x ∷ drop i xs) ∙ rw (length-take i xs, length-drop i xs) (omega arith)
-
 pub length-removeAt : {A : Type 0} (i : ℕ) (xs : List A) → i < length xs →
     length (removeAt i xs) ≡ length xs - 1
 length-removeAt i xs h =

@@ -21,7 +21,7 @@ use Rattle.model.specs.Encoding.{encode, decode}
 use Rattle.model.specs.EncodingFacts.{decode-fits}
 use Rattle.model.specs.FitsFacts.{BaseFits, AuthorizationFits, RuleFits, base-fits}
 use Rattle.model.specs.Withdrawal.{authorization}
-use Rattle.model.specs.SoundnessFacts.{Sound, sound-bytes, sound-tests, tests-sound}
+use Rattle.model.specs.SoundnessFacts.{Sound, tests-sound, decoded-sound}
 use Rattle.model.specs.Requests.{NEW, ADDRULE, DROPRULE, GRANTADM, REVOKEADM, GRANTREF, REVOKEREF}
 use Rattle.model.specs.Requests.{is, newHead, newRule, insert, without}
 use Rattle.model.specs.Means.{plainly}
@@ -45,15 +45,15 @@ pub record HoldsBase (b : Base) (s : List ℕ) : Type 0 where
   pub base : decode s ≡ b
   pub written : Written s
 
-pub holds : (b : Base) (s : List ℕ) → BaseFits b → s ≡ encode b → HoldsBase b s
-holds b s f e = record {
+pub holds-base : (b : Base) (s : List ℕ) → BaseFits b → s ≡ encode b → HoldsBase b s
+holds-base b s f e = record {
   base = ap decode e ∙ decode-fits b f;
   written = rw e (written-encode b f);
 }
 
 pub stamped : (s : List ℕ) (clock last : ℕ) → Written s → clock < 256 ^ 4 → last < 256 ^ 2 → (s₁ : List ℕ) →
     s₁ ≡ encode (withStamp clock last (decode s)) → HoldsBase (withStamp clock last (decode s)) s₁
-stamped s clock last W hc hl s₁ e = holds (withStamp clock last (decode s)) s₁
+stamped s clock last W hc hl s₁ e = holds-base (withStamp clock last (decode s)) s₁
     (fits-clock clock last (decode s) (W .fits) hc hl) e
 
 -- the last label, as it is read
@@ -71,7 +71,7 @@ insert-last {A} x xs = λ k. take-all (length xs) xs (omega arith) k ++ (x ∷ d
 
 module _ (kinds : List ℕ) (s : List ℕ) (q : Request) (a : Allowed kinds s q) where
   pub allowed-sound : Sound (decode s)
-  allowed-sound = sound-tests (decode s) (sound-bytes s (a .sound) .1)
+  allowed-sound = decoded-sound s (a .sound)
 
   pub allowed-written : Written s
   allowed-written = written-sound s (a .sound)
@@ -96,10 +96,10 @@ operator-in s q a =
 -- ---- the effects
 
 module _ (b : Base) (q : Request) where
-  pub effect-grant : is q grantKinds ≡ true → effect plainly b q ≡
+  pub effect-authorization : is q grantKinds ≡ true → effect plainly b q ≡
       withAuthorizations (b .authorizations ++ (authorization (newHead (suc (b .last)) q) (q .interval) ∷ []))
       (withStamp (q .now) (suc (b .last)) b)
-  effect-grant k = rw (
+  effect-authorization k = rw (
     k,
     is-kinds q grantKinds labelKinds refl k,
     is-apart q grantKinds (DROPRULE ∷ REVOKEADM ∷ REVOKEREF ∷ []) refl k,
@@ -119,10 +119,10 @@ module _ (b : Base) (q : Request) where
       withRules (keepIf (λ r. not (dropsBy x y q r)) (b .rules)) (withStamp (q .now) (b .last) b)
   effect-drop x y k = rw (kind-is q DROPRULE k)
 
-  pub effect-new : is q (NEW ∷ []) ≡ true → effect plainly b q ≡
+  pub effect-object : is q (NEW ∷ []) ≡ true → effect plainly b q ≡
       withPrivileges Objects (insert (privilege (q .object) (q .requester)) (b .objects))
       (withStamp (q .now) (b .last) b)
-  effect-new k = rw (kind-is q NEW k)
+  effect-object k = rw (kind-is q NEW k)
 
   pub effect-privilege : is q (GRANTADM ∷ GRANTREF ∷ []) ≡ true → effect plainly b q ≡
       withPrivileges (privilegeBodyOf (q .kind))
@@ -133,10 +133,10 @@ module _ (b : Base) (q : Request) where
       (λ e. rw (kind-is q GRANTREF e))
 
   -- REVOKEREF, where it is known whether the subject administers the object
-  pub effect-revoke : (x : Bool) → is q (REVOKEREF ∷ []) ≡ true → effect plainly b q ≡
+  pub effect-referrer : (x : Bool) → is q (REVOKEREF ∷ []) ≡ true → effect plainly b q ≡
       withRules (keepIf (λ r. not (dropsBy x (administers b (q .object) (q .subject)) q r)) (b .rules))
       (withReferrers (without (q .object) (q .subject) (b .referrers)) (withStamp (q .now) (b .last) b))
-  effect-revoke x k = rw (kind-is q REVOKEREF k)
+  effect-referrer x k = rw (kind-is q REVOKEREF k)
 
 -- ---- a record behind the others of a body, under the next label
 
@@ -146,7 +146,7 @@ pub record LabelledBody (R : Type 0) : Type 1 where
   pub of : Base → List R
   pub with : List R → Base → Base
   pub most : ℕ
-  pub Fits : R → Type 0
+  pub FitsBytes : R → Type 0
   -- it is read back, and the heading is left
   pub got : (xs : List R) (b : Base) → of (with xs b) ≡ xs
   pub clock : (xs : List R) (b : Base) → with xs b .clock ≡ b .clock
@@ -154,14 +154,14 @@ pub record LabelledBody (R : Type 0) : Type 1 where
   pub stays : (clock last : ℕ) (b : Base) → of (withStamp clock last b) ≡ of b
   -- of a base that fits, it is not too long, and its records fit
   pub limited : (b : Base) → BaseFits b → length (of b) ≤ most
-  pub fits : (b : Base) → BaseFits b → (x : R) → Mem x (of b) → Fits x
+  pub fits : (b : Base) → BaseFits b → (x : R) → Mem x (of b) → FitsBytes x
 
-abbrev pub authorizations : LabelledBody Authorization
-authorizations = record {
+abbrev pub authorizationBody : LabelledBody Authorization
+authorizationBody = record {
   of = λ b. b .authorizations;
   with = withAuthorizations;
   most = mostAuthorizations;
-  Fits = AuthorizationFits;
+  FitsBytes = AuthorizationFits;
   got = λ xs b. refl;
   clock = λ xs b. refl;
   last = λ xs b. refl;
@@ -170,12 +170,12 @@ authorizations = record {
   fits = λ b f. f .authorizations;
 }
 
-abbrev pub rules : LabelledBody Rule
-rules = record {
+abbrev pub ruleBody : LabelledBody Rule
+ruleBody = record {
   of = λ b. b .rules;
   with = withRules;
   most = mostRules;
-  Fits = RuleFits;
+  FitsBytes = RuleFits;
   got = λ xs b. refl;
   clock = λ xs b. refl;
   last = λ xs b. refl;
@@ -193,15 +193,15 @@ pub record Addition {R : Type 0} (P : LabelledBody R) (s : List ℕ) (q : Reques
       (withStamp (q .now) (suc (decode s .last)) (decode s))
 
 pub grant-addition : (s : List ℕ) (q : Request) → Allowed grantKinds s q →
-    Addition authorizations s q (λ label. authorization (newHead label q) (q .interval))
+    Addition authorizationBody s q (λ label. authorization (newHead label q) (q .interval))
 grant-addition s q a = record {
   written = allowed-written grantKinds s q a;
   after = after-fits grantKinds s q a;
-  effects = effect-grant (decode s) q (a .kind);
+  effects = effect-authorization (decode s) q (a .kind);
 }
 
 pub rule-addition : (s : List ℕ) (q : Request) → Allowed (ADDRULE ∷ []) s q →
-    Addition rules s q (λ label. newRule label q)
+    Addition ruleBody s q (λ label. newRule label q)
 rule-addition s q a = record {
   written = allowed-written (ADDRULE ∷ []) s q a;
   after = after-fits (ADDRULE ∷ []) s q a;
@@ -230,8 +230,8 @@ module _ {R : Type 0} {P : LabelledBody R} {s : List ℕ} {q : Request} {new : �
         ∙ P .last (old ++ (new (suc (decode s .last)) ∷ [])) then in
         omega (arith, f, h)
 
-    pub new-fits : P .Fits (new label)
-    new-fits = subst (λ (l : ℕ). P .Fits (new l)) next
+    pub new-fits : P .FitsBytes (new label)
+    new-fits = subst (λ (l : ℕ). P .FitsBytes (new l)) next
         (P .fits (effect plainly (decode s) q) (d .after) (new (suc (decode s .last)))
         (rw added (mem-right (new (suc (decode s .last))) old (new (suc (decode s .last)) ∷ []) (inl refl))))
 

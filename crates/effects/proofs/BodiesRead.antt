@@ -1,52 +1,23 @@
--- The record at a place of a body, as it is read, and the bodies of a base. Assumes nothing.
+-- The bodies of a base in its bytes, and the record at a place of one, as it is read. Assumes nothing.
 use mathlib.Core.Path.{_≡_, sym, ap, _∙_, subst}
-use Prim.Native.Nat.{ℕ, zero, suc, _+_, _*_, _-_, _≤_, _<_}
-use native.Mathlib.Nat.{mul-comm, suc-mul, mul-suc, mul-le-mul-left}
-use native.Mathlib.Numerals.{add-one}
+use Prim.Native.Nat.{ℕ, suc, _+_, _*_, _≤_, _<_}
+use native.Mathlib.Nat.{mul-suc, mul-le-mul-left}
 use native.Mathlib.Omega.{arith}
 use mathlib.Core.List.{List, _∷_}
 use lib.ListN.{length, drop}
-use lib.Seq.{drop-drop}
 use Rattle.foundation.specs.Bytes.{records}
 use Rattle.model.specs.Encoding.{decode, privilegeOf, ruleOf}
 use Rattle.encoding.specs.Format.{countsOf, rulesAt}
 use Rattle.encoding.proofs.FormatFacts.{decoded-objects, decoded-administrators, decoded-referrers}
 use Rattle.encoding.proofs.FormatFacts.{decoded-rules}
 use Rattle.encoding.proofs.FormatFacts.{decoded-lengths}
-use Rattle.foundation.specs.ByteRecords.{rest, rest-step}
+use Rattle.foundation.specs.ByteRecords.{record-from}
 use Rattle.edits.specs.declared.PrivilegeBody.{PrivilegeBody}
 use Rattle.edits.specs.declared.PrivilegeBody.the-variants.{Objects, Administrators, Referrers}
 use Rattle.edits.specs.Edits.{Written, privilegesOf, privilegesAt, privilegeCount}
 use Rattle.edits.proofs.EditedBytes.{written-length}
 
-module _ {R : Type 0} (w : ℕ) (f : List ℕ → R) where
-  -- the records from the i-th on
-  drop-records : (i n : ℕ) (s : List ℕ) → drop i (records w f n s) ≡ rest w f n s i
-  drop-records zero n s =
-      let e : n - 0 ≡ n = omega arith in
-      let z : 0 * w ≡ 0 = omega arith in
-      rw (e, z)
-  drop-records (suc i) zero s =
-      let e : 0 - suc i ≡ 0 = omega arith in
-      sym (ap (λ (k : ℕ). records w f k (drop (suc i * w) s)) e)
-  drop-records (suc i) (suc n) s =
-      let e : n - i ≡ suc n - suc i = omega arith in
-      let m : w + i * w ≡ suc i * w = rw (suc-mul i w) (omega arith) in
-      drop-records i n (drop w s)
-      ∙ (λ k. records w f (e k) ((drop-drop (i * w) w s ∙ ap (λ (o : ℕ). drop o s) m) k))
-
-  -- the record at i of the n that start at a place
-  pub record-in : (n at i : ℕ) (s : List ℕ) (r : R) → i < n → r ≡ f (drop (at + w * i) s) →
-      drop i (records w f n (drop at s)) ≡ r ∷ drop (suc i) (records w f n (drop at s))
-  record-in n at i s r h e =
-      drop-records i n (drop at s) ∙ rest-step w f n (drop at s) i h
-      ∙ (λ k. sym (e ∙ ap f (ap (λ (m : ℕ). drop (at + m) s) (mul-comm w i) ∙ sym (drop-drop (i * w) at s))) k
-      ∷ sym (drop-records (i + 1) n (drop at s)) k)
-      ∙ ap (λ (m : ℕ). r ∷ drop m (records w f n (drop at s))) (add-one i)
-
--- ---- the bodies of a base
-
--- one of them in the bytes: n records of w bytes, from a place on
+-- a body in the bytes: n records of w bytes, from a place on
 pub record BodyInBytes {R : Type 0} (w : ℕ) (f : List ℕ → R) (xs : List R) (n at : ℕ)
     (s : List ℕ) : Type 0 where
   pub read : xs ≡ records w f n (drop at s)
@@ -92,4 +63,4 @@ module _ {R : Type 0} {w : ℕ} {f : List ℕ → R} {xs : List R} {n at : ℕ} 
 
   pub nth-read : (r : R) → r ≡ f (drop (a + w * i) s) → drop i xs ≡ r ∷ drop (suc i) xs
   nth-read r q = subst (λ (l : List R). drop i l ≡ r ∷ drop (suc i) l) (sym (b .read))
-      (record-in w f n at i s r (omega (arith, b .count)) (q ∙ ap (λ (m : ℕ). f (drop (m + w * i) s)) e))
+      (record-from w f n at i s r (omega (arith, b .count)) (q ∙ ap (λ (m : ℕ). f (drop (m + w * i) s)) e))

@@ -9,7 +9,7 @@ use mathlib.Core.List.{List, [], _∷_}
 use lib.Dec.{eqb}
 use lib.ListN.{length}
 use Rattle.foundation.specs.Tests.{must-pass, or-true}
-use Rattle.foundation.specs.Lists.{anyb, allb, keepIf, kept}
+use Rattle.foundation.specs.Lists.{anyb, allb, keepIf, kept, kept-length, length-insertAt}
 use Rattle.model.specs.declared.Privilege.{Privilege}
 use Rattle.model.specs.declared.Rule.{Rule}
 use Rattle.model.specs.declared.Request.{Request}
@@ -29,12 +29,10 @@ use Rattle.edits.specs.declared.PrivilegeBody.{PrivilegeBody}
 use Rattle.edits.specs.declared.PrivilegeBody.the-variants.{Objects, Administrators, Referrers}
 use Rattle.edits.specs.Edits.{Written, withStamp, withPrivileges, privilegesOf}
 use Rattle.model.specs.Effects.{withRules, withReferrers}
-use Rattle.edits.proofs.Kept.{fits-clock, fits-privileges, length-insertAt}
+use Rattle.edits.proofs.Kept.{fits-clock, fits-privileges}
 use Rattle.effects.specs.EffectRecords.{Allowed, dropsBy, firstIndex}
-use Rattle.effects.proofs.AllowedEffects.{HoldsBase, holds, stamped, allowed-sound, allowed-written}
-use Rattle.effects.proofs.AllowedEffects.{after-fits}
-use Rattle.effects.proofs.AllowedEffects.{effect-revoke}
-use Rattle.effects.proofs.Dropping.{kept-length}
+use Rattle.effects.proofs.AllowedEffects.{HoldsBase, holds-base, stamped, allowed-sound}
+use Rattle.effects.proofs.AllowedEffects.{allowed-written, after-fits, effect-referrer}
 use Rattle.effects.proofs.PrivilegePlaces.{insert-place}
 
 -- ---- one body of privileges
@@ -172,7 +170,7 @@ module _ (s : List ℕ) (q : Request) (a : Allowed (REVOKEREF ∷ []) s q) (p : 
           (after-fits (REVOKEREF ∷ []) s q a .clock)
           (W .fits .last) in
           let t : Privilege → Bool = λ x. not (isPrivilege (q .object) (q .subject) x) in
-          holds left s₂
+          holds-base left s₂
           (fits-privileges Referrers (without (q .object) (q .subject) (decode s .referrers))
           (withStamp (q .now) (decode s .last) (decode s)) f
           (omega (arith, kept-length t (decode s .referrers), W .fits .counts .referrers))
@@ -189,4 +187,4 @@ module _ (s : List ℕ) (q : Request) (a : Allowed (REVOKEREF ∷ []) s q) (p : 
           ∙ (λ j. encode (withRules (keepIf (λ r. not (dropsBy false (g j) q r))
           (revoke-holds .base j .rules))
           (revoke-holds .base j)))
-          ∙ ap encode (sym (effect-revoke (decode s) q false (a .kind)))
+          ∙ ap encode (sym (effect-referrer (decode s) q false (a .kind)))

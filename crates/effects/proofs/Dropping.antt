@@ -9,8 +9,7 @@ use mathlib.Core.Bool.{Bool, true, false}
 use mathlib.Core.List.{List, [], _∷_, _++_, append-nil}
 use lib.ListN.{length, take, drop, length-append, length-take, length-drop, take-append-drop}
 use lib.Seq.{take-all, drop-length}
-use Rattle.foundation.specs.Tests.{cases}
-use Rattle.foundation.specs.Lists.{Mem, keepIf, kept, append-mem, mem-left, mem-right}
+use Rattle.foundation.specs.Lists.{Mem, keepIf, kept, kept-length, append-mem, mem-left, mem-right}
 use Rattle.model.specs.declared.Rule.{Rule}
 use Rattle.model.specs.Base.{Base}
 use Rattle.model.specs.Encoding.{encode, decode}
@@ -18,7 +17,7 @@ use Rattle.model.specs.FitsFacts.{BaseFits}
 use Rattle.edits.specs.Edits.{Written, removeAt}
 use Rattle.model.specs.Effects.{withRules}
 use Rattle.edits.proofs.Kept.{fits-rules}
-use Rattle.effects.proofs.AllowedEffects.{HoldsBase, holds}
+use Rattle.effects.proofs.AllowedEffects.{HoldsBase, holds-base}
 
 -- ---- lists
 
@@ -31,17 +30,11 @@ module _ {A : Type 0} (k : A → Bool) where
   partly-all xs = sym ((λ j. take-all (length xs) xs (omega arith) j ++ keepIf k (drop-length xs j))
       ∙ append-nil xs)
 
-  pub kept-length : (xs : List A) → length (keepIf k xs) ≤ length xs
-  kept-length [] = omega arith
-  kept-length (x ∷ xs) = cases (k x)
-      (λ e. let h = kept-length xs in rw e (omega arith))
-      (λ e. let h = kept-length xs in rw e (omega arith))
-
   partly-length : (i : ℕ) (xs : List A) → i ≤ length xs →
       (i ≤ length (partly i xs)) × (length (partly i xs) ≤ length xs)
   partly-length i xs h =
       let e = length-append (take i xs) (keepIf k (drop i xs)) in
-      let l = kept-length (drop i xs) in
+      let l = kept-length k (drop i xs) in
       let t = length-take i xs in
       let d = length-drop i xs in
       omega arith
@@ -91,7 +84,7 @@ module _ (k : Rule → Bool) (b : Base) where
   pub dropped-holds : BaseFits b → (i : ℕ) (s : List ℕ) → Dropped k b i s → HoldsBase (left i) s
   dropped-holds f i s v =
       let l = partly-length k i (b .rules) (v .0) in
-      holds (left i) s (fits-rules (partly k i (b .rules)) b f (omega (arith, l, f .counts .rules))
+      holds-base (left i) s (fits-rules (partly k i (b .rules)) b f (omega (arith, l, f .counts .rules))
       (λ r m. f .rules r (partly-mem k i (b .rules) r m))) (v .1)
 
   -- a turn looks at the rule before the i-th

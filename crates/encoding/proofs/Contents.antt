@@ -20,8 +20,8 @@ pub record CountsWithin (c : Counts) : Type 0 where
   pub authorizations : c .authorizations ≤ 1024
   pub rules : c .rules ≤ 64
 
-pub within : (c : Counts) → countsFit c ≡ true → CountsWithin c
-within c e =
+pub fit-within : (c : Counts) → countsFit c ≡ true → CountsWithin c
+fit-within c e =
     let t = conjunct (leb (c .objects) 128 ∷ leb (c .administrators) 128 ∷ leb (c .referrers) 128
     ∷ leb (c .authorizations) 1024 ∷ leb (c .rules) 64 ∷ []) e in
     record {

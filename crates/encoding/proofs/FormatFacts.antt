@@ -12,10 +12,9 @@ use lib.Dec.{leb, ltb, eqb}
 use lib.ListN.{length, take, drop, getD, replicate, length-append, length-drop, length-replicate}
 use lib.Seq.{drop-drop, drop-cons}
 use Rattle.foundation.specs.Tests.{and-true, and-intro, and-assoc, agree, cases, le-true, true-le, eq-true}
-use Rattle.foundation.specs.Tests.{true-eq}
+use Rattle.foundation.specs.Tests.{true-eq, eqb-sym}
 use Rattle.foundation.specs.Lists.{each}
 use Rattle.foundation.specs.Bytes.{le, bytesOf, records, eqList, eqList-eq, eqList-refl, length-bytesOf}
-use Rattle.foundation.specs.ByteRecords.{length-records}
 use Rattle.foundation.specs.BytesFacts.{Bytes, bytes-drop, bytesOf-le-at, eachBelow, each-below}
 use Rattle.model.specs.declared.Operator.{Operator}
 use Rattle.model.specs.declared.Operator.the-variants.{Whenever, AsLongAs, WheneverNot, Unless}
@@ -28,8 +27,9 @@ use Rattle.model.specs.Encoding.{bodies, encode, privilegeOf, authorizationOf, 
 use Rattle.model.specs.FlagFacts.{head-flags-most, rule-flags-most}
 use Rattle.model.specs.FitsFacts.{counts-fit}
 use Rattle.model.specs.EncodingFacts.{bodies-length, sound-length}
+use Rattle.model.specs.LayoutFacts.{read-lengths}
 use Rattle.model.specs.Soundness.{sound, soundBytes}
-use Rattle.model.specs.SoundnessFacts.{sound-tests, sound-bytes}
+use Rattle.model.specs.SoundnessFacts.{decoded-sound}
 use Rattle.encoding.specs.declared.Counts.{Counts}
 use Rattle.encoding.specs.Format.{countsOf, contentsOf, administratorsAt, referrersAt, authorizationsAt}
 use Rattle.encoding.specs.Format.{rulesAt, endAt, countsFit, headingFits, authorizationClean, ruleClean}
@@ -42,10 +42,6 @@ use Rattle.encoding.specs.Format.{eachRecord, zeros, formatFits}
 guarded : (g e t x : Bool) → (g ≡ true → e ≡ t) → (e && x ≡ true → g ≡ true) → e && x ≡ g && t && x
 guarded true e t x f h = ap (λ (y : Bool). y && x) (f refl)
 guarded false e t x f h = cases (e && x) (λ q. absurd (false≢true (h q))) (λ q. q)
-
-eqb-sym : (m n : ℕ) → eqb m n ≡ eqb n m
-eqb-sym m n = agree (eqb m n) (eqb n m)
-    (λ e. eq-true n m (sym (true-eq m n e))) (λ e. eq-true m n (sym (true-eq n m e)))
 
 eqList-sym : (xs ys : List ℕ) → eqList xs ys ≡ eqList ys xs
 eqList-sym xs ys = agree (eqList xs ys) (eqList ys xs)
@@ -256,14 +252,7 @@ pub decoded-lengths : (s : List ℕ) →
     × (length (decode s .referrers) ≡ countsOf s .referrers)
     × (length (decode s .authorizations) ≡ countsOf s .authorizations)
     × (length (decode s .rules) ≡ countsOf s .rules)
-unfolding decode
-decoded-lengths s = (
-  length-records 4 privilegeOf _ _,
-  length-records 4 privilegeOf _ _,
-  length-records 4 privilegeOf _ _,
-  length-records 24 authorizationOf _ _,
-  length-records 28 ruleOf _ _,
-)
+decoded-lengths s = read-lengths s
 
 pub decoded-counts : (s : List ℕ) → countsHold (decode s) ≡ countsFit (countsOf s)
 decoded-counts s = let l = decoded-lengths s in rw (l .0, l .1, l .2, l .3, l .4)
@@ -367,7 +356,7 @@ module _ (s : List ℕ) where
   sound-fits : soundBytes s ≡ true → eqb (length s) size && countsFit counts ≡ true
   sound-fits e = and-intro (eqb (length s) size) (countsFit counts)
       (eq-true (length s) size (sound-length s e))
-      (sym (decoded-counts s) ∙ sound-tests (decode s) (sound-bytes s e .1) .counts)
+      (sym (decoded-counts s) ∙ decoded-sound s e .counts)
 
 pub format-is : (s : List ℕ) → ((i : ℕ) → getD s i 0 < 256) → soundBytes s ≡ formatFits s && sound (decode s)
 unfolding soundBytes formatFits

@@ -7,7 +7,7 @@ use lib.ListN.{drop, getD}
 use lib.Seq.{getD-drop}
 use Rattle.foundation.specs.Bytes.{le}
 use Rattle.foundation.specs.Intervals.{interval}
-use Rattle.fields.proofs.ByteLaws.{le-at}
+use Rattle.foundation.specs.BytesFacts.{le-at}
 
 pub byte-at : (s : List ℕ) (at o : ℕ) → getD s (at + o) 0 ≡ getD (drop at s) o 0
 byte-at s at o = sym (getD-drop at s o 0)

@@ -7,6 +7,7 @@ use lib.Dec.{leb, ltb, eqb}
 use lib.ListN.{length, take, drop, getD}
 use Rattle.foundation.specs.Lists.{allb}
 use Rattle.foundation.specs.Bytes.{le, records, eqList}
+use Rattle.foundation.specs.ByteRecords.{rest}
 use Rattle.model.specs.Ranges.{between, mostObjects, mostAdministrators, mostReferrers, mostAuthorizations}
 use Rattle.model.specs.Ranges.{mostRules}
 use Rattle.model.specs.declared.Privilege.{Privilege}
@@ -38,7 +39,11 @@ authorizationsIn n s = records 24 authorizationOf n s
 abbrev pub rulesIn : ℕ → List ℕ → List Rule
 rulesIn n s = records 28 ruleOf n s
 
--- the rule at i of them
+-- those of the n authorizations from number i on
+abbrev pub authorizationsFrom : ℕ → List ℕ → ℕ → List Authorization
+authorizationsFrom n s i = rest 24 authorizationOf n s i
+
+-- the rule at i of the rules
 abbrev pub ruleAt : List ℕ → ℕ → Rule
 ruleAt s i = ruleOf (drop (i * 28) s)
 

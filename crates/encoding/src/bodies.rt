@@ -6,7 +6,7 @@ ghost use lib.ListN.{length, drop};
 ghost use Rattle.foundation.specs.Bytes.{le, bytesOf};
 ghost use Rattle.foundation.specs.Intervals.{interval};
 ghost use Rattle.fields.specs.Field.{splice};
-ghost use Rattle.model.specs.Encoding.{entry, operatorNumber, ruleFlags, privilegeOf, privilegeBytes};
+ghost use Rattle.model.specs.Encoding.{contentsEntry, operatorNumber, ruleFlags, privilegeOf, privilegeBytes};
 ghost use Rattle.model.specs.Encoding.{authorizationOf, authorizationBytes, ruleOf, ruleBytes};
 ghost use Rattle.encoding.specs.Format.{authorizationClean, ruleClean};
 use crate::flags::has_option;
@@ -28,7 +28,7 @@ use model::Side;
 // Writes two 16-bit numbers at a place, one behind the other.
 pub fn put_pair(s: &mut [u8], at: usize, first: u16, second: u16)
     requires { ⌜ at + 4 ≤ length (now s) ⌝ }
-    ensures { λ _. ⌜ now (s .exit) ≡ splice at (entry first second) (now (s .entry)) ⌝ }
+    ensures { λ _. ⌜ now (s .exit) ≡ splice at (contentsEntry first second) (now (s .entry)) ⌝ }
 {
     fields::put16(s, at, first);
     fields::put16(s, at + 2, second);

@@ -132,7 +132,7 @@ pub fn create(s: &mut [u8]) -> Reply
     if s.len() != BASE_BYTES {
         return Reply::Refused(2);
     }
-    fields::clear(s);
+    fields::clear_bytes(s);
     put_mark(s);
     put_counts(
         s,

@@ -32,7 +32,7 @@ pub use heading::heading_fits;
 pub use heading::put_counts;
 pub use heading::referrers_at;
 pub use heading::rules_at;
-pub use insertion::insert_authorization;
+pub use insertion::insert_in_body;
 pub use insertion::insertion_index;
 pub use terms::new_rule;
 pub use terms::number_of;

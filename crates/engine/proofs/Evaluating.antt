@@ -1,25 +1,23 @@
 -- What the steps of a window leave: words of instants that fit the fields (`active-low`), fields that are
 -- cleared (`all-clear`); and the evaluation, once all are done (`evaluated`).
-use mathlib.Core.Path.{_≡_, refl, sym, ap, _∙_}
-use mathlib.Core.Bool.{Bool, true, false, _&&_, false≢true}
+use mathlib.Core.Path.{_≡_, refl, ap, _∙_}
+use mathlib.Core.Bool.{Bool, true, false, _&&_}
 use mathlib.Core.List.{List}
 use Prim.Native.Nat.{ℕ, zero, suc, _+_, _*_, _/_, _^_, _≤_, _<_}
-use native.Mathlib.Nat.{div-div-eq-div-mul, div-lt-iff-lt-mul, div-le-self, lt-of-lt-of-le, mul-le-mul-right}
-use native.Mathlib.Nat.{pow-succ'}
+use native.Mathlib.Nat.{lt-of-lt-of-le, mul-le-mul-right}
 use native.Mathlib.Omega.{arith}
 use lib.ListN.{length, getD, take}
-use lib.Pow.{pow-pos, pow-add, pow-mono}
+use lib.Pow.{pow-pos, pow-mono}
 use Rattle.foundation.specs.Intervals.{inInterval}
 use Rattle.foundation.specs.Tests.{le-false}
 use Rattle.foundation.specs.BitMasks.{bit}
 use Rattle.model.specs.declared.Authorization.{Authorization}
 use Rattle.encoding.specs.Format.{ruleAt}
-use Rattle.words.specs.Bits.{no-bits}
+use Rattle.words.specs.Bits.{below-power}
 use Rattle.words.specs.Fields.{fieldOf}
 use Rattle.windows.specs.Windows.{inside}
-use Rattle.derivation.specs.Words.{bit-zero}
 use Rattle.masks.specs.RuleMasks.{clear-fields}
-use Rattle.sections.specs.Sections.{activeOf, numberOf}
+use Rattle.sections.specs.Sections.{activeOf, numberedOf}
 use Rattle.facts.specs.Facts.{Setting, settingIn, LinesReady, LineSteps}
 use Rattle.facts.specs.declared.WindowTask.{WindowTask}
 use Rattle.grounding.specs.RuleTurns.{Prepared, preparedIn, Able, wordsFor}
@@ -27,18 +25,6 @@ use Rattle.engine.specs.Evaluation.{Low, RulesRan, Evaluation}
 use Rattle.engine.proofs.Sectioned.{setting-same, prepared-same}
 
 -- ---- instants
-
-power-above : (n : ℕ) → n < 2 ^ n
-power-above zero = omega arith
-power-above (suc n) = rw (pow-succ' 2 n) (omega (arith, power-above n))
-
--- a number with no bit from the n-th on is below 2^n
-below-power : (n x : ℕ) → ((i : ℕ) → n ≤ i → bit i x ≡ false) → x < 2 ^ n
-below-power n x z =
-    let q : x / 2 ^ n ≡ 0 =
-    no-bits x (x / 2 ^ n) (omega (arith, div-le-self x (2 ^ n), power-above x)) (λ i m.
-    rw (div-div-eq-div-mul x (2 ^ n) (2 ^ i), ← pow-add 2 n i) (z (n + i) (omega arith))) in
-    omega (arith, div-lt-iff-lt-mul {k = 2 ^ n} {x = x} {y = 1} (pow-pos n) .0 (omega arith))
 
 -- the instants of a window that has few enough fit
 pub active-low : (count : ℕ) (marks body : List ℕ) (needed width : ℕ) (active : List ℕ) → count ≤ 63 →
@@ -61,10 +47,6 @@ all-clear width fields n words e z i h =
     clear-fields width n words z i (omega (arith, pow-pos width))
 
 -- ---- all steps
-
--- an empty mask has no rule
-pub no-bit : (q m : ℕ) → m ≡ 0 → bit q m ≡ true → ⊥
-no-bit q m z e = false≢true (sym (ap (bit q) z ∙ bit-zero q) ∙ e)
 
 -- k words were cleared, and each step followed
 pub evaluated : {e : Setting} {p : Prepared} {lines : List Authorization} {n needed : ℕ}
@@ -114,15 +96,14 @@ module _ (w : WindowTask) (body coordinates need numbers marks u v y : List ℕ)
       {bits bits′ cleared cleared′ given given′ new : List ℕ} (k : ℕ) →
       k ≡ wordsFor (w .frame .fields) (w .frame .width) → b ≡ body →
       ((j : ℕ) → j < k → getD cleared j 0 ≡ 0) → cleared′ ≡ cleared → lines′ ≡ lines →
-      LineSteps (settingIn body w v coordinates (numberOf (length need) numbers) marks) lines′ cleared′ given
-      →
-      given′ ≡ given → bits′ ≡ bits →
+      LineSteps (settingIn body w v coordinates (numberedOf (length need) numbers) marks) lines′ cleared′
+      given → given′ ≡ given → bits′ ≡ bits →
       RulesRan (preparedIn b v coordinates need numbers (w .frame)) n (w .chosen .needed) (activeOf v) bits′
       given′ new →
-      Evaluation (settingIn body w u coordinates (numberOf (length need) numbers) marks)
+      Evaluation (settingIn body w u coordinates (numberedOf (length need) numbers) marks)
       (preparedIn body u coordinates need numbers (w .frame)) lines n (w .chosen .needed) (activeOf v) bits
       new
   evaluated-in {b} k size e clear c l steps g m ran =
       evaluated k acts-in short fits size (λ j h. ap (λ (l : List ℕ). getD l j 0) c ∙ clear j h)
-      (rw (setting-same v u same body w coordinates (numberOf (length need) numbers) marks, l) at steps)
+      (rw (setting-same v u same body w coordinates (numberedOf (length need) numbers) marks, l) at steps)
       (rw (prepared-same v u same b body coordinates need numbers numbers (w .frame) e refl, g, m) at ran)

@@ -1,5 +1,5 @@
--- The walk starts (`starts`), goes through windows and has found all behind the last instant (`finds`). The
--- instants that a window is filled with are a window of the base (`views`), its word has the answers
+-- The walk starts (`walk-starts`), goes through windows and has found all behind the last instant (`finds`).
+-- The instants that a window is filled with are a window of the base (`views`), its word has the answers
 -- (`answered`, `yes-last`), and behind it the walk has ended or goes on (`ends`, `goes`).
 use mathlib.Core.Path.{_≡_, refl, sym, ap, ap₂, _∙_, subst}
 use mathlib.Core.Logic.{_⊎_, inl, inr, ⊎-elim}
@@ -44,10 +44,10 @@ use Rattle.grounding.specs.RuleTurns.{Prepared, Able, Marked}
 use Rattle.engine.specs.declared.Query.{Query}
 use Rattle.engine.specs.declared.walking.Progress.{Progress}
 use Rattle.engine.specs.Evaluation.{Low, Evaluation}
-use Rattle.engine.specs.AccessPlaces.{place-within}
-use Rattle.engine.specs.StandingPlaces.{rule-low}
-use Rattle.engine.specs.Posed.{Posed, Walks, Finds}
-use Rattle.engine.specs.Right.{settingFor, CarriedAt, Views, able, ready, answers, carried-next}
+use Rattle.engine.proofs.AccessPlaces.{place-within}
+use Rattle.engine.proofs.StandingPlaces.{rule-low}
+use Rattle.engine.specs.Posed.{Posed, CarriedAt, Walks, Finds}
+use Rattle.engine.proofs.Right.{settingFor, Views, able, ready, answers, carried-next}
 use Rattle.engine.specs.Going.{cappedAt, Start, Going}
 
 -- what is kept by two tests is kept by the later one
@@ -93,7 +93,7 @@ startOf base x which words bits list =
     record { base = base; access = x; which = which; words = words; bits = bits; list = list }
 
 -- at the first instant nothing is done
-pub starts : {lines which : List ℕ} {c : Chosen} {lasting : ℕ} {q : Query} {C : Chart} {p : Prepared}
+pub walk-starts : {lines which : List ℕ} {c : Chosen} {lasting : ℕ} {q : Query} {C : Chart} {p : Prepared}
     {words bits : List ℕ} {base : Base} {x : Access} → Walks lines which c lasting q C p words bits base x →
     q .from ≤ 4294967296 → (list : List ℕ) → Going lines c lasting q C p
     (startOf base x which words bits list) which words bits list (record {
@@ -103,7 +103,7 @@ pub starts : {lines which : List ℕ} {c : Chosen} {lasting : ℕ} {q : Query} {
       left = c .authorizations;
     })
 unfolding filled
-starts {q = q} {base = base} {x = x} w h list = record {
+walk-starts {q = q} {base = base} {x = x} w h list = record {
   walks = w;
   low = omega arith;
   high = h;

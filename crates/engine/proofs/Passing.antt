@@ -20,13 +20,15 @@ use Rattle.relevance.specs.Filling.{Fills}
 use Rattle.relevance.specs.Forgotten.{Forgets}
 use Rattle.sections.specs.Sections.{firstOf, rightsOf, whichOf}
 use Rattle.grounding.specs.RuleTurns.{preparedIn, fieldsIn, bitsIn, wordsFor, Able, Marked}
-use Rattle.sections.specs.SectionFacts.{lent-rest}
+use Rattle.foundation.specs.Lists.{lent-rest}
+use Rattle.encoding.proofs.SoundBodies.{lent}
+use Rattle.sections.proofs.SectionWrites.{front-same}
 use Rattle.grounding.proofs.Parts.{bitsBack, bits-own}
 use Rattle.engine.specs.declared.WindowWalk.{WindowWalk}
 use Rattle.engine.specs.declared.walking.Progress.{Progress}
 use Rattle.engine.specs.Evaluation.{Low}
 use Rattle.engine.specs.Going.{Start, Going, chartIn, preparedFor, GoingIn}
-use Rattle.engine.proofs.Sectioned.{lent, part-alike, rest-alike, in-front, prepared-same}
+use Rattle.engine.proofs.Sectioned.{part-alike, rest-alike, prepared-same}
 use Rattle.engine.proofs.Evaluating.{able-as}
 use Rattle.engine.proofs.Onward.{here, turns-able, among-lasting, readable}
 
@@ -44,21 +46,21 @@ module _ (R U C N M W : List ℕ) (w : WindowWalk) where
   at = 2 * length N
 
   pub fills-as : (c : Chosen) {from to width : ℕ} {ms : List ℕ} {r : Filled} →
-      Fills (marksFor R (lent at M) (lent (w .body) R) c) from to width ms r →
+      Fills (marksFor R (lent M at) (lent R (w .body)) c) from to width ms r →
       Fills (marksFor R (whichOf (length N) M) (drop (w .body) R) c) from to width ms r
   fills-as c x = rw (lent-rest at M, lent-rest (w .body) R) at x
 
-  pub picks-as : {n : ℕ} → Picks R (whichOf (length N) M) n → Picks R (lent at M) n
+  pub picks-as : {n : ℕ} → Picks R (whichOf (length N) M) n → Picks R (lent M at) n
   picks-as x = rw (lent-rest at M) x
 
-  pub forgets-as : {n t k : ℕ} (y : List ℕ) (h : at ≤ length M) → Forgets R n t (lent at M) y k →
+  pub forgets-as : {n t k : ℕ} (y : List ℕ) (h : at ≤ length M) → Forgets R n t (lent M at) y k →
       Forgets R n t (whichOf (length N) M) (whichOf (length N) (bitsBack at M h y)) k
   forgets-as {n} {t} {k} y h x =
       subst (λ (v : List ℕ). Forgets R n t (whichOf (length N) M) v k) (sym (bits-own at M h y))
       (rw (lent-rest at M) at x)
 
   module _ {L : List ℕ} {o : Start} {s : Progress} (g : GoingIn R U C N M W w L o s) where
-    pub matters : Matters R (lent at M) (lent (w .body) R) (here g)
+    pub matters : Matters R (lent M at) (lent R (w .body)) (here g)
     matters =
         let d = g .walks .posed .drawn .well-formed in
         record {
@@ -71,10 +73,10 @@ module _ (R U C N M W : List ℕ) (w : WindowWalk) where
   -- the window is evaluated
   module _ (U′ W′ : List ℕ) (front : take 408 U′ ≡ take 408 U) (long : length W′ ≡ length W) where
     pub first-as : firstOf U′ ≡ firstOf U
-    first-as = in-front 408 280 64 U′ U (omega arith) front
+    first-as = front-same 280 64 408 U U′ (omega arith) front
 
     pub lefts-stay : take 280 U′ ≡ take 280 U
-    lefts-stay = in-front 408 0 280 U′ U (omega arith) front
+    lefts-stay = front-same 0 280 408 U U′ (omega arith) front
 
     fields-size : length (fieldsIn f W′) ≡ length (fieldsIn f W)
     fields-size = part-alike (wordsFor (f .fields) (f .width)) W′ W long
@@ -104,18 +106,18 @@ module _ (R U C N M W : List ℕ) (w : WindowWalk) where
     -- the rules that look back can be marked
     pub able-in : {L : List ℕ} {o : Start} {s : Progress} → GoingIn R U C N M W w L o s → (active : List ℕ) →
         Low active (w .chosen .needed) (f .width) → (r : ℕ) → bit r (w .lasting) ≡ true →
-        Able (preparedIn (lent (w .body) R) U′ C N M f) active (length (fieldsIn f W′)) (length (bitsIn f
+        Able (preparedIn (lent R (w .body)) U′ C N M f) active (length (fieldsIn f W′)) (length (bitsIn f
         W′)) r
     able-in g active low r b =
-        able-as (prepared-same U′ U front (lent (w .body) R) (drop (w .body) R) C N M M f (lent-rest (w .body)
+        able-as (prepared-same U′ U front (lent R (w .body)) (drop (w .body) R) C N M M f (lent-rest (w .body)
         R)
         refl) refl refl (turns-able g fields-size bits-size active low r (among-lasting g r b .0))
 
     pub marked-as : {active words : List ℕ} {last mark : ℕ} {old old′ new : List ℕ} → old′ ≡ old →
-        Marked (preparedIn (lent (w .body) R) U′ C N M f) active words last mark (w .lasting) 0 old′ new →
+        Marked (preparedIn (lent R (w .body)) U′ C N M f) active words last mark (w .lasting) 0 old′ new →
         Marked (preparedFor R U C N M w) active words last mark (w .lasting) 0 old new
     marked-as e x = rw (
-      prepared-same U′ U front (lent (w .body) R) (drop (w .body) R) C N M M f
+      prepared-same U′ U front (lent R (w .body)) (drop (w .body) R) C N M M f
           (lent-rest (w .body) R) refl,
       e,
     ) at x

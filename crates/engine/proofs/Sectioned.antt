@@ -2,10 +2,10 @@
 -- `front-rest`); where the fronts of the outline and of the numbers stay, so do the tables (`setting-same`,
 -- `prepared-same`). And masks: the rules of one stratum (`passes`, `passed`), and those that are left without
 -- them (`less-other`, `less-in`).
-use mathlib.Core.Path.{_≡_, refl, sym, ap, _∙_}
+use mathlib.Core.Path.{_≡_, sym, ap, _∙_}
 use mathlib.Core.Bool.{Bool, true, not, _&&_}
-use mathlib.Core.List.{List, [], _∷_, _++_}
-use Prim.Native.Nat.{ℕ, zero, suc, min, _+_, _*_, _-_, _≤_, _<_}
+use mathlib.Core.List.{List, _++_}
+use Prim.Native.Nat.{ℕ, suc, min, _+_, _*_, _-_, _≤_, _<_}
 use native.Mathlib.Omega.{arith}
 use lib.Dec.{ltb}
 use lib.ListN.{length, take, drop, length-take, length-drop}
@@ -16,14 +16,11 @@ use Rattle.words.specs.Bits.{bit-less, less}
 use Rattle.tables.specs.declared.Frame.{Frame}
 use Rattle.facts.specs.declared.WindowTask.{WindowTask}
 use Rattle.facts.specs.Facts.{settingIn}
-use Rattle.sections.specs.Sections.{firstOf, startsOf, leftOf, feedOf, numberOf, listedOf}
+use Rattle.sections.specs.Sections.{firstOf, startsOf, leftOf, feedOf, numberedOf, listedOf}
+use Rattle.sections.proofs.SectionWrites.{front-same}
 use Rattle.grounding.specs.RuleTurns.{preparedIn}
 
 -- ---- lengths
-
--- a part up to the end
-abbrev pub lent : ℕ → List ℕ → List ℕ
-lent k l = take (length l - k) (drop k l)
 
 pub part-alike : (k : ℕ) (u v : List ℕ) → length u ≡ length v → length (take k u) ≡ length (take k v)
 part-alike k u v e = length-take k u ∙ ap (min k) e ∙ sym (length-take k v)
@@ -47,23 +44,12 @@ module _ (k n : ℕ) (same : k ≡ n) (u y : List ℕ) (long : n ≤ length u) (
 
 -- ---- what lies in a front that stays
 
-cut-front : (n a w : ℕ) (u : List ℕ) → a + w ≤ n → take w (drop a (take n u)) ≡ take w (drop a u)
-cut-front n zero w u h = take-take w n u (omega arith)
-cut-front zero (suc a) w u h = absurd (omega arith)
-cut-front (suc n) (suc a) w [] h = refl
-cut-front (suc n) (suc a) w (x ∷ u) h = cut-front n a w u (omega arith)
-
-pub in-front : (n a w : ℕ) (u v : List ℕ) → a + w ≤ n → take n u ≡ take n v →
-    take w (drop a u) ≡ take w (drop a v)
-in-front n a w u v h e =
-    sym (cut-front n a w u h) ∙ ap (λ (l : List ℕ). take w (drop a l)) e ∙ cut-front n a w v h
-
 pub front-front : (n w : ℕ) (u v : List ℕ) → w ≤ n → take n u ≡ take n v → take w u ≡ take w v
 front-front n w u v h e = sym (take-take w n u h) ∙ ap (take w) e ∙ take-take w n v h
 
 module _ (u v : List ℕ) (e : take 408 u ≡ take 408 v) where
   first-same : firstOf u ≡ firstOf v
-  first-same = in-front 408 280 64 u v (omega arith) e
+  first-same = front-same 280 64 408 v u (omega arith) e
 
   pub setting-same : (body : List ℕ) (w : WindowTask) (coordinates number marks : List ℕ) →
       settingIn body w u coordinates number marks ≡ settingIn body w v coordinates number marks
@@ -86,10 +72,10 @@ module _ (u v : List ℕ) (e : take 408 u ≡ take 408 v) where
   prepared-same b body coordinates need m n f same d =
       let k = length need in
       let left : leftOf u ≡ leftOf v = front-front 408 152 u v (omega arith) e in
-      let feed : feedOf u ≡ feedOf v = in-front 408 152 128 u v (omega arith) e in
-      let starts : startsOf u ≡ startsOf v = in-front 408 344 64 u v (omega arith) e in
-      let codes : listedOf k m ≡ listedOf k n = in-front (2 * k) k k m n (omega arith) d in
-      let number : numberOf k m ≡ numberOf k n = front-front (2 * k) k m n (omega arith) d in
+      let feed : feedOf u ≡ feedOf v = front-same 152 128 408 v u (omega arith) e in
+      let starts : startsOf u ≡ startsOf v = front-same 344 64 408 v u (omega arith) e in
+      let codes : listedOf k m ≡ listedOf k n = front-same k k (2 * k) n m (omega arith) d in
+      let number : numberedOf k m ≡ numberedOf k n = front-front (2 * k) k m n (omega arith) d in
       λ j. record {
         body = same j;
         left = left j;

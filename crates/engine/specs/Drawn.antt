@@ -10,7 +10,7 @@ use Rattle.model.specs.Base.{Base, controls}
 use Rattle.encoding.specs.Format.{ruleAt}
 use Rattle.questions.specs.OperatorSteps.{lasting}
 use Rattle.reach.specs.Net.{ClosedNet}
-use Rattle.places.specs.ReachedNumbers.{used, before, codeOf}
+use Rattle.places.specs.ReachedNumbers.{used, usedBefore, codeOf}
 use Rattle.tables.specs.TableLayout.{TablesLaid, ruleTables}
 use Rattle.tables.specs.TableGiving.{TablesReady}
 use Rattle.masks.specs.RuleMasks.{Needed}
@@ -55,12 +55,12 @@ pub record Drawn (holder : Base) (n : ℕ) (C : Chart) (asked : Access) (p : Pre
     pub size : length (p .need) ≡ C .height * C .width
     -- numbers of pairs and modes
     pub numbers : (length (p .number) ≡ length (p .need))
-        × ((j : ℕ) → j < length (p .need) → getD (p .number) j 0 ≡ before (p .need) j)
+        × ((j : ℕ) → j < length (p .need) → getD (p .number) j 0 ≡ usedBefore (p .need) j)
     pub codes : (length (p .codes) ≡ length (p .need))
         × ((j : ℕ) → j < length (p .need) → used (getD (p .need) j 0) ≡ true →
-        getD (p .codes) (before (p .need) j) 0 ≡ codeOf (C .width) j)
+        getD (p .codes) (usedBefore (p .need) j) 0 ≡ codeOf (C .width) j)
     pub grid : (p .frame .grid .subjects ≡ C .width) × (p .frame .grid .objects ≡ C .height)
-        × (p .frame .grid .pairs ≡ before (p .need) (length (p .need)))
+        × (p .frame .grid .pairs ≡ usedBefore (p .need) (length (p .need)))
     pub modes : (p .frame .grid .modes < 256) × ((j k : ℕ) → j < length (p .need) → k < 8 →
         bit k (getD (p .need) j 0) || bit (8 + k) (getD (p .need) j 0) ≡ true →
         bit k (p .frame .grid .modes) ≡ true)

@@ -21,8 +21,7 @@ use Rattle.grounding.specs.RuleTurns.{Prepared, preparedIn, fieldsIn, bitsIn, S
 use Rattle.engine.specs.declared.WindowWalk.{WindowWalk}
 use Rattle.engine.specs.declared.Query.{Query}
 use Rattle.engine.specs.declared.walking.Progress.{Progress}
-use Rattle.engine.specs.Posed.{Walks}
-use Rattle.engine.specs.Right.{CarriedAt}
+use Rattle.engine.specs.Posed.{CarriedAt, Walks}
 
 abbrev pub chartOf : List ℕ → List ℕ → Frame → Chart
 chartOf subjects objects f = record {

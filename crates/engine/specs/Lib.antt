@@ -1,11 +1,4 @@
 pub mod Drawn
 pub mod Evaluation
-pub mod LinesGiven
 pub mod Going
-pub mod NarrowedBase
-pub mod AccessPlaces
 pub mod Posed
-pub mod TurnReads
-pub mod Right
-pub mod Sides
-pub mod StandingPlaces

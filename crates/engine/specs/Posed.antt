@@ -1,8 +1,8 @@
--- A question as it is put to the tables (`Posed`), and what the walk from window to window starts with
--- (`Walks`) and finds (`Finds`).
+-- A question as it is put to the tables (`Posed`), what is kept for it of the time before (`CarriedAt`), and
+-- what the walk from window to window starts with (`Walks`) and finds (`Finds`).
 use mathlib.Core.Path.{_≡_}
 use mathlib.Core.Logic.{_⊎_}
-use mathlib.Core.Bool.{true}
+use mathlib.Core.Bool.{true, false}
 use mathlib.Core.List.{List}
 use Prim.Native.Nat.{ℕ, suc, _≤_, _<_}
 use lib.ListN.{length}
@@ -45,6 +45,15 @@ pub record Posed (n : ℕ) (C : Chart) (own : Access) (p : Prepared) (needed wor
       (outlines.needed C own (p .need) (accessOf (a .head)) ≡ true) × HeadInRange (a .head)
       × (a .interval .start ≤ a .interval .end)
 
+module _ {n : ℕ} {C : Chart} {own : Access} {p : Prepared} {needed words bits₀ : ℕ} {base : Base} {x : Access}
+    (posed : Posed n C own p needed words bits₀ base x) where
+  -- what is kept of the time before t is right
+  abbrev pub CarriedAt : ℕ → List ℕ → Type 0
+  CarriedAt t bits = (active : List ℕ) (r : ℕ) → bit r needed ≡ true → (y : Access) →
+      outlines.needed C own (p .need) y ≡ true → standsFor base (ruleAt (p .body) r) y ≡ true →
+      Carried base t (ruleAt (p .body) r) y
+      (brokenIn (turnIn p active r) (p .frame .grid) bits (placeOf (mappingOf base C own p) y))
+
 -- the walk can start
 pub record Walks (lines which : List ℕ) (c : Chosen) (lasting : ℕ) (q : Query) (C : Chart) (p : Prepared)
     (words bits : List ℕ) (base : Base) (x : Access) : Type 0 where
@@ -65,6 +74,10 @@ pub record Walks (lines which : List ℕ) (c : Chosen) (lasting : ℕ) (q : Quer
   pub few : length (maximal 0 (q .to) (may base x)) ≤ 1089
   -- where intervals are written down, none begins before the first instant
   pub fresh : q .listing ≡ true → maximal 0 (q .to) (may base x) ≡ maximal (q .from) (q .to) (may base x)
+
+-- no interval, and no
+abbrev pub nothing : Found
+nothing = record { track = record { count = 0; inside = false; from = 0 }; yes = false }
 
 -- what it finds
 pub record Finds (q : Query) (base : Base) (x : Access) (r : Found) (old new : List ℕ) : Type 0 where

@@ -12,7 +12,7 @@ ghost use Rattle.tables.specs.TableLayout.{fieldIn};
 ghost use Rattle.tables.specs.TableGiving.{tablesOf, TablesReady};
 ghost use Rattle.words.specs.Fields.{fieldOf};
 ghost use Rattle.relevance.specs.Chosen.{picked, selected};
-ghost use Rattle.sections.specs.Sections.{activeOf, numberOf, whichOf};
+ghost use Rattle.sections.specs.Sections.{activeOf, numberedOf, whichOf};
 ghost use Rattle.facts.specs.Facts.{settingIn, LinesReady};
 ghost use Rattle.grounding.specs.RuleTurns.{preparedIn, Able, fieldsIn, bitsIn, SlicedIn};
 ghost use Rattle.engine.specs.Evaluation.{Low, StrataRan, RulesRan, Evaluation};
@@ -115,7 +115,7 @@ pub fn evaluate(
     work: &mut [u64],
 )
     requires { ⌜ LinesReady (settingIn (drop (w .body) (now records)) w (now outline) (now coordinates)
-        (numberOf (length (now need)) (now numbers)) (now marks)) (now records)
+        (numberedOf (length (now need)) (now numbers)) (now marks)) (now records)
         (whichOf (length (now need)) (now numbers)) (w .chosen .authorizations)
         (length (fieldsIn (w .frame) (now work))) ⌝ }
     requires { ⌜ ((l : List ℕ) → Low l (w .chosen .needed) (w .frame .width) → (r : ℕ) → bit r
@@ -129,7 +129,7 @@ pub fn evaluate(
         × (w .body ≤ length (now records))
         × SlicedIn (now outline) (now coordinates) (now need) (now numbers) (w .frame) (now work) ⌝ }
     ensures { λ _. ⌜ Evaluation (settingIn (drop (w .body) (now (records .entry))) w (now (outline .entry))
-        (now (coordinates .entry)) (numberOf (length (now (need .entry))) (now (numbers .entry)))
+        (now (coordinates .entry)) (numberedOf (length (now (need .entry))) (now (numbers .entry)))
         (now (marks .entry))) (preparedIn (drop (w .body) (now (records .entry))) (now (outline .entry))
         (now (coordinates .entry)) (now (need .entry)) (now (numbers .entry)) (w .frame)) (picked
         (now (records .entry)) (whichOf (length (now (need .entry))) (now (numbers .entry)))

@@ -6,13 +6,13 @@ use native.Mathlib.Omega.{arith}
 use lib.Bits.{and-le-l}
 use lib.Dec.{eqb, ltb}
 use Rattle.foundation.specs.Tests.{cases, true-le, false-le, false-eq}
-use Rattle.foundation.specs.BitMasks.{bit}
+use Rattle.foundation.specs.BitMasks.{bit, bit-zero}
 use Rattle.model.specs.declared.Operator.{Operator}
 use Rattle.model.specs.Stratification.{negating}
 use Rattle.questions.specs.OperatorSteps.{lasting}
 use Rattle.words.specs.Bits.{no-bits}
 use Rattle.words.specs.Ones.{allFrom, ones-from}
-use Rattle.derivation.specs.Words.{bit-zero, wantedWord}
+use Rattle.derivation.specs.Words.{wantedWord}
 use Rattle.derivation.specs.Derive.{FirstBit, Derived}
 
 pub wanted-le : (o : Operator) (held active : ℕ) → wantedWord o held active ≤ active
@@ -57,9 +57,9 @@ neither true active e = absurd (true≢false e)
 neither false active e = (refl, false-eq active 0 e)
 
 -- a word that is not 0 has a first bit
-pub first-of : (active k : ℕ) → (active ≡ 0 → ⊥) → active < 9223372036854775808 → k ≤ 64 →
+pub first-active : (active k : ℕ) → (active ≡ 0 → ⊥) → active < 9223372036854775808 → k ≤ 64 →
     ((i : ℕ) → i < k → bit i active ≡ false) → (k < 64 → bit k active ≡ true) → (k < 64) × FirstBit k active
-first-of active k n h l z s = cases (ltb k 64)
+first-active active k n h l z s = cases (ltb k 64)
     (λ e. let g = true-le (suc k) 64 e in (g, record { set = s g; none = z }))
     (λ e. let g = false-le (suc k) 64 e in
     absurd (n (no-bits 63 active h (λ i m. z i (omega arith)))))

@@ -1,20 +1,20 @@
 -- What an authorization gives: its instants as a word fit a field; and the tables that take it, by a mask.
 use mathlib.Core.Path.{_≡_, sym, ap, _∙_, subst}
-use mathlib.Core.Bool.{Bool, false, _&&_}
+use mathlib.Core.Bool.{Bool, _&&_}
 use mathlib.Core.List.{List, [], _∷_, _++_}
-use Prim.Native.Nat.{ℕ, zero, suc, _+_, _/_, _^_, _≤_, _<_}
-use native.Mathlib.Nat.{div-div-eq-div-mul, div-lt-iff-lt-mul, div-le-self, lt-of-lt-of-le}
+use Prim.Native.Nat.{ℕ, zero, suc, _+_, _^_, _≤_, _<_}
+use native.Mathlib.Nat.{lt-of-lt-of-le}
 use native.Mathlib.Numerals.{add-one}
 use native.Mathlib.Omega.{arith}
 use lib.ListN.{length, getD}
-use lib.Pow.{pow-pos, pow-add, pow-mono}
+use lib.Pow.{pow-mono}
 use Rattle.foundation.specs.declared.Interval.{Interval}
 use Rattle.foundation.specs.Intervals.{inInterval}
 use Rattle.foundation.specs.Tests.{le-false}
 use Rattle.foundation.specs.BitMasks.{asBit, bit}
 use Rattle.model.specs.declared.Authorization.{Authorization}
 use Rattle.model.specs.declared.Head.{Head}
-use Rattle.words.specs.Bits.{no-bits}
+use Rattle.words.specs.Bits.{below-power}
 use Rattle.windows.specs.Windows.{inside}
 use Rattle.relevance.specs.Chosen.{authorizationAt, picked, picked-none, picked-more}
 use Rattle.tables.specs.TableGiving.{tableTakes}
@@ -22,16 +22,9 @@ use Rattle.facts.specs.Facts.{Setting, fitsRule, takenBy, LineStep, Line
 
 -- ---- the instants
 
--- a word with no bit from the n-th on is below 2^n
-below-power : (n x : ℕ) → x < 18446744073709551616 → ((i : ℕ) → n ≤ i → bit i x ≡ false) → x < 2 ^ n
-below-power n x h z =
-    let q : x / 2 ^ n ≡ 0 = no-bits 64 (x / 2 ^ n) (omega (arith, div-le-self x (2 ^ n))) (λ i m.
-    rw (div-div-eq-div-mul x (2 ^ n) (2 ^ i), ← pow-add 2 n i) (z (n + i) (omega arith))) in
-    omega (arith, div-lt-iff-lt-mul {k = 2 ^ n} {x = x} {y = 1} (pow-pos n) .0 (omega arith))
-
-pub span-fits : (n k v : ℕ) (ms : List ℕ) (i : Interval) → v < 18446744073709551616 → n ≤ 2 ^ k →
+pub span-fits : (n k v : ℕ) (ms : List ℕ) (i : Interval) → n ≤ 2 ^ k →
     ((j : ℕ) → bit j v ≡ inside n ms i j) → v < 2 ^ (2 ^ k)
-span-fits n k v ms i h l e = lt-of-lt-of-le (below-power n v h (λ j m.
+span-fits n k v ms i l e = lt-of-lt-of-le (below-power n v (λ j m.
     e j ∙ ap (λ (b : Bool). b && inInterval i (getD ms j 0)) (le-false (suc j) n (omega arith)))) (pow-mono l)
 
 -- ---- who takes it

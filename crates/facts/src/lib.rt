@@ -13,6 +13,7 @@ ghost use Rattle.facts.specs.Facts.{fitsKind, fitsRule, settingIn, pairF
 ghost use Rattle.facts.specs.Facts.{Usable, HasPlace, LinesReady, LineStep, LineSteps};
 use encoding::authorization_at;
 use encoding::rule_at;
+use fields::alike;
 use masks::with_if;
 use model::AUTHORIZATION_BYTES;
 use model::Access;
@@ -25,7 +26,6 @@ use places::Point;
 use relevance::Chosen;
 use relevance::cell_of;
 use relevance::sign_of;
-use rules::alike;
 use rules::fits_option;
 use sections::FIRST;
 use sections::RIGHT;

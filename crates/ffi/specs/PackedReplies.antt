@@ -18,7 +18,7 @@ use Rattle.model.specs.declared.OptionTerm.the-variants.{With, Without, Either}
 use Rattle.model.specs.declared.SideTerms.{SideTerms}
 use Rattle.model.specs.declared.Request.{Request}
 use Rattle.model.specs.declared.Access.{Access}
-use Rattle.model.specs.Answers.{request, refusalNumber}
+use Rattle.model.specs.Answers.{request, refusalNumber, labelOf}
 use Rattle.model.specs.Counting.{countedRefusal, countedNumber}
 use Rattle.model.specs.Session.{WrittenText}
 
@@ -63,15 +63,6 @@ packedCount (Declined k) = k % 65536
 -- a line of text: the refusal in bits 0 to 15, the bytes written from bit 32 on
 abbrev pub packedText : WrittenText → ℕ
 packedText w = w .count * 4294967296 + w .refusal
-
--- the new label, or 0 where the reply has none
-abbrev pub labelOf : Reply → ℕ
-labelOf (Done label count) = label
-labelOf (Refused n) = 0
-labelOf (Unsupported t) = 0
-labelOf Yes = 0
-labelOf No = 0
-labelOf (Runs n) = 0
 
 -- the authorizations in the base, the uncovered instant, 1 for yes, the runs, or 0
 abbrev pub replyNumber : Reply → ℕ

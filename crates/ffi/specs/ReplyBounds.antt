@@ -2,17 +2,16 @@
 -- its label and its number (PackedReplies), a packed reply to a request says what the request's definition
 -- says (`request-parts`), and so does one to a line of text (`text-parts`) and one with a rights sheet
 -- (`report-parts`).
-use mathlib.Core.Path.{_≡_, refl, sym, ap, subst, _∙_}
-use mathlib.Core.Logic.{_≢_, inl, ⊎-elim}
-use mathlib.Core.Bool.{Bool, true, false, not, false≢true}
+use mathlib.Core.Path.{_≡_, refl, ap, _∙_}
+use mathlib.Core.Logic.{inl, ⊎-elim}
+use mathlib.Core.Bool.{Bool, true, false, not}
 use mathlib.Core.List.{List, [], _∷_, _++_}
 use Prim.Native.Nat.{ℕ, suc, _*_, _/_, _%_, _≤_, _<_}
 use native.Mathlib.Omega.{arith}
 use lib.Dec.{ltb, eqb}
 use lib.ListN.{length, drop}
-use Rattle.foundation.specs.Tests.{cases, eq-true, true-le, not-false}
-use Rattle.foundation.specs.Lists.{allb, keepIf}
-use Rattle.model.specs.declared.Authorization.{Authorization}
+use Rattle.foundation.specs.Tests.{true-le, not-false}
+use Rattle.foundation.specs.Lists.{allb, kept-length}
 use Rattle.model.specs.declared.Request.{Request}
 use Rattle.model.specs.declared.Access.{Access}
 use Rattle.model.specs.declared.Question.{Question}
@@ -29,7 +28,7 @@ use Rattle.model.specs.Encoding.{size, encode, decode}
 use Rattle.model.specs.FitsFacts.{counts-fit}
 use Rattle.model.specs.Soundness.{soundBytes}
 use Rattle.model.specs.SoundnessFacts.{sound-tests, sound-bytes}
-use Rattle.model.specs.Answers.{Answer, answering, refusing, refusalNumber, create, request}
+use Rattle.model.specs.Answers.{Answer, answering, refusing, refusalNumber, create, request, labelOf}
 use Rattle.model.specs.Answers.{whenTable, mayReply, mayAnswer, whenAnswer, words}
 use Rattle.model.specs.Simple.{simpleTable, simpleAnswer}
 use Rattle.model.specs.Counting.{Counting, counting, declining, countedRefusal, countedNumber}
@@ -37,10 +36,11 @@ use Rattle.model.specs.Report.{isOn, reportOf, reportTable, reportAnswer}
 use Rattle.model.specs.ReportFacts.{report-length}
 use Rattle.model.specs.Session.{WrittenText, textAnswer}
 use Rattle.laws.specs.RequestFacts.{uncovered-reply}
-use Rattle.text.specs.Short.{Short, request-short, may-short}
+use Rattle.printing.specs.Print.{Short}
+use Rattle.printing.proofs.ShortReplies.{request-short, may-short}
 use Rattle.text.specs.Room.{refused-untouched}
 use Rattle.records.specs.Records.{bodyOf, widthOf, rows, pageRows, paged, pageAnswer, recordsAnswer}
-use Rattle.ffi.specs.PackedReplies.{labelOf, replyNumber, packedCount, packedText, refusal-back}
+use Rattle.ffi.specs.PackedReplies.{replyNumber, packedCount, packedText, refusal-back}
 use Rattle.ffi.specs.PackedReplies.{label-back}
 use Rattle.ffi.specs.PackedReplies.{number-back}
 use Rattle.ffi.specs.PackedReplies.{AnsweredBy}
@@ -159,12 +159,6 @@ text-parts s line out =
 
 -- ---- the parts of a reply with a rights sheet
 
-kept-most : (p : Authorization → Bool) (xs : List Authorization) → length (keepIf p xs) ≤ length xs
-kept-most p [] = omega arith
-kept-most p (x ∷ xs) = cases (p x)
-    (λ e. rw e (omega (arith, kept-most p xs)))
-    (λ e. rw e (omega (arith, kept-most p xs)))
-
 -- 1,024 rows of 44 bytes always suffice
 pub report-most : (s : List ℕ) (o : ℕ) → soundBytes s ≡ true → length (reportOf (decode s) o) ≤ 45056
 report-most s o e =
@@ -173,7 +167,7 @@ report-most s o e =
     omega (
       arith,
       report-length b o w,
-      kept-most (isOn o) (b .authorizations),
+      kept-length (isOn o) (b .authorizations),
       counts-fit b (sound-tests b w .counts) .authorizations,
     )
 

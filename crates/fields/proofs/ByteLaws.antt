@@ -1,48 +1,29 @@
--- The laws of `le`, `bytesOf` and `splice`, at any width. Assumes nothing.
+-- The laws of `bytesOf` and `splice`, at any width. Assumes nothing.
 use mathlib.Core.Path.{_≡_, refl, sym, ap, _∙_}
 use mathlib.Core.Bool.{Bool, true, false, _&&_}
 use mathlib.Core.List.{List, [], _∷_, _++_, append-assoc, append-nil}
 use Prim.Native.Nat.{ℕ, zero, suc, _+_, _*_, _/_, _%_, _^_, _-_, _≤_, _<_}
 use native.Mathlib.Nat.{sub-zero, zero-sub, suc-sub-suc, le-trans, le-add-right, add-sub-of-le, add-assoc}
 use native.Mathlib.Nat.{add-comm, zero-add, suc-add, pow-succ', pow-suc, div-one, div-div-eq-div-mul}
-use native.Mathlib.Nat.{mul-assoc}
 use native.Mathlib.Omega.{arith}
 use lib.Dec.{lit<, eqb}
 use native.Mathlib.Numerals.{add-one}
 use lib.Arith.{mod-mul, digits-div, digits-mod}
 use lib.ListN.{length, take, drop, getD, set, length-append, length-take, length-drop, List·getD-append}
 use lib.ListN.{replicate, length-replicate, drop-of-length-le}
-use lib.Seq.{take-append-le, take-at, drop-at, length-take-le, drop-drop, sets, sets-eq, take-take, drop-nil}
+use lib.Seq.{take-append-le, take-at, drop-at, length-take-le, drop-drop, sets, sets-eq, take-take}
 use lib.Seq.{take-nil, take-add, getD-append-add, getD-take, getD-drop, drop-cons, take-suc, set-at}
 use lib.Seq.{append-snoc}
 use Rattle.foundation.specs.Tests.{and-false}
 use Rattle.foundation.specs.Lists.{allb}
-use Rattle.foundation.specs.Bytes.{le, bytesOf, length-bytesOf, eqList}
-use Rattle.fields.specs.Field.{splice, gapped, closed}
+use Rattle.foundation.specs.Bytes.{bytesOf, length-bytesOf, eqList}
+use Rattle.fields.specs.Field.{splice, gapped, gapClosed}
 
 -- ---- numbers
 
 pub pow-pos' : (v : ℕ) → 0 < 256 ^ v
 pow-pos' zero = lit< tt
 pow-pos' (suc v) = let h : 0 < 256 ^ v = pow-pos' v in rw (pow-succ' 256 v) (omega arith)
-
-pub le-nil : (w : ℕ) → le w [] ≡ 0
-le-nil zero = refl
-le-nil (suc w) = refl
-
--- one byte, and those after it
-pub le-suc : (w : ℕ) (s : List ℕ) (at : ℕ) →
-    le (suc w) (drop at s) ≡ getD s at 0 + 256 * le w (drop (at + 1) s)
-le-suc w [] at = rw (drop-nil at, drop-nil (at + 1), le-nil w)
-le-suc w (b ∷ s) zero = refl
-le-suc w (b ∷ s) (suc at) = rw (suc-add at 1) (le-suc w s at)
-
--- v bytes, and w after them
-pub le-add : (v w : ℕ) (s : List ℕ) → le (v + w) s ≡ le v s + 256 ^ v * le w (drop v s)
-le-add zero w s = rw (zero-add w) (omega arith)
-le-add (suc v) w [] = rw (suc-add v w, le-nil w) (omega arith)
-le-add (suc v) w (b ∷ s) =
-    rw (suc-add v w, le-add v w s, pow-succ' 256 v, mul-assoc 256 (256 ^ v) (le w (drop v s))) (omega arith)
 
 -- ---- bytes put in a place
 
@@ -77,11 +58,6 @@ pub drop-splice : (at : ℕ) (bs s : List ℕ) → at + length bs ≤ length s �
 unfolding splice
 drop-splice at bs s h = rw (append-assoc (take at s) bs (drop (at + length bs) s))
     (drop-at (take at s) (bs ++ drop (at + length bs) s) at (length-take-le at s (omega arith)))
-
--- v bytes at a place, and w after them
-pub le-add-at : (v w : ℕ) (s : List ℕ) (at : ℕ) →
-    le (v + w) (drop at s) ≡ le v (drop at s) + 256 ^ v * le w (drop (at + v) s)
-le-add-at v w s at = le-add v w (drop at s) ∙ rw (drop-drop v at s)
 
 -- the lowest v bytes depend on the remainder alone
 pub bytesOf-mod : (v n : ℕ) → bytesOf v (n % 256 ^ v) ≡ bytesOf v n
@@ -220,10 +196,10 @@ shifted-out s w h =
     )
 
 -- the part from `from` to `to` with its first w bytes taken out
-pub closed-part : (s : List ℕ) (from to w : ℕ) → from + w ≤ to → to ≤ length s
-    → splice from (drop w (take (to - from) (drop from s)) ++ replicate w 0) s ≡ closed from to w s
-unfolding splice closed
-closed-part s from to w h k =
+pub gapClosed-part : (s : List ℕ) (from to w : ℕ) → from + w ≤ to → to ≤ length s
+    → splice from (drop w (take (to - from) (drop from s)) ++ replicate w 0) s ≡ gapClosed from to w s
+unfolding splice gapClosed
+gapClosed-part s from to w h k =
     let pl : length (take (to - from) (drop from s)) ≡ to - from = part-length s from to w h k in
     let e : from + length (drop w (take (to - from) (drop from s)) ++ replicate {A = ℕ} w 0) ≡ to =
     simp (length-append, length-drop, length-take, length-replicate) (omega arith) in
@@ -238,10 +214,6 @@ splice-then at n a b s h l p q =
     let k : at + length a ≤ length s = rw l h in
     q ∙ ap (splice (at + n) b) p ∙ ap (λ (m : ℕ). splice (at + m) b (splice at a s)) (sym l)
     ∙ splice-join at a b s k
-
--- a field of a record that starts at `at`
-pub le-at : (w : ℕ) (s : List ℕ) (at o : ℕ) → le w (drop (at + o) s) ≡ le w (drop o (drop at s))
-le-at w s at o = ap (le w) (sym (drop-drop o at s))
 
 -- ---- tests of bytes, from the front
 

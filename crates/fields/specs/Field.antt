@@ -13,5 +13,5 @@ unfoldable pub gapped : ℕ → ℕ → ℕ → List ℕ → List ℕ
 gapped from to w s = take (from + w) s ++ take (to - from - w) (drop from s) ++ drop to s
 
 -- s without the w bytes at `from`, and with w zeros before index `to`
-unfoldable pub closed : ℕ → ℕ → ℕ → List ℕ → List ℕ
-closed from to w s = take from s ++ take (to - from - w) (drop (from + w) s) ++ replicate w 0 ++ drop to s
+unfoldable pub gapClosed : ℕ → ℕ → ℕ → List ℕ → List ℕ
+gapClosed from to w s = take from s ++ take (to - from - w) (drop (from + w) s) ++ replicate w 0 ++ drop to s

@@ -1,14 +1,15 @@
-// Numbers at a place of a byte slice, the least byte first, a test as a number, the lesser of two, and the
-// moving of bytes.
+// Numbers at a place of a byte slice, the least byte first, a test as a number, whether two tests agree, the
+// lesser and the larger of two numbers, and the moving of bytes.
 ghost use mathlib.Core.Path.{_≡_};
+ghost use mathlib.Core.Bool.{Bool·beq};
 ghost use mathlib.Core.List.{_++_, _∷_, []};
-ghost use Prim.Native.Nat.{_+_, _-_, _≤_, _<_, min};
+ghost use Prim.Native.Nat.{_+_, _-_, _≤_, _<_, min, max};
 ghost use lib.Dec.{eqb};
 ghost use lib.ListN.{length, take, drop, replicate};
 ghost use Rattle.foundation.specs.Lists.{allb};
 ghost use Rattle.foundation.specs.Bytes.{le, bytesOf, eqList};
 ghost use Rattle.foundation.specs.BitMasks.{asBit};
-ghost use Rattle.fields.specs.Field.{splice, gapped, closed};
+ghost use Rattle.fields.specs.Field.{splice, gapped, gapClosed};
 
 // A byte as a 16-bit number.
 pub fn u16_of(x: u8) -> u16
@@ -43,6 +44,16 @@ pub fn as_bit(b: bool) -> u8
     0
 }
 
+// Whether two tests agree.
+pub fn alike(a: bool, b: bool) -> bool
+    ensures { λ r. ⌜ r ≡ Bool·beq a b ⌝ }
+{
+    if a {
+        return b;
+    }
+    !b
+}
+
 // The lesser of two numbers.
 pub fn lesser(a: u64, b: u64) -> u64
     ensures { λ r. ⌜ r ≡ min a b ⌝ }
@@ -51,6 +62,16 @@ pub fn lesser(a: u64, b: u64) -> u64
         return a;
     }
     b
+}
+
+// The larger of two numbers.
+pub fn larger(a: u64, b: u64) -> u64
+    ensures { λ r. ⌜ r ≡ max a b ⌝ }
+{
+    if a < b {
+        return b;
+    }
+    a
 }
 
 // Writes a 16-bit number at a place.
@@ -122,7 +143,7 @@ pub fn move_down(s: &mut [u8], w: usize)
 }
 
 // Makes every byte of a slice x.
-pub fn fill(s: &mut [u8], x: u8)
+pub fn fill_bytes(s: &mut [u8], x: u8)
     ensures { λ _. ⌜ now (s .exit) ≡ replicate (length (now (s .entry))) x ⌝ }
 {
     let mut i = 0;
@@ -133,10 +154,10 @@ pub fn fill(s: &mut [u8], x: u8)
 }
 
 // Makes every byte of a slice zero.
-pub fn clear(s: &mut [u8])
+pub fn clear_bytes(s: &mut [u8])
     ensures { λ _. ⌜ now (s .exit) ≡ replicate (length (now (s .entry))) 0 ⌝ }
 {
-    fill(s, 0);
+    fill_bytes(s, 0);
 }
 
 // Opens a gap of w bytes at `from`, in the part of s that ends at `to`: what stands there goes up by w, and
@@ -155,14 +176,14 @@ pub fn take_out(s: &mut [u8], w: usize)
 {
     move_down(s, w);
     let n = s.len() - w;
-    clear(&mut s[n..]);
+    clear_bytes(&mut s[n..]);
 }
 
 // Takes w bytes out at `from`, of the part of s that ends at `to`: what stands behind them comes down, and
 // the last w bytes of the part are zero.
 pub fn close_gap(s: &mut [u8], from: usize, to: usize, w: usize)
     requires { ⌜ (from + w ≤ to) × (to ≤ length (now s)) ⌝ }
-    ensures { λ _. ⌜ now (s .exit) ≡ closed from to w (now (s .entry)) ⌝ }
+    ensures { λ _. ⌜ now (s .exit) ≡ gapClosed from to w (now (s .entry)) ⌝ }
 {
     take_out(&mut s[from..to], w);
 }

@@ -10,7 +10,7 @@ use Rattle.model.specs.Encoding.{size}
 use Rattle.encoding.specs.declared.Counts.{Counts}
 use Rattle.encoding.specs.Format.{countsOf, countsFit, headingFits, authorizationsAt, rulesAt, endAt}
 use Rattle.encoding.specs.Format.{authorizationClean, ruleClean, eachRecord, zeros, formatFits}
-use Rattle.lookup.proofs.SoundBodies.{rest-of}
+use Rattle.encoding.proofs.SoundBodies.{rest-of}
 
 -- the format with the counts given
 abbrev fitsAt : List ℕ → Counts → Bool

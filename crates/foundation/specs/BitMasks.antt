@@ -2,12 +2,12 @@
 -- The mask of one bit tests that bit (`mask-test`); bit i of a mask is the i-th answer (`mask-nth`, and for
 -- records `mask-at`); a loop builds the mask of n records from the last to the first (`MaskBuilt`).
 use mathlib.Core.Path.{_≡_, refl, sym, ap, _∙_}
-use mathlib.Core.Bool.{Bool, true, false}
+use mathlib.Core.Bool.{Bool, true, false, false≢true}
 use mathlib.Core.List.{List, [], _∷_}
 use Prim.Native.Nat.{ℕ, zero, suc, _+_, _*_, _-_, _/_, _%_, _^_, _≤_, _<_}
 use native.Mathlib.Nat.{pow-succ', lt-of-lt-of-le, pow-le-pow-right, div-one, div-eq-of-lt}
 use native.Mathlib.Nat.{div-div-eq-div-mul}
-use native.Mathlib.Nat.{mod-eq-of-lt}
+use native.Mathlib.Nat.{mod-eq-of-lt, zero-div}
 use native.Mathlib.Numerals.{one-add}
 use native.Mathlib.Omega.{arith}
 use mir.Val.{boolByte}
@@ -62,6 +62,15 @@ pub byte-bit : (b : Bool) → boolByte b ≡ asBit b
 byte-bit true = refl
 byte-bit false = refl
 
+-- 0 has no bit
+pub bit-zero : (i : ℕ) → bit i 0 ≡ false
+bit-zero i = ap (λ (n : ℕ). eqb (n % 2) 1) (zero-div (2 ^ i))
+
+-- a number is below its power of two, so that a word with no bit is 0
+pub power-above : (n : ℕ) → n < 2 ^ n
+power-above zero = omega arith
+power-above (suc n) = rw (pow-succ' 2 n) (omega (arith, power-above n))
+
 -- the mask of one bit keeps that bit
 and-bit : (k f : ℕ) → bitAnd f (2 ^ k) ≡ (f / 2 ^ k % 2) * 2 ^ k
 and-bit k f =
@@ -72,6 +81,9 @@ scaled : (x p : ℕ) → x < 2 → 0 < p → eqb (x * p) p ≡ eqb x 1
 scaled zero p h k = ne-false (0 * p) p (λ e. omega arith)
 scaled (suc zero) p h k = eq-true (1 * p) p (omega arith)
 scaled (suc (suc x)) p h k = absurd (omega arith)
+
+pub none-set : (k : ℕ) → bit k 0 ≡ true → ⊥
+none-set k e = false≢true (sym (bit-zero k) ∙ e)
 
 -- a test by a mask of one bit is a test of that bit
 pub mask-test : (k f : ℕ) → eqb (bitAnd f (2 ^ k)) (2 ^ k) ≡ bit k f

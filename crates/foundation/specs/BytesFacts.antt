@@ -1,17 +1,20 @@
 -- Bytes written back as they were read: a byte (`byte-kept`), a number (`number-kept`), zeros (`zeros-kept`),
--- a body of records (`body-kept`). What stands behind a body, and at a record's place in it (`behind-at`,
--- `record-in`).
+-- a body of records (`body-kept`). A number by its bytes (`le-suc`, `le-add`) and at a place (`le-at`). What
+-- stands behind a body, and at a record's place in it (`behind-at`,
+-- `record-in`). What one write changes (`set-word`), and what lies behind (`rest-behind`).
 use mathlib.Core.Path.{_≡_, refl, sym, ap, _∙_}
 use mathlib.Core.Logic.{inl, inr}
-use Prim.Native.Nat.{ℕ, zero, suc, _+_, _*_, _/_, _%_, _≤_, _<_}
-use native.Mathlib.Nat.{mul-zero, mul-suc, not-suc-le-zero, le-of-suc-le-suc}
+use Prim.Native.Nat.{ℕ, zero, suc, _+_, _*_, _/_, _%_, _^_, _≤_, _<_, _-_}
+use native.Mathlib.Nat.{mul-zero, mul-suc, mul-assoc, not-suc-le-zero, le-of-suc-le-suc, zero-add, suc-add}
+use native.Mathlib.Nat.{pow-succ'}
 use native.Mathlib.Omega.{arith}
 use mathlib.Core.Bool.{Bool, true, _&&_}
 use mathlib.Core.List.{List, [], _∷_, _++_, append-assoc}
 use lib.Dec.{eqb}
-use lib.ListN.{length, take, drop, getD, replicate, length-drop, take-append-drop}
-use lib.Seq.{drop-cons, drop-drop, drop-append-add, drop-append-le, getD-drop}
-use Rattle.foundation.specs.Tests.{cases, and-true, true-eq, false-eq}
+use lib.ListN.{length, take, drop, getD, replicate, length-drop, take-append-drop, set}
+use lib.Seq.{drop-cons, drop-drop, drop-nil, drop-append-add, drop-append-le, getD-drop, getD-set-same}
+use lib.Seq.{getD-set-other}
+use Rattle.foundation.specs.Tests.{cases, and-true, true-eq, false-eq, pick}
 use Rattle.foundation.specs.Lists.{Mem, each}
 use Rattle.foundation.specs.Bytes.{le, bytesOf, records}
 
@@ -75,6 +78,33 @@ field-own w o x y h =
     ap (le w) (drop-append-le o x y (omega arith))
     ∙ le-own w (drop o x) y (rw (length-drop o x) (omega arith))
 
+pub le-nil : (w : ℕ) → le w [] ≡ 0
+le-nil zero = refl
+le-nil (suc w) = refl
+
+-- one byte, and those after it
+pub le-suc : (w : ℕ) (s : List ℕ) (at : ℕ) →
+    le (suc w) (drop at s) ≡ getD s at 0 + 256 * le w (drop (at + 1) s)
+le-suc w [] at = rw (drop-nil at, drop-nil (at + 1), le-nil w)
+le-suc w (b ∷ s) zero = refl
+le-suc w (b ∷ s) (suc at) = rw (suc-add at 1) (le-suc w s at)
+
+-- v bytes, and w after them
+pub le-add : (v w : ℕ) (s : List ℕ) → le (v + w) s ≡ le v s + 256 ^ v * le w (drop v s)
+le-add zero w s = rw (zero-add w) (omega arith)
+le-add (suc v) w [] = rw (suc-add v w, le-nil w) (omega arith)
+le-add (suc v) w (b ∷ s) =
+    rw (suc-add v w, le-add v w s, pow-succ' 256 v, mul-assoc 256 (256 ^ v) (le w (drop v s))) (omega arith)
+
+-- v bytes at a place, and w after them
+pub le-add-at : (v w : ℕ) (s : List ℕ) (at : ℕ) →
+    le (v + w) (drop at s) ≡ le v (drop at s) + 256 ^ v * le w (drop (at + v) s)
+le-add-at v w s at = le-add v w (drop at s) ∙ rw (drop-drop v at s)
+
+-- a field of a record that starts at `at`
+pub le-at : (w : ℕ) (s : List ℕ) (at o : ℕ) → le w (drop (at + o) s) ≡ le w (drop o (drop at s))
+le-at w s at o = ap (le w) (sym (drop-drop o at s))
+
 -- a byte that is written as it stands
 pub byte-kept : (n at : ℕ) (s : List ℕ) → at < length s → n ≡ getD s at 0 → n ∷ drop (suc at) s ≡ drop at s
 byte-kept n at s h e = ap (λ (x : ℕ). x ∷ drop (suc at) s) e ∙ sym (drop-cons s at 0 h)
@@ -133,3 +163,18 @@ record-in enc w wide (x ∷ xs) rest (suc i) h =
           ∙ ap (λ (n : ℕ). drop n (enc x ++ body)) (q ∙ ap (λ (n : ℕ). n + w * i) (sym (wide x)))
           ∙ drop-append-add (enc x) body (w * i) ∙ r .2,
     )
+
+-- ---- after a write
+
+pub set-word : (l : List ℕ) (at v : ℕ) → at < length l → (k : ℕ) →
+    getD (set l at v) k 0 ≡ pick (eqb k at) v (getD l k 0)
+set-word l at v h k = cases (eqb k at)
+    (λ e. rw (e, true-eq k at e) (getD-set-same l at v 0 h))
+    (λ e. rw e (getD-set-other l at k v 0 (false-eq k at e)))
+
+-- lists that are the same from a place on are so from a later one on
+pub rest-behind : (l l′ : List ℕ) (a b : ℕ) → a ≤ b → drop a l′ ≡ drop a l → drop b l′ ≡ drop b l
+rest-behind l l′ a b h e =
+    let q : a + (b - a) ≡ b = omega arith in
+    ap (λ (j : ℕ). drop j l′) (sym q) ∙ sym (drop-drop (b - a) a l′) ∙ ap (drop (b - a)) e
+    ∙ drop-drop (b - a) a l ∙ ap (λ (j : ℕ). drop j l) q

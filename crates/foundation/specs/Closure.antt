@@ -20,22 +20,22 @@ iter F (suc n) S = F (iter F n S)
 
 -- ---- the size of a set: how many of the keys are in it
 
-abbrev pub size : {K : Type 0} → (K → Bool) → List K → ℕ
-size S ks = total (λ k. asBit (S k)) ks
+abbrev pub setSize : {K : Type 0} → (K → Bool) → List K → ℕ
+setSize S ks = total (λ k. asBit (S k)) ks
 
-pub size-le : {K : Type 0} (S : K → Bool) (ks : List K) → size S ks ≤ length ks
-size-le S ks = omega (arith, total-le (λ k. asBit (S k)) 1 ks (λ k m. bit-le (S k)))
+pub setSize-le : {K : Type 0} (S : K → Bool) (ks : List K) → setSize S ks ≤ length ks
+setSize-le S ks = omega (arith, total-le (λ k. asBit (S k)) 1 ks (λ k m. bit-le (S k)))
 
 -- S is part of Q on the keys: it is no larger, and smaller if some key is in Q only
 module _ {K : Type 0} (S Q : K → Bool) (ks : List K) (h : (k : K) → Mem k ks → S k ≡ true → Q k ≡ true) where
   gap : TotalGap (λ k. asBit (S k)) (λ k. asBit (Q k)) ks
   gap = total-gap (λ k. asBit (S k)) (λ k. asBit (Q k)) ks (λ k m. bit-mono (S k) (Q k) (h k m))
 
-  pub size-mono : size S ks ≤ size Q ks
-  size-mono = ⊎-elim (λ a. omega (arith, a .1)) (λ l. omega arith) gap
+  pub setSize-mono : setSize S ks ≤ setSize Q ks
+  setSize-mono = ⊎-elim (λ a. omega (arith, a .1)) (λ l. omega arith) gap
 
-  pub size-less : (k : K) → Mem k ks → S k ≡ false → Q k ≡ true → size S ks < size Q ks
-  size-less k m p q = ⊎-elim (λ a. absurd (omega (arith, a .0 k m, ap asBit p, ap asBit q))) (λ l. l) gap
+  pub setSize-less : (k : K) → Mem k ks → S k ≡ false → Q k ≡ true → setSize S ks < setSize Q ks
+  setSize-less k m p q = ⊎-elim (λ a. absurd (omega (arith, a .0 k m, ap asBit p, ap asBit q))) (λ l. l) gap
 
 -- ---- steps
 
@@ -59,7 +59,7 @@ module _ {K : Type 0} (keys : List K) (F : (K → Bool) → K → Bool) (Inv : (
       (λ i k m. bit-mono (iter F i S k) (F (iter F i S) k) (adds (iter F i S) (iter-inv S v i) k))
       (λ i a k m. ap asBit (local (iter F i S) (F (iter F i S)) (iter-inv S v i) (iter-inv S v (suc i))
       (λ j n. bit-same (iter F i S j) (F (iter F i S) j) (a j n)) k m))
-      (λ i. size-le (iter F i S) keys) n h k m)
+      (λ i. setSize-le (iter F i S) keys) n h k m)
 
 -- a part of every closed set that has the start in it
 pub least : {K : Type 0} (F : (K → Bool) → K → Bool) →

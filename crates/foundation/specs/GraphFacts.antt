@@ -14,7 +14,7 @@ use Rattle.foundation.specs.Tests.{cases, must-fail, and-true, and-intro
 use Rattle.foundation.specs.Lists.{keepIf, Mem, keepIf-mem, kept}
 use Rattle.foundation.specs.Totals.{total-le, still-after}
 use Rattle.foundation.specs.BitMasks.{asBit, bit-le, bit-mono, bit-same}
-use Rattle.foundation.specs.Closure.{size, size-le, size-mono, size-less}
+use Rattle.foundation.specs.Closure.{setSize, setSize-le, setSize-mono, setSize-less}
 use Rattle.foundation.specs.Graph.{Path, direct, onward, reaches, strictEdge, cyclic, most, heavy}
 use Rattle.foundation.specs.Graph.{rankIn, rank}
 use Rattle.foundation.specs.Graph.{CountedPath, alone, then, reaches-path, cyclic-path}
@@ -168,21 +168,21 @@ module _ {K : Type 0} (edge : K → K → Bool) (weight : K → K → ℕ) (own 
     -- an edge to r: what is above q is above r, and so is q itself, which is not above q, if the edge is
     -- strict
     above-less : (q r : K) → Mem q nodes → Mem r nodes → edge q r ≡ true →
-        weight q r + 2 * size (above q) nodes ≤ 2 * size (above r) nodes
+        weight q r + 2 * setSize (above q) nodes ≤ 2 * setSize (above r) nodes
     above-less q r m n e = cases (strict q r)
         (λ s. omega (
           arith,
           light q r,
-          size-less (above q) (above r) nodes more q m (no-return q m)
+          setSize-less (above q) (above r) nodes more q m (no-return q m)
               (above-path q r n .1 (direct (and-intro (edge q r) (strict q r) e s))),
         ))
-        (λ s. omega (arith, false-le 1 (weight q r) s, size-mono (above q) (above r) nodes more))
+        (λ s. omega (arith, false-le 1 (weight q r) s, setSize-mono (above q) (above r) nodes more))
       where
         more : (p : K) → Mem p nodes → above q p ≡ true → above r p ≡ true
         more p k a = above-path p r n .1 (onward (above-path p q m .0 a) m e)
 
-    after-above : (n : ℕ) (r : K) → Mem r nodes → after n r ≤ 1 + 2 * size (above r) nodes
-    after-above = within (λ r. 1 + 2 * size (above r) nodes) (λ r m. omega (arith, bit-le (own r)))
+    after-above : (n : ℕ) (r : K) → Mem r nodes → after n r ≤ 1 + 2 * setSize (above r) nodes
+    after-above = within (λ r. 1 + 2 * setSize (above r) nodes) (λ r m. omega (arith, bit-le (own r)))
         (λ q r m k e. omega (arith, above-less q r m k e))
 
     -- r itself is not above r
@@ -190,8 +190,8 @@ module _ {K : Type 0} (edge : K → K → Bool) (weight : K → K → ℕ) (own 
     after-few n r m = omega (
       arith,
       after-above n r m,
-      size-le (λ p. true) nodes,
-      size-less (above r) (λ p. true) nodes (λ p k a. refl) r m (no-return r m) refl,
+      setSize-le (λ p. true) nodes,
+      setSize-less (above r) (λ p. true) nodes (λ p k a. refl) r m (no-return r m) refl,
     )
 
     -- the rank's rounds are enough

@@ -9,6 +9,7 @@ pub mod Marks
 pub mod MaximalCount
 pub mod Bytes
 pub mod ByteRecords
+pub mod RecordLoops
 pub mod BytesFacts
 pub mod BitMasks
 pub mod CoordinateTables

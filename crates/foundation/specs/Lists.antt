@@ -2,12 +2,14 @@
 -- at a place, and what two lists make together.
 use mathlib.Core.Path.{_≡_, refl, sym, ap, _∙_, subst}
 use mathlib.Core.Logic.{_⊎_, inl, inr, Lift, ⊎-elim}
-use Prim.Native.Nat.{ℕ, _*_}
+use Prim.Native.Nat.{ℕ, suc, _*_, _-_, _≤_}
 use native.Mathlib.Omega.{arith}
 use native.Mathlib.Nat.{zero-mul}
 use mathlib.Core.Bool.{Bool, true, false, _&&_, _||_, false≢true}
 use mathlib.Core.List.{List, [], _∷_, _++_, map, append-assoc}
-use lib.ListN.{length, take, drop, take-append-drop, length-append, length-map}
+use lib.ListN.{length, take, drop, take-append-drop, length-append, length-take, length-drop}
+use lib.ListN.{length-map}
+use lib.Seq.{take-all}
 use Rattle.foundation.specs.Tests.{pick, cases, must-fail, and-true, and-intro, or-true-right, or-assoc}
 use Rattle.foundation.specs.Tests.{or-swap}
 
@@ -197,6 +199,12 @@ kept p (y ∷ ys) x m = cases (p y)
     ⊎-elim (λ e. (inl e, rw e q)) (λ k. let w = kept p ys x k in (inr (w .0), w .1)) n)
     (λ q. let w = kept p ys x (rw q at m) in (inr (w .0), w .1))
 
+pub kept-length : {A : Type 0} (p : A → Bool) (xs : List A) → length (keepIf p xs) ≤ length xs
+kept-length p [] = omega arith
+kept-length p (x ∷ xs) = cases (p x)
+    (λ e. rw e (omega (arith, kept-length p xs)))
+    (λ e. rw e (omega (arith, kept-length p xs)))
+
 pub keepIf-append : {A : Type 0} (p : A → Bool) (xs ys : List A) →
     keepIf p (xs ++ ys) ≡ keepIf p xs ++ keepIf p ys
 keepIf-append p [] ys = refl
@@ -213,6 +221,11 @@ placed k xs ys = take k ys ++ (xs ++ drop k ys)
 -- x put before the element at k, or at the end where k is the length
 abbrev pub insertAt : {A : Type 0} → ℕ → A → List A → List A
 insertAt k x ys = placed k (x ∷ []) ys
+
+pub length-insertAt : {A : Type 0} (i : ℕ) (x : A) (xs : List A) → length (insertAt i x xs) ≡ suc (length xs)
+unfolding placed
+length-insertAt i x xs =
+    length-append (take i xs) (x ∷ drop i xs) ∙ rw (length-take i xs, length-drop i xs) (omega arith)
 
 pub any-append : {A : Type 0} (p : A → Bool) (xs ys : List A) → anyb p (xs ++ ys) ≡ anyb p xs || anyb p ys
 any-append p [] ys = refl
@@ -249,3 +262,7 @@ module _ {A B C : Type 0} (f : A → B → C) where
       let a = each-mem xs (λ x. map (f x) ys) z m in
       let b = map-mem (f (a .0)) ys z (a .2) in
       (a .0, b .0, a .1, b .1, b .2)
+
+-- what is lent from a place on to the end
+pub lent-rest : {A : Type 0} (a : ℕ) (l : List A) → take (length l - a) (drop a l) ≡ drop a l
+lent-rest a l = take-all (length l - a) (drop a l) (omega (arith, length-drop a l))

@@ -13,7 +13,7 @@ use Rattle.foundation.specs.declared.Interval.{Interval}
 use Rattle.foundation.specs.Tests.{cases, le-true, le-false, true-le, false-le, true-eq, false-eq}
 use Rattle.foundation.specs.Tests.{and-true}
 use Rattle.foundation.specs.Lists.{Mem}
-use Rattle.foundation.specs.Closure.{size, size-le, size-less}
+use Rattle.foundation.specs.Closure.{setSize, setSize-le, setSize-less}
 use Rattle.foundation.specs.Intervals.{interval, inInterval, inInterval-in, inInterval-true, covered}
 use Rattle.foundation.specs.Intervals.{Separate}
 use Rattle.foundation.specs.Intervals.{none-below, head-in, tail-in, maximal, maximal-separate}
@@ -21,8 +21,8 @@ use Rattle.foundation.specs.Intervals.{maximal-covered}
 use Rattle.foundation.specs.Marks.{clear-part, rep, Steady}
 
 -- fewer members of a list are at least b than at least k, if one of them is at least k and below b
-passed : (ys : List ℕ) (k a b : ℕ) → k ≤ a → a < b → Mem a ys → size (leb b) ys < size (leb k) ys
-passed ys k a b h l m = size-less (leb b) (leb k) ys
+passed : (ys : List ℕ) (k a b : ℕ) → k ≤ a → a < b → Mem a ys → setSize (leb b) ys < setSize (leb k) ys
+passed ys k a b h l m = setSize-less (leb b) (leb k) ys
     (λ y n e. let g = true-le b y e in le-true k y (omega arith)) a m (le-false b a l) (le-true k a h)
 
 module _ (f : ℕ → Bool) (ms : List ℕ) (c : Steady f ms) where
@@ -80,7 +80,7 @@ module _ (f : ℕ → Bool) (ms : List ℕ) (c : Steady f ms) where
 
     -- each interval passes two of the bounds
     separate-count : (rs : List Interval) (k : ℕ) → Separate k rs → Exact k rs →
-        2 * length rs ≤ size (leb k) bounds
+        2 * length rs ≤ setSize (leb k) bounds
     separate-count [] k a h = omega arith
     separate-count (r ∷ rs) k a h =
         let s = suc (r .start) in
@@ -96,6 +96,6 @@ pub maximal-count : (f : ℕ → Bool) (ms : List ℕ) → Steady f ms → (e : 
     2 * length (maximal 0 e f) ≤ length ms + 2
 maximal-count f ms c e = omega (
   arith,
-  size-le (leb 0) (bounds f ms c e),
+  setSize-le (leb 0) (bounds f ms c e),
   separate-count f ms c e (maximal 0 e f) 0 (maximal-separate 0 e f) (λ t l. maximal-covered 0 e f t),
 )

@@ -4,6 +4,7 @@ use mathlib.Core.Logic.{_≢_, _↔_}
 use Prim.Native.Nat.{ℕ, suc, _≤_, _<_}
 use native.Mathlib.Omega.{arith}
 use mathlib.Core.Bool.{Bool, true, false, not, _&&_, _||_, Bool·beq, true≢false, false≢true}
+use mathlib.Core.Bool as core
 use lib.Dec.{T, leb, ltb, eqb, leb→le, le→leb, nleb→lt, eqb→eq}
 use mir.Facts.{no-leb, no-eqb, yes-eqb, eqb-no}
 
@@ -80,6 +81,11 @@ pub must-fail : (c t : Bool) → c ≡ false → (t ≡ true → c ≡ true) →
 must-fail c true e h = absurd (true≢false (sym (h refl) ∙ e))
 must-fail c false e h = refl
 
+-- which of two numbers stands first is all the same
+pub eqb-sym : (m n : ℕ) → eqb m n ≡ eqb n m
+eqb-sym m n = agree (eqb m n) (eqb n m)
+    (λ e. eq-true n m (sym (true-eq m n e))) (λ e. eq-true m n (sym (true-eq n m e)))
+
 -- ---- not
 
 pub not-true : (a : Bool) → not a ≡ true → a ≡ false
@@ -90,6 +96,11 @@ pub not-false : (a : Bool) → not a ≡ false → a ≡ true
 not-false true e = refl
 not-false false e = absurd (true≢false e)
 
+-- a test that is not failed where it is asked
+pub asked-passes : (asked test : Bool) → asked ≡ true → asked && not test ≡ false → test ≡ true
+asked-passes true test p e = not-false test e
+asked-passes false test p e = absurd (false≢true p)
+
 -- ---- conjunction
 
 pub and-true : (a b : Bool) → a && b ≡ true → (a ≡ true) × (b ≡ true)
@@ -99,6 +110,9 @@ and-true false b e = absurd (false≢true e)
 pub and-intro : (a b : Bool) → a ≡ true → b ≡ true → a && b ≡ true
 and-intro true b p q = q
 and-intro false b p q = absurd (false≢true p)
+
+pub and-yes : (a : Bool) → a && true ≡ a
+and-yes = core.and-true
 
 pub and-false : (a : Bool) → a && false ≡ false
 and-false true = refl
@@ -180,6 +194,9 @@ or-swap false b c = refl
 pub or-mono : (a b c : Bool) → (b ≡ true → c ≡ true) → a || b ≡ true → a || c ≡ true
 or-mono a b c h e = or-cases a b e (or-intro-left a c) (λ p. or-true-right a c (h p))
 
+pub and-or : (a b c : Bool) → (a && b) || (a && c) ≡ a && (b || c)
+and-or a b c = sym (core.and-or-distrib-left a b c)
+
 pub or-and : (a b c : Bool) → (a && c) || (b && c) ≡ (a || b) && c
 or-and true b true = refl
 or-and true true false = refl
@@ -202,3 +219,9 @@ pub beq-yes : (a b : Bool) → a ≡ true → b ≡ Bool·beq a b
 beq-yes true true e = refl
 beq-yes true false e = refl
 beq-yes false b e = absurd (false≢true e)
+
+pub beq-pick : (a b : Bool) → Bool·beq a b ≡ pick b a (not a)
+beq-pick true true = refl
+beq-pick true false = refl
+beq-pick false true = refl
+beq-pick false false = refl

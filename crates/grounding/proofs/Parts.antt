@@ -11,7 +11,7 @@ use lib.ListN.{length-take, drop-of-length-le, List·getD-eq-default}
 use lib.Seq.{take-at, drop-at, length-take-le, getD-take}
 use Rattle.foundation.specs.Tests.{cases, true-le, false-le}
 use Rattle.sections.specs.Sections.{listedOf}
-use Rattle.sections.specs.SectionFacts.{lent-rest}
+use Rattle.foundation.specs.Lists.{lent-rest}
 
 -- words of a front are as small as all are
 pub front-below : (k : ℕ) (l : List ℕ) (m : ℕ) → 0 < m → ((i : ℕ) → getD l i 0 < m) → (i : ℕ) →

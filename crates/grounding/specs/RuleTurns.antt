@@ -13,8 +13,8 @@ use Rattle.foundation.specs.BitMasks.{bit}
 use Rattle.model.specs.declared.Rule.{Rule}
 use Rattle.encoding.specs.Format.{ruleAt}
 use Rattle.words.specs.Sums.{SumGrown}
-use Rattle.sections.specs.Sections.{leftOf, feedOf, firstOf, startsOf, sidesOf, rightsOf, numberOf, listedOf}
-use Rattle.sections.specs.Sections.{fieldsOf, brokenOf}
+use Rattle.sections.specs.Sections.{leftOf, feedOf, firstOf, startsOf, sidesOf, rightsOf, numberedOf}
+use Rattle.sections.specs.Sections.{listedOf, fieldsOf, brokenOf}
 use Rattle.places.specs.declared.Grid.{Grid}
 use Rattle.places.specs.declared.Region.{Region}
 use Rattle.places.specs.Regions.{free, sizeOf}
@@ -106,7 +106,7 @@ prepared body left feed sides right need codes number first starts f = record {
 abbrev pub preparedIn : (body outline coordinates need numbers : List ℕ) → Frame → Prepared
 preparedIn body outline coordinates need numbers =
     prepared body (leftOf outline) (feedOf outline) (sidesOf coordinates) (rightsOf coordinates) need
-    (listedOf (length need) numbers) (numberOf (length need) numbers) (firstOf outline) (startsOf outline)
+    (listedOf (length need) numbers) (numberedOf (length need) numbers) (firstOf outline) (startsOf outline)
 
 -- which have room for all of it; `words` of the words that are worked in have fields
 pub record Sliced (outline coordinates need numbers work : List ℕ) (words : ℕ) : Type 0 where

@@ -8,7 +8,7 @@ ghost use Rattle.questions.specs.OperatorSteps.{lasting};
 ghost use Rattle.words.specs.Sums.{SumGrown};
 ghost use Rattle.places.specs.Regions.{sizeOf};
 ghost use Rattle.tables.specs.TableLayout.{wholeRegion};
-ghost use Rattle.sections.specs.Sections.{leftOf, firstOf, rightsOf, numberOf, listedOf};
+ghost use Rattle.sections.specs.Sections.{leftOf, firstOf, rightsOf, numberedOf, listedOf};
 ghost use Rattle.sections.specs.Sections.{fieldsOf, brokenOf};
 ghost use Rattle.tables.specs.TableGiving.{TablesReady, Reaches};
 ghost use Rattle.derivation.specs.Derive.{Derived};
@@ -245,14 +245,14 @@ pub fn derive_pairs(
     work: &mut [u64],
 ) -> bool
     requires { ⌜ PairsReady t f (leftOf (now outline)) (now need) (listedOf (length (now need)) (now numbers))
-        (numberOf (length (now need)) (now numbers)) (length (fieldsOf (t .words) (now work)))
+        (numberedOf (length (now need)) (now numbers)) (length (fieldsOf (t .words) (now work)))
         (length (brokenOf (t .words) (now work))) (range .from) (range .to)
         × TablesReady f (rightsOf (now coordinates)) (firstOf (now outline))
         (length (fieldsOf (t .words) (now work)))
         × Sliced (now outline) (now coordinates) (now need) (now numbers) (now work) (t .words) ⌝ }
     ensures { λ r. ⌜ PairsRan t f (leftOf (now (outline .entry))) (now (need .entry))
         (listedOf (length (now (need .entry))) (now (numbers .entry)))
-        (Step t f (numberOf (length (now (need .entry))) (now (numbers .entry)))
+        (Step t f (numberedOf (length (now (need .entry))) (now (numbers .entry)))
         (brokenOf (t .words) (now (work .entry))) (rightsOf (now (coordinates .entry)))
         (firstOf (now (outline .entry)))) (range .from) (range .to)
         (fieldsOf (t .words) (now (work .entry))) (fieldsOf (t .words) (now (work .exit)))
@@ -360,14 +360,14 @@ pub fn mark_pairs(
     work: &mut [u64],
 )
     requires { ⌜ PairsReady t f (now left) (now need) (listedOf (length (now need)) (now numbers))
-        (numberOf (length (now need)) (now numbers)) (length (fieldsOf (t .words) (now work)))
+        (numberedOf (length (now need)) (now numbers)) (length (fieldsOf (t .words) (now work)))
         (length (brokenOf (t .words) (now work))) (range .from) (range .to)
         × (152 ≤ length (now left)) × (2 * length (now need) ≤ length (now numbers))
         × (t .words ≤ length (now work)) × (last < 64) × (0 < length (brokenOf (t .words) (now work)))
         × (lasting (t .operator) ≡ true) ⌝ }
     ensures { λ _. ⌜ PairsRan t f (now (left .entry)) (now (need .entry))
         (listedOf (length (now (need .entry))) (now (numbers .entry)))
-        (Mark t f (numberOf (length (now (need .entry))) (now (numbers .entry)))
+        (Mark t f (numberedOf (length (now (need .entry))) (now (numbers .entry)))
         (fieldsOf (t .words) (now (work .entry))) last) (range .from) (range .to)
         (brokenOf (t .words) (now (work .entry))) (brokenOf (t .words) (now (work .exit)))
         × (fieldsOf (t .words) (now (work .exit)) ≡ fieldsOf (t .words) (now (work .entry))) ⌝ }

@@ -21,7 +21,7 @@ use Rattle.model.specs.Ranges.{lastInstant}
 use Rattle.model.specs.Support.{supported, live}
 use Rattle.model.specs.Withdrawal.{authorization, pieces, keep, restrict}
 use Rattle.model.specs.SupportFacts.{live-append}
-use Rattle.model.specs.Ledger.{Entry, entry, standing, keepEntries, settle, linesOf}
+use Rattle.model.specs.Ledger.{Entry, entry, standingHeads, keepEntries, settle, linesOf}
 use Rattle.laws.specs.KeepFacts.{live-pieces}
 
 -- no entry has an instant behind the last
@@ -49,7 +49,7 @@ in-frame f h t = cases (f t)
     (λ e. rw (e, inInterval-in (interval 0 lastInstant) t (omega arith) (h t e)))
     (λ e. rw e (and-false (inInterval (interval 0 lastInstant) t)))
 
-pub live-lines : (es : List Entry) → WithinLast es → (t : ℕ) → live t (linesOf es) ≡ standing t es
+pub live-lines : (es : List Entry) → WithinLast es → (t : ℕ) → live t (linesOf es) ≡ standingHeads t es
 unfolding linesOf
 live-lines [] f t = refl
 live-lines (e ∷ es) f t =
@@ -148,23 +148,23 @@ unfolding restrict
 restrict-settle root es f =
     ap (λ (p : Head → ℕ → Bool). keep p (linesOf es))
     (fun-ext (λ h. fun-ext (λ t. ap (λ (hs : List Head). supported root hs h) (live-lines es f t))))
-    ∙ keep-lines (λ h t. supported root (standing t es) h) es
+    ∙ keep-lines (λ h t. supported root (standingHeads t es) h) es
 
 -- ---- nothing is lost where all is kept
 
 -- a test that every instant passes keeps the entries as they are
 pub keep-all : (p : Head → ℕ → Bool) (es : List Entry) →
-    ((t : ℕ) (h : Head) → Mem h (standing t es) → p h t ≡ true) →
+    ((t : ℕ) (h : Head) → Mem h (standingHeads t es) → p h t ≡ true) →
     keepEntries p es ≡ es
 keep-all p [] h = refl
 keep-all p (e ∷ es) h = ap₂ {C = List Entry} (λ (x : Entry) (xs : List Entry). x ∷ xs)
     (λ i. entry (e .head) (fun-ext stays i))
     (keep-all p es (λ t k m. h t k (later t k m)))
   where
-    later : (t : ℕ) (k : Head) → Mem k (standing t es) → Mem k (standing t (e ∷ es))
+    later : (t : ℕ) (k : Head) → Mem k (standingHeads t es) → Mem k (standingHeads t (e ∷ es))
     later t k m = cases (e .at t) (λ a. rw a (inr m)) (λ a. rw a m)
 
-    here : (t : ℕ) → e .at t ≡ true → Mem (e .head) (standing t (e ∷ es))
+    here : (t : ℕ) → e .at t ≡ true → Mem (e .head) (standingHeads t (e ∷ es))
     here t a = rw a (inl refl)
 
     stays : (t : ℕ) → e .at t && p (e .head) t ≡ e .at t

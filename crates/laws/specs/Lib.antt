@@ -2,6 +2,7 @@ pub mod Chained
 pub mod KeepFacts
 pub mod SoundFacts
 pub mod Rows
+pub mod EarlyRows
 pub mod Privileges
 pub mod SoundPrivileges
 pub mod RuleTerms
@@ -16,9 +17,11 @@ pub mod Preservation
 pub mod RequestFacts
 pub mod LedgerFacts
 pub mod SessionFacts
+pub mod FirstLine
 pub mod Created
 pub mod Dependence
 pub mod Plain
+pub mod NothingHeld
 pub mod Matching
 pub mod Transfer
 pub mod Narrowing

@@ -20,7 +20,7 @@ use Rattle.model.specs.StepFacts.{answered, turned-away, by-rows, first-all, fi
 use Rattle.model.specs.Encoding.{encode, decode}
 use Rattle.model.specs.EncodingFacts.{decode-encode, encode-sound}
 use Rattle.model.specs.Soundness.{sound, soundBytes}
-use Rattle.model.specs.SoundnessFacts.{sound-bytes, sound-tests}
+use Rattle.model.specs.SoundnessFacts.{sound-bytes, decoded-sound}
 use Rattle.model.specs.GrantFacts.{Barred, barred-instant}
 use Rattle.model.specs.Answers.{Answer, answering, requestTable, request, refusalNumber}
 use Rattle.laws.specs.Preservation.{effect-sound}
@@ -155,7 +155,7 @@ module _ (s : List ℕ) (q : Request) where
   -- 02, CR 4: so a requester that is told 14 is barred,
   pub fourteen-barred : refusalNumber (request s q .reply) ≡ 14 → Barred (decode s) q
   fourteen-barred n = cases (soundBytes s)
-      (λ e. barred-instant (decode s) q (sound-tests (decode s) (sound-bytes s e .1)) (fourteen-span n) .0
+      (λ e. barred-instant (decode s) q (decoded-sound s e) (fourteen-span n) .0
       (fourteen-applies n))
       (λ e. absurd (omega (
         arith,
@@ -176,7 +176,7 @@ module _ (s : List ℕ) (q : Request) where
       let f : (r : Row) → Mem r rowsBefore → r .given ≡ false =
       first-none rowsBefore (numbered rowsBefore refl) z in
       let i = f _ (inr (inr (inl refl))) in
-      let given = barred-instant (decode s) q (sound-tests (decode s) (sound-bytes s e .1)) i .1 w in
+      let given = barred-instant (decode s) q (decoded-sound s e) i .1 w in
       let n : firstNumber (requestTable s q) ≡ 14 = rw (
         e,
         f _ (inl refl),

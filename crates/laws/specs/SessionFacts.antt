@@ -42,6 +42,10 @@ record SameTurn (x : ByteTurn) (y : Turn) : Type 0 where
   bytes : x .lent ≡ encode (y .base)
   kept : sound (y .base) ≡ true
 
+pub words-length : (xs : List Interval) → length (words xs) ≡ 2 * length xs
+words-length [] = refl
+words-length (i ∷ xs) = omega (arith, words-length xs)
+
 -- pairs written are read back
 pairs-back : (runs : List Interval) (rest : List ℕ) → pairsOf (length runs) (words runs ++ rest) ≡ runs
 pairs-back [] rest = refl

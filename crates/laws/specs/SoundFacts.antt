@@ -16,8 +16,7 @@ use Rattle.model.specs.SupportFacts.{everywhere-live}
 use Rattle.model.specs.Soundness.{rises, startsFirst}
 use Rattle.model.specs.SoundnessFacts.{Sound}
 use Rattle.model.specs.SoundTests.{order-test, intervals-test, labels-test}
-use Rattle.model.specs.ChainFacts.{chained-both}
-use Rattle.laws.specs.Chained.{chained-pairwise}
+use Rattle.laws.specs.Chained.{chained-both, chained-pairwise}
 use Rattle.laws.specs.KeepFacts.{apart, Precedes, Sorted, precedes-trans, tests-precedes}
 
 module _ (b : Base) (s : Sound b) where

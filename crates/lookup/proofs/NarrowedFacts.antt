@@ -1,6 +1,6 @@
 -- A number of a request that does not fit is taken for 0: nothing is then found in a base that should not be,
 -- as its numbers are in their ranges. Assumes nothing.
-use mathlib.Core.Path.{_≡_, refl, sym, _∙_}
+use mathlib.Core.Path.{_≡_, refl, sym, ap, _∙_}
 use mathlib.Core.Logic.{inl, inr}
 use Prim.Native.Nat.{ℕ, _≤_}
 use native.Mathlib.Omega.{arith}
@@ -48,12 +48,14 @@ module _ (ps : List Privilege) (e : allb privilegeIn ps ≡ true) where
   privilege-in : (p : Privilege) → Mem p ps → (isObject (p .object) ≡ true) × (isSubject (p .subject) ≡ true)
   privilege-in p m = and-true (isObject (p .object)) (isSubject (p .subject)) (all-mem privilegeIn ps e p m)
 
-  pub exists-narrowed : (o : ℕ) → existsIn ps (narrowedTo o) ≡ existsIn ps o
-  exists-narrowed o = any-cong-mem (λ p. eqb (p .object) (narrowedTo o)) (λ p. eqb (p .object) o) ps
+  pub exists-narrowed : (n o : ℕ) → n ≡ narrowedTo o → existsIn ps n ≡ existsIn ps o
+  exists-narrowed n o q = ap (existsIn ps) q
+      ∙ any-cong-mem (λ p. eqb (p .object) (narrowedTo o)) (λ p. eqb (p .object) o) ps
       (λ p m. object-eq (p .object) o (privilege-in p m .0))
 
-  pub listed-narrowed : (o u : ℕ) → listed ps (narrowedTo o) (narrowedTo u) ≡ listed ps o u
-  listed-narrowed o u = any-cong-mem (λ p. eqb (p .object) (narrowedTo o) && eqb (p .subject) (narrowedTo u))
+  pub listed-narrowed : (n m o u : ℕ) → n ≡ narrowedTo o → m ≡ narrowedTo u → listed ps n m ≡ listed ps o u
+  listed-narrowed n m o u q t = (λ k. listed ps (q k) (t k))
+      ∙ any-cong-mem (λ p. eqb (p .object) (narrowedTo o) && eqb (p .subject) (narrowedTo u))
       (λ p. eqb (p .object) o && eqb (p .subject) u) ps
       (λ p m. let w = privilege-in p m in
       λ k. object-eq (p .object) o (w .0) k && subject-eq (p .subject) u (w .1) k)
@@ -71,12 +73,15 @@ module _ (xs : List Authorization) (e : allb authorizationIn xs ≡ true) where
       (all-mem authorizationIn xs e a m) in
       (t _ (inl refl), t _ (inr (inl refl)))
 
-  pub label-narrowed : (l : ℕ) → anyb (hasLabel (narrowedTo l)) xs ≡ anyb (hasLabel l) xs
-  label-narrowed l = any-cong-mem (hasLabel (narrowedTo l)) (hasLabel l) xs
+  pub label-narrowed : (n l : ℕ) → n ≡ narrowedTo l → anyb (hasLabel n) xs ≡ anyb (hasLabel l) xs
+  label-narrowed n l q = (λ k. anyb (hasLabel (q k)) xs)
+      ∙ any-cong-mem (hasLabel (narrowedTo l)) (hasLabel l) xs
       (λ a m. label-eq (a .head .label) l (authorization-in a m .0))
 
-  pub other-narrowed : (l g : ℕ) → anyb (ofOther (narrowedTo l) (narrowedTo g)) xs ≡ anyb (ofOther l g) xs
-  other-narrowed l g = any-cong-mem (ofOther (narrowedTo l) (narrowedTo g)) (ofOther l g) xs
+  pub other-narrowed : (n m l g : ℕ) → n ≡ narrowedTo l → m ≡ narrowedTo g →
+      anyb (ofOther n m) xs ≡ anyb (ofOther l g) xs
+  other-narrowed n m l g q t = (λ k. anyb (ofOther (q k) (t k)) xs)
+      ∙ any-cong-mem (ofOther (narrowedTo l) (narrowedTo g)) (ofOther l g) xs
       (λ a m. let w = authorization-in a m in
       λ k. label-eq (a .head .label) l (w .0) k && not (subject-eq (a .head .grantor) g (w .1) k))
 
@@ -89,12 +94,14 @@ module _ (rs : List Rule) (e : allb ruleIn rs ≡ true) where
       ∷ orStar isSubject (r .grantor) ∷ intervalIn (r .interval) ∷ []) (all-mem ruleIn rs e r m) in
       (t _ (inl refl), t _ (inr (inl refl)))
 
-  pub rule-narrowed : (l : ℕ) → anyb (labelled (narrowedTo l)) rs ≡ anyb (labelled l) rs
-  rule-narrowed l = any-cong-mem (labelled (narrowedTo l)) (labelled l) rs
+  pub rule-narrowed : (n l : ℕ) → n ≡ narrowedTo l → anyb (labelled n) rs ≡ anyb (labelled l) rs
+  rule-narrowed n l q = (λ k. anyb (labelled (q k)) rs)
+      ∙ any-cong-mem (labelled (narrowedTo l)) (labelled l) rs
       (λ r m. label-eq (r .label) l (rule-in r m .0))
 
-  pub author-narrowed : (l u : ℕ) → anyb (ofOtherAuthor (narrowedTo l) (narrowedTo u)) rs
-      ≡ anyb (ofOtherAuthor l u) rs
-  author-narrowed l u = any-cong-mem (ofOtherAuthor (narrowedTo l) (narrowedTo u)) (ofOtherAuthor l u) rs
+  pub author-narrowed : (n m l u : ℕ) → n ≡ narrowedTo l → m ≡ narrowedTo u →
+      anyb (ofOtherAuthor n m) rs ≡ anyb (ofOtherAuthor l u) rs
+  author-narrowed n m l u q t = (λ k. anyb (ofOtherAuthor (q k) (t k)) rs)
+      ∙ any-cong-mem (ofOtherAuthor (narrowedTo l) (narrowedTo u)) (ofOtherAuthor l u) rs
       (λ r m. let w = rule-in r m in
       λ k. label-eq (r .label) l (w .0) k && not (subject-eq (r .author) u (w .1) k))

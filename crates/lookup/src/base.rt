@@ -4,7 +4,7 @@ ghost use mathlib.Core.Bool.{true};
 ghost use Rattle.foundation.specs.Lists.{anyb};
 ghost use Rattle.model.specs.Base as base;
 ghost use Rattle.model.specs.Encoding.{decode};
-ghost use Rattle.model.specs.Rules.{standsOn};
+ghost use Rattle.model.specs.Rules.{standsOn, standsFor};
 ghost use Rattle.model.specs.Soundness.{soundBytes};
 ghost use Rattle.lookup.specs.NarrowedNumbers.{hasLabel, ofOther, labelled, ofOtherAuthor};
 use crate::bodies::any_labelled;
@@ -14,6 +14,7 @@ use crate::bodies::has_label;
 use crate::bodies::has_object;
 use crate::bodies::is_listed;
 use crate::bodies::narrow;
+use model::Access;
 use model::Rule;
 
 // The object exists.
@@ -71,6 +72,20 @@ pub fn stands_on(s: &[u8], q: Rule, o: u32) -> bool
         return controls(s, o, q.author as u32);
     }
     q.left.object as u32 == o
+}
+
+// The rule stands for one that derives the access. Subject and mode come first, as most rules fail there.
+pub fn stands_for(s: &[u8], q: Rule, x: Access) -> bool
+    requires { ⌜ soundBytes (now s) ≡ true ⌝ }
+    ensures { λ r. ⌜ r ≡ standsFor (decode (now (s .entry))) q x ⌝ }
+{
+    let l = q.left;
+    if ((l.subject == 0) | (l.subject as u32 == x.subject))
+        & ((l.mode == 0) | (l.mode as u32 == x.mode))
+    {
+        return stands_on(s, q, x.object);
+    }
+    false
 }
 
 // The subject may set up a rule with these objects on its left and on its right.

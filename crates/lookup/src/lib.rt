@@ -17,6 +17,7 @@ pub use base::is_set_up_by_other;
 pub use base::may_rule;
 pub use base::owns;
 pub use base::refers;
+pub use base::stands_for;
 pub use base::stands_on;
 pub use bodies::has_label;
 pub use bodies::has_object;

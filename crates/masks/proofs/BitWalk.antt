@@ -2,7 +2,7 @@
 -- `pass-end`), and what is gathered on the way. Words with the same bits are one (`same-bits`), and
 -- one with fewer is less (`bits-le`).
 use mathlib.Core.Path.{_≡_, refl, sym, ap, _∙_}
-use mathlib.Core.Bool.{Bool, true, false, _&&_, _||_}
+use mathlib.Core.Bool.{Bool, true, false, _&&_, _||_, or-self}
 use Prim.Native.Nat.{ℕ, zero, suc, _+_, _*_, _/_, _%_, _^_, _≤_, _<_}
 use native.Mathlib.Nat.{pow-succ', div-one, pow-le-pow-right, lt-of-lt-of-le}
 use native.Mathlib.Omega.{arith}
@@ -10,7 +10,7 @@ use lib.Bits.{bitAnd, and-le-r}
 use lib.Dec.{eqb, ltb}
 use Rattle.foundation.specs.Tests.{cases, agree, true-eq, false-eq, le-true, le-false, true-le, false-le}
 use Rattle.foundation.specs.Tests.{or-false}
-use Rattle.foundation.specs.BitMasks.{bit}
+use Rattle.foundation.specs.BitMasks.{bit, power-above}
 use Rattle.words.specs.Ones.{bit-half}
 use Rattle.words.specs.Bits.{bit-inside}
 use Rattle.masks.proofs.SingleBits.{in-both, both-in}
@@ -48,10 +48,6 @@ pass-end x q j h k = cases (ltb j q)
 
 -- ---- what is gathered
 
-pub and-last : (a : Bool) → a ≡ a && true
-and-last true = refl
-and-last false = refl
-
 -- one that passes a test, and one that does not
 pub take-one : (a e t : Bool) → (e ≡ true → t ≡ true) → (a && t) || e ≡ (a || e) && t
 take-one true true t f = rw (f refl)
@@ -65,11 +61,7 @@ leave-one false false t f = refl
 
 -- one with what it brings
 pub bring-one : (a e t u : Bool) → (e ≡ true → u ≡ t) → (a && t) || (e && u) ≡ (a || e) && t
-bring-one true true t u f = ap (λ (x : Bool). t || x) (f refl) ∙ twice t
-  where
-    twice : (t : Bool) → t || t ≡ t
-    twice true = refl
-    twice false = refl
+bring-one true true t u f = ap (λ (x : Bool). t || x) (f refl) ∙ or-self t
 bring-one false true t u f = f refl
 bring-one a false t u f = or-false (a && t) ∙ ap (λ (x : Bool). x && t) (sym (or-false a))
 
@@ -106,16 +98,12 @@ same-low (suc n) a b h k e =
     let d = low-same a b (sym (low-bit a) ∙ e 0 ∙ low-bit b) in
     omega arith
 
-below-power : (n : ℕ) → n < 2 ^ n
-below-power zero = omega arith
-below-power (suc n) = rw (pow-succ' 2 n) (omega (arith, below-power n))
-
 pub same-bits : (a b : ℕ) → ((i : ℕ) → bit i a ≡ bit i b) → a ≡ b
 same-bits a b = same-low (a + b) a b (below a (omega arith)) (below b (omega arith))
   where
     below : (k : ℕ) → k ≤ a + b → k < 2 ^ (a + b)
     below k h =
-        lt-of-lt-of-le (below-power k) (pow-le-pow-right {n = 2} (omega arith) {i = k} {j = a + b} h)
+        lt-of-lt-of-le (power-above k) (pow-le-pow-right {n = 2} (omega arith) {i = k} {j = a + b} h)
 
 -- a word whose bits are all in another is not greater
 pub bits-le : (a b : ℕ) → ((i : ℕ) → bit i a ≡ true → bit i b ≡ true) → a ≤ b

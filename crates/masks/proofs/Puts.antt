@@ -1,36 +1,24 @@
--- Words of a list: one is replaced (`set-at`), joined to another (`join-word`), or gets a bit (`put-bit`).
-use mathlib.Core.Path.{_≡_, refl, sym, ap, _∙_}
-use mathlib.Core.Bool.{Bool, true, false, _&&_, _||_}
+-- A word of a list is joined to another (`join-word`), or gets a bit (`put-bit`).
+use mathlib.Core.Path.{_≡_, sym, ap, _∙_}
+use mathlib.Core.Bool.{Bool, _&&_, _||_, and-comm}
 use mathlib.Core.List.{List}
 use Prim.Native.Nat.{ℕ, _*_, _%_, _^_, _<_}
 use lib.Bits.{bitOr}
 use lib.Dec.{eqb}
 use lib.ListN.{length, getD, set}
-use lib.Seq.{getD-set-same, getD-set-other}
-use Rattle.foundation.specs.Tests.{pick, cases, true-eq, false-eq, or-false}
+use Rattle.foundation.specs.Tests.{cases, true-eq, or-false}
 use Rattle.foundation.specs.BitMasks.{bit}
+use Rattle.foundation.specs.BytesFacts.{set-word}
 use Rattle.words.specs.Bits.{bit-or}
 use Rattle.words.proofs.FieldLaws.{bit-shifted}
 use Rattle.masks.proofs.SingleBits.{one-bit}
 
-pub set-at : (l : List ℕ) (at v w : ℕ) → at < length l → getD (set l at v) w 0 ≡ pick (eqb w at) v
-    (getD l w 0)
-set-at l at v w h = cases (eqb w at)
-    (λ q. rw (q, true-eq w at q) (getD-set-same l at v 0 h))
-    (λ q. rw q (getD-set-other l at w v 0 (false-eq w at q)))
-
 -- joining a word to another
 pub join-word : (l : List ℕ) (at v w r : ℕ) → at < length l →
     bit r (getD (set l at (bitOr (getD l at 0) v)) w 0) ≡ bit r (getD l w 0) || (eqb w at && bit r v)
-join-word l at v w r h = ap (bit r) (set-at l at (bitOr (getD l at 0) v) w h) ∙ cases (eqb w at)
+join-word l at v w r h = ap (bit r) (set-word l at (bitOr (getD l at 0) v) h w) ∙ cases (eqb w at)
     (λ q. rw (q, true-eq w at q) (bit-or (getD l at 0) v r))
     (λ q. rw q (sym (or-false (bit r (getD l w 0)))))
-
-and-swap : (a b : Bool) → a && b ≡ b && a
-and-swap true true = refl
-and-swap true false = refl
-and-swap false true = refl
-and-swap false false = refl
 
 -- bit i joined to a word
 pub put-bit : (l : List ℕ) (at i w r : ℕ) → at < length l → i < 64 →
@@ -40,4 +28,4 @@ put-bit l at i w r h k =
     join-word l at (1 * 2 ^ i % 18446744073709551616) w r h
     ∙ ap (λ (b : Bool). bit r (getD l w 0) || b)
     (ap (λ (n : ℕ). eqb w at && bit r n) (bit-shifted i k) ∙ ap (λ (b : Bool). eqb w at && b) (one-bit i r)
-    ∙ and-swap (eqb w at) (eqb r i))
+    ∙ and-comm (eqb w at) (eqb r i))

@@ -3,7 +3,7 @@
 use mathlib.Core.Path.{_≡_, sym, ap, _∙_}
 use mathlib.Core.Bool.{true, false, false≢true}
 use Prim.Native.Nat.{ℕ, suc, _+_, _*_, _-_, _/_, _%_, _^_, _≤_, _<_}
-use native.Mathlib.Nat.{pow-succ', div-self, zero-div, mod-lt}
+use native.Mathlib.Nat.{pow-succ', div-self, mod-lt}
 use native.Mathlib.Omega.{arith}
 use lib.Bits.{bitAnd}
 use lib.Count.{leadingZeros, leading-top}
@@ -11,14 +11,10 @@ use lib.Dec.{eqb, leb, ltb}
 use lib.Pow.{pow-pos, high}
 use Rattle.foundation.specs.Tests.{cases, agree, eq-true, true-eq, true-le, false-le, and-true}
 use Rattle.foundation.specs.Tests.{and-intro}
-use Rattle.foundation.specs.BitMasks.{bit}
+use Rattle.foundation.specs.BitMasks.{bit, bit-zero}
 use Rattle.words.specs.Ones.{bit-shl}
 use Rattle.words.specs.Bits.{power-only, bit-and, no-bits}
-use Rattle.places.specs.ReachedNumbers.{bit-rest}
-
--- 0 has no bit
-pub no-bit : (i : ℕ) → bit i 0 ≡ false
-no-bit i = rw (zero-div (2 ^ i))
+use Rattle.words.specs.Bits.{bit-rest}
 
 -- a power of two has its own bit and no other
 pub one-bit : (r i : ℕ) → bit i (2 ^ r) ≡ eqb i r
@@ -35,8 +31,8 @@ in-both x y i e = and-true (bit i x) (bit i y) (sym (bit-and x y i) ∙ e)
 pub both-in : (x y i : ℕ) → bit i x ≡ true → bit i y ≡ true → bit i (bitAnd x y) ≡ true
 both-in x y i e f = bit-and x y i ∙ and-intro (bit i x) (bit i y) e f
 
-pub apart : (x y i : ℕ) → bitAnd x y ≡ 0 → bit i x ≡ true → bit i y ≡ true → ⊥
-apart x y i z e f = false≢true (sym (no-bit i) ∙ ap (bit i) (sym z) ∙ both-in x y i e f)
+pub bits-apart : (x y i : ℕ) → bitAnd x y ≡ 0 → bit i x ≡ true → bit i y ≡ true → ⊥
+bits-apart x y i z e f = false≢true (sym (bit-zero i) ∙ ap (bit i) (sym z) ∙ both-in x y i e f)
 
 -- no bit lies from a on below b
 abbrev pub NoneIn : ℕ → ℕ → ℕ → Type 0

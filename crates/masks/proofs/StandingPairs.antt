@@ -9,11 +9,11 @@ use lib.Dec.{eqb}
 use lib.ListN.{getD}
 use Rattle.foundation.specs.Tests.{cases, or-cases, or-intro-left, or-true-right}
 use Rattle.foundation.specs.Tests.{true-eq, false-eq}
-use Rattle.foundation.specs.BitMasks.{bit}
+use Rattle.foundation.specs.BitMasks.{bit, bit-zero}
 use Rattle.words.specs.Bits.{bit-or}
 use Rattle.reach.specs.Net.{standing}
 use Rattle.masks.specs.RuleMasks.{StandsOnNeed, needAt, Needed}
-use Rattle.masks.proofs.SingleBits.{no-bit, in-both, both-in}
+use Rattle.masks.proofs.SingleBits.{in-both, both-in}
 
 -- both masks of a pair, and those on a mode that is needed
 pub stands-at : (left : List ℕ) (o s need m : ℕ) → ((k r : ℕ) → bit k need ≡ true →
@@ -35,7 +35,7 @@ module _ (left need codes : List ℕ) (subjects : ℕ) where
   pub needed-start : Needed left need codes subjects 0 0
   needed-start = record {
     all = λ n k r h. absurd (omega arith);
-    only = λ r e. absurd (false≢true (sym (no-bit r) ∙ e));
+    only = λ r e. absurd (false≢true (sym (bit-zero r) ∙ e));
   }
 
   pub needed-turn : (n m v : ℕ) → Needed left need codes subjects n m →

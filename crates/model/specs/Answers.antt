@@ -1,7 +1,7 @@
 -- The library's answers over lent bytes: create, a request, MAY and WHEN, with their refusals (01,
 -- "Requests", "Replies that refuse", "What the promises settle").
 use Prim.Native.Nat.{ℕ, _*_, _/_}
-use mathlib.Core.Bool.{Bool, true, not, _&&_}
+use mathlib.Core.Bool.{Bool, not, _&&_}
 use mathlib.Core.List.{List, [], _∷_, _++_}
 use lib.Dec.{ltb, eqb}
 use lib.ListN.{length, drop}
@@ -30,6 +30,15 @@ refusalNumber (Unsupported t) = 9
 refusalNumber Yes = 0
 refusalNumber No = 0
 refusalNumber (Runs n) = 0
+
+-- the new label, or 0 where the reply has none
+abbrev pub labelOf : Reply → ℕ
+labelOf (Done label count) = label
+labelOf (Refused n) = 0
+labelOf (Unsupported t) = 0
+labelOf Yes = 0
+labelOf No = 0
+labelOf (Runs n) = 0
 
 -- a reply, and the lent bytes or list after it
 pub record Answer : Type 0 where

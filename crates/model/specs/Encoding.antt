@@ -85,8 +85,8 @@ ruleBytes r =
     ++ bytesOf 4 (r .interval .start) ++ bytesOf 4 (r .interval .end)
 
 -- 01: "entries of two 16-bit numbers, offset and count"
-abbrev pub entry : ℕ → ℕ → List ℕ
-entry offset n = bytesOf 2 offset ++ bytesOf 2 n
+abbrev pub contentsEntry : ℕ → ℕ → List ℕ
+contentsEntry offset n = bytesOf 2 offset ++ bytesOf 2 n
 
 -- 01: "Bytes 12 to 31: five entries ... objects, administrators, referrers, lines, rules. The first body
 -- starts at 32, each next where the one before ends"
@@ -96,8 +96,9 @@ contents objects administrators referrers authorizations rules =
     let at₃ = at₂ + 4 * administrators in
     let at₄ = at₃ + 4 * referrers in
     let at₅ = at₄ + 24 * authorizations in
-    entry 32 objects ++ entry at₂ administrators ++ entry at₃ referrers ++ entry at₄ authorizations
-    ++ entry at₅ rules
+    contentsEntry 32 objects ++ contentsEntry at₂ administrators ++ contentsEntry at₃ referrers
+    ++ contentsEntry at₄ authorizations
+    ++ contentsEntry at₅ rules
 
 -- 01: "4 to 7: clock ... 8 to 9: last label given. 10 to 11: zero"
 abbrev pub heading : Base → List ℕ

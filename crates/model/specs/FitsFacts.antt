@@ -28,9 +28,13 @@ use Rattle.model.specs.Soundness.{sound}
 use Rattle.model.specs.SoundnessFacts.{sound-tests}
 use Rattle.model.specs.SoundTests.{ranges-test}
 
--- a number of a range that lies below the bound
+-- a number in a range is at most its highest,
+pub at-most : (lowest highest n : ℕ) → between lowest highest n ≡ true → n ≤ highest
+at-most lowest highest n e = true-le n highest (and-true (leb lowest n) (leb n highest) e .1)
+
+-- and below a bound that lies above
 below : (lowest most bound n : ℕ) → most < bound → between lowest most n ≡ true → n < bound
-below lowest most bound n h e = omega (arith, true-le n most (and-true (leb lowest n) (leb n most) e .1))
+below lowest most bound n h e = omega (arith, at-most lowest most n e)
 
 instant-fits : (n : ℕ) → isInstant n ≡ true → n < 256 ^ 4
 instant-fits n e = omega (arith, true-le n lastInstant e)

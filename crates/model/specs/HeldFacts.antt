@@ -24,6 +24,7 @@ use Rattle.model.specs.StratificationFacts.{stratum-few}
 use Rattle.model.specs.Rules.{Pattern, Fact, fact, fits, derivesFor, rightOf, rightHolds, operate}
 use Rattle.model.specs.Rules.{holdsBy, derives, enough, derivedBelow, holds, asked, mayWith, may}
 use Rattle.model.specs.RightFacts.{right-is}
+use Rattle.model.specs.HoldsSteady.{holdsFrom, below}
 use Rattle.model.specs.HoldsFacts.{rounds, rounds-below, below-stratum, closed}
 use Rattle.model.specs.HoldsLaws.{settled-at, at-stratum}
 use Rattle.model.specs.Held.{ByAuthorization, Undenied, Applies, HeldUpTo, HeldBelow, Held}
@@ -31,12 +32,6 @@ use Rattle.model.specs.Held.{lower, whenever, asLongAs, wheneverNot, unl
 
 module _ (base : Base) where
   -- the definitions for this base, in short
-  abbrev below : ℕ → Fact → Bool
-  below = derivedBelow always base
-
-  abbrev holding : (Fact → Bool) → ℕ → Pattern → Bool
-  holding = holdsBy always base
-
   abbrev Below : ℕ → ℕ → Pattern → Type 0
   Below = HeldBelow base
 
@@ -51,21 +46,21 @@ module _ (base : Base) where
   abbrev derivesIt : (Fact → Bool) → ℕ → Pattern → Rule → Bool
   derivesIt S t p r = derivesFor base p r && S (fact r (p .access) t)
 
-  by-given : (S : Fact → Bool) (t : ℕ) (p : Pattern) → ByAuthorization base t p → holding S t p ≡ true
+  by-given : (S : Fact → Bool) (t : ℕ) (p : Pattern) → ByAuthorization base t p → holdsFrom base S t p ≡ true
   by-given S t p g =
       or-intro-left (direct t p) (anyb (derivesIt S t p) (base .rules))
       (mem-any (fits p) (live t (base .authorizations)) (g .authorization .head)
       (mem-live t (base .authorizations) (g .authorization) (g .listed) (g .covers)) (g .fitting))
 
   by-rule : (S : Fact → Bool) (t : ℕ) (p : Pattern) (r : Rule) → Mem r (base .rules) →
-      derivesFor base p r ≡ true → S (fact r (p .access) t) ≡ true → holding S t p ≡ true
+      derivesFor base p r ≡ true → S (fact r (p .access) t) ≡ true → holdsFrom base S t p ≡ true
   by-rule S t p r m d e =
       or-true-right (direct t p) (anyb (derivesIt S t p) (base .rules))
       (mem-any (derivesIt S t p) (base .rules) r m
       (and-intro (derivesFor base p r) (S (fact r (p .access) t)) d e))
 
   -- and in no other way
-  either : {X : Type 0} (S : Fact → Bool) (t : ℕ) (p : Pattern) → holding S t p ≡ true →
+  either : {X : Type 0} (S : Fact → Bool) (t : ℕ) (p : Pattern) → holdsFrom base S t p ≡ true →
       (ByAuthorization base t p → X) →
       ((r : Rule) → Mem r (base .rules) → derivesFor base p r ≡ true → S (fact r (p .access) t) ≡ true → X) →
       X
@@ -85,32 +80,33 @@ module _ (base : Base) where
 
   -- ---- one rank, the ranks below it being settled
 
-  module _ (k : ℕ) (settled : (t : ℕ) (p : Pattern) → (holding (below k) t p ≡ true) ↔ Below k t p) where
+  module _ (k : ℕ)
+      (settled : (t : ℕ) (p : Pattern) → (holdsFrom base (below base k) t p ≡ true) ↔ Below k t p) where
     -- what counts as held on a right side, S being what rules up to the rank derive
     abbrev forced : (Fact → Bool) → Pattern → ℕ → Bool
-    forced S q u = rightHolds (holding S u) (holding (below k) u) q
+    forced S q u = rightHolds (holdsFrom base S u) (holdsFrom base (below base k) u) q
 
     in-force : (S : Fact → Bool) (Here : ℕ → Pattern → Type 0) →
-        ((u : ℕ) (q : Pattern) → holding S u q ≡ true → Here u q) → (u : ℕ) (q : Pattern) →
+        ((u : ℕ) (q : Pattern) → holdsFrom base S u q ≡ true → Here u q) → (u : ℕ) (q : Pattern) →
         forced S q u ≡ true → Here u q × Undenied (Below k) u q
     in-force S Here h u q e =
-        let w = right-is (holding S u) (holding (below k) u) q .0 e in
+        let w = right-is (holdsFrom base S u) (holdsFrom base (below base k) u) q .0 e in
         (h u q (w .0), λ n d. true≢false (sym (settled u (asked (q .access) true) .1 d) ∙ w .1 n))
 
-    forced-by : (S : Fact → Bool) (u : ℕ) (q : Pattern) → holding S u q ≡ true →
+    forced-by : (S : Fact → Bool) (u : ℕ) (q : Pattern) → holdsFrom base S u q ≡ true →
         Undenied (Below k) u q → forced S q u ≡ true
-    forced-by S u q e h = right-is (holding S u) (holding (below k) u) q .1 (
+    forced-by S u q e h = right-is (holdsFrom base S u) (holdsFrom base (below base k) u) q .1 (
       e,
       λ n.
-          cases (holding (below k) u (asked (q .access) true))
+          cases (holdsFrom base (below base k) u (asked (q .access) true))
           (λ d. absurd (h n (settled u (asked (q .access) true) .0 d)))
           (λ d. d),
     )
 
     -- what the operator of a rule allows, from what rounds have found
-    allowed : (S : Fact → Bool) → ((u : ℕ) (q : Pattern) → holding S u q ≡ true → UpTo k u q) →
+    allowed : (S : Fact → Bool) → ((u : ℕ) (q : Pattern) → holdsFrom base S u q ≡ true → UpTo k u q) →
         (o : Operator) (r : Rule) (t : ℕ) (p : Pattern) → Applies base k o r t p →
-        operate always o (forced S (rightOf r (p .access))) (forced (below k) (rightOf r (p .access)))
+        operate always o (forced S (rightOf r (p .access))) (forced (below base k) (rightOf r (p .access)))
         (r .interval .start) t ≡ true → UpTo k t p
     allowed S h Whenever r t p a e =
         let w = in-force S (UpTo k) h t (rightOf r (p .access)) e in
@@ -122,16 +118,16 @@ module _ (base : Base) where
         asLongAs r a (λ u i j. w u i j .0) (λ u i j. w u i j .1)
     allowed S h WheneverNot r t p a e =
         let q = rightOf r (p .access) in
-        wheneverNot r a (λ b d. true≢false (sym (forced-by (below k) t q (settled t q .1 b) d)
-        ∙ not-true (forced (below k) q t) e))
+        wheneverNot r a (λ b d. true≢false (sym (forced-by (below base k) t q (settled t q .1 b) d)
+        ∙ not-true (forced (below base k) q t) e))
     allowed S h Unless r t p a e =
         let q = rightOf r (p .access) in
-        unless r a (λ u i j b d. true≢false (sym (forced-by (below k) u q (settled u q .1 b) d)
-        ∙ not-true (forced (below k) q u)
-        (always-all (r .interval .start) t (λ u. not (forced (below k) q u)) e u i j)))
+        unless r a (λ u i j b d. true≢false (sym (forced-by (below base k) u q (settled u q .1 b) d)
+        ∙ not-true (forced (below base k) q u)
+        (always-all (r .interval .start) t (λ u. not (forced (below base k) q u)) e u i j)))
 
     -- what rounds find is held
-    rounds-held : (n t : ℕ) (p : Pattern) → holding (rounds base k n) t p ≡ true → UpTo k t p
+    rounds-held : (n t : ℕ) (p : Pattern) → holdsFrom base (rounds base k n) t p ≡ true → UpTo k t p
     unfolding iter
     rounds-held zero t p e = lower (settled t p .0 e)
     rounds-held (suc n) t p e = either (rounds base k (suc n)) t p e (λ g. lower (given-below k g))
@@ -140,47 +136,49 @@ module _ (base : Base) where
         let i = stratum (base .rules) r in
         let x = fact r (p .access) t in
         cases (ltb i k)
-        (λ l. lower (settled t p .0 (by-rule (below k) t p r m d (rw l at s))))
-        (λ l. let w = and-true (eqb i k) (derives always base (below k) S x) (rw l at s) in
+        (λ l. lower (settled t p .0 (by-rule (below base k) t p r m d (rw l at s))))
+        (λ l. let w = and-true (eqb i k) (derives always base (below base k) S x) (rw l at s) in
         let q = rightOf r (p .access) in
         let v = and-true (inInterval (r .interval) t) (operate always (r .operator) (forced S q)
-        (forced (below k) q) (r .interval .start) t) (w .1) in
+        (forced (below base k) q) (r .interval .start) t) (w .1) in
         allowed S (rounds-held n) (r .operator) r t p
         (record { listed = m; rank = true-eq i k (w .0); operator = refl; left = d; inside = v .0 }) (v .1)))
 
     -- what a rule of the rank gives holds
     gives : {t : ℕ} {p : Pattern} (o : Operator) (r : Rule) → Applies base k o r t p →
-        operate always o (forced (below (suc k)) (rightOf r (p .access)))
-        (forced (below k) (rightOf r (p .access))) (r .interval .start) t ≡ true →
-        holding (below (suc k)) t p ≡ true
+        operate always o (forced (below base (suc k)) (rightOf r (p .access)))
+        (forced (below base k) (rightOf r (p .access))) (r .interval .start) t ≡ true →
+        holdsFrom base (below base (suc k)) t p ≡ true
     gives {t} {p} o r a e =
         let right : (Fact → Bool) → ℕ → Bool = λ S. forced S (rightOf r (p .access)) in
         let from : Operator → Bool =
-        λ o. operate always o (right (below (suc k))) (right (below k)) (r .interval .start) t in
-        by-rule (below (suc k)) t p r (a .listed) (a .left)
+        λ o. operate always o (right (below base (suc k))) (right (below base k)) (r .interval .start) t in
+        by-rule (below base (suc k)) t p r (a .listed) (a .left)
         (at-stratum base k (fact r (p .access) t) (a .listed) (a .rank)
         ∙ and-intro (inInterval (r .interval) t) (from (r .operator)) (a .inside) (ap from (a .operator) ∙ e))
 
     not-below : (u : ℕ) (q : Pattern) → (Below k u q → Undenied (Below k) u q → ⊥) →
-        not (forced (below k) q u) ≡ true
-    not-below u q h = cases (forced (below k) q u)
-        (λ e. let w = in-force (below k) (Below k) (λ u q. settled u q .0) u q e in absurd (h (w .0) (w .1)))
+        not (forced (below base k) q u) ≡ true
+    not-below u q h = cases (forced (below base k) q u)
+        (λ e. let w = in-force (below base k) (Below k) (λ u q. settled u q .0) u q e in
+        absurd (h (w .0) (w .1)))
         (λ e. ap not e)
 
     -- what is held is found by enough rounds
-    held-found : {t : ℕ} {p : Pattern} → UpTo k t p → holding (below (suc k)) t p ≡ true
+    held-found : {t : ℕ} {p : Pattern} → UpTo k t p → holdsFrom base (below base (suc k)) t p ≡ true
     unfolding iter
-    held-found {t} {p} (lower h) = either (below k) t p (settled t p .1 h) (by-given (below (suc k)) t p)
-        (λ r m d e. by-rule (below (suc k)) t p r m d
+    held-found {t} {p} (lower h) = either (below base k) t p (settled t p .1 h)
+        (by-given (below base (suc k)) t p)
+        (λ r m d e. by-rule (below base (suc k)) t p r m d
         (rounds-below base k 0 (omega arith) (fact r (p .access) t) e))
     held-found {t} {p} (whenever r a h d) = gives Whenever r a
-        (forced-by (below (suc k)) t (rightOf r (p .access)) (held-found h) d)
+        (forced-by (below base (suc k)) t (rightOf r (p .access)) (held-found h) d)
     held-found {t} {p} (asLongAs r a h d) = gives AsLongAs r a
-        (all-always (r .interval .start) t (forced (below (suc k)) (rightOf r (p .access)))
-        (λ u i j. forced-by (below (suc k)) u (rightOf r (p .access)) (held-found (h u i j)) (d u i j)))
+        (all-always (r .interval .start) t (forced (below base (suc k)) (rightOf r (p .access)))
+        (λ u i j. forced-by (below base (suc k)) u (rightOf r (p .access)) (held-found (h u i j)) (d u i j)))
     held-found {t} {p} (wheneverNot r a h) = gives WheneverNot r a (not-below t (rightOf r (p .access)) h)
     held-found {t} {p} (unless r a h) = gives Unless r a
-        (all-always (r .interval .start) t (λ u. not (forced (below k) (rightOf r (p .access)) u))
+        (all-always (r .interval .start) t (λ u. not (forced (below base k) (rightOf r (p .access)) u))
         (λ u i j. not-below u (rightOf r (p .access)) (h u i j)))
 
   -- ---- rank by rank
@@ -190,8 +188,8 @@ module _ (base : Base) where
       (holdsBy always base (derivedBelow always base k) t p ≡ true) ↔ HeldBelow base k t p
   unfolding derivedBelow
   held-below zero t p = (
-    (λ e. either (below 0) t p e (λ g. g) (λ r m d s. absurd (false≢true s))),
-    by-given (below 0) t p,
+    (λ e. either (below base 0) t p e (λ g. g) (λ r m d s. absurd (false≢true s))),
+    by-given (below base 0) t p,
   )
   held-below (suc k) t p =
       (rounds-held k (held-below k) (enough always base) t p, held-found k (held-below k))
@@ -201,7 +199,8 @@ module _ (base : Base) where
     abbrev last : ℕ
     last = suc (2 * length (base .rules))
 
-    ranks-end : (k : ℕ) (x : Fact) → Mem (x .rule) (base .rules) → below k x ≡ true → below last x ≡ true
+    ranks-end : (k : ℕ) (x : Fact) → Mem (x .rule) (base .rules) → below base k x ≡ true →
+        below base last x ≡ true
     ranks-end zero x m e = settled-at base 0 x m (below-stratum base 0 x e) (omega arith) ∙ e
     ranks-end (suc k) x m e = cases (leb (suc k) last)
         (λ l. settled-at base (suc k) x m (below-stratum base (suc k) x e) (true-le (suc k) last l) ∙ e)
@@ -214,8 +213,8 @@ module _ (base : Base) where
     unfolding holds
     held t p = (
       (λ e. (last, held-below last t p .0 e)),
-      (λ h. let S = below last in
-          either (below (h .0)) t p (held-below (h .0) t p .1 (h .1)) (by-given S t p)
+      (λ h. let S = below base last in
+          either (below base (h .0)) t p (held-below (h .0) t p .1 (h .1)) (by-given S t p)
           (λ r m d e. by-rule S t p r m d (ranks-end (h .0) (fact r (p .access) t) m e))),
     )
 

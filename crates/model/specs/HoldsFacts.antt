@@ -16,27 +16,21 @@ use Rattle.model.specs.Base.{Base}
 use Rattle.model.specs.Stratification.{stratum}
 use Rattle.model.specs.Rules.{Fact, fact, round, enough, derivedBelow}
 use Rattle.model.specs.Means.{allMarks}
-use Rattle.model.specs.HoldsSteady.{Stead, Subset, round-steady, round-mono}
+use Rattle.model.specs.HoldsSteady.{Stead, Subset, roundFrom, below, round-steady, round-mono}
 use Rattle.model.specs.HoldsKeys.{keys, keys-enough, in-keys, round-local}
 
 module _ (base : Base) where
-  -- the definitions for this base, in short
-  abbrev stage : ℕ → (Fact → Bool) → (Fact → Bool) → Fact → Bool
-  stage = round always base
-
-  abbrev below : ℕ → Fact → Bool
-  below = derivedBelow always base
-
   -- steady, and a part of what one more round makes of it
   abbrev Good : ℕ → (Fact → Bool) → (Fact → Bool) → Type 0
-  Good k L S = Stead base S × Subset S (stage k L S)
+  Good k L S = Stead base S × Subset S (roundFrom base k L S)
 
-  good-round : (k : ℕ) (L S : Fact → Bool) → Stead base L → Good k L S → Good k L (stage k L S)
-  good-round k L S c g = (round-steady base k L S c (g .0), round-mono base k L S (stage k L S) (g .1))
+  good-round : (k : ℕ) (L S : Fact → Bool) → Stead base L → Good k L S → Good k L (roundFrom base k L S)
+  good-round k L S c g =
+      (round-steady base k L S c (g .0), round-mono base k L S (roundFrom base k L S) (g .1))
 
   -- n rounds of stratum k
   abbrev pub rounds : ℕ → ℕ → Fact → Bool
-  rounds k n = iter (λ S. stage k (below k) S) n (below k)
+  rounds k n = iter (λ S. roundFrom base k (below base k) S) n (below base k)
 
   pub below-stratum : (k : ℕ) (x : Fact) → derivedBelow always base k x ≡ true →
       stratum (base .rules) (x .rule) < k
@@ -49,13 +43,13 @@ module _ (base : Base) where
       (λ p. let z = true-eq n k (and-true (eqb n k) _ (rw p at e) .0) in omega arith)
 
   -- what lower strata derive stays
-  below-part : (k : ℕ) → Subset (below k) (stage k (below k) (below k))
+  below-part : (k : ℕ) → Subset (below base k) (roundFrom base k (below base k) (below base k))
   below-part k x e = rw (le-true (suc (stratum (base .rules) (x .rule))) k (below-stratum k x e)) e
 
-  rounds-good : (k : ℕ) → Stead base (below k) → (n : ℕ) → Good k (below k) (rounds k n)
+  rounds-good : (k : ℕ) → Stead base (below base k) → (n : ℕ) → Good k (below base k) (rounds k n)
   unfolding iter
   rounds-good k c zero = (c, below-part k)
-  rounds-good k c (suc n) = good-round k (below k) (rounds k n) c (rounds-good k c n)
+  rounds-good k c (suc n) = good-round k (below base k) (rounds k n) c (rounds-good k c n)
 
   -- what the rules derive changes at marks only
   pub below-steady : (k : ℕ) → Stead base (derivedBelow always base k)
@@ -90,11 +84,11 @@ module _ (base : Base) where
   closed k x m =
       let r = x .rule in
       let y = x .access in
-      let L = below k in
-      let S = below (suc k) in
+      let L = below base k in
+      let S = below base (suc k) in
       let a = rep (allMarks base) (x .at) in
       round-steady base k L S (below-steady k) (below-steady (suc k)) r m y (a .0) (x .at) (a .2) (a .3)
-      ∙ sym (settled (keys base y) (λ S. stage k L S) (λ S. Good k L S)
+      ∙ sym (settled (keys base y) (λ S. roundFrom base k L S) (λ S. Good k L S)
       (λ S g. good-round k L S (below-steady k) g)
       (λ S Q g g′ h z w. round-local base y S Q (g .0) (g′ .0) h k L z w)
       (λ S g z w. g .1 z w)
@@ -109,5 +103,5 @@ module _ (base : Base) where
       (x : Fact) → derivedBelow always base (suc k) x ≡ true → Q x ≡ true
   unfolding derivedBelow
   smallest k Q a b x e =
-      least (λ S. stage k (below k) S) (round-mono base k (below k)) (below k) Q a b
+      least (λ S. roundFrom base k (below base k) S) (round-mono base k (below base k)) (below base k) Q a b
       (enough always base) x e

@@ -16,25 +16,16 @@ use Rattle.model.specs.declared.Rule.{Rule}
 use Rattle.model.specs.declared.Access.{Access}
 use Rattle.model.specs.Base.{Base}
 use Rattle.model.specs.Stratification.{isStar, stratum}
-use Rattle.model.specs.Rules.{Pattern, Fact, fact, rightOf, holdsBy, rightBy, round, enough}
+use Rattle.model.specs.Rules.{Pattern, Fact, fact, rightOf, enough}
 use Rattle.model.specs.RightFacts.{right-cong, operate-cong}
 use Rattle.model.specs.Means.{allMarks}
 use Rattle.model.specs.HoldsSteady.{marks-length, rule-marks-length, Stead, holds-cong}
+use Rattle.model.specs.HoldsSteady.{holdsFrom, rightFrom, roundFrom}
 
 abbrev access : ℕ → ℕ → ℕ → Access
 access s m o = record { subject = s; mode = m; object = o }
 
 module _ (base : Base) where
-  -- the definitions for this base, in short
-  abbrev holding : (Fact → Bool) → ℕ → Pattern → Bool
-  holding = holdsBy always base
-
-  abbrev right : (Fact → Bool) → (Fact → Bool) → Pattern → ℕ → Bool
-  right = rightBy always base
-
-  abbrev stage : ℕ → (Fact → Bool) → (Fact → Bool) → Fact → Bool
-  stage = round always base
-
   -- n, and that number of every rule's right side
   abbrev numbers : (Rule → ℕ) → ℕ → List ℕ
   numbers f n = n ∷ map f (base .rules)
@@ -129,19 +120,21 @@ module _ (base : Base) where
         ∙ sym (d r m y (a .0) u (a .2) (a .3))
 
     right-local : (L : Fact → Bool) (p : Pattern) → WithinKeys x (p .access) → (u : ℕ) →
-        right L S p u ≡ right L Q p u
-    right-local L p n u = right-cong (holding S u) (holding Q u) (holding L u) (holding L u) p
+        rightFrom base L S p u ≡ rightFrom base L Q p u
+    right-local L p n u = right-cong (holdsFrom base S u) (holdsFrom base Q u)
+        (holdsFrom base L u) (holdsFrom base L u) p
         (λ q e. holds-cong base S Q u u q refl
         (λ r m. everywhere r (q .access) u m (subst (WithinKeys x) (sym e) n)))
         (λ q e. refl)
 
-    pub round-local : (k : ℕ) (L : Fact → Bool) (z : Fact) → Mem z (keys x) → stage k L S z ≡ stage k L Q z
+    pub round-local : (k : ℕ) (L : Fact → Bool) (z : Fact) → Mem z (keys x) →
+        roundFrom base k L S z ≡ roundFrom base k L Q z
     round-local k L z m =
         let a = keys-near x z m in
         let r = z .rule in
         let p = rightOf r (z .access) in
         let n = stratum (base .rules) r in
         ap (λ (v : Bool). pick (ltb n k) (L z) (eqb n k && (inInterval (r .interval) (z .at) && v)))
-        (operate-cong (right L S p) (right L Q p) (right L L p)
+        (operate-cong (rightFrom base L S p) (rightFrom base L Q p) (rightFrom base L L p)
         (right-local L p (right-near x (z .access) r (a .0) (a .1)))
         (r .operator) (r .interval .start) (z .at))

@@ -2,11 +2,10 @@
 use mathlib.Core.Path.{_≡_, refl, sym, ap, _∙_}
 use Prim.Native.Nat.{ℕ, zero, suc, _*_, _≤_, _<_}
 use native.Mathlib.Omega.{arith}
-use mathlib.Core.Bool.{Bool, true, false, not, _&&_, _||_, Bool·beq}
-use lib.Dec.{leb, eqb}
+use mathlib.Core.Bool.{Bool, true, false, not, _&&_, _||_}
+use lib.Dec.{leb}
 use lib.ListN.{length}
-use Rattle.foundation.specs.Tests.{pick, cases, le-true, le-false, true-le, false-le, eq-true, and-true}
-use Rattle.foundation.specs.Tests.{and-intro}
+use Rattle.foundation.specs.Tests.{cases, le-true, le-false, true-le, false-le, eq-true}
 use Rattle.foundation.specs.Lists.{anyb, Mem, any-cong-mem}
 use Rattle.foundation.specs.Graph.{heavy}
 use Rattle.foundation.specs.Intervals.{inInterval, always, always-cong}
@@ -22,6 +21,7 @@ use Rattle.model.specs.Rules.{Pattern, Fact, fact, fits, derivesFor, rig
 use Rattle.model.specs.Rules.{asked, holdsBy, derives, derivedBelow, holds}
 use Rattle.model.specs.SideFacts.{fit-feeds, fit-links}
 use Rattle.model.specs.RightFacts.{right-own}
+use Rattle.model.specs.HoldsSteady.{below}
 use Rattle.model.specs.HoldsFacts.{closed}
 use Rattle.model.specs.StratificationFacts.{feeder-not-above, feeder-below, stratum-few}
 
@@ -75,9 +75,6 @@ operate-settled Unless f g h p q a t = always-cong a t (λ u. not (g u)) (λ u. 
     (λ u. ap not (q refl u))
 
 module _ (base : Base) where
-  abbrev below : ℕ → Fact → Bool
-  below = derivedBelow always base
-
   -- what the rules derive, all strata together
   abbrev pub derived : Fact → Bool
   derived = derivedBelow always base (suc (2 * length (base .rules)))
@@ -96,16 +93,16 @@ module _ (base : Base) where
   -- ---- stratum by stratum
 
   below-keep : (k : ℕ) (x : Fact) → Mem (x .rule) (base .rules) → stratum (base .rules) (x .rule) < k →
-      below (suc k) x ≡ below k x
+      below base (suc k) x ≡ below base k x
   below-keep k x m h = sym (closed base k x m) ∙ rw (le-true (suc (stratum (base .rules) (x .rule))) k h)
 
   -- what the strata below k have settled stays
   below-upto : (k n : ℕ) (x : Fact) → Mem (x .rule) (base .rules) → stratum (base .rules) (x .rule) < k →
-      k ≤ n → below n x ≡ below k x
+      k ≤ n → below base n x ≡ below base k x
   below-upto k zero x m h l = absurd (omega arith)
   below-upto k (suc n) x m h l = cases (leb k n)
       (λ e. let i = true-le k n e in below-keep n x m (omega arith) ∙ below-upto k n x m h i)
-      (λ e. let i = false-le k n e in let q : suc n ≡ k = omega arith in ap (λ (j : ℕ). below j x) q)
+      (λ e. let i = false-le k n e in let q : suc n ≡ k = omega arith in ap (λ (j : ℕ). below base j x) q)
 
   -- so what a rule derives is settled with its stratum
   pub settled-at : (k : ℕ) (x : Fact) → Mem (x .rule) (base .rules) → stratum (base .rules) (x .rule) < k →
@@ -141,16 +138,16 @@ module _ (base : Base) where
     module _ (r : Rule) (m : Mem r (base .rules)) where
       -- what feeders derive is settled with the rule's stratum
       fed-settled : (u : ℕ) (p : Pattern) → PrecededOnly base r p →
-          holdsBy always base (below (suc (stratum (base .rules) r))) u p ≡ holds always base u p
-      fed-settled u p h = holds-same (below (suc (stratum (base .rules) r))) u p (λ q k e.
+          holdsBy always base (below base (suc (stratum (base .rules) r))) u p ≡ holds always base u p
+      fed-settled u p h = holds-same (below base (suc (stratum (base .rules) r))) u p (λ q k e.
           settled-at (suc (stratum (base .rules) r)) (fact q (p .access) u) k
           (omega (arith, feeder-not-above (base .rules) s q r k m (h q e)))
           (omega (arith, stratum-few (base .rules) s r m)))
 
       -- and before it where the steps count
       pub strictly-settled : (u : ℕ) (p : Pattern) → StrictlyFed base r p →
-          holdsBy always base (below (stratum (base .rules) r)) u p ≡ holds always base u p
-      strictly-settled u p h = holds-same (below (stratum (base .rules) r)) u p (λ q k e.
+          holdsBy always base (below base (stratum (base .rules) r)) u p ≡ holds always base u p
+      strictly-settled u p h = holds-same (below base (stratum (base .rules) r)) u p (λ q k e.
           let l = h q e in
           settled-at (stratum (base .rules) r) (fact q (p .access) u) k
           (feeder-below (base .rules) s q r k m (l .0) (l .1))
@@ -166,8 +163,8 @@ module _ (base : Base) where
     derived-law r m x t =
         let n = stratum (base .rules) r in
         let p = rightOf r x in
-        let now : ℕ → Pattern → Bool = holdsBy always base (below (suc n)) in
-        let before : ℕ → Pattern → Bool = holdsBy always base (below n) in
+        let now : ℕ → Pattern → Bool = holdsBy always base (below base (suc n)) in
+        let before : ℕ → Pattern → Bool = holdsBy always base (below base n) in
         let all : ℕ → Pattern → Bool = holds always base in
         settled-at (suc n) (fact r x t) m (omega arith) (omega (arith, stratum-few (base .rules) s r m))
         ∙ at-stratum n (fact r x t) m refl

@@ -26,7 +26,7 @@ use Rattle.model.specs.Means.{marksOf, ruleMarks, allMarks}
 use Rattle.model.specs.Questions.{alwaysAt, mayAtMarks, whenAtMarks}
 use Rattle.model.specs.RightFacts.{right-cong}
 use Rattle.model.specs.HoldsSteady.{marks-length, rule-marks-length, Stead, holds-cong, holds-steady}
-use Rattle.model.specs.HoldsSteady.{right-by-steady}
+use Rattle.model.specs.HoldsSteady.{rightFrom, below, right-by-steady}
 use Rattle.model.specs.HoldsFacts.{rounds, rounds-steady, below-steady}
 
 -- ---- `always` at marks
@@ -49,14 +49,8 @@ module _ (n : ℕ) (base : Base) where
   at = alwaysAt n (allMarks base)
 
   -- the definitions for this base, in short: plainly, and at marks
-  abbrev right : (Fact → Bool) → (Fact → Bool) → Pattern → ℕ → Bool
-  right = rightBy always base
-
   abbrev rightAt : (Fact → Bool) → (Fact → Bool) → Pattern → ℕ → Bool
   rightAt = rightBy at base
-
-  abbrev below : ℕ → Fact → Bool
-  below = derivedBelow always base
 
   abbrev belowAt : ℕ → Fact → Bool
   belowAt = derivedBelow at base
@@ -73,7 +67,7 @@ module _ (n : ℕ) (base : Base) where
   holds-agree S Q h t p = holds-cong base S Q t t p refl (λ r m. h (fact r (p .access) t) m)
 
   right-agree : (L L′ S S′ : Fact → Bool) → Agree L L′ → Agree S S′ → (p : Pattern) →
-      right L S p ≡ rightAt L′ S′ p
+      rightFrom base L S p ≡ rightAt L′ S′ p
   right-agree L L′ S S′ h k p = fun-ext (λ u. right-cong
       (holdsBy always base S u) (holdsBy at base S′ u)
       (holdsBy always base L u) (holdsBy at base L′ u) p
@@ -86,18 +80,18 @@ module _ (n : ℕ) (base : Base) where
       let p = rightOf r (x .access) in
       let i = stratum (base .rules) r in
       ap₂ (λ (l v : Bool). pick (ltb i k) l (eqb i k && (inInterval (r .interval) (x .at) && v))) (g x m)
-      (operate-at n (allMarks base) (r .operator) (right L S p) (right L L p)
+      (operate-at n (allMarks base) (r .operator) (rightFrom base L S p) (rightFrom base L L p)
       (right-by-steady base L S c d p) (right-by-steady base L L c c p) (r .interval .start) (x .at)
       ∙ ap₂ (λ (same lower : ℕ → Bool). operate at (r .operator) same lower (r .interval .start) (x .at))
       (right-agree L L′ S S′ g h p) (right-agree L L′ L L′ g g p))
 
-  rounds-agree : (k : ℕ) → Agree (below k) (belowAt k) → (j : ℕ) → Agree (rounds base k j) (roundsAt k j)
+  rounds-agree : (k : ℕ) → Agree (below base k) (belowAt k) → (j : ℕ) → Agree (rounds base k j) (roundsAt k j)
   unfolding iter
   rounds-agree k h zero = h
-  rounds-agree k h (suc j) = round-agree k (below k) (belowAt k) (rounds base k j) (roundsAt k j)
+  rounds-agree k h (suc j) = round-agree k (below base k) (belowAt k) (rounds base k j) (roundsAt k j)
       (below-steady base k) (rounds-steady base k j) h (rounds-agree k h j)
 
-  below-agree : (k : ℕ) → Agree (below k) (belowAt k)
+  below-agree : (k : ℕ) → Agree (below base k) (belowAt k)
   unfolding derivedBelow
   below-agree zero = λ x m. refl
   below-agree (suc k) = rounds-agree k (below-agree k) (enough always base)
@@ -105,7 +99,7 @@ module _ (n : ℕ) (base : Base) where
   holds-at : (t : ℕ) (p : Pattern) → holds always base t p ≡ holds at base t p
   unfolding holds
   holds-at t p =
-      let k = suc (2 * length (base .rules)) in holds-agree (below k) (belowAt k) (below-agree k) t p
+      let k = suc (2 * length (base .rules)) in holds-agree (below base k) (belowAt k) (below-agree k) t p
 
 -- ---- MAY and WHEN
 

@@ -21,7 +21,7 @@ use Rattle.model.specs.Base.{Base}
 use Rattle.model.specs.Support.{live}
 use Rattle.model.specs.Stratification.{stratum}
 use Rattle.model.specs.Rules.{Pattern, Fact, fact, fits, derivesFor, rightOf, operate, holdsBy, rightBy}
-use Rattle.model.specs.Rules.{derives, round}
+use Rattle.model.specs.Rules.{derives, round, derivedBelow}
 use Rattle.model.specs.Means.{boundaries, marksOf, ruleMarks, allMarks}
 use Rattle.model.specs.SupportMarks.{interval-steady, live-steady}
 use Rattle.model.specs.RightFacts.{right-mono, right-steady, operate-steady, operate-mono}
@@ -57,18 +57,22 @@ module _ (base : Base) where
   abbrev pub Stead : (Fact → Bool) → Type 0
   Stead S = (r : Rule) → Mem r (base .rules) → (x : Access) → Steady (λ t. S (fact r x t)) marks
 
-  -- the definitions for this base, in short
-  abbrev holding : (Fact → Bool) → ℕ → Pattern → Bool
-  holding = holdsBy always base
+  -- the definitions for this base, in short: what holds if S says what rules derive, whether a right side
+  -- counts as held, one round of a stratum, and what the strata below one derive
+  abbrev pub holdsFrom : (Fact → Bool) → ℕ → Pattern → Bool
+  holdsFrom = holdsBy always base
 
-  abbrev right : (Fact → Bool) → (Fact → Bool) → Pattern → ℕ → Bool
-  right = rightBy always base
+  abbrev pub rightFrom : (Fact → Bool) → (Fact → Bool) → Pattern → ℕ → Bool
+  rightFrom = rightBy always base
 
   abbrev derived : (Fact → Bool) → (Fact → Bool) → Fact → Bool
   derived = derives always base
 
-  abbrev stage : ℕ → (Fact → Bool) → (Fact → Bool) → Fact → Bool
-  stage = round always base
+  abbrev pub roundFrom : ℕ → (Fact → Bool) → (Fact → Bool) → Fact → Bool
+  roundFrom = round always base
+
+  abbrev pub below : ℕ → Fact → Bool
+  below = derivedBelow always base
 
   -- ---- what is built from steady sets is steady
 
@@ -77,7 +81,7 @@ module _ (base : Base) where
   pub holds-cong : (S Q : Fact → Bool) (t u : ℕ) (p : Pattern) →
       live t (base .authorizations) ≡ live u (base .authorizations) →
       ((r : Rule) → Mem r (base .rules) → S (fact r (p .access) t) ≡ Q (fact r (p .access) u)) →
-      holding S t p ≡ holding Q u p
+      holdsFrom S t p ≡ holdsFrom Q u p
   holds-cong S Q t u p l h = ap₂ (λ (x y : Bool). x || y) (ap (λ (hs : List Head). anyb (fits p) hs) l)
       (any-cong-mem (λ r. derivesFor base p r && S (fact r (p .access) t))
       (λ r. derivesFor base p r && Q (fact r (p .access) u)) (base .rules)
@@ -88,13 +92,14 @@ module _ (base : Base) where
       (clear (marksOf (base .authorizations)) a t ≡ true) × (clear (ruleMarks (base .rules)) a t ≡ true)
   unmarked = clear-both (marksOf (base .authorizations)) (ruleMarks (base .rules))
 
-  pub holds-steady : (S : Fact → Bool) → Stead S → (p : Pattern) → Steady (λ t. holding S t p) marks
+  pub holds-steady : (S : Fact → Bool) → Stead S → (p : Pattern) → Steady (λ t. holdsFrom S t p) marks
   holds-steady S c p a t h e = holds-cong S S t a p
       (live-steady (base .authorizations) a t h (unmarked a t e .0))
       (λ r m. c r m (p .access) a t h e)
 
-  pub right-by-steady : (L S : Fact → Bool) → Stead L → Stead S → (p : Pattern) → Steady (right L S p) marks
-  right-by-steady L S c d p = right-steady marks (holding S) (holding L) p (holds-steady S d)
+  pub right-by-steady : (L S : Fact → Bool) → Stead L → Stead S → (p : Pattern) →
+      Steady (rightFrom L S p) marks
+  right-by-steady L S c d p = right-steady marks (holdsFrom S) (holdsFrom L) p (holds-steady S d)
       (holds-steady L c)
 
   derives-steady : (L S : Fact → Bool) → Stead L → Stead S → Stead (derived L S)
@@ -102,12 +107,12 @@ module _ (base : Base) where
       let p = rightOf r x in
       let i = rule-steady (base .rules) r m a t h (unmarked a t e .1) in
       cases (inInterval (r .interval) a)
-      (λ y. rw (i, y) (operate-steady marks (right L S p) (right L L p)
+      (λ y. rw (i, y) (operate-steady marks (rightFrom L S p) (rightFrom L L p)
       (right-by-steady L S c d p) (right-by-steady L L c c p)
       (r .operator) (r .interval .start) a t (inInterval-true (r .interval) a y .0) h e))
       (λ y. rw (i, y))
 
-  pub round-steady : (k : ℕ) (L S : Fact → Bool) → Stead L → Stead S → Stead (stage k L S)
+  pub round-steady : (k : ℕ) (L S : Fact → Bool) → Stead L → Stead S → Stead (roundFrom k L S)
   round-steady k L S c d r m x a t h e =
       let n = stratum (base .rules) r in
       ap₂ (λ (y z : Bool). pick (ltb n k) y (eqb n k && z)) (c r m x a t h e)
@@ -115,8 +120,8 @@ module _ (base : Base) where
 
   -- ---- from more facts no less is derived
 
-  holds-mono : (S Q : Fact → Bool) → Subset S Q → (t : ℕ) (p : Pattern) → holding S t p ≡ true →
-      holding Q t p ≡ true
+  holds-mono : (S Q : Fact → Bool) → Subset S Q → (t : ℕ) (p : Pattern) → holdsFrom S t p ≡ true →
+      holdsFrom Q t p ≡ true
   holds-mono S Q h t p =
       let x : Rule → Fact = λ r. fact r (p .access) t in
       let s : Rule → Bool = λ r. derivesFor base p r && S (x r) in
@@ -129,14 +134,15 @@ module _ (base : Base) where
       let r = x .rule in
       let p = rightOf r (x .access) in
       let s = r .interval .start in
-      let from : (Fact → Bool) → Bool = λ S. operate always (r .operator) (right L S p) (right L L p) s
+      let from : (Fact → Bool) → Bool =
+      λ S. operate always (r .operator) (rightFrom L S p) (rightFrom L L p) s
       (x .at) in
       and-mono (inInterval (r .interval) (x .at)) (from S) (from Q)
-      (operate-mono (right L S p) (right L Q p) (right L L p)
-      (λ u. right-mono (holding S u) (holding Q u) (holding L u) p (holds-mono S Q h u)) (r .operator) s
+      (operate-mono (rightFrom L S p) (rightFrom L Q p) (rightFrom L L p)
+      (λ u. right-mono (holdsFrom S u) (holdsFrom Q u) (holdsFrom L u) p (holds-mono S Q h u)) (r .operator) s
       (x .at))
 
-  pub round-mono : (k : ℕ) (L S Q : Fact → Bool) → Subset S Q → Subset (stage k L S) (stage k L Q)
+  pub round-mono : (k : ℕ) (L S Q : Fact → Bool) → Subset S Q → Subset (roundFrom k L S) (roundFrom k L Q)
   round-mono k L S Q h x e =
       let n = stratum (base .rules) (x .rule) in
       cases (ltb n k)

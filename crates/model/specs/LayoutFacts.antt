@@ -16,7 +16,8 @@ use Rattle.foundation.specs.BytesFacts.{Bytes, mem-bytes, byte-kept, number-kep
 use Rattle.foundation.specs.ByteRecords.{length-records}
 use Rattle.foundation.specs.BytesFacts.{body-kept, behind-at, record-in}
 use Rattle.model.specs.Base.{Base}
-use Rattle.model.specs.Encoding.{size, mark, privilegeBytes, authorizationBytes, ruleBytes, entry}
+use Rattle.model.specs.Encoding.{size, mark, privilegeBytes, authorizationBytes, ruleBytes}
+use Rattle.model.specs.Encoding.{contentsEntry}
 use Rattle.model.specs.Encoding.{heading}
 use Rattle.model.specs.Encoding.{bodies, encode, privilegeOf, authorizationOf, ruleOf, decode}
 use Rattle.model.specs.EncodingFacts.{privileges-length, bodies-length, sound-length, encode-bytes}
@@ -27,14 +28,14 @@ use Rattle.model.specs.LayoutRecords.{authorization-laid, rule-laid, pri
 use Rattle.model.specs.LayoutRecords.{rule-kept}
 
 -- the lists that are read are as long as the contents say
-decoded-lengths : (s : List ℕ) →
+pub read-lengths : (s : List ℕ) →
     (length (decode s .objects) ≡ numberAt s 14)
     × (length (decode s .administrators) ≡ numberAt s 18)
     × (length (decode s .referrers) ≡ numberAt s 22)
     × (length (decode s .authorizations) ≡ numberAt s 26)
     × (length (decode s .rules) ≡ numberAt s 30)
 unfolding decode
-decoded-lengths s = (
+read-lengths s = (
   length-records 4 privilegeOf _ _,
   length-records 4 privilegeOf _ _,
   length-records 4 privilegeOf _ _,
@@ -45,7 +46,7 @@ decoded-lengths s = (
 front-length : (s : List ℕ) → length (heading (decode s) ++ bodies (decode s))
     ≡ 32 + 4 * numberAt s 14 + 4 * numberAt s 18 + 4 * numberAt s 22 + 24 * numberAt s 26 + 28 * numberAt s 30
 front-length s = length-append (heading (decode s)) (bodies (decode s))
-    ∙ omega (arith, bodies-length (decode s), decoded-lengths s)
+    ∙ omega (arith, bodies-length (decode s), read-lengths s)
 
 -- ---- what is laid out so is written back
 
@@ -115,13 +116,13 @@ module _ (s : List ℕ) (l : Laid s) where
   heading-kept : heading (decode s) ++ s₁ ≡ s
   unfolding decode
   heading-kept =
-      let c = decoded-lengths s in
+      let c = read-lengths s in
       (λ i. mark ++ bytesOf 4 (le 4 (drop 4 s)) ++ bytesOf 2 (numberAt s 8) ++ (0 ∷ 0 ∷ [])
-      ++ (entry (sym (l .objectsAt) i) (c .0 i)
-      ++ entry (offset₂ i) (c .1 i)
-      ++ entry (offset₃ i) (c .2 i)
-      ++ entry (offset₄ i) (c .3 i)
-      ++ entry (offset₅ i) (c .4 i)) ++ s₁)
+      ++ (contentsEntry (sym (l .objectsAt) i) (c .0 i)
+      ++ contentsEntry (offset₂ i) (c .1 i)
+      ++ contentsEntry (offset₃ i) (c .2 i)
+      ++ contentsEntry (offset₄ i) (c .3 i)
+      ++ contentsEntry (offset₅ i) (c .4 i)) ++ s₁)
       ∙ rw (
         field 2 30 (omega arith),
         field 2 28 (omega arith),
@@ -140,18 +141,18 @@ module _ (s : List ℕ) (l : Laid s) where
       ) (ap (λ (t : List ℕ). t ++ drop 4 s) (sym (l .letters)) ∙ take-append-drop 4 s)
     where
       offset₂ : 32 + 4 * length (decode s .objects) ≡ numberAt s 16
-      offset₂ = omega (arith, decoded-lengths s)
+      offset₂ = omega (arith, read-lengths s)
 
       offset₃ : 32 + 4 * length (decode s .objects) + 4 * length (decode s .administrators) ≡ numberAt s 20
-      offset₃ = omega (arith, decoded-lengths s)
+      offset₃ = omega (arith, read-lengths s)
 
       offset₄ : 32 + 4 * length (decode s .objects) + 4 * length (decode s .administrators)
           + 4 * length (decode s .referrers) ≡ numberAt s 24
-      offset₄ = omega (arith, decoded-lengths s)
+      offset₄ = omega (arith, read-lengths s)
 
       offset₅ : 32 + 4 * length (decode s .objects) + 4 * length (decode s .administrators)
           + 4 * length (decode s .referrers) + 24 * length (decode s .authorizations) ≡ numberAt s 28
-      offset₅ = omega (arith, decoded-lengths s)
+      offset₅ = omega (arith, read-lengths s)
 
   rest-length : size - length (heading (decode s) ++ bodies (decode s)) ≡ length (drop end s)
   rest-length = rw (length-drop end s) (omega (arith, front-length s))
@@ -206,11 +207,11 @@ module _ (s : List ℕ) (long : length s ≡ size) (bytes : Bytes s) (kept : enc
       (each (d .rules) ruleBytes ++ zeros))
 
   length₄ : length front₄ ≡ 32 + 4 * numberAt s 14 + 4 * numberAt s 18 + 4 * numberAt s 22
-  length₄ = simp (length-append, privileges-length) (omega (arith, decoded-lengths s))
+  length₄ = simp (length-append, privileges-length) (omega (arith, read-lengths s))
 
   length₅ : length front₅ ≡ length front₄ + 24 * numberAt s 26
   length₅ = length-append front₄ (each (d .authorizations) authorizationBytes)
-      ∙ omega (arith, length-each (d .authorizations) authorizationBytes 24 (λ a. refl), decoded-lengths s)
+      ∙ omega (arith, length-each (d .authorizations) authorizationBytes 24 (λ a. refl), read-lengths s)
 
   ends : length (heading d ++ bodies d) ≤ size
   ends = omega (arith, ap length parts, length-append (heading d ++ bodies d) zeros)
@@ -226,32 +227,32 @@ module _ (s : List ℕ) (long : length s ≡ size) (bytes : Bytes s) (kept : enc
 
   o₂ : numberAt s 16 ≡ 32 + 4 * numberAt s 14
   unfolding encode
-  o₂ = written 16 (32 + 4 * length (d .objects)) refl (omega (arith, decoded-lengths s, front-length s, ends))
-      ∙ omega (arith, decoded-lengths s)
+  o₂ = written 16 (32 + 4 * length (d .objects)) refl (omega (arith, read-lengths s, front-length s, ends))
+      ∙ omega (arith, read-lengths s)
 
   o₃ : numberAt s 20 ≡ 32 + 4 * numberAt s 14 + 4 * numberAt s 18
   unfolding encode
   o₃ = written 20 (32 + 4 * length (d .objects) + 4 * length (d .administrators)) refl
-      (omega (arith, decoded-lengths s, front-length s, ends)) ∙ omega (arith, decoded-lengths s)
+      (omega (arith, read-lengths s, front-length s, ends)) ∙ omega (arith, read-lengths s)
 
   o₄ : numberAt s 24 ≡ length front₄
   unfolding encode
   o₄ = written 24 (32 + 4 * length (d .objects) + 4 * length (d .administrators) + 4 * length (d .referrers))
       refl
-      (omega (arith, decoded-lengths s, front-length s, ends)) ∙ omega (arith, decoded-lengths s, length₄)
+      (omega (arith, read-lengths s, front-length s, ends)) ∙ omega (arith, read-lengths s, length₄)
 
   o₅ : numberAt s 28 ≡ length front₅
   unfolding encode
   o₅ = written 28 (32 + 4 * length (d .objects) + 4 * length (d .administrators) + 4 * length (d .referrers)
       + 24 * length (d .authorizations)) refl
-      (omega (arith, decoded-lengths s, front-length s, ends))
-      ∙ omega (arith, decoded-lengths s, length₄, length₅)
+      (omega (arith, read-lengths s, front-length s, ends))
+      ∙ omega (arith, read-lengths s, length₄, length₅)
 
   authorization-at : (i : ℕ) → i < numberAt s 26 → AuthorizationLaid (drop (numberAt s 24 + 24 * i) s)
   authorization-at i h =
       let rest = each (d .rules) ruleBytes ++ zeros in
       let body = each (d .authorizations) authorizationBytes ++ rest in
-      let n : i < length (d .authorizations) = omega (arith, decoded-lengths s) in
+      let n : i < length (d .authorizations) = omega (arith, read-lengths s) in
       let r = record-in authorizationBytes 24 (λ a. refl) (d .authorizations) rest i n in
       let e : drop (numberAt s 24 + 24 * i) s ≡ authorizationBytes (r .0) ++ r .1 =
       (λ j. drop (o₄ j + 24 * i) (parts₄ j)) ∙ drop-append-add front₄ body (24 * i) ∙ r .2 in
@@ -260,7 +261,7 @@ module _ (s : List ℕ) (long : length s ≡ size) (bytes : Bytes s) (kept : enc
   rule-at : (i : ℕ) → i < numberAt s 30 → RuleLaid (drop (numberAt s 28 + 28 * i) s)
   rule-at i h =
       let body = each (d .rules) ruleBytes ++ zeros in
-      let n : i < length (d .rules) = omega (arith, decoded-lengths s) in
+      let n : i < length (d .rules) = omega (arith, read-lengths s) in
       let r = record-in ruleBytes 28 (λ a. refl) (d .rules) zeros i n in
       let e : drop (numberAt s 28 + 28 * i) s ≡ ruleBytes (r .0) ++ r .1 =
       (λ j. drop (o₅ j + 28 * i) (parts₅ j)) ∙ drop-append-add front₅ body (28 * i) ∙ r .2 in

@@ -38,9 +38,9 @@ abbrev pub emptyLedger : Ledger
 emptyLedger = record { owners = []; administrators = []; last = 0; entries = [] }
 
 -- the entries read as authorizations at t: the heads of those that have it left
-abbrev pub standing : ℕ → List Entry → List Head
-standing t [] = []
-standing t (e ∷ rest) = let r = standing t rest in pick (e .at t) (e .head ∷ r) r
+abbrev pub standingHeads : ℕ → List Entry → List Head
+standingHeads t [] = []
+standingHeads t (e ∷ rest) = let r = standingHeads t rest in pick (e .at t) (e .head ∷ r) r
 
 -- the entries with only the instants that p keeps
 abbrev pub keepEntries : (Head → ℕ → Bool) → List Entry → List Entry
@@ -49,7 +49,7 @@ keepEntries p (e ∷ rest) = entry (e .head) (λ t. e .at t && p (e .head) t) �
 
 -- 01: "After each accepted request all entries, read as lines, lose unbacked instants"
 abbrev pub settle : (Head → Bool) → List Entry → List Entry
-settle root es = keepEntries (λ h t. supported root (standing t es) h) es
+settle root es = keepEntries (λ h t. supported root (standingHeads t es) h) es
 
 -- what GRANT and DENY enter
 abbrev pub newEntry : Ledger → Request → List Entry
@@ -104,4 +104,4 @@ keep-loses p [] = tt
 keep-loses p (e ∷ es) = ((λ t h. and-true (e .at t) (p (e .head) t) h .0), keep-loses p es)
 
 pub settle-loses : (root : Head → Bool) (es : List Entry) → NoMore (settle root es) es
-settle-loses root es = keep-loses (λ h t. supported root (standing t es) h) es
+settle-loses root es = keep-loses (λ h t. supported root (standingHeads t es) h) es

@@ -16,7 +16,6 @@ pub mod Layout
 pub mod Soundness
 pub mod SoundnessFacts
 pub mod SoundTests
-pub mod ChainFacts
 pub mod StepFacts
 pub mod Answers
 pub mod GrantFacts

@@ -8,18 +8,18 @@ use native.Mathlib.Omega.{arith}
 use mathlib.Core.Bool.{Bool, true}
 use mathlib.Core.List.{List, [], _∷_, _++_}
 use lib.ListN.{length, replicate, length-append, length-replicate}
-use lib.Dec.{leb}
-use Rattle.foundation.specs.Tests.{and-true, cases, true-le}
+use Rattle.foundation.specs.Tests.{and-true, cases}
 use Rattle.foundation.specs.Lists.{allb, keepIf, each, Mem, all-mem, mem-all, kept, conjunct}
 use Rattle.model.specs.declared.Head.{Head}
 use Rattle.model.specs.declared.Authorization.{Authorization}
-use Rattle.model.specs.Ranges.{between, isInstant, isSubject, isObject, isMode, lastLabel, isLabel}
+use Rattle.model.specs.Ranges.{isInstant, isSubject, isObject, isMode, lastLabel, isLabel}
 use Rattle.model.specs.Base.{Base}
 use Rattle.model.specs.Text.{space, decimal, printInstant}
 use Rattle.model.specs.TextFacts.{decimal-below, instant-most}
 use Rattle.model.specs.Soundness.{intervalIn, authorizationIn, sound}
 use Rattle.model.specs.SoundnessFacts.{sound-tests}
 use Rattle.model.specs.SoundTests.{ranges-test}
+use Rattle.model.specs.FitsFacts.{at-most}
 use Rattle.model.specs.Report.{aligned, printSign, printOption, reportRow, isOn, reportOf}
 
 -- ---- one column
@@ -65,10 +65,6 @@ fieldTests a =
     ∷ isInstant (a .head .granted)
     ∷ intervalIn (a .interval)
     ∷ []
-
--- a number in a range is at most its highest
-at-most : (low high n : ℕ) → between low high n ≡ true → n ≤ high
-at-most low high n e = true-le n high (and-true (leb low n) (leb n high) e .1)
 
 pub head-fits : (a : Authorization) → authorizationIn a ≡ true → Fits (a .head)
 head-fits a e =

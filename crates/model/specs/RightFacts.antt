@@ -5,7 +5,7 @@ use mathlib.Core.Logic.{_↔_}
 use Prim.Native.Nat.{ℕ, _≤_}
 use mathlib.Core.Bool.{Bool, true, false, not, _&&_, _||_}
 use mathlib.Core.List.{List}
-use Rattle.foundation.specs.Tests.{cases, agree, not-true, and-true, and-intro}
+use Rattle.foundation.specs.Tests.{cases, agree, not-true, and-true, and-intro, and-yes}
 use Rattle.foundation.specs.Intervals.{always, always-mono}
 use Rattle.foundation.specs.Marks.{clear, not-steady, Steady, always-steady}
 use Rattle.model.specs.declared.Operator.{Operator}
@@ -63,10 +63,6 @@ pub right-denial : (same lower : Pattern → Bool) (p : Pattern) → p .negative
     rightHolds same lower p ≡ same p
 right-denial same lower p e =
     ap (λ (n : Bool). same p && (n || not (lower (asked (p .access) true)))) e ∙ and-yes (same p)
-  where
-    and-yes : (b : Bool) → b && true ≡ b
-    and-yes true = refl
-    and-yes false = refl
 
 -- both at once
 pub right-is : (same lower : Pattern → Bool) (p : Pattern) → (rightHolds same lower p ≡ true)

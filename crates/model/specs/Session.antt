@@ -115,9 +115,13 @@ pub record WrittenText : Type 0 where
 abbrev pub shortestBuffer : ℕ
 shortestBuffer = 16
 
+-- what is printed of the answer to what a line says
+abbrev pub turnText : List ℕ → Line → List ℕ
+turnText s l = let x = byteTurn s l in printReply (x .reply) (x .runs)
+
 -- the text of the reply, with its newline
 abbrev pub replyLine : List ℕ → List ℕ → List ℕ
-replyLine s line = let x = byteTurn s (readLine line) in printReply (x .reply) (x .runs) ++ (newline ∷ [])
+replyLine s line = turnText s (readLine line) ++ (newline ∷ [])
 
 -- 13: the buffer has fewer than 16 bytes, whatever the line says, or fewer than the text has; nothing lent is
 -- altered then. So no request is carried out whose reply cannot be told: only WHEN's can be longer, and WHEN

@@ -85,3 +85,6 @@ unfolding soundBytes
 sound-bytes s e =
     let p = and-true (eqList (encode (decode s)) s) (sound (decode s)) e in
     (eqList-eq (encode (decode s)) s (p .0), p .1)
+
+pub decoded-sound : (s : List ℕ) → soundBytes s ≡ true → Sound (decode s)
+decoded-sound s e = sound-tests (decode s) (sound-bytes s e .1)

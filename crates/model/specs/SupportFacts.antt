@@ -22,6 +22,14 @@ use Rattle.model.specs.Support.{gaps}
 
 -- ---- the heads that cover an instant
 
+-- a test of the heads that cover t, as one of the authorizations
+pub any-live : (p : Head → Bool) (t : ℕ) (xs : List Authorization) →
+    anyb p (live t xs) ≡ anyb (λ a. inInterval (a .interval) t && p (a .head)) xs
+any-live p t [] = refl
+any-live p t (a ∷ xs) = cases (inInterval (a .interval) t)
+    (λ e. rw (e, any-live p t xs))
+    (λ e. rw (e, any-live p t xs))
+
 pub mem-live : (t : ℕ) (xs : List Authorization) (a : Authorization) → Mem a xs →
     inInterval (a .interval) t ≡ true → Mem (a .head) (live t xs)
 mem-live t [] a m e = absurd (m .lower)

@@ -52,15 +52,15 @@ split at [] = [] ∷ []
 split at (c ∷ s) = let ps = split at s in pick (eqb c at) ([] ∷ ps) (extend c ps)
 
 -- without the last part if that is empty
-abbrev pub closed : List (List ℕ) → List (List ℕ)
-closed [] = []
-closed ([] ∷ []) = []
-closed ((c ∷ p) ∷ []) = (c ∷ p) ∷ []
-closed (p ∷ q ∷ ps) = p ∷ closed (q ∷ ps)
+abbrev pub withoutEmptyLast : List (List ℕ) → List (List ℕ)
+withoutEmptyLast [] = []
+withoutEmptyLast ([] ∷ []) = []
+withoutEmptyLast ((c ∷ p) ∷ []) = (c ∷ p) ∷ []
+withoutEmptyLast (p ∷ q ∷ ps) = p ∷ withoutEmptyLast (q ∷ ps)
 
 -- 01: "Each line ends at a newline; a last one without it counts if it has a byte"
 abbrev pub lines : List ℕ → List (List ℕ)
-lines input = closed (split newline input)
+lines input = withoutEmptyLast (split newline input)
 
 -- ---- one field
 

@@ -10,11 +10,10 @@ use lib.Dec.{eqb, ltb}
 use lib.ListN.{length, getD, List·getD-eq-default}
 use Rattle.foundation.specs.Tests.{pick, cases, agree, true-eq, eq-true, ne-false, true-le, false-le, le-true}
 use Rattle.foundation.specs.Tests.{le-false, or-false, or-assoc}
-use Rattle.foundation.specs.BitMasks.{bit}
+use Rattle.foundation.specs.BitMasks.{bit, bit-zero}
 use Rattle.words.specs.Bits.{bit-or}
 use Rattle.outlines.specs.Coordinates.{Apart}
 use Rattle.outlines.specs.LeftMasks.{controlledBy, Controlled}
-use Rattle.masks.proofs.SingleBits.{no-bit}
 use Rattle.outlines.proofs.MaskWords.{gather-turn}
 
 -- ---- one word
@@ -89,7 +88,7 @@ upto-all {s} {body} {objects} {left} {l} {v} h m = record {
 -- where no rule is starred
 pub none-starred : (s body objects left : List ℕ) → getD left 151 0 ≡ 0 → Controlled s body objects left left
 none-starred s body objects left z = record {
-  object = λ v r h. let e : bit r (getD left 151 0) ≡ false = ap (bit r) z ∙ no-bit r in
+  object = λ v r h. let e : bit r (getD left 151 0) ≡ false = ap (bit r) z ∙ bit-zero r in
       rw e (sym (or-false (bit r (getD left (getD objects v 0) 0))));
   other = λ w h. refl;
 }

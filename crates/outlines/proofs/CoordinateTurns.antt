@@ -14,7 +14,7 @@ use Rattle.foundation.specs.Tests.{pick, cases, true-eq, false-eq, eq-true, ne-
 use Rattle.model.specs.declared.Rule.{Rule}
 use Rattle.encoding.specs.Format.{ruleAt}
 use Rattle.sections.specs.Sections.{subjectsOf, objectsOf}
-use Rattle.sections.specs.SectionWrites.{putBack, back-length, back-own, back-before, back-rest, same-part}
+use Rattle.sections.proofs.SectionWrites.{putBack, back-length, back-own, back-before, back-rest, same-part}
 use Rattle.outlines.specs.Coordinates.{unlisted, Added, namedIn, HasCoordinates}
 
 -- ---- both tables in their sections

@@ -1,6 +1,6 @@
 -- The masks give the rules that meet a right side (`meeting-bit`); with grantor and option those are the
 -- rules that feed it (`feeders-same`), and the denials that meet a positive one link to it
--- (`preceders-same`).
+-- (`preceders-same`): where there are none, no rule does (`none-link`).
 use mathlib.Core.Path.{_≡_, refl, sym, ap, ap₂, _∙_}
 use mathlib.Core.Bool.{Bool, true, false, not, _&&_, _||_, Bool·beq}
 use mathlib.Core.List.{List}
@@ -9,26 +9,25 @@ use native.Mathlib.Omega.{arith}
 use lib.Bits.{bitAnd, bitOr}
 use lib.Dec.{eqb, ltb}
 use lib.ListN.{getD}
-use Rattle.foundation.specs.Tests.{pick, cases, false-eq, ne-false, true-le, or-true}
-use Rattle.foundation.specs.Tests.{or-false}
-use Rattle.foundation.specs.Tests.{and-true, and-false}
-use Rattle.foundation.specs.BitMasks.{asBit, bit, bit-le}
+use Rattle.foundation.specs.Tests.{pick, cases, false-eq, ne-false, true-le, or-true, and-yes, and-or}
+use Rattle.foundation.specs.Tests.{or-false, must-fail}
+use Rattle.foundation.specs.Tests.{and-true, and-false, and-intro}
+use Rattle.foundation.specs.BitMasks.{asBit, bit, bit-le, bit-zero}
 use Rattle.words.specs.Bits.{bit-and, bit-or}
 use Rattle.model.specs.declared.Rule.{Rule}
 use Rattle.model.specs.Stratification.{isStar, meets, feeds, links, precedes, fitsOption}
 use Rattle.model.specs.Stratification.{precedes-either}
 use Rattle.model.specs.Rules.{fitsGrantor}
-use Rattle.model.specs.SideFacts.{feeds-eq, links-eq}
+use Rattle.model.specs.SideFacts.{feeds-eq, links-eq, links-is}
 use Rattle.encoding.specs.Format.{rulesIn, ruleAt}
-use Rattle.rules.specs.RankTables.{feedersOf}
 use Rattle.outlines.specs.Coordinates.{HasCoordinates, Chart}
 use Rattle.outlines.specs.Outline.{codeIn}
 use Rattle.outlines.specs.LeftMasks.{objectCode, subjectCode, modeCodeOf, signCode, CodesPlaced}
-use Rattle.outlines.specs.StandingRules.{star-is, code-small, subject-is, mode-is, sign-is, under}
-use Rattle.outlines.specs.StandingRules.{rule-bit}
-use Rattle.outlines.specs.Feed.{Outlined, rightModeWord, meetingWord, linkersWord, precedersOf}
-use Rattle.masks.proofs.SingleBits.{no-bit}
-use Rattle.masks.proofs.BitWalk.{and-last, same-bits}
+use Rattle.outlines.proofs.StandingRules.{star-is, code-small, subject-is, mode-is, sign-is, under}
+use Rattle.outlines.proofs.StandingRules.{rule-bit}
+use Rattle.outlines.specs.Feed.{Outlined, rightModeWord, meetingWord, linkersWord, feedersOf}
+use Rattle.outlines.specs.Feed.{precedersOf}
+use Rattle.masks.proofs.BitWalk.{same-bits}
 
 -- q's left side has the sign g, and its object, subject and mode meet r's right side
 abbrev pub meetsRight : Bool → Rule → Rule → Bool
@@ -71,10 +70,6 @@ and-two : (t a s : Bool) → (t && a) && (t && s) ≡ t && (a && s)
 and-two true a s = refl
 and-two false a s = refl
 
-or-two : (t a s : Bool) → (t && a) || (t && s) ≡ t && (a || s)
-or-two true a s = refl
-or-two false a s = refl
-
 guarded : (t a b c : Bool) → (t && a) && b && c ≡ t && (a && b && c)
 guarded true a b c = refl
 guarded false a b c = refl
@@ -87,7 +82,7 @@ narrow-meets : {field : Rule → ℕ} {n : ℕ} {body U : List ℕ} {size : ℕ}
 narrow-meets {n = n} t few u v w m q code a c e z =
     let f : eqb code 255 ≡ isStar v = ap (λ (k : ℕ). eqb k 255) c ∙ star-is t few v in
     cases (isStar v)
-    (λ s. rw (f ∙ s, meets-star u v s) (z ∙ ap (λ (b : Bool). ltb q n && b) (and-last a)))
+    (λ s. rw (f ∙ s, meets-star u v s) (z ∙ ap (λ (b : Bool). ltb q n && b) (sym (and-yes a))))
     (λ s. rw (f ∙ s) (bit-and w m q
     ∙ ap₂ (λ (x y : Bool). x && y) z (e s ∙ ap (λ (b : Bool). ltb q n && b) (meets-named u v s))
     ∙ and-two (ltb q n) a (meets u v)))
@@ -176,7 +171,7 @@ module _ {n : ℕ} {body left right sides : List ℕ} (o : Outlined n body left 
         bit-or (getD left 151 0) (getD left object 0) q
         ∙ ap₂ (λ (x y : Bool). x || y) (o .masks .starred q)
         (o .masks .object object q (omega arith) (omega arith))
-        ∙ or-two (ltb q n) (eqb (objectCode sides q) 255) (eqb (objectCode sides q) object)
+        ∙ and-or (ltb q n) (eqb (objectCode sides q) 255) (eqb (objectCode sides q) object)
         ∙ under (ltb q n) (eqb (objectCode sides q) 255 || eqb (objectCode sides q) object)
         (isStar u || eqb u v)
         (λ y. let l = true-le (suc q) n y in
@@ -218,7 +213,7 @@ module _ {n : ℕ} {body left right sides : List ℕ} (o : Outlined n body left 
         (λ e. ap (λ (k : ℕ). bit q (getD left k 0)) (right-mode-star s e)
         ∙ o .masks .sided .sign s q (omega arith)
         ∙ under (ltb q n) (eqb (signCode sides q) s) (t && meets u v)
-        (λ y. sign-meets g q (true-le (suc q) n y) ∙ and-last t
+        (λ y. sign-meets g q (true-le (suc q) n y) ∙ sym (and-yes t)
         ∙ ap (λ (x : Bool). t && x) (sym (meets-star u v e))))
         (λ e. let d = mode-code e in
         let z = false-eq v 0 e in
@@ -274,9 +269,20 @@ module _ {n : ℕ} {body left right sides : List ℕ} (o : Outlined n body left 
     unfolding linkersWord
     linkers-bit q = cases (rule i .right .negative)
         (λ e. let s : sign ≡ 1 = sign-bit ∙ ap asBit e in
-        rw (s, links-parts (rule q) (rule i), e) (no-bit q ∙ sym (and-false (ltb q n))))
+        rw (s, links-parts (rule q) (rule i), e) (bit-zero q ∙ sym (and-false (ltb q n))))
         (λ e. let s : sign ≡ 0 = sign-bit ∙ ap asBit e in
         rw (s, links-parts (rule q) (rule i), e) (meeting-bit true q))
+
+    -- where no rule has a denial on the left
+    pub none-link : getD left 147 0 ≡ 0 → linkersWord left right sides i ≡ 0
+    none-link z = same-bits (linkersWord left right sides i) 0
+        (λ q. must-fail (bit q (getD left 147 0)) (bit q (linkersWord left right sides i))
+        (ap (bit q) z ∙ bit-zero q)
+        (λ y. let w = and-true (ltb q n) (links (rule q) (rule i)) (sym (linkers-bit q) ∙ y) in
+        let d = links-is (rule q) (rule i) .0 (w .1) .0 in
+        o .masks .sided .sign 1 q (omega arith) ∙ and-intro (ltb q n) (eqb (signCode sides q) 1) (w .0)
+        (sign-meets true q (true-le (suc q) n (w .0)) ∙ ap (λ (b : Bool). Bool·beq b true) d))
+        ∙ sym (bit-zero q))
 
     pub preceders-same : bitOr (feedersOf (rulesIn n body) (rule i)) (linkersWord left right sides i)
         ≡ precedersOf (rulesIn n body) (rule i)
@@ -285,6 +291,6 @@ module _ {n : ℕ} {body left right sides : List ℕ} (o : Outlined n body left 
         same-bits (bitOr f (linkersWord left right sides i)) (precedersOf (rulesIn n body) (rule i))
         (λ q. bit-or f (linkersWord left right sides i) q
         ∙ ap₂ (λ (a b : Bool). a || b) (rule-bit n body (λ p. feeds p (rule i)) q) (linkers-bit q)
-        ∙ or-two (ltb q n) (feeds (rule q) (rule i)) (links (rule q) (rule i))
+        ∙ and-or (ltb q n) (feeds (rule q) (rule i)) (links (rule q) (rule i))
         ∙ ap (λ (b : Bool). ltb q n && b) (sym (precedes-either (rule q) (rule i)))
         ∙ sym (rule-bit n body (λ p. precedes p (rule i)) q))

@@ -1,3 +1,10 @@
+-- `CoordinateFacts` has accesses by coordinates, `RuleAims` where rules lead from them, `NeededFacts` what a
+-- question can rest on, `StandingRules` which rules the masks say to stand.
+pub mod CoordinateFacts
+pub mod RuleAims
+pub mod NeededFacts
+pub mod StandingRules
+-- What the proofs of the functions use.
 pub mod CoordinateTurns
 pub mod SideCodes
 pub mod MaskWords

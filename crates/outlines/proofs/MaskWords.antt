@@ -9,11 +9,10 @@ use native.Mathlib.Omega.{arith}
 use lib.Dec.{eqb, leb, ltb}
 use Rattle.foundation.specs.Tests.{pick, cases, agree, true-eq, false-eq, le-true, le-false, true-le}
 use Rattle.foundation.specs.Tests.{or-false}
-use Rattle.foundation.specs.BitMasks.{bit}
+use Rattle.foundation.specs.BitMasks.{bit, bit-zero}
 use Rattle.outlines.specs.LeftMasks.{objectCode, subjectCode, modeCodeOf, signCode}
 use Rattle.outlines.specs.LeftMasks.{objectWord, subjectWord, modeWord, inWord, CodesPlaced}
 use Rattle.outlines.specs.Feed.{rightModeWord}
-use Rattle.masks.proofs.SingleBits.{no-bit}
 
 -- four tests one after the other
 pub four-joined : (x t a b d e : Bool) →
@@ -37,7 +36,7 @@ gather-turn p i r = cases (eqb r i)
     (λ q. rw (q, next-below i r (false-eq r i q)) (or-false (ltb r i && p r)))
 
 pub gather-start : (p : Bool) (r x : ℕ) → x ≡ 0 → bit r x ≡ ltb r 0 && p
-gather-start p r x e = ap (bit r) e ∙ no-bit r ∙ sym (rw (le-false (suc r) 0 (omega arith)))
+gather-start p r x e = ap (bit r) e ∙ bit-zero r ∙ sym (rw (le-false (suc r) 0 (omega arith)))
 
 -- a range of words, and the next word
 pub spread-turn : (from w j : ℕ) (x v : Bool) → from ≤ w →

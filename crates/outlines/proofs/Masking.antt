@@ -1,14 +1,14 @@
 -- The words that a rule is in, by its codes (`in-object`, `in-starred`, `in-subject`, `in-mode`, `in-sign`),
 -- and the masks once starred subjects and modes are spread (`written`).
-use mathlib.Core.Path.{_≡_, refl, sym, ap₂, _∙_}
+use mathlib.Core.Path.{_≡_, sym, ap₂, _∙_}
 use mathlib.Core.Logic.{_⊎_, inl, inr, ⊎-elim}
-use mathlib.Core.Bool.{Bool, true, false, _&&_, _||_}
+use mathlib.Core.Bool.{Bool, true, _&&_, _||_}
 use mathlib.Core.List.{List}
 use Prim.Native.Nat.{ℕ, zero, suc, _+_, _*_, _≤_, _<_}
 use native.Mathlib.Omega.{arith}
 use lib.Dec.{eqb, leb, ltb}
 use lib.ListN.{getD}
-use Rattle.foundation.specs.Tests.{cases, agree, true-eq, eq-true, le-true}
+use Rattle.foundation.specs.Tests.{cases, agree, true-eq, eq-true, le-true, and-or}
 use Rattle.foundation.specs.Tests.{le-false}
 use Rattle.foundation.specs.Tests.{true-le, and-true, and-intro, or-false, or-cases}
 use Rattle.foundation.specs.Tests.{or-intro-left, or-true-right}
@@ -16,7 +16,7 @@ use Rattle.foundation.specs.BitMasks.{bit}
 use Rattle.outlines.specs.LeftMasks.{objectCode, subjectCode, modeCodeOf, signCode}
 use Rattle.outlines.specs.LeftMasks.{objectWord, subjectWord, modeWord, inWord, CodesPlaced}
 use Rattle.outlines.specs.LeftMasks.{WrittenMasks}
-use Rattle.outlines.specs.StandingRules.{under}
+use Rattle.outlines.proofs.StandingRules.{under}
 use Rattle.outlines.proofs.MaskWords.{object-cases, subject-cases, mode-cases}
 
 module _ (sides : List ℕ) (r : ℕ) where
@@ -189,10 +189,6 @@ range-out a b w x v (inl h) = rw (le-false a w h) (or-false x)
 range-out a b w x v (inr h) = cases (leb a w)
     (λ e. rw (e, le-false (suc w) b (omega arith)) (or-false x))
     (λ e. rw e (or-false x))
-
-and-or : (t p q : Bool) → (t && p) || (t && q) ≡ t && (p || q)
-and-or true p q = refl
-and-or false p q = refl
 
 module _ (n subjects : ℕ) (sides : List ℕ) (placed : (r : ℕ) → r < n → CodesPlaced sides r)
     (few : subjects ≤ 65)

@@ -9,9 +9,10 @@ use lib.Dec.{eqb, ltb}
 use lib.ListN.{length, getD, set, take, drop, length-set}
 use lib.Seq.{getD-set-same, getD-set-other}
 use Rattle.foundation.specs.Tests.{cases, true-eq, false-eq, true-le, false-le}
+use Rattle.foundation.specs.BytesFacts.{rest-behind}
 use Rattle.model.specs.declared.Side.{Side}
 use Rattle.sections.specs.Sections.{subjectsOf, objectsOf}
-use Rattle.sections.specs.SectionWrites.{in-part, beyond-part, rest-behind}
+use Rattle.sections.proofs.SectionWrites.{in-part, beyond-part}
 use Rattle.outlines.specs.Outline.{CodedAt, Coded}
 
 -- four numbers from `at` on

@@ -56,6 +56,10 @@ meetingWord left right i sign =
 unfoldable pub linkersWord : List ℕ → List ℕ → List ℕ → ℕ → ℕ
 linkersWord left right sides i = pick (eqb (getD sides (4 * i + 3) 0 / 2) 0) (meetingWord left right i 1) 0
 
+-- the mask of the rules that feed r
+abbrev pub feedersOf : List Rule → Rule → ℕ
+feedersOf rules r = maskOf (λ q. feeds q r) rules
+
 -- the mask of the rules that precede r
 abbrev pub precedersOf : List Rule → Rule → ℕ
 precedersOf rules r = maskOf (λ q. precedes q r) rules

@@ -10,11 +10,11 @@ ghost use Rattle.foundation.specs.BitMasks.{bit, maskOf};
 ghost use Rattle.model.specs.Rules.{fitsGrantor};
 ghost use Rattle.model.specs.Stratification.{fitsOption};
 ghost use Rattle.encoding.specs.Format.{rulesIn, ruleAt};
-ghost use Rattle.rules.specs.RankTables.{feedersOf, RuleTable};
+ghost use Rattle.rules.specs.RankTables.{RuleTable};
 ghost use Rattle.sections.specs.Sections.{leftOf, feedOf, sidesOf, rightsOf};
 ghost use Rattle.outlines.specs.LeftMasks.{CodesPlaced};
 ghost use Rattle.outlines.specs.Feed.{rightModeWord, meetingWord, linkersWord, isChoosy, Outlined};
-ghost use Rattle.outlines.specs.Feed.{FeedTable};
+ghost use Rattle.outlines.specs.Feed.{feedersOf, FeedTable};
 use crate::left::put_word;
 use crate::left::usize_of;
 use encoding::rule_at;
@@ -231,7 +231,8 @@ fn draw_linkers(n: usize, coordinates: &[u8], outline: &mut [u64])
     }
 }
 
-// The rules that precede each rule, and from 64 on the choosy rules that each feeds.
+// The rules that precede each rule, and from 64 on the choosy rules that each feeds. Only rules with a denial
+// on the left link, so bases without one pay nothing for links.
 pub fn draw_feed(body: &[u8], n: usize, choosy: u64, coordinates: &[u8], outline: &mut [u64])
     requires { ⌜ Outlined n (now body) (leftOf (now outline)) (rightsOf (now coordinates))
         (sidesOf (now coordinates)) × (length (now outline) ≡ 472) × (length (now coordinates) ≡ 1666)
@@ -241,5 +242,8 @@ pub fn draw_feed(body: &[u8], n: usize, choosy: u64, coordinates: &[u8], outline
 {
     draw_feeders(body, n, coordinates, outline);
     draw_fed(choosy, &mut outline[FEED..FIRST]);
+    if outline[LEFT + 147] == 0 {
+        return;
+    }
     draw_linkers(n, coordinates, outline);
 }

@@ -84,10 +84,10 @@ module _ (w : Want) (a d : ℕ) (x : Authorization) (h : a ≤ d) where
 
 -- ---- tests that every instant passes, or none
 
-pub first-all : (g : ℕ → Bool) (a b : ℕ) → a ≤ b → ((t : ℕ) → g t ≡ true) → first g a b ≡ a
-first-all g a b h e = first-is g a b a
+pub nearest-all : (g : ℕ → Bool) (a b : ℕ) → a ≤ b → ((t : ℕ) → g t ≡ true) → first g a b ≡ a
+nearest-all g a b h e = first-is g a b a
     (record { low = omega arith; high = h; before = λ u p q. absurd (omega arith); here = λ k. e a })
 
-pub first-none : (g : ℕ → Bool) (a b : ℕ) → a ≤ b → ((t : ℕ) → g t ≡ false) → first g a b ≡ b
-first-none g a b h e = first-is g a b b
+pub nearest-none : (g : ℕ → Bool) (a b : ℕ) → a ≤ b → ((t : ℕ) → g t ≡ false) → first g a b ≡ b
+nearest-none g a b h e = first-is g a b b
     (record { low = h; high = omega arith; before = λ u p q. e u; here = λ k. absurd (omega arith) })

@@ -1,13 +1,13 @@
 -- The maximal intervals of a stretch: taken one after the other (`to-next`, `to-none`), and of a stretch with
 -- another one taken out (`to-parts`).
-use mathlib.Core.Path.{_≡_, refl, sym, ap, _∙_}
+use mathlib.Core.Path.{_≡_, sym, ap, _∙_}
 use Prim.Native.Nat.{ℕ, suc, _+_, _-_, _≤_, _<_, min, max}
 use native.Mathlib.Omega.{arith}
 use mathlib.Core.Bool.{Bool, true, false, not, _&&_, _||_, false≢true}
 use mathlib.Core.List.{List, [], _∷_, _++_, append-nil}
 use lib.Dec.{leb, ltb}
 use Rattle.foundation.specs.Tests.{cases, le-true, le-false, true-le, false-le, not-true, not-false, and-true}
-use Rattle.foundation.specs.Tests.{and-intro, and-false, and-assoc, or-and}
+use Rattle.foundation.specs.Tests.{and-intro, and-false, and-assoc, or-and, and-yes}
 use Rattle.foundation.specs.declared.Interval.{Interval}
 use Rattle.foundation.specs.Intervals.{interval, inInterval, inInterval-in, inInterval-above, covered}
 use Rattle.foundation.specs.Intervals.{Separate, separate-weaken, unique, maximalFrom-no}
@@ -161,10 +161,6 @@ module _ (s e x y : ℕ) (f : ℕ → Bool) (gap : y < e → x < y) where
       (sym (and-false (inStretch s e t))))
       (λ q. let q' = false-le (suc t) y q in rw (behind-stretch x y t (omega arith)) (late (omega arith)))))
     where
-      and-yes : (b : Bool) → b && true ≡ b
-      and-yes true = refl
-      and-yes false = refl
-
       -- before x there is the first part alone
       early : t < x → inStretch s (min e x) t || inStretch (max s y) e t ≡ inStretch s e t && true
       early p = cases (leb s t)

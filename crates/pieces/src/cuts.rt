@@ -1,22 +1,11 @@
 // Which instants of an authorization a withdrawal takes out.
 ghost use mathlib.Core.Path.{_≡_};
-ghost use mathlib.Core.Bool.{not};
-ghost use Rattle.foundation.specs.Tests.{pick};
 ghost use Rattle.pieces.specs.Cuts.{cutNames, allIf, namedOf, takenOf};
 use crate::Cut;
 use crate::CutKind;
 use crate::Stretch;
+use fields::alike;
 use model::Head;
-
-// Whether a sign is the one that is wanted.
-fn has_sign(wanted: bool, negative: bool) -> bool
-    ensures { λ r. ⌜ r ≡ pick wanted negative (not negative) ⌝ }
-{
-    if wanted {
-        return negative;
-    }
-    !negative
-}
 
 // Whether an authorization has the grantor, subject, object, mode and sign of a cut.
 fn is_named(c: Cut, h: Head) -> bool
@@ -26,7 +15,7 @@ fn is_named(c: Cut, h: Head) -> bool
         & (h.subject == c.subject)
         & (h.object == c.object)
         & (h.mode == c.mode)
-        & has_sign(c.negative, h.negative)
+        & alike(h.negative, c.negative)
 }
 
 // Every instant, or none.

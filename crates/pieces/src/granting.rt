@@ -2,7 +2,7 @@
 // look quick; in any other order it is right too.
 ghost use mathlib.Core.Path.{_≡_};
 ghost use mathlib.Core.Bool.{not};
-ghost use Prim.Native.Nat.{_+_, _*_, _≤_, max};
+ghost use Prim.Native.Nat.{_+_, _*_, _≤_};
 ghost use lib.ListN.{length, drop};
 ghost use Rattle.model.specs.Encoding.{authorizationOf};
 ghost use Rattle.cover.specs.First.{first};
@@ -11,17 +11,8 @@ ghost use Rattle.encoding.specs.Format.{authorizationsIn};
 ghost use Rattle.pieces.specs.Nearest.{nearOf};
 ghost use Rattle.pieces.specs.CutParts.{mayGrant};
 use cover::Want;
+use fields::larger;
 use model::AUTHORIZATION_BYTES;
-
-// The later of two instants.
-pub fn later(x: u64, y: u64) -> u64
-    ensures { λ r. ⌜ r ≡ max x y ⌝ }
-{
-    if x < y {
-        return y;
-    }
-    x
-}
 
 // The first instant from a on that the authorization at a place covers, if it is wanted and that is before d;
 // else d.
@@ -31,7 +22,7 @@ fn nearest(s: &[u8], at: usize, w: Want, a: u64, d: u64) -> u64
 {
     let x = encoding::authorization_at(s, at);
     let i = x.interval;
-    let t = later(i.start as u64, a);
+    let t = larger(i.start as u64, a);
     if (t <= i.end as u64) & (t < d) & cover::may_support(w, x) {
         return t;
     }

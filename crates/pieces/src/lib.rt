@@ -12,11 +12,11 @@ mod granting;
 
 use cover::Want;
 pub use cuts::taken;
+use fields::larger;
 use fields::lesser;
 use foundation::Interval;
 use granting::granting_from;
 use granting::granting_gap_from;
-use granting::later;
 use model::Authorization;
 use model::Head;
 
@@ -63,10 +63,10 @@ fn put_piece(out: &mut [u8], sorted: &mut [u8], m: usize, pos: usize, a: Authori
     ensures { λ _. ⌜ BuiltBody (m + 1) (placed pos (a ∷ []) (authorizationsIn m (now (out .entry))))
         (now (out .exit)) (now (sorted .exit)) ⌝ }
 {
-    encoding::insert_authorization(out, m, pos, a);
+    encoding::insert_in_body(out, m, pos, a);
     let i = a.interval;
     let p = encoding::insertion_index(sorted, m, i.start);
-    encoding::insert_authorization(sorted, m, p, a);
+    encoding::insert_in_body(sorted, m, p, a);
 }
 
 // Puts in the pieces of an authorization from a on, before b, at which its grantor may grant.
@@ -144,7 +144,7 @@ pub fn put_pieces(
     let start = i.start as u64;
     let e = i.end as u64 + 1;
     let b = lesser(e, taken.from);
-    let a = later(start, taken.to);
+    let a = larger(start, taken.to);
     let Put::Lines(k) = put_part(out, sorted, m, pos, h, root, start, b) else {
         return Put::Full;
     };

@@ -1,6 +1,6 @@
 -- Numbers for what is reached: the pairs at which something is needed, in the order of their codes, and the
--- modes, in theirs. Different ones have different numbers (`before-apart`, `rank-apart`), below their count
--- (`before-below`, `rank-below`).
+-- modes, in theirs. Different ones have different numbers (`usedBefore-apart`, `modesBelow-apart`), below
+-- their count (`usedBefore-below`, `modesBelow-fewer`).
 use mathlib.Core.Path.{_≡_, refl, sym, ap, _∙_}
 use mathlib.Core.Bool.{Bool, true, false, not}
 use mathlib.Core.List.{List, [], _∷_}
@@ -10,9 +10,10 @@ use native.Mathlib.Omega.{arith}
 use lib.Count.{ones, ones-step, ones-cat}
 use lib.Dec.{eqb, ltb}
 use lib.ListN.{length, getD}
-use lib.Pow.{pow-pos, split, field, mod-mod-pow}
+use lib.Pow.{pow-pos, split, mod-mod-pow}
 use Rattle.foundation.specs.Tests.{cases, true-eq, true-le, false-le}
 use Rattle.foundation.specs.BitMasks.{asBit, bit}
+use Rattle.words.specs.Bits.{bit-rest}
 
 -- ---- pairs
 
@@ -21,62 +22,63 @@ abbrev pub used : ℕ → Bool
 used x = not (eqb x 0)
 
 -- how many of the first j are used
-unfoldable pub before : List ℕ → ℕ → ℕ
-before [] j = 0
-before (x ∷ l) zero = 0
-before (x ∷ l) (suc j) = asBit (used x) + before l j
+unfoldable pub usedBefore : List ℕ → ℕ → ℕ
+usedBefore [] j = 0
+usedBefore (x ∷ l) zero = 0
+usedBefore (x ∷ l) (suc j) = asBit (used x) + usedBefore l j
 
-pub before-step : (l : List ℕ) (j : ℕ) → j < length l →
-    before l (suc j) ≡ before l j + asBit (used (getD l j 0))
-unfolding before
-before-step [] j h = absurd (omega arith)
-before-step (x ∷ []) zero h = omega arith
-before-step (x ∷ y ∷ l) zero h = omega arith
-before-step (x ∷ l) (suc j) h = let i = before-step l j (omega arith) in omega arith
+pub usedBefore-step : (l : List ℕ) (j : ℕ) → j < length l →
+    usedBefore l (suc j) ≡ usedBefore l j + asBit (used (getD l j 0))
+unfolding usedBefore
+usedBefore-step [] j h = absurd (omega arith)
+usedBefore-step (x ∷ []) zero h = omega arith
+usedBefore-step (x ∷ y ∷ l) zero h = omega arith
+usedBefore-step (x ∷ l) (suc j) h = let i = usedBefore-step l j (omega arith) in omega arith
 
-pub before-none : (l : List ℕ) → before l 0 ≡ 0
-unfolding before
-before-none [] = refl
-before-none (x ∷ l) = refl
+pub usedBefore-none : (l : List ℕ) → usedBefore l 0 ≡ 0
+unfolding usedBefore
+usedBefore-none [] = refl
+usedBefore-none (x ∷ l) = refl
 
-pub before-le : (l : List ℕ) (j : ℕ) → before l j ≤ j
-unfolding before
-before-le [] j = omega arith
-before-le (x ∷ l) zero = omega arith
-before-le (x ∷ l) (suc j) = cases (used x)
-    (λ e. rw e (omega (arith, before-le l j)))
-    (λ e. rw e (omega (arith, before-le l j)))
+pub usedBefore-le : (l : List ℕ) (j : ℕ) → usedBefore l j ≤ j
+unfolding usedBefore
+usedBefore-le [] j = omega arith
+usedBefore-le (x ∷ l) zero = omega arith
+usedBefore-le (x ∷ l) (suc j) = cases (used x)
+    (λ e. rw e (omega (arith, usedBefore-le l j)))
+    (λ e. rw e (omega (arith, usedBefore-le l j)))
 
-pub before-more : (l : List ℕ) (i d : ℕ) → i + d ≤ length l → before l i ≤ before l (i + d)
-before-more l i zero h = let e : before l (i + 0) ≡ before l i = ap (before l) (omega arith) in omega arith
-before-more l i (suc d) h =
-    let s = before-step l (i + d) (omega arith) in
+pub usedBefore-more : (l : List ℕ) (i d : ℕ) → i + d ≤ length l → usedBefore l i ≤ usedBefore l (i + d)
+usedBefore-more l i zero h = let e : usedBefore l (i + 0) ≡ usedBefore l i = ap (usedBefore l)
+    (omega arith) in omega arith
+usedBefore-more l i (suc d) h =
+    let s = usedBefore-step l (i + d) (omega arith) in
     let e : suc (i + d) ≡ i + suc d = omega arith in
-    let f : before l (suc (i + d)) ≡ before l (i + suc d) = ap (before l) e in
-    omega (arith, before-more l i d (omega arith))
+    let f : usedBefore l (suc (i + d)) ≡ usedBefore l (i + suc d) = ap (usedBefore l) e in
+    omega (arith, usedBefore-more l i d (omega arith))
 
 -- a used one has a smaller number than those behind it
-pub before-apart : (l : List ℕ) (i j : ℕ) → i < j → j ≤ length l → used (getD l i 0) ≡ true →
-    before l i < before l j
-before-apart l i j h k e =
-    let s = before-step l i (omega arith) in
+pub usedBefore-apart : (l : List ℕ) (i j : ℕ) → i < j → j ≤ length l → used (getD l i 0) ≡ true →
+    usedBefore l i < usedBefore l j
+usedBefore-apart l i j h k e =
+    let s = usedBefore-step l i (omega arith) in
     let c : asBit (used (getD l i 0)) ≡ 1 = rw e in
     let d : suc i + (j - suc i) ≡ j = omega arith in
-    let m = before-more l (suc i) (j - suc i) (omega arith) in
-    let f : before l (suc i + (j - suc i)) ≡ before l j = ap (before l) d in
+    let m = usedBefore-more l (suc i) (j - suc i) (omega arith) in
+    let f : usedBefore l (suc i + (j - suc i)) ≡ usedBefore l j = ap (usedBefore l) d in
     omega arith
 
-pub before-below : (l : List ℕ) (i : ℕ) → i < length l → used (getD l i 0) ≡ true →
-    before l i < before l (length l)
-before-below l i h e = before-apart l i (length l) h (omega arith) e
+pub usedBefore-below : (l : List ℕ) (i : ℕ) → i < length l → used (getD l i 0) ≡ true →
+    usedBefore l i < usedBefore l (length l)
+usedBefore-below l i h e = usedBefore-apart l i (length l) h (omega arith) e
 
 -- so different ones have different numbers
-pub before-same : (l : List ℕ) (i j : ℕ) → i < length l → j < length l → used (getD l i 0) ≡ true →
-    used (getD l j 0) ≡ true → before l i ≡ before l j → i ≡ j
-before-same l i j h k e f q = cases (ltb i j)
-    (λ y. absurd (omega (arith, before-apart l i j (true-le (suc i) j y) (omega arith) e)))
+pub usedBefore-same : (l : List ℕ) (i j : ℕ) → i < length l → j < length l → used (getD l i 0) ≡ true →
+    used (getD l j 0) ≡ true → usedBefore l i ≡ usedBefore l j → i ≡ j
+usedBefore-same l i j h k e f q = cases (ltb i j)
+    (λ y. absurd (omega (arith, usedBefore-apart l i j (true-le (suc i) j y) (omega arith) e)))
     (λ y. cases (ltb j i)
-    (λ z. absurd (omega (arith, before-apart l j i (true-le (suc j) i z) (omega arith) f)))
+    (λ z. absurd (omega (arith, usedBefore-apart l j i (true-le (suc j) i z) (omega arith) f)))
     (λ z. omega (arith, false-le (suc i) j y, false-le (suc j) i z)))
 
 -- m is the number of one
@@ -84,15 +86,15 @@ pub record NumberOf (l : List ℕ) (m : ℕ) : Type 0 where
   pub at : ℕ
   pub inside : at < length l
   pub needed : used (getD l at 0) ≡ true
-  pub number : before l at ≡ m
+  pub number : usedBefore l at ≡ m
 
 -- and every number below their count is that of one
-pub before-onto : (l : List ℕ) (m : ℕ) → m < before l (length l) → NumberOf l m
-unfolding before
-before-onto [] m h = absurd (omega arith)
-before-onto (x ∷ l) m h = cases (used x)
-    (λ e. first e m (rw e at h) (λ k q. before-onto l k q))
-    (λ e. later e (before-onto l m (omega (arith, rw e at h))))
+pub usedBefore-onto : (l : List ℕ) (m : ℕ) → m < usedBefore l (length l) → NumberOf l m
+unfolding usedBefore
+usedBefore-onto [] m h = absurd (omega arith)
+usedBefore-onto (x ∷ l) m h = cases (used x)
+    (λ e. first e m (rw e at h) (λ k q. usedBefore-onto l k q))
+    (λ e. later e (usedBefore-onto l m (omega (arith, rw e at h))))
   where
     later : used x ≡ false → NumberOf l m → NumberOf (x ∷ l) m
     later e w = record {
@@ -102,8 +104,8 @@ before-onto (x ∷ l) m h = cases (used x)
       number = rw e (omega (arith, w .number));
     }
 
-    first : used x ≡ true → (k : ℕ) → k < 1 + before l (length l) →
-        ((i : ℕ) → i < before l (length l) → NumberOf l i) → NumberOf (x ∷ l) k
+    first : used x ≡ true → (k : ℕ) → k < 1 + usedBefore l (length l) →
+        ((i : ℕ) → i < usedBefore l (length l) → NumberOf l i) → NumberOf (x ∷ l) k
     first e zero h rest = record { at = 0; inside = omega arith; needed = e; number = refl }
     first e (suc k) h rest = let w = rest k (omega arith) in record {
       at = suc (w .at);
@@ -115,11 +117,11 @@ before-onto (x ∷ l) m h = cases (used x)
 -- ---- modes
 
 -- how many modes below m are reached
-abbrev pub rank : ℕ → ℕ → ℕ
-rank modes m = ones (modes % 2 ^ m)
+abbrev pub modesBelow : ℕ → ℕ → ℕ
+modesBelow modes m = ones (modes % 2 ^ m)
 
-pub rank-below : (modes m : ℕ) → bit m modes ≡ true → rank modes m < ones modes
-rank-below modes m e =
+pub modesBelow-fewer : (modes m : ℕ) → bit m modes ≡ true → modesBelow modes m < ones modes
+modesBelow-fewer modes m e =
     let r : ℕ = modes % 2 ^ m in
     let q : ℕ = modes / 2 ^ m in
     let c : ones (q * 2 ^ m + r) ≡ ones q + ones r = ones-cat m q r (mod-lt modes (pow-pos m)) in
@@ -127,31 +129,23 @@ rank-below modes m e =
     let o : q % 2 ≡ 1 = true-eq (q % 2) 1 e in
     omega (arith, ones-step q)
 
--- the bits below the n-th are those of the rest
-pub bit-rest : (x m n : ℕ) → m < n → bit m (x % 2 ^ n) ≡ bit m x
-bit-rest x m n h =
-    let d : ℕ = n - suc m in
-    let s : (d + 1) + m ≡ n = omega arith in
-    ap (λ (k : ℕ). eqb (x % 2 ^ k / 2 ^ m % 2) 1) (sym s)
-    ∙ ap (λ (k : ℕ). eqb (k % 2) 1) (field x (d + 1) m)
-    ∙ ap (λ (k : ℕ). eqb k 1) (mod-mod-pow (x / 2 ^ m) d 1)
-
-pub rank-apart : (modes m n : ℕ) → m < n → bit m modes ≡ true → rank modes m < rank modes n
-rank-apart modes m n h e =
+pub modesBelow-apart : (modes m n : ℕ) → m < n → bit m modes ≡ true → modesBelow modes m < modesBelow modes n
+modesBelow-apart modes m n h e =
     let x : ℕ = modes % 2 ^ n in
     let s : (n - m) + m ≡ n = omega arith in
     let low : x % 2 ^ m ≡ modes % 2 ^ m =
     ap (λ (k : ℕ). modes % 2 ^ k % 2 ^ m) (sym s) ∙ mod-mod-pow modes (n - m) m in
     let f : ones (x % 2 ^ m) ≡ ones (modes % 2 ^ m) = ap ones low in
-    omega (arith, rank-below x m (bit-rest modes m n h ∙ e))
+    omega (arith, modesBelow-fewer x m (bit-rest modes m n h ∙ e))
 
 -- modes of one rank are one mode
-pub rank-same : (modes m n : ℕ) → bit m modes ≡ true → bit n modes ≡ true → rank modes m ≡ rank modes n →
+pub modesBelow-same : (modes m n : ℕ) → bit m modes ≡ true → bit n modes ≡ true → modesBelow modes m
+    ≡ modesBelow modes n →
     m ≡ n
-rank-same modes m n e f q = cases (ltb m n)
-    (λ y. absurd (omega (arith, rank-apart modes m n (true-le (suc m) n y) e)))
+modesBelow-same modes m n e f q = cases (ltb m n)
+    (λ y. absurd (omega (arith, modesBelow-apart modes m n (true-le (suc m) n y) e)))
     (λ y. cases (ltb n m)
-    (λ z. absurd (omega (arith, rank-apart modes n m (true-le (suc n) m z) f)))
+    (λ z. absurd (omega (arith, modesBelow-apart modes n m (true-le (suc n) m z) f)))
     (λ z. omega (arith, false-le (suc m) n y, false-le (suc n) m z)))
 
 -- ---- where a pair lies

@@ -14,7 +14,7 @@ use Rattle.foundation.specs.BitMasks.{bit}
 use Rattle.places.specs.declared.Grid.{Grid}
 use Rattle.places.specs.declared.Region.{Region}
 use Rattle.places.specs.declared.Point.{Point}
-use Rattle.places.specs.ReachedNumbers.{rank, rank-below, rank-same, parted}
+use Rattle.places.specs.ReachedNumbers.{modesBelow, modesBelow-fewer, modesBelow-same, parted}
 
 -- a code that names nothing
 abbrev pub free : ℕ → Bool
@@ -36,7 +36,7 @@ outerIndex b n x = pick (free (b .subject)) (pick (free (b .object)) n (x .subje
     (pick (free (b .object)) (x .object) 0)
 
 abbrev pub modeIndex : Grid → Region → Point → ℕ
-modeIndex g b x = pick (free (b .mode)) (rank (g .modes) (x .mode)) 0
+modeIndex g b x = pick (free (b .mode)) (modesBelow (g .modes) (x .mode)) 0
 
 unfoldable pub sizeOf : Grid → Region → ℕ
 sizeOf g b = outerSize g b * modeSize g b
@@ -67,7 +67,7 @@ module _ (g : Grid) (b : Region) where
 
   mode-below : (n : ℕ) (x : Point) → Within g n x → modeIndex g b x < modeSize g b
   mode-below n x w = cases (free (b .mode))
-      (λ m. rw m (rank-below (g .modes) (x .mode) (w .mode)))
+      (λ m. rw m (modesBelow-fewer (g .modes) (x .mode) (w .mode)))
       (λ m. rw m (omega arith))
 
   pub index-below : (n : ℕ) (x : Point) → Within g n x → indexIn g b n x < sizeOf g b
@@ -91,7 +91,7 @@ module _ (g : Grid) (b : Region) where
 
     mode-apart : modeIndex g b x ≡ modeIndex g b y → x .mode ≡ y .mode
     mode-apart e = cases (free (b .mode))
-        (λ m. rank-same (g .modes) (x .mode) (y .mode) (v .mode) (w .mode) (rw m at e))
+        (λ m. modesBelow-same (g .modes) (x .mode) (y .mode) (v .mode) (w .mode) (rw m at e))
         (λ m. i .mode m ∙ sym (j .mode m))
 
     pub index-apart : indexIn g b n x ≡ indexIn g b k y →

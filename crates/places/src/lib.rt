@@ -2,9 +2,9 @@
 // modes, are numbered as far as they are reached; a region of places is numbered by them.
 ghost use mathlib.Core.Path.{_≡_};
 ghost use mathlib.Core.Bool.{true, _||_};
-ghost use Prim.Native.Nat.{ℕ, suc, _+_, _*_, _≤_, _<_};
+ghost use Prim.Native.Nat.{ℕ, _+_, _*_, _≤_, _<_};
 ghost use lib.ListN.{length, getD};
-ghost use Rattle.places.specs.ReachedNumbers.{used, before, rank, codeOf};
+ghost use Rattle.places.specs.ReachedNumbers.{used, usedBefore, modesBelow, codeOf};
 ghost use Rattle.foundation.specs.BitMasks.{asBit, bit};
 ghost use Rattle.foundation.specs.Tests.{pick};
 ghost use Rattle.places.specs.Regions.{free, modeSize, sizeOf, Within, indexIn};
@@ -42,22 +42,12 @@ fn counted(n: u16, x: u16) -> u16
     n + 1
 }
 
-// 1 where something is needed, else 0.
-fn step_of(x: u16) -> usize
-    ensures { λ r. ⌜ r ≡ asBit (used x) ⌝ }
-{
-    if x == 0 {
-        return 0;
-    }
-    1
-}
-
 // Numbers the pairs at which something is needed; how many they are.
 pub fn number_pairs(need: &[u16], number: &mut [u16]) -> usize
     requires { ⌜ (length (now need) ≤ 65535) × (length (now number) ≡ length (now need)) ⌝ }
-    ensures { λ r. ⌜ (r ≡ before (now (need .entry)) (length (now (need .entry))))
+    ensures { λ r. ⌜ (r ≡ usedBefore (now (need .entry)) (length (now (need .entry))))
         × ((j : ℕ) → j < length (now (need .entry)) →
-        getD (now (number .exit)) j 0 ≡ before (now (need .entry)) j) ⌝ }
+        getD (now (number .exit)) j 0 ≡ usedBefore (now (need .entry)) j) ⌝ }
 {
     let mut n = 0;
     let mut j = 0;
@@ -69,15 +59,12 @@ pub fn number_pairs(need: &[u16], number: &mut [u16]) -> usize
     n as usize
 }
 
-// The code of the next pair.
-fn next_code(at: u32, subjects: u32) -> u32
-    requires { ⌜ (at < 65536) × (0 < subjects) × (subjects ≤ 256) ⌝ }
-    ensures { λ r. ⌜ ((j : ℕ) → at ≡ codeOf subjects j → r ≡ codeOf subjects (suc j)) ⌝ }
+// The code of a pair.
+fn code_at(j: u32, subjects: u32) -> u16
+    requires { ⌜ (0 < subjects) × (subjects ≤ 256) × (j < 256 * subjects) ⌝ }
+    ensures { λ r. ⌜ r ≡ codeOf subjects j ⌝ }
 {
-    if at % 256 + 1 < subjects {
-        return at + 1;
-    }
-    at - at % 256 + 256
+    (256 * (j / subjects) + j % subjects) as u16
 }
 
 // Puts the code of each pair at which something is needed to its number.
@@ -85,15 +72,15 @@ pub fn list_pairs(need: &[u16], subjects: u32, codes: &mut [u16])
     requires { ⌜ (0 < subjects) × (subjects ≤ 256) × (length (now need) ≤ 256 * subjects)
         × (length (now codes) ≡ length (now need)) ⌝ }
     ensures { λ _. ⌜ ((j : ℕ) → j < length (now (need .entry)) → used (getD (now (need .entry)) j 0) ≡ true →
-        getD (now (codes .exit)) (before (now (need .entry)) j) 0 ≡ codeOf subjects j) ⌝ }
+        getD (now (codes .exit)) (usedBefore (now (need .entry)) j) 0 ≡ codeOf subjects j) ⌝ }
 {
     let mut n = 0;
-    let mut at = 0;
     let mut j = 0;
     while j < need.len() {
-        codes[n] = at as u16;
-        n += step_of(need[j]);
-        at = next_code(at, subjects);
+        if need[j] != 0 {
+            codes[n] = code_at(j as u32, subjects);
+            n += 1;
+        }
         j += 1;
     }
 }
@@ -124,7 +111,7 @@ pub fn modes_of(need: &[u16]) -> u32
 // How many modes below m are reached. Mostly all are, and counting bits takes longer than to see that.
 pub fn rank_of(modes: u32, m: u32) -> u32
     requires { ⌜ m < 32 ⌝ }
-    ensures { λ r. ⌜ r ≡ rank modes m ⌝ }
+    ensures { λ r. ⌜ r ≡ modesBelow modes m ⌝ }
 {
     let below: u32 = (1 << m) - 1;
     if modes & below == below {

@@ -4,3 +4,5 @@ pub mod Placed
 pub mod Digits
 pub mod Pairs
 pub mod Lengths
+pub mod ShortFacts
+pub mod ShortReplies

@@ -1,11 +1,12 @@
 -- What printing at a place of a buffer does, and which replies fit it (01, "Text session").
 use mathlib.Core.Path.{_≡_}
-use Prim.Native.Nat.{ℕ, _+_, _*_, _≤_}
+use Prim.Native.Nat.{ℕ, _+_, _*_, _≤_, _<_}
 use mathlib.Core.List.{List}
 use lib.ListN.{length}
 use Rattle.fields.specs.Field.{splice}
 use Rattle.model.specs.declared.Reply.{Reply}
 use Rattle.model.specs.declared.Reply.the-variants.{Done, Refused, Unsupported, Yes, No, Runs}
+use Rattle.model.specs.Ranges.{mostAuthorizations}
 
 -- the text stands at `at` and ends at n, and every other byte is as it was
 pub record Printed (at : ℕ) (text before after : List ℕ) (n : ℕ) : Type 0 where
@@ -41,3 +42,14 @@ RunsFit (Unsupported t) list = Unit {0}
 RunsFit Yes list = Unit {0}
 RunsFit No list = Unit {0}
 RunsFit (Runs n) list = (2 * n ≤ length list) × (n ≤ mostRuns)
+
+-- ---- short replies
+
+-- no longer than `done 65535 1024`, and without runs
+abbrev pub Short : Reply → Type 0
+Short (Done label count) = (label < 65536) × (count ≤ mostAuthorizations)
+Short (Refused n) = n < 100
+Short (Unsupported t) = Unit {0}
+Short Yes = Unit {0}
+Short No = Unit {0}
+Short (Runs n) = ⊥

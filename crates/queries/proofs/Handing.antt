@@ -20,9 +20,9 @@ use Rattle.encoding.specs.declared.Counts.{Counts}
 use Rattle.model.specs.Encoding.{decode}
 use Rattle.model.specs.Soundness.{soundBytes}
 use Rattle.encoding.specs.Format.{countsOf, authorizationsAt, rulesAt}
-use Rattle.lookup.proofs.SoundBodies.{lent, rest-of, fitting}
+use Rattle.encoding.proofs.SoundBodies.{lent, rest-of, fitting}
 use Rattle.sections.specs.Sections.{leftOf, feedOf, sidesOf, rightsOf, subjectsOf, objectsOf}
-use Rattle.sections.specs.SectionWrites.{putBack, back-length, back-own, back-before, same-front}
+use Rattle.sections.proofs.SectionWrites.{putBack, back-length, back-own, back-before, same-front}
 use Rattle.outlines.specs.Coordinates.{WellFormed}
 use Rattle.queries.specs.declared.Extent.{Extent}
 use Rattle.queries.specs.Drawing.{RulesDrawn, chartFor}

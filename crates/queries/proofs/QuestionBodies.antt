@@ -34,15 +34,15 @@ use Rattle.laws.specs.Chained.{Pairwise, Passing, chained-all}
 use Rattle.laws.specs.RulesAfter.{stratified-less}
 use Rattle.encoding.specs.declared.Counts.{Counts}
 use Rattle.encoding.specs.Format.{countsOf, authorizationsAt, rulesAt, authorizationsIn, rulesIn, ruleAt}
-use Rattle.lookup.proofs.SoundBodies.{lent, base-sound, authorizations-in, rules-in, fitting, there}
-use Rattle.lookup.proofs.SoundBodies.{authorizations-lent, rules-lent, rest-of}
+use Rattle.encoding.proofs.SoundBodies.{lent, base-sound, authorizations-in, rules-in, fitting, there}
+use Rattle.encoding.proofs.SoundBodies.{authorizations-lent, rules-lent, rest-of}
 use Rattle.direct.specs.Direct.{heldDirectly, direct-may, ruleless-when}
 use Rattle.questions.specs.RuleNumbers.{Numbering}
 use Rattle.relevance.specs.Needed.{placed-in}
 use Rattle.scan.specs.declared.Track.{Track}
 use Rattle.scan.specs.Filled.{filled, filled-all}
 use Rattle.scan.specs.Runs.{ScannedTo, fewer}
-use Rattle.scan.specs.Listing.{Filling, Listing, listed-all, listed-short}
+use Rattle.scan.specs.Listing.{Filling, Listing, listedIfRoom-all, listedIfRoom-short}
 use Rattle.outlines.specs.Coordinates.{Ranged}
 use Rattle.queries.specs.declared.Totals.{Totals}
 use Rattle.queries.specs.Starting.{Bodies}
@@ -297,7 +297,8 @@ module _ {holder : Base} {lines : List ℕ} {total : ℕ} {body : List ℕ} {n :
   listing r list list′ room w = record {
     count = w .count;
     few = omega (arith, w .count, most, b .few, b .well-formed .few);
-    lent = w .lent ∙ filled-all (when base x) list (omega arith) ∙ sym (listed-all (when base x) list room);
+    lent = w .lent ∙ filled-all (when base x) list (omega arith)
+        ∙ sym (listedIfRoom-all (when base x) list room);
   }
 
   -- and a list that has none is as it was
@@ -306,7 +307,7 @@ module _ {holder : Base} {lines : List ℕ} {total : ℕ} {body : List ℕ} {n :
   listing-short r list short e = record {
     count = e;
     few = omega (arith, most, b .few, b .well-formed .few);
-    lent = sym (listed-short (when base x) list short);
+    lent = sym (listedIfRoom-short (when base x) list short);
   }
 
 -- where no rule stands for the access, WHEN's intervals are those without the rules

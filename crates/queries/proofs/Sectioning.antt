@@ -10,12 +10,13 @@ use lib.ListN.{length, getD, take, drop}
 use lib.Seq.{getD-take}
 use Rattle.foundation.specs.Tests.{cases, true-le, false-le}
 use Rattle.foundation.specs.BitMasks.{bit}
+use Rattle.foundation.specs.BytesFacts.{rest-behind}
 use Rattle.model.specs.declared.Access.{Access}
 use Rattle.model.specs.Base.{Base}
 use Rattle.sections.specs.Sections.{leftOf, feedOf, firstOf, startsOf}
-use Rattle.sections.specs.Sections.{sidesOf, rightsOf, subjectsOf, objectsOf, numberOf, listedOf}
-use Rattle.sections.specs.SectionWrites.{putBack, back-length, back-own, back-before, back-rest, same-front}
-use Rattle.sections.specs.SectionWrites.{same-part, rest-behind, in-part, beyond-part, front-same}
+use Rattle.sections.specs.Sections.{sidesOf, rightsOf, subjectsOf, objectsOf, numberedOf, listedOf}
+use Rattle.sections.proofs.SectionWrites.{putBack, back-length, back-own, back-before, back-rest, same-front}
+use Rattle.sections.proofs.SectionWrites.{same-part, in-part, beyond-part, front-same}
 use Rattle.reach.specs.Net.{standing}
 use Rattle.masks.specs.RuleMasks.{Needed, needAt}
 use Rattle.tables.specs.declared.Frame.{Frame}
@@ -47,7 +48,7 @@ module _ (l y z : List ℕ) (size w v : ℕ) (p : w ≡ size) (q : v ≡ size) (
   second-in : size + v ≤ length once
   second-in = omega (arith, once-long)
 
-  pub twice-number : (n : ℕ) → n ≡ size → numberOf n twice ≡ y
+  pub twice-number : (n : ℕ) → n ≡ size → numberedOf n twice ≡ y
   twice-number n e = ap (λ (k : ℕ). take k twice) e
       ∙ same-front once twice (back-length once size v z second-in (omega arith)) size
       (λ k b. back-before once size v z second-in (omega arith) k b)

@@ -29,7 +29,7 @@ use Rattle.tables.specs.TableLayout.{roomOf}
 use Rattle.masks.specs.RuleMasks.{RulesIn, Needed}
 use Rattle.scan.specs.Runs.{ScannedTo}
 use Rattle.outlines.specs.Coordinates.{Chart, modeOf, pairOf}
-use Rattle.outlines.specs.CoordinateFacts.{pair-below}
+use Rattle.outlines.proofs.CoordinateFacts.{pair-below}
 use Rattle.outlines.specs.NeededAccesses.{needed}
 use Rattle.grounding.specs.RuleTurns.{prepared}
 use Rattle.engine.specs.declared.Query.{Query}
@@ -199,10 +199,10 @@ part-blank n table b i = cases (ltb i n)
     )))
 
 -- the pairs are few
-pub pairs-few : {holder : Base} {n : ℕ} {C : Chart} {x own : Access} {s o : ℕ}
+pub sketch-few : {holder : Base} {n : ℕ} {C : Chart} {x own : Access} {s o : ℕ}
     {body left feed sides right : List ℕ} {choosy : ℕ} →
     Sketch holder n C x own s o body left feed sides right choosy → C .height * C .width ≤ 4225
-pairs-few {C = C} k = chart-small C (k .outline .rules .well-formed .few) (k .outline .rules .charted) .3
+sketch-few {C = C} k = chart-small C (k .outline .rules .well-formed .few) (k .outline .rules .charted) .3
 
 -- ---- the tables
 

@@ -22,8 +22,9 @@ use Rattle.places.specs.Regions.{free, outerSize, sizeOf}
 use Rattle.tables.specs.TableLayout.{regionAt, roomOf, wholeRegion}
 use Rattle.outlines.specs.Coordinates.{WellFormed, Chart, Charted, namedIn, subjectOnRight, objectOnRight}
 use Rattle.outlines.specs.Outline.{RightSides, LeftSides}
-use Rattle.outlines.specs.StandingRules.{star-is}
-use Rattle.queries.specs.Reached.{numbersBelow, in-below, many, subjectOnly, objectOnly, named, starred}
+use Rattle.outlines.proofs.StandingRules.{star-is}
+use Rattle.queries.specs.Reached.{numbersBelow, in-below, many, subjectOnly, objectOnly, named}
+use Rattle.queries.specs.Reached.{namesNone}
 use Rattle.queries.specs.Reached.{kinds-all, pairsMost, Codes}
 
 -- ---- numbers
@@ -101,7 +102,7 @@ module _ (g : Grid) (modes : ones (g .modes) ≤ 8) where
       (object : (c : ℕ) → c < n → free (getD codes (4 * c) 0) ≡ O c) where
     -- what the first c rules take for one mode
     abbrev taken : ℕ → ℕ
-    taken c = many (starred S O) c * g .pairs
+    taken c = many (namesNone S O) c * g .pairs
         + (many (subjectOnly S O) c * g .objects + many (objectOnly S O) c * g .subjects + many (named S O) c)
 
     -- rule c
@@ -167,7 +168,7 @@ module _ (body : List ℕ) where
   bothNamed = many (named subjectStar objectStar)
 
   abbrev pub noneNamed : ℕ → ℕ
-  noneNamed = many (starred subjectStar objectStar)
+  noneNamed = many (namesNone subjectStar objectStar)
 
   subjects-named : (n : ℕ) → namedIn subjectOnRight n body ≡ subjectsOnly n + bothNamed n
   unfolding namedIn numbersBelow

@@ -3,7 +3,7 @@
 -- reached and numbered (`Mapped`), and the tables of fields and of broken bits are laid out (`Arranged`). So
 -- they are drawn, whatever the width of the fields (`drawn`).
 use mathlib.Core.Path.{_≡_, refl, sym, ap, _∙_, subst}
-use mathlib.Core.Bool.{Bool, true, false, _&&_, _||_}
+use mathlib.Core.Bool.{Bool, true, _&&_, _||_}
 use mathlib.Core.List.{List}
 use Prim.Native.Nat.{ℕ, suc, _+_, _*_, _/_, _%_, _^_, _≤_, _<_}
 use native.Mathlib.Nat.{mod-lt, div-add-mod', div-lt-iff-lt-mul, mul-le-mul}
@@ -13,7 +13,7 @@ use lib.Count.{ones-le}
 use lib.Dec.{eqb, ltb}
 use lib.ListN.{length, getD}
 use Rattle.foundation.specs.Tests.{pick, cases, true-eq, eq-true, false-eq, le-true, true-le, and-true}
-use Rattle.foundation.specs.Tests.{and-false}
+use Rattle.foundation.specs.Tests.{and-false, and-yes}
 use Rattle.foundation.specs.BitMasks.{bit, maskOf}
 use Rattle.model.specs.declared.Access.{Access}
 use Rattle.model.specs.Base.{Base}
@@ -24,20 +24,21 @@ use Rattle.words.specs.Bits.{bit-and}
 use Rattle.words.specs.Fields as fields
 use Rattle.reach.specs.Net.{ClosedNet, Formed, Only, standing}
 use Rattle.places.specs.declared.Grid.{Grid}
-use Rattle.places.specs.ReachedNumbers.{used, before, before-le, before-onto, codeOf}
+use Rattle.places.specs.ReachedNumbers.{used, usedBefore, usedBefore-le, usedBefore-onto, codeOf}
 use Rattle.places.specs.Regions.{sizeOf}
 use Rattle.tables.specs.declared.Frame.{Frame}
 use Rattle.tables.specs.TableLayout.{TablesLaid, SmallGrid, ruleTables, allTables, roomOf, wholeRegion}
 use Rattle.masks.specs.RuleMasks.{PairCode, RulesIn, Needed}
 use Rattle.outlines.specs.Coordinates.{WellFormed, Chart, Charted, coordinate}
 use Rattle.outlines.specs.Coordinates.{known, modeOf, pairOf}
-use Rattle.outlines.specs.CoordinateFacts.{known-is}
+use Rattle.outlines.proofs.CoordinateFacts.{known-is}
 use Rattle.outlines.specs.Outline.{RightSides, LeftSides}
 use Rattle.outlines.specs.LeftMasks.{Masked, Owned}
-use Rattle.outlines.specs.StandingRules.{rule-bit}
-use Rattle.outlines.specs.RuleAims.{formed, both-bits}
+use Rattle.outlines.proofs.StandingRules.{rule-bit}
+use Rattle.outlines.proofs.RuleAims.{formed, both-bits}
 use Rattle.outlines.specs.Feed.{isChoosy, FeedTable}
-use Rattle.outlines.specs.NeededAccesses.{needed, needed-both}
+use Rattle.outlines.specs.NeededAccesses.{needed}
+use Rattle.outlines.proofs.NeededFacts.{needed-both}
 use Rattle.grounding.specs.RuleTurns.{prepared}
 use Rattle.queries.specs.declared.Extent.{Extent}
 use Rattle.engine.specs.Drawn.{Drawn}
@@ -204,11 +205,11 @@ pub record Mapped (C : Chart) (left right need number codes : List ℕ) (g : Gri
   pub only : (pair : ℕ) × (pair < length need)
       × Only (record { left = left; right = right; subjects = C .width }) pair need
   pub numbers : (length number ≡ length need)
-      × ((j : ℕ) → j < length need → getD number j 0 ≡ before need j)
+      × ((j : ℕ) → j < length need → getD number j 0 ≡ usedBefore need j)
   pub codes-are : (length codes ≡ length need)
       × ((j : ℕ) → j < length need → used (getD need j 0) ≡ true →
-      getD codes (before need j) 0 ≡ codeOf (C .width) j)
-  pub grid : (g .subjects ≡ C .width) × (g .objects ≡ C .height) × (g .pairs ≡ before need (length need))
+      getD codes (usedBefore need j) 0 ≡ codeOf (C .width) j)
+  pub grid : (g .subjects ≡ C .width) × (g .objects ≡ C .height) × (g .pairs ≡ usedBefore need (length need))
   pub modes : (g .modes < 256) × ((j k : ℕ) → j < length need → k < 8 →
       bit k (getD need j 0) || bit (8 + k) (getD need j 0) ≡ true → bit k (g .modes) ≡ true)
 
@@ -221,7 +222,7 @@ module _ {holder : Base} {n : ℕ} {C : Chart} {x : Access} {body left feed side
       record {
         subjects = omega (arith, s .0, m .grid .0);
         objects = omega (arith, s .2, m .grid .1);
-        pairs = omega (arith, m .grid .2, before-le need (length need), m .size, s .3);
+        pairs = omega (arith, m .grid .2, usedBefore-le need (length need), m .size, s .3);
         modes = ones-le 8 (g .modes) (omega (arith, m .modes .0));
       }
 
@@ -253,7 +254,7 @@ module _ {holder : Base} {n : ℕ} {C : Chart} {x : Access} {body left feed side
   unfolding codeOf
   object-below i h =
       let s = chart-small C (o .rules .well-formed .few) (o .rules .charted) in
-      let w = before-onto need i (omega (arith, m .grid .2)) in
+      let w = usedBefore-onto need i (omega (arith, m .grid .2)) in
       let j = w .at in
       let l = mod-lt j (s .1) in
       let c : getD codes i 0 ≡ 256 * (j / C .width) + j % C .width =
@@ -323,12 +324,8 @@ module _ {holder : Base} {n : ℕ} {C : Chart} {x : Access} {body left feed side
       ∙ ap (λ (b : Bool). b && bit c rules) (ap (bit c) (o .rules .choosy-is) ∙ rule-bit n body isChoosy c) in
       cases (bit c rules)
       (λ y. let l : ltb c n ≡ true = le-true (suc c) n (needed-low o m needs c y) in
-      e ∙ rw (y, l) (swap (isChoosy (ruleAt body c))))
+      e ∙ rw (y, l) (and-yes (isChoosy (ruleAt body c))))
       (λ y. e ∙ rw y (and-false (ltb c n && isChoosy (ruleAt body c))))
-    where
-      swap : (b : Bool) → b && true ≡ b
-      swap true = refl
-      swap false = refl
 
   -- they are small
   pub fields-small : f .fields ≤ 131328

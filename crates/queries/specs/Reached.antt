@@ -5,7 +5,7 @@ use mathlib.Core.Path.{_≡_, refl, sym, ap, ap₂, _∙_, subst}
 use mathlib.Core.Logic.{_⊎_, inl, inr, ⊎-elim}
 use mathlib.Core.Bool.{Bool, true, false, not, _&&_, true≢false}
 use mathlib.Core.List.{List, [], _∷_, _++_, map}
-use Prim.Native.Nat.{ℕ, zero, suc, _+_, _*_, _/_, _%_, _^_, _≤_, _<_}
+use Prim.Native.Nat.{ℕ, zero, suc, _+_, _*_, _/_, _%_, _≤_, _<_}
 use native.Mathlib.Nat.{mod-lt, div-add-mod'}
 use native.Mathlib.Omega.{arith}
 use lib.Dec.{eqb, leb}
@@ -14,11 +14,11 @@ use Rattle.foundation.specs.Tests.{cases, true-eq, eq-true, true-le, false-le, 
 use Rattle.foundation.specs.Tests.{le-false, and-true, not-true, must-fail}
 use Rattle.foundation.specs.Lists.{Mem, anyb, keepIf, each, any-mem, mem-any, mem-left, mem-right, append-mem}
 use Rattle.foundation.specs.Lists.{mem-map, map-mem, mem-each, each-mem, length-each, keepIf-mem, kept}
-use Rattle.foundation.specs.Closure.{size, size-le, size-mono, size-less}
-use Rattle.foundation.specs.BitMasks.{asBit, bit}
+use Rattle.foundation.specs.Closure.{setSize, setSize-le, setSize-mono, setSize-less}
+use Rattle.foundation.specs.BitMasks.{asBit, bit, power-above}
 use Rattle.words.specs.Bits.{no-bits}
 use Rattle.reach.specs.Net.{Net, standing, turned, aimPair, ClosedUnderRules, Only}
-use Rattle.places.specs.ReachedNumbers.{used, before, before-step, before-none, parted}
+use Rattle.places.specs.ReachedNumbers.{used, usedBefore, usedBefore-step, usedBefore-none, parted}
 
 -- ---- counting
 
@@ -48,24 +48,24 @@ many t n = length (passing t n)
 
 -- no more are used than candidates are there that have all used ones
 module _ (need l : List ℕ) (h : (j : ℕ) → used (getD need j 0) ≡ true → Mem j l) where
-  used-below : (k : ℕ) → k ≤ length need → before need k + size (leb k) l ≤ length l
-  used-below zero p = omega (arith, before-none need, size-le (leb 0) l)
+  used-below : (k : ℕ) → k ≤ length need → usedBefore need k + setSize (leb k) l ≤ length l
+  used-below zero p = omega (arith, usedBefore-none need, setSize-le (leb 0) l)
   used-below (suc k) p =
       let i = used-below k (omega arith) in
-      let s = before-step need k p in
+      let s = usedBefore-step need k p in
       let m : (y : ℕ) → Mem y l → leb (suc k) y ≡ true → leb k y ≡ true =
       (λ y n e. let g = true-le (suc k) y e in le-true k y (omega arith)) in
       cases (used (getD need k 0))
       (λ e. let c : asBit (used (getD need k 0)) ≡ 1 = rw e in
       omega (
         arith,
-        size-less (leb (suc k)) (leb k) l m k (h k e) (le-false (suc k) k (omega arith))
+        setSize-less (leb (suc k)) (leb k) l m k (h k e) (le-false (suc k) k (omega arith))
             (le-true k k (omega arith)),
       ))
       (λ e. let c : asBit (used (getD need k 0)) ≡ 0 = rw e in
-      omega (arith, size-mono (leb (suc k)) (leb k) l m))
+      omega (arith, setSize-mono (leb (suc k)) (leb k) l m))
 
-  used-few : before need (length need) ≤ length l
+  used-few : usedBefore need (length need) ≤ length l
   used-few = omega (arith, used-below (length need) (omega arith))
 
 -- ---- boxes of pairs
@@ -109,11 +109,11 @@ module _ (S O : ℕ → Bool) where
   abbrev pub named : ℕ → Bool
   named r = not (S r) && not (O r)
 
-  abbrev pub starred : ℕ → Bool
-  starred r = S r && O r
+  abbrev pub namesNone : ℕ → Bool
+  namesNone r = S r && O r
 
   -- each rule is of one kind
-  pub kinds-all : (n : ℕ) → many subjectOnly n + many objectOnly n + many named n + many starred n ≡ n
+  pub kinds-all : (n : ℕ) → many subjectOnly n + many objectOnly n + many named n + many namesNone n ≡ n
   unfolding numbersBelow
   kinds-all zero = refl
   kinds-all (suc n) =
@@ -357,19 +357,15 @@ module _ (n W H : ℕ) (S O : ℕ → Bool) (right : List ℕ) (codes : Codes n 
         (rw (p .0, p .1) (aimed j r w m l))
 
     module _ (need : List ℕ) (only : Only net (o₀ * W + s₀) need) where
-      self-below : (x : ℕ) → x < 2 ^ x
-      self-below zero = omega arith
-      self-below (suc x) = let i = self-below x in omega arith
-
       needed-in : (j : ℕ) → used (getD need j 0) ≡ true → Mem j candidates
       needed-in j u = cases (isCandidate j)
           (λ e. is-in j e)
           (λ e. let x = getD need j 0 in
-          let z : x ≡ 0 = no-bits x x (self-below x) (λ k l.
+          let z : x ≡ 0 = no-bits x x (power-above x) (λ k l.
           must-fail (isCandidate j) (bit k x) e (only isCandidate (in-is (o₀ * W + s₀) asked-candidate)
           carried j k)) in
           absurd (true≢false (sym u ∙ ap used z)))
 
-      pub pairs-within : before need (length need)
+      pub pairs-within : usedBefore need (length need)
           ≤ pairsMost (many (subjectOnly S O) n) (many (objectOnly S O) n) (many (named S O) n)
       pairs-within = omega (arith, used-few need candidates needed-in, candidates-few)

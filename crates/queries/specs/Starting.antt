@@ -8,7 +8,7 @@ use Prim.Native.Nat.{ℕ, suc, _+_, _*_, _-_, _/_, _^_, _≤_, _<_}
 use native.Mathlib.Nat.{mul-le-mul-right}
 use native.Mathlib.Omega.{arith}
 use lib.Dec.{eqb, leb}
-use lib.ListN.{length, getD, replicate, take, drop, length-drop, drop-of-length-le}
+use lib.ListN.{length, getD, replicate, length-replicate, take, drop, length-drop, drop-of-length-le}
 use lib.Seq.{getD-drop, drop-at, length-take-le}
 use Rattle.foundation.specs.Tests.{le-true, and-true, and-intro, and-false}
 use Rattle.foundation.specs.Lists.{Mem, kept}
@@ -21,7 +21,7 @@ use Rattle.model.specs.declared.Authorization.{Authorization}
 use Rattle.model.specs.declared.Rule.{Rule}
 use Rattle.model.specs.Base.{Base}
 use Rattle.model.specs.Encoding.{authorizationOf, ruleOf}
-use Rattle.model.specs.Stratification.{stratified}
+use Rattle.model.specs.Stratification.{stratified, negates}
 use Rattle.model.specs.Rules.{may}
 use Rattle.model.specs.Means.{allMarks}
 use Rattle.model.specs.HoldsMarks.{may-steady, all-marks-length}
@@ -50,20 +50,21 @@ use Rattle.engine.specs.declared.Found.{Found}
 use Rattle.engine.specs.Drawn.{SamePowers, Drawn, mappingOf}
 use Rattle.queries.specs.Drawing.{ownOf, own-coordinate, Outline, chart-small, Mapped, Arranged, sized}
 use Rattle.queries.specs.Drawing.{fields-small, total-small, drawn}
-use Rattle.engine.specs.NarrowedBase.{
+use Rattle.engine.proofs.NarrowedBase.{
   Both,
   ruleMatters,
   selected-rules,
   chosen-lines,
   kept-line,
 }
-use Rattle.engine.specs.NarrowedBase.{narrowed-may}
+use Rattle.engine.proofs.NarrowedBase.{narrowed-may}
 use Rattle.engine.specs.Going.{chartOf, chartIn, preparedFor, Roomy}
 use Rattle.engine.specs.declared.WindowWalk.{WindowWalk}
 use Rattle.sections.specs.Sections.{leftOf, feedOf, firstOf, startsOf, sidesOf, rightsOf}
-use Rattle.sections.specs.Sections.{numberOf, listedOf, whichOf}
-use Rattle.sections.specs.SectionWrites.{part-long, same-front, same-part, putBack, back-length, back-before}
-use Rattle.engine.specs.Posed.{Posed, Walks, Finds}
+use Rattle.sections.specs.Sections.{numberedOf, listedOf, whichOf}
+use Rattle.sections.proofs.SectionWrites.{part-long, same-front, same-part, putBack, back-length, back-before}
+use Rattle.engine.specs.Posed.{Posed, Walks, nothing, Finds}
+use Rattle.engine.proofs.NothingFound.{nothing-found}
 
 -- ---- the bodies of a base
 
@@ -148,10 +149,11 @@ module _ {holder : Base} {n : ℕ} {C : Chart} {own : Access} {p : Prepared} {ru
   neededLine = isNeeded (C .subjects) (C .objects) own (C .width) (p .need)
 
   -- the base with what matters alone
-  abbrev pub less : Base
-  less = narrowed base neededLine (ruleMatters d base (b .powers) (b .rules-are) (b .number) (b .numbering))
+  abbrev pub neededBase : Base
+  neededBase = narrowed base neededLine
+      (ruleMatters d base (b .powers) (b .rules-are) (b .number) (b .numbering))
 
-  pub posed : (x : Access) → needed C own (p .need) x ≡ true → Posed n C own p rules words bits less x
+  pub posed : (x : Access) → needed C own (p .need) x ≡ true → Posed n C own p rules words bits neededBase x
   posed x m = record {
     holder = holder;
     drawn = d;
@@ -172,15 +174,16 @@ module _ {holder : Base} {n : ℕ} {C : Chart} {own : Access} {p : Prepared} {ru
   }
 
   -- it says of the asked access what the whole base says
-  pub less-may : (x : Access) → needed C own (p .need) x ≡ true → (t : ℕ) → may base x t ≡ may less x t
-  less-may = narrowed-may d base (b .powers) (b .rules-are) (b .number) (b .numbering) neededLine
+  pub neededBase-may : (x : Access) → needed C own (p .need) x ≡ true → (t : ℕ) →
+      may base x t ≡ may neededBase x t
+  neededBase-may = narrowed-may d base (b .powers) (b .rules-are) (b .number) (b .numbering) neededLine
       (needed-both C own (p .need)) (b .strata)
 
 -- ---- the tables, and what is asked of them
 
 -- the place of the asked access
-abbrev pub placeIn : Chart → Access → List ℕ → Place
-placeIn C x number =
+abbrev pub askedPlace : Chart → Access → List ℕ → Place
+askedPlace C x number =
     let s : ℕ = getD (C .subjects) (x .subject) 0 in
     let o : ℕ = getD (C .objects) (x .object) 0 in
     record {
@@ -191,7 +194,7 @@ placeIn C x number =
 -- what is asked: no rule that looks back has to look behind the first instant
 pub record QueryPosed (C : Chart) (x : Access) (body number : List ℕ) (lasts : ℕ) (q : Query) : Type 0 where
   pub own : q .own ≡ ownOf C x
-  pub place : q .place ≡ placeIn C x number
+  pub place : q .place ≡ askedPlace C x number
   pub forward : q .from ≤ q .to
   pub first : (r : ℕ) → bit r lasts ≡ true →
       (q .from ≤ ruleAt body r .interval .start) ⊎ (inInterval (ruleAt body r .interval) (q .from) ≡ false)
@@ -244,9 +247,9 @@ module _ {holder : Base} {C : Chart} {p : Prepared} {lasts total : ℕ} {q : Que
       (c .authorizations)) (long : count ≤ length entry)
       (zero : (j : ℕ) → getD bits j 0 ≡ 0) (keeps : Keeps q lasts (length bits)) where
     abbrev few : Base
-    few = less tables-drawn b
+    few = neededBase tables-drawn b
 
-    place-is : placeIn C x (p .number) ≡ placeOf (mappingOf few C (ownOf C x) (withWidth p k)) x
+    place-is : askedPlace C x (p .number) ≡ placeOf (mappingOf few C (ownOf C x) (withWidth p k)) x
     place-is = rw (
       own-coordinate (C .subjects) (x .subject),
       own-coordinate (C .objects) (x .object),
@@ -297,12 +300,12 @@ module _ {holder : Base} {C : Chart} {p : Prepared} {lasts total : ℕ} {q : Que
       kept = keeps;
       carried = λ active r e y m s. carried-none active r e y;
       few = subst (λ (f : ℕ → Bool). length (maximal 0 (q .to) f) ≤ 1089)
-          (λ i u. less-may tables-drawn b x (t .matters) u i) (few-intervals b x (q .to));
+          (λ i u. neededBase-may tables-drawn b x (t .matters) u i) (few-intervals b x (q .to));
       fresh = λ l. ap (λ (a : ℕ). maximal a (q .to) (may few x)) (sym (t .asked .whole l));
     }
 
     -- the walk can start
-    pub walks : Walks lines which c lasts q C (withWidth p k) words bits (less tables-drawn b) x
+    pub walks : Walks lines which c lasts q C (withWidth p k) words bits (neededBase tables-drawn b) x
     walks =
         let e = t .asked .own in
         let l = t .asked .place ∙ place-is in
@@ -317,13 +320,13 @@ module _ {holder : Base} {C : Chart} {p : Prepared} {lasts total : ℕ} {q : Que
         asking-walks
 
     -- and what it finds is true of the whole base
-    pub whole-found : (r : Found) (old new : List ℕ) → Finds q (less tables-drawn b) x r old new →
+    pub whole-found : (r : Found) (old new : List ℕ) → Finds q (neededBase tables-drawn b) x r old new →
         Finds q base x r old new
     whole-found r old new w =
         let same : _≡_ {A = ℕ → Bool} (may few x) (may base x) =
-        λ i u. sym (less-may tables-drawn b x (t .matters) u) i in
+        λ i u. sym (neededBase-may tables-drawn b x (t .matters) u) i in
         record {
-          last = w .last ∙ sym (less-may tables-drawn b x (t .matters) (q .to));
+          last = w .last ∙ sym (neededBase-may tables-drawn b x (t .matters) (q .to));
           listed = λ l. subst (λ (f : ℕ → Bool). ScannedTo f (q .to) old (suc (q .to)) (r .track) new) same
               (w .listed l);
         }
@@ -382,8 +385,8 @@ module _ {lines which : List ℕ} {c : Chosen} {lasts total : ℕ} {q : Query} {
       (prepared body left feed sides right need codes number first starts w) words bits base x)
       (sym (s .same))
       (record {
-        small = less (tables-drawn c (b .tabled) k words bits rights firsts (s .narrow) (s .fits) (h .room))
-            (b .bodies);
+        small = neededBase (tables-drawn c (b .tabled) k words bits rights firsts (s .narrow) (s .fits)
+            (h .room)) (b .bodies);
         walks = walks c (b .tabled) k words bits rights firsts (s .narrow) (s .fits) (h .room) (b .bodies)
             (b .entry) which (b .chosen) (b .long) (h .zero) (h .keeps);
         found = whole-found c (b .tabled) k words bits rights firsts (s .narrow) (s .fits) (h .room)
@@ -568,7 +571,7 @@ module _ {records outline coordinates need numbers : List ℕ} {w : WindowWalk}
     numbers-long : length after ≡ length numbers
     numbers-long = back-length numbers at (length numbers - at) y long y-long
 
-    number-same : numberOf size after ≡ numberOf size numbers
+    number-same : numberedOf size after ≡ numberedOf size numbers
     number-same = same-front numbers after numbers-long size
         (λ i l. back-before numbers at (length numbers - at) y long y-long i (omega arith))
 
@@ -615,3 +618,16 @@ module _ {records outline coordinates need numbers : List ℕ} {w : WindowWalk}
         (subst (λ (l : List ℕ). Begun records l (picking w k .chosen) (w .lasting) (w .bits) (w .query)
         (chartIn coordinates (w .frame)) (preparedFor records outline coordinates need numbers w) base x)
         (sym which-own) (ground-begun g entry y k entry-room c))
+
+  -- where none is chosen and no rule that matters negates, nothing is found
+  pub begun-nothing : {base : Base} {x : Access} → BegunIn records outline coordinates need numbers w base x →
+      w .chosen .authorizations ≡ 0 →
+      ((r : ℕ) → bit r (w .chosen .needed) ≡ true → negates (ruleAt (drop (w .body) records) r) ≡ false) →
+      (old : List ℕ) → Finds (w .query) base x nothing old old
+  begun-nothing b none positive old =
+      let k = brokenWords (w .bits) in
+      let work : List ℕ = replicate (k + w .frame .fields) 0 in
+      let long : length work ≡ k + w .frame .fields = length-replicate (k + w .frame .fields) 0 in
+      let s = begun-walk work (omega (arith, long)) (zeros-at (k + w .frame .fields)) (sized (w .frame) 0)
+      (record { width = 0; narrow = omega arith; fits = omega (arith, long); same = refl }) b in
+      s .found nothing old old (nothing-found (s .walks) none positive old)

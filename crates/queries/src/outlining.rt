@@ -9,7 +9,7 @@ ghost use Prim.Native.Nat.{ℕ, _+_, _*_, _^_, _≤_, _<_};
 ghost use lib.ListN.{length, getD, take};
 ghost use Rattle.foundation.specs.BitMasks.{bit};
 ghost use Rattle.sections.specs.Sections.{leftOf, feedOf, sidesOf, rightsOf, subjectsOf, objectsOf};
-ghost use Rattle.sections.specs.Sections.{numberOf, listedOf};
+ghost use Rattle.sections.specs.Sections.{numberedOf, listedOf};
 ghost use Rattle.reach.specs.Net.{Formed, has};
 ghost use Rattle.masks.specs.RuleMasks.{RulesIn};
 ghost use Rattle.model.specs.Base.{Base};
@@ -47,6 +47,7 @@ use sections::FEED;
 use sections::FIRST;
 use sections::LEFT;
 use sections::OBJECTS;
+use sections::OUTLINE;
 use sections::RIGHT;
 use sections::SIDES;
 use sections::STARTS;
@@ -107,13 +108,13 @@ fn map_pairs(
     numbers: &mut [u16],
 ) -> Grid
     requires { ⌜ ((i : ℕ) → getD (now need) i 0 ≡ 0)
-        × ((i : ℕ) → getD (numberOf (length (now need)) (now numbers)) i 0 ≡ 0)
+        × ((i : ℕ) → getD (numberedOf (length (now need)) (now numbers)) i 0 ≡ 0)
         × (length (now need) ≡ e .objects * e .subjects) × (e .objects ≤ 65)
         × (2 * length (now need) ≤ length (now numbers)) × (pair < length (now need)) × (mode < 8)
         × Formed (now right) (e .subjects) (length (now need)) × (152 ≤ length (now left))
         × (256 ≤ length (now right)) ⌝ }
     ensures { λ r. ⌜ ((U O : List ℕ) → Mapped (chartFor U O e) (now (left .entry)) (now (right .entry))
-        (now (need .exit)) (numberOf (length (now (need .exit))) (now (numbers .exit)))
+        (now (need .exit)) (numberedOf (length (now (need .exit))) (now (numbers .exit)))
         (listedOf (length (now (need .exit))) (now (numbers .exit))) r)
         × ((b : ℕ) → bit b (257 * 2 ^ mode) ≡ true → has (now (need .exit)) pair b ≡ true) ⌝ }
 {
@@ -439,8 +440,8 @@ pub fn with_outline(
     ensures { λ r. ⌜ ((base : Base) → BodiesIn (now (records .entry)) n (decode (now (bytes .entry))) base →
         Answers (a .one) (a .instant) base (a .access) r (now (list .entry)) (now (list .exit))) ⌝ }
 {
-    let mut outline = [0u64; 472];
-    let mut coordinates = [0u8; 1666];
+    let mut outline = [0u64; OUTLINE];
+    let mut coordinates = [0u8; COORDINATES];
     let from = n.authorizations * AUTHORIZATION_BYTES;
     let e = draw(
         bytes,

@@ -25,6 +25,14 @@ use fields::le32;
 use fields::put32;
 use model::AUTHORIZATION_BYTES;
 use model::Access;
+use sections::CHOOSY;
+use sections::COORDINATES;
+use sections::LEFT;
+use sections::OBJECT_COUNT;
+use sections::OUTLINE;
+use sections::PACKED;
+use sections::SIDES;
+use sections::SUBJECT_COUNT;
 
 // Copies words.
 fn copy_words(from: &[u64], to: &mut [u64])
@@ -85,11 +93,17 @@ fn draw_words(s: &[u8], body: &[u8], n: usize, bytes: &mut [u8], words: &mut [u6
         × (length (now words) ≡ 684) × (length (now bytes) ≡ 1672) × (soundBytes (now s) ≡ true) ⌝ }
     ensures { λ _. ⌜ HandedBy (decode (now (s .entry))) n (now (body .entry)) (now (words .exit)) ⌝ }
 {
-    let e = draw(s, body, n, &mut words[0..472], &mut bytes[0..1666]);
-    pack(bytes, &mut words[472..681]);
-    words[681] = e.subjects as u64;
-    words[682] = e.objects as u64;
-    words[683] = e.choosy;
+    let e = draw(
+        s,
+        body,
+        n,
+        &mut words[LEFT..OUTLINE],
+        &mut bytes[SIDES..COORDINATES],
+    );
+    pack(bytes, &mut words[OUTLINE..SUBJECT_COUNT]);
+    words[SUBJECT_COUNT] = e.subjects as u64;
+    words[OBJECT_COUNT] = e.objects as u64;
+    words[CHOOSY] = e.choosy;
 }
 
 // Draws the rules of a base.
@@ -99,7 +113,7 @@ pub fn prepare(s: &[u8], words: &mut [u64])
 {
     let c = encoding::counts_of(s);
     let at = encoding::rules_at(c);
-    let mut bytes = [0u8; 1672];
+    let mut bytes = [0u8; PACKED];
     draw_words(s, &s[at..], c.rules as usize, &mut bytes, words);
 }
 
@@ -112,14 +126,14 @@ fn holds_drawn(s: &[u8], records: &[u8], n: Totals, prepared: &[u64], x: Access,
     ensures { λ r. ⌜ ((base : Base) → BodiesIn (now (records .entry)) n (decode (now (s .entry))) base →
         r ≡ may base x t) ⌝ }
 {
-    let mut outline = [0u64; 472];
-    let mut coordinates = [0u8; 1672];
-    copy_words(&prepared[0..472], &mut outline);
-    unpack(&prepared[472..681], &mut coordinates);
+    let mut outline = [0u64; OUTLINE];
+    let mut coordinates = [0u8; PACKED];
+    copy_words(&prepared[LEFT..OUTLINE], &mut outline);
+    unpack(&prepared[OUTLINE..SUBJECT_COUNT], &mut coordinates);
     let e = Extent {
-        subjects: prepared[681] as u32,
-        objects: prepared[682] as u32,
-        choosy: prepared[683],
+        subjects: prepared[SUBJECT_COUNT] as u32,
+        objects: prepared[OBJECT_COUNT] as u32,
+        choosy: prepared[CHOOSY],
     };
     let a = AccessQuery {
         access: x,
@@ -134,7 +148,7 @@ fn holds_drawn(s: &[u8], records: &[u8], n: Totals, prepared: &[u64], x: Access,
         a,
         e,
         &mut outline,
-        &coordinates[0..1666],
+        &coordinates[SIDES..COORDINATES],
         &mut none,
     );
     r.yes

@@ -5,7 +5,7 @@ ghost use Prim.Native.Nat.{ℕ, _*_, _^_, _≤_};
 ghost use lib.ListN.{length, getD, take};
 ghost use Rattle.model.specs.Base.{Base};
 ghost use Rattle.model.specs.declared.Access.{Access};
-ghost use Rattle.engine.specs.Posed.{Finds};
+ghost use Rattle.engine.specs.Posed.{nothing, Finds};
 ghost use Rattle.queries.specs.Starting.{BegunIn, GroundIn, Sectioned, Sized, brokenWords, RoomFor};
 use engine::Found;
 use engine::WindowWalk;
@@ -14,6 +14,8 @@ use foundation::Interval;
 use masks::width_for;
 use relevance::Chosen;
 use relevance::choose;
+use scan::Track;
+use selection::counts_some;
 use tables::Frame;
 
 // How wide fields can be: where one instant is asked, a bit is enough.
@@ -294,7 +296,23 @@ fn with_fields(
     with_all_tables(records, w, outline, coordinates, need, numbers, list)
 }
 
+// What is found where nothing is held.
+fn nothing_found() -> Found
+    ensures { λ r. ⌜ r ≡ nothing ⌝ }
+{
+    let none = Track {
+        count: 0,
+        inside: false,
+        from: 0,
+    };
+    Found {
+        track: none,
+        yes: false,
+    }
+}
+
 // Chooses the authorizations that matter, and walks. Those with none of the asked instants do not matter.
+// Where none does, and no rule negates, nothing is held.
 pub fn with_lines(
     records: &[u8],
     w: WindowWalk,
@@ -332,6 +350,12 @@ pub fn with_lines(
         need,
         &mut numbers[at..],
     );
+    if k == 0 {
+        let from = w.body;
+        if !counts_some(&records[from..], c.needed) {
+            return nothing_found();
+        }
+    }
     let d = Chosen {
         authorizations: k,
         rules: c.rules,

@@ -7,12 +7,11 @@ use Prim.Native.Nat.{ℕ, zero, suc, _+_, _*_, _/_, _%_, _^_, _≤_, _<_}
 use native.Mathlib.Nat.{mod-lt, mod-eq-of-lt, div-lt-iff-lt-mul, mul-le-mul-right, mul-le-mul, one-mul}
 use native.Mathlib.Nat.{div-one, pow-succ'}
 use native.Mathlib.Omega.{arith}
-use lib.Pow.{pow-mono, pow-lt, pow-pos}
-use lib.Bits.{bitAnd, and-le-l}
+use lib.Pow.{pow-mono, pow-lt}
 use lib.Dec.{eqb, ltb}
 use lib.ListN.{getD}
-use Rattle.foundation.specs.Tests.{pick, cases, and-true, and-intro, true-eq, false-eq, true-le, false-le}
-use Rattle.foundation.specs.BitMasks.{bit, mask-test}
+use Rattle.foundation.specs.Tests.{pick, cases, and-true, and-intro, false-eq, true-le, false-le}
+use Rattle.foundation.specs.BitMasks.{bit}
 use Rattle.words.specs.Bits.{less, bit-less, power-only, no-bits}
 use Rattle.reach.specs.Net.{turned, aimPair, aimBits, CodedRight, Formed, Led}
 
@@ -79,8 +78,3 @@ module _ (x k : ℕ) where
   cut-other i e n = bit-less i x (2 ^ k)
       ∙ and-intro (bit i x) (not (bit i (2 ^ k))) e (cases (bit i (2 ^ k))
       (λ f. absurd (n (power-only k i f))) (λ f. rw f))
-
-  pub cut-less : bit k x ≡ true → less x (2 ^ k) < x
-  cut-less e =
-      let a : bitAnd x (2 ^ k) ≡ 2 ^ k = true-eq (bitAnd x (2 ^ k)) (2 ^ k) (mask-test k x ∙ e) in
-      omega (arith, pow-pos k, and-le-l x (2 ^ k))

@@ -5,15 +5,14 @@ use mathlib.Core.Path.{_≡_, refl, sym, ap, _∙_}
 use mathlib.Core.Logic.{_⊎_, inl, inr, ⊎-elim}
 use mathlib.Core.Bool.{Bool, true, false, not, _&&_, _||_, false≢true}
 use mathlib.Core.List.{List}
-use Prim.Native.Nat.{ℕ, suc, _+_, _*_, _-_, _/_, _%_, _^_, _≤_, _<_}
-use native.Mathlib.Nat.{zero-div}
+use Prim.Native.Nat.{ℕ, suc, _+_, _*_, _-_, _/_, _%_, _≤_, _<_}
 use native.Mathlib.Omega.{arith}
 use lib.Bits.{bitAnd, bitOr, or-add-and, and-comm, or-lt, and-le-l}
 use lib.Dec.{eqb, leb, ltb}
 use lib.ListN.{length, getD, set, length-set}
 use Rattle.foundation.specs.Tests.{pick, cases, true-eq, false-eq, or-cases, or-intro-left, or-true-right}
 use Rattle.foundation.specs.Tests.{and-intro, and-true, eq-true, true-le, false-le}
-use Rattle.foundation.specs.BitMasks.{bit}
+use Rattle.foundation.specs.BitMasks.{bit, none-set}
 use Rattle.words.specs.Bits.{bit-or, bit-less, less}
 use Rattle.words.specs.Sums.{sum-set}
 use Rattle.reach.specs.Net.{Net, has, standing, aimPair, aimBits, Followed, ClosedBut, ClosedNet}
@@ -110,8 +109,8 @@ module _ (need todo : List ℕ) (p bits : ℕ) (h : p < length need) (g : p < le
 
 -- ---- one growth after another
 
-pub grown-none : (need todo : List ℕ) → Grown need todo need todo
-grown-none need todo = record {
+pub need-kept : (need todo : List ℕ) → Grown need todo need todo
+need-kept need todo = record {
   more = λ j k e. e;
   kept = λ j k e. e;
   fresh = λ j k e. inl e;
@@ -152,10 +151,6 @@ module _ (right : List ℕ) (rules subjects o s m : ℕ) where
       ∙ now b (ap (λ (q : ℕ). bit b (aimBits right q m)) (sym v) ∙ f))
       (λ u. let v = false-eq q r u in g .more (aimPair right subjects q o s) b (d q (omega arith) e b f)))
       (λ x. let y = false-le q r x in absurd (false≢true (sym (z q (omega arith) l) ∙ e)))
-
--- no bit of 0 is set
-pub none-set : (k : ℕ) → bit k 0 ≡ true → ⊥
-none-set k e = false≢true (sym (rw (zero-div (2 ^ k))) ∙ e)
 
 -- where nothing is, P need hold nowhere
 pub none-within : (P : ℕ → Bool) (l : List ℕ) → ((i : ℕ) → getD l i 0 ≡ 0) → OnlyWhere P l

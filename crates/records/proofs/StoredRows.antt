@@ -10,13 +10,13 @@ use Rattle.foundation.specs.Bytes.{le, records}
 use Rattle.foundation.specs.ByteRecords.{length-records}
 use Rattle.model.specs.Encoding.{decode, privilegeOf, authorizationOf, ruleOf}
 use Rattle.model.specs.Soundness.{soundBytes}
-use Rattle.model.specs.SoundnessFacts.{sound-tests, sound-bytes}
+use Rattle.model.specs.SoundnessFacts.{decoded-sound}
 use Rattle.encoding.specs.declared.Counts.{Counts}
 use Rattle.encoding.specs.Format.{countsOf, administratorsAt, referrersAt, authorizationsAt, rulesAt}
 use Rattle.encoding.proofs.FormatFacts.{decoded-objects, decoded-administrators, decoded-referrers}
 use Rattle.encoding.proofs.FormatFacts.{decoded-authorizations, decoded-rules, decoded-lengths}
 use Rattle.encoding.proofs.FormatFacts.{decoded-counts}
-use Rattle.encoding.proofs.Contents.{CountsWithin, within}
+use Rattle.encoding.proofs.Contents.{CountsWithin, fit-within}
 use Rattle.records.specs.declared.Body.{Body}
 use Rattle.records.specs.declared.Body.the-variants.{Heading, Objects, Administrators, Referrers}
 use Rattle.records.specs.declared.Body.the-variants.{Authorizations, Rules}
@@ -36,7 +36,7 @@ width-is Rules s = refl
 
 pub counts-within : (s : List ℕ) → soundBytes s ≡ true → CountsWithin (countsOf s)
 counts-within s e =
-    within (countsOf s) (sym (decoded-counts s) ∙ sound-tests (decode s) (sound-bytes s e .1) .counts)
+    fit-within (countsOf s) (sym (decoded-counts s) ∙ decoded-sound s e .counts)
 
 module _ (c : Counts) (h : CountsWithin c) where
   pub count-most : (b : Body) → recordCount c b ≤ 1024

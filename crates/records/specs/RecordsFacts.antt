@@ -18,7 +18,7 @@ use Rattle.model.specs.Step.{row, refusedOr, countsHold}
 use Rattle.model.specs.FitsFacts.{counts-fit}
 use Rattle.model.specs.Encoding.{decode}
 use Rattle.model.specs.Soundness.{soundBytes}
-use Rattle.model.specs.SoundnessFacts.{sound-tests, sound-bytes}
+use Rattle.model.specs.SoundnessFacts.{decoded-sound}
 use Rattle.model.specs.Answers.{Answer, answering, refusing, refusalNumber}
 use Rattle.records.specs.declared.Body.{Body}
 use Rattle.records.specs.declared.Body.the-variants.{Heading, Objects, Administrators, Referrers}
@@ -99,7 +99,7 @@ whole-body s source list e h l =
     let b = bodyOf source in
     let w = widthOf b in
     let all = rows (decode s) b in
-    let m = body-most (decode s) (sound-tests (decode s) (sound-bytes s e .1) .counts) b in
+    let m = body-most (decode s) (decoded-sound s e .counts) b in
     let p = width-least b in
     let q : length all * w ≤ length list = omega (arith, mul-comm w (length all), m) in
     let fits : length all ≤ length list / w = le-div-iff-mul-le p .1 q in

@@ -27,19 +27,15 @@ fn heading_numbers(s: &[u8], at: usize) -> [u32; 15]
 {
     let clock = fields::le32(s, at + 4);
     let last = fields::le16(s, at + 8);
-    let objects = fields::le16(s, at + 14);
-    let administrators = fields::le16(s, at + 18);
-    let referrers = fields::le16(s, at + 22);
-    let authorizations = fields::le16(s, at + 26);
-    let rules = fields::le16(s, at + 30);
+    let c = encoding::counts_of(&s[at..]);
     [
         clock,
         last as u32,
-        objects as u32,
-        administrators as u32,
-        referrers as u32,
-        authorizations as u32,
-        rules as u32,
+        c.objects as u32,
+        c.administrators as u32,
+        c.referrers as u32,
+        c.authorizations as u32,
+        c.rules as u32,
         0,
         0,
         0,

@@ -4,10 +4,10 @@ use mathlib.Core.Path.{_≡_, refl, ap}
 use mathlib.Core.Logic.{inl, inr}
 use Prim.Native.Nat.{ℕ, suc, _≤_, _<_}
 use native.Mathlib.Omega.{arith}
-use mathlib.Core.Bool.{Bool, true, false, not, _&&_, false≢true}
+use mathlib.Core.Bool.{true, false, not, _&&_}
 use mathlib.Core.List.{[], _∷_}
-use lib.Dec.{leb, eqb}
-use Rattle.foundation.specs.Tests.{le-true, true-le, and-true, not-false}
+use lib.Dec.{eqb}
+use Rattle.foundation.specs.Tests.{le-true, not-false, asked-passes}
 use Rattle.foundation.specs.Lists.{anyb, conjunct}
 use Rattle.model.specs.declared.Request.{Request}
 use Rattle.model.specs.Ranges.{between, isSubject, lastLabel}
@@ -18,7 +18,7 @@ use Rattle.model.specs.Means.{plainly}
 use Rattle.model.specs.Step.{namesObject, namesMode, namesInterval, ruleTermsIn, outOfRange, notSupported}
 use Rattle.model.specs.Step.{bars, barred}
 use Rattle.model.specs.Soundness.{intervalIn, ruleIn}
-use Rattle.model.specs.FitsFacts.{RuleFits, rule-fits}
+use Rattle.model.specs.FitsFacts.{RuleFits, rule-fits, at-most}
 use Rattle.model.specs.StepFacts.{in-range}
 use Rattle.laws.specs.RuleTerms.{term-in, side-in, ruleTests}
 use Rattle.cover.specs.declared.Gap.{Gap}
@@ -27,15 +27,6 @@ use Rattle.cover.specs.Gaps.{GapIs}
 use Rattle.refusals.specs.Asked.{UncoveredIs}
 
 -- ---- ranges
-
--- the upper end of a range
-pub upper : (lowest highest n : ℕ) → between lowest highest n ≡ true → n ≤ highest
-upper lowest highest n e = true-le n highest (and-true (leb lowest n) (leb n highest) e .1)
-
--- a test that is not failed where it is asked
-pub asked-passes : (asked test : Bool) → asked ≡ true → asked && not test ≡ false → test ≡ true
-asked-passes true test p e = not-false test e
-asked-passes false test p e = absurd (false≢true p)
 
 -- the numbers of a grant or denial that is in range
 pub record GrantIn (q : Request) : Type 0 where
@@ -47,13 +38,13 @@ pub grant-in : (q : Request) → outOfRange q ≡ false → grants q ≡ true �
 grant-in q r e =
     let t = in-range q r in
     record {
-      object = upper 1 128 (q .object) (asked-passes (namesObject q) (between 1 128 (q .object))
+      object = at-most 1 128 (q .object) (asked-passes (namesObject q) (between 1 128 (q .object))
           (is-kinds q grantKinds objectKinds refl e)
           (t _ (inr (inr (inr (inl refl))))));
-      mode = upper 1 8 (q .mode) (asked-passes (namesMode q) (between 1 8 (q .mode))
+      mode = at-most 1 8 (q .mode) (asked-passes (namesMode q) (between 1 8 (q .mode))
           (is-kinds q grantKinds modeKinds refl e)
           (t _ (inr (inr (inr (inr (inr (inl refl))))))));
-      requester = upper 1 1023 (q .requester) (not-false (between 1 1023 (q .requester))
+      requester = at-most 1 1023 (q .requester) (not-false (between 1 1023 (q .requester))
           (t _ (inr (inr (inl refl)))));
     }
 
@@ -81,7 +72,7 @@ rule-request-in q r e =
     ) in
     record {
       rule = rule-fits (newRule 1 q) within;
-      operator = omega (arith, upper 1 4 (q .rule .operator) (u _ (inr (inr (inl refl)))));
+      operator = omega (arith, at-most 1 4 (q .rule .operator) (u _ (inr (inr (inl refl)))));
     }
 
 -- ---- row 14

@@ -1,5 +1,5 @@
--- Rows asked one after another give the first that applies (`chained`), and the parts in which the code asks
--- the rows before 13 give what the table does (`early-stands`, `early-last`, `refusal-early`).
+-- Rows asked one after another give the first that applies (`chain-first`), and the parts in which the code
+-- asks the rows before 13 give what the table does (`early-stands`, `early-last`).
 use mathlib.Core.Path.{_≡_, refl, sym, _∙_}
 use mathlib.Core.Logic.{_≢_, inl}
 use Prim.Native.Nat.{ℕ}
@@ -12,17 +12,17 @@ use Rattle.foundation.specs.Lists.{allb}
 use Rattle.model.specs.declared.Request.{Request}
 use Rattle.model.specs.Base.{Base}
 use Rattle.model.specs.Means.{plainly}
-use Rattle.model.specs.Step.{Row, row, firstNumber, outOfRange, notSupported, notStratified, full, refusal}
+use Rattle.model.specs.Step.{Row, row, firstNumber, outOfRange, notSupported, notStratified}
 use Rattle.model.specs.StepFacts.{Numbered, numbered, first-none, first-append, first-all}
 use Rattle.refusals.specs.declared.Early.the-variants.{Number}
-use Rattle.refusals.specs.Early.{rowsBeforeCover, rowsBehindCover, rowsBeforeStrata, earlyRows, saysOf}
-use Rattle.refusals.specs.Early.{orElse}
+use Rattle.laws.specs.EarlyRows.{earlyRows}
+use Rattle.refusals.specs.Early.{rowsBeforeCover, rowsBehindCover, rowsBeforeStrata, saysOf, orElse}
 
 -- ---- rows asked one after another
 
 -- one row more
-pub next : (n k j number : ℕ) (g h : Bool) → n ≡ orElse k g number → k ≡ j → g ≡ h → n ≡ orElse j h number
-next n k j number g h e p q = rw (e, p, q)
+pub next-row : (n k j number : ℕ) (g h : Bool) → n ≡ orElse k g number → k ≡ j → g ≡ h → n ≡ orElse j h number
+next-row n k j number g h e p q = rw (e, p, q)
 
 -- after a number, each row in turn
 abbrev pub chain : ℕ → List Row → ℕ
@@ -40,8 +40,8 @@ chain-after (r ∷ rest) up n = cases (eqb n 0)
     (λ z. rw z (chain-after rest (up .1) n ∙ rw z))
 
 -- which gives the first that applies
-pub chained : (rows : List Row) → Numbered rows → chain 0 rows ≡ firstNumber rows
-chained rows up = chain-after rows up 0
+pub chain-first : (rows : List Row) → Numbered rows → chain 0 rows ≡ firstNumber rows
+chain-first rows up = chain-after rows up 0
 
 -- ---- rows behind others
 
@@ -67,15 +67,12 @@ module _ (b : Base) (q : Request) where
   strata-numbered : Numbered (rowsBeforeStrata b q)
   strata-numbered = numbered (rowsBeforeStrata b q) refl
 
-  pub early-numbered : Numbered (earlyRows b q)
-  early-numbered = numbered (earlyRows b q) refl
-
   -- asked in turn, the rows before row 9, and those behind it, give the first that applies
   pub before-found : (n : ℕ) → n ≡ chain 0 (rowsBeforeCover b q) → n ≡ firstNumber (rowsBeforeCover b q)
-  before-found n e = e ∙ chained (rowsBeforeCover b q) before-numbered
+  before-found n e = e ∙ chain-first (rowsBeforeCover b q) before-numbered
 
   pub behind-found : (n : ℕ) → n ≡ chain 0 (rowsBehindCover b q) → n ≡ firstNumber (rowsBehindCover b q)
-  behind-found n e = e ∙ chained (rowsBehindCover b q) (numbered (rowsBehindCover b q) refl)
+  behind-found n e = e ∙ chain-first (rowsBehindCover b q) (numbered (rowsBehindCover b q) refl)
 
   -- where none of the rows before row 9, or before row 12, applies, the fields are in their ranges
   pub before-range : firstNumber (rowsBeforeCover b q) ≡ 0 → outOfRange q ≡ false
@@ -117,9 +114,3 @@ module _ (b : Base) (q : Request) where
   pub early-last : (x : Bool) → firstNumber (rowsBeforeStrata b q) ≡ 0 → notStratified b q ≡ x →
       firstNumber (earlyRows b q) ≡ pick x 12 0
   early-last x z e = goes-on (rowsBeforeStrata b q) (row 12 (notStratified b q) ∷ []) strata-numbered z ∙ rw e
-
-  -- row 13 behind all of these
-  pub refusal-early : refusal plainly b q
-      ≡ pick (eqb (firstNumber (earlyRows b q)) 0) (pick (full plainly b q) 13 0)
-      (firstNumber (earlyRows b q))
-  refusal-early = first-append (earlyRows b q) (row 13 (full plainly b q) ∷ []) early-numbered

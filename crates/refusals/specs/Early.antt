@@ -12,14 +12,11 @@ use Rattle.model.specs.declared.Request.{Request}
 use Rattle.model.specs.Base.{Base}
 use Rattle.model.specs.Means.{plainly}
 use Rattle.model.specs.Step.{Row, firstNumber, earliestGap, table}
+use Rattle.laws.specs.EarlyRows.{rowsUntil, earlyRows}
 use Rattle.refusals.specs.declared.Early.{Early}
 use Rattle.refusals.specs.declared.Early.the-variants.{Passed, Number, Uncovered}
 
--- the rows that stand before the one numbered n, and those behind it
-abbrev rowsBefore : ℕ → List Row → List Row
-rowsBefore n [] = []
-rowsBefore n (r ∷ rest) = pick (eqb (r .number) n) [] (r ∷ rowsBefore n rest)
-
+-- the rows that stand behind the one numbered n
 abbrev rowsBehind : ℕ → List Row → List Row
 rowsBehind n [] = []
 rowsBehind n (r ∷ rest) = pick (eqb (r .number) n) rest (rowsBehind n rest)
@@ -27,19 +24,15 @@ rowsBehind n (r ∷ rest) = pick (eqb (r .number) n) rest (rowsBehind n rest)
 module _ (b : Base) (q : Request) where
   -- the rows before row 9
   abbrev pub rowsBeforeCover : List Row
-  rowsBeforeCover = rowsBefore 9 (table plainly b q)
+  rowsBeforeCover = rowsUntil 9 (table plainly b q)
 
   -- the rows between row 9 and row 12
   abbrev pub rowsBehindCover : List Row
-  rowsBehindCover = rowsBefore 12 (rowsBehind 9 (table plainly b q))
+  rowsBehindCover = rowsUntil 12 (rowsBehind 9 (table plainly b q))
 
   -- the rows before row 12
   abbrev pub rowsBeforeStrata : List Row
-  rowsBeforeStrata = rowsBefore 12 (table plainly b q)
-
-  -- the table without its last row, 13
-  abbrev pub earlyRows : List Row
-  earlyRows = rowsBefore 13 (table plainly b q)
+  rowsBeforeStrata = rowsUntil 12 (table plainly b q)
 
   -- what an answer says where n is the number of the first row that applies
   abbrev pub saysOf : ℕ → Early → Type 0
@@ -48,7 +41,7 @@ module _ (b : Base) (q : Request) where
   saysOf n (Uncovered t) = (n ≡ 9) × (t ≡ earliestGap plainly b q)
 
   abbrev pub earlyIs : Early → Type 0
-  earlyIs = saysOf (firstNumber earlyRows)
+  earlyIs = saysOf (firstNumber (earlyRows b q))
 
 -- ---- rows asked one after another
 

@@ -6,50 +6,48 @@ use mathlib.Core.List.{List, [], _∷_, _++_}
 use Prim.Native.Nat.{ℕ, _+_, _-_, _*_, _≤_, _<_}
 use native.Mathlib.Omega.{arith}
 use lib.ListN.{length, take, drop, length-append}
-use lib.Seq.{take-at, drop-at, drop-drop, length-take-le}
+use lib.Seq.{take-at, drop-at, length-take-le}
+use Rattle.encoding.specs.Format.{authorizationsFrom}
 use Rattle.foundation.specs.Tests.{pick}
 use Rattle.foundation.specs.Lists.{keepIf}
 use Rattle.model.specs.declared.Authorization.{Authorization}
 use Rattle.model.specs.Encoding.{authorizationOf}
 use Rattle.model.specs.Report.{isOn, rowsOn, reportRow}
 use Rattle.fields.specs.Field.{splice}
-use Rattle.foundation.specs.ByteRecords.{rest, rest-step}
+use Rattle.foundation.specs.ByteRecords.{rest-step}
 use Rattle.printing.specs.Print.{Printed}
 
 -- what an authorization adds to the sheet
 abbrev pub rowOf : Bool → Authorization → List ℕ
 rowOf on a = pick on (reportRow a) []
 
--- those from the i-th of n on
-abbrev pub left : ℕ → List ℕ → ℕ → List Authorization
-left n lines i = rest 24 authorizationOf n lines i
-
 module _ (o n : ℕ) (lines : List ℕ) (i : ℕ) (h : i < n) (a : Authorization)
     (e : a ≡ authorizationOf (drop (i * 24) lines)) where
-  next : left n lines i ≡ a ∷ left n lines (i + 1)
+  next : authorizationsFrom n lines i ≡ a ∷ authorizationsFrom n lines (i + 1)
   next =
       rest-step 24 authorizationOf n lines i h
-      ∙ ap (λ (x : Authorization). x ∷ left n lines (i + 1)) (sym e)
+      ∙ ap (λ (x : Authorization). x ∷ authorizationsFrom n lines (i + 1)) (sym e)
 
   -- one more is counted, or not
   pub count-next : (on : Bool) → isOn o a ≡ on →
-      length (keepIf (isOn o) (left n lines i)) ≡ pick on 1 0 + length
-      (keepIf (isOn o) (left n lines (i + 1)))
+      length (keepIf (isOn o) (authorizationsFrom n lines i)) ≡ pick on 1 0 + length
+      (keepIf (isOn o) (authorizationsFrom n lines (i + 1)))
   count-next on q =
       ap (λ (xs : List Authorization). length (keepIf (isOn o) xs)) next ∙ by-test on q
     where
       by-test : (on : Bool) → isOn o a ≡ on →
-          length (keepIf (isOn o) (a ∷ left n lines (i + 1)))
-          ≡ pick on 1 0 + length (keepIf (isOn o) (left n lines (i + 1)))
+          length (keepIf (isOn o) (a ∷ authorizationsFrom n lines (i + 1)))
+          ≡ pick on 1 0 + length (keepIf (isOn o) (authorizationsFrom n lines (i + 1)))
       by-test true q = rw q (omega arith)
       by-test false q = rw q (omega arith)
 
   pub rows-next : (on : Bool) → on ≡ isOn o a →
-      rowsOn o (left n lines i) ≡ rowOf on a ++ rowsOn o (left n lines (i + 1))
+      rowsOn o (authorizationsFrom n lines i) ≡ rowOf on a ++ rowsOn o (authorizationsFrom n lines (i + 1))
   rows-next on q = ap (rowsOn o) next ∙ by-test on (sym q)
     where
       by-test : (on : Bool) → isOn o a ≡ on →
-          rowsOn o (a ∷ left n lines (i + 1)) ≡ rowOf on a ++ rowsOn o (left n lines (i + 1))
+          rowsOn o (a ∷ authorizationsFrom n lines (i + 1))
+          ≡ rowOf on a ++ rowsOn o (authorizationsFrom n lines (i + 1))
       by-test true q = rw q
       by-test false q = rw q
 
@@ -72,11 +70,3 @@ module _ {at e : ℕ} {t s s′ : List ℕ} (p : Printed at t s s′ e) (h : at 
       ap (drop e) (p .bytes)
       ∙ drop-at (take at s ++ t) (drop (at + length t) s) e front-length
       ∙ ap (λ (n : ℕ). drop n s) (sym (p .ends))
-
--- two lists that are alike from a place on are so from a later one on
-pub alike-behind : (at e : ℕ) (s s′ : List ℕ) → at ≤ e → drop at s ≡ drop at s′ → drop e s ≡ drop e s′
-alike-behind at e s s′ h q =
-    let whole : at + (e - at) ≡ e = omega arith in
-    let later : (x : List ℕ) → drop e x ≡ drop (e - at) (drop at x) =
-    λ x. ap (λ (n : ℕ). drop n x) (sym whole) ∙ sym (drop-drop (e - at) at x) in
-    later s ∙ ap (drop (e - at)) q ∙ sym (later s′)

@@ -19,7 +19,7 @@ use Rattle.encoding.specs.declared.Counts.{Counts}
 use Rattle.encoding.specs.Format.{countsOf}
 use Rattle.encoding.proofs.FormatFacts.{decoded-lengths}
 use Rattle.effects.specs.EffectRecords.{Allowed}
-use Rattle.effects.proofs.AllowedEffects.{HoldsBase, holds, after-fits, last-read}
+use Rattle.effects.proofs.AllowedEffects.{HoldsBase, holds-base, after-fits, last-read}
 use Rattle.revocation.specs.CarriedOut.{PassesEarly, CarriedOut}
 use Rattle.requests.specs.KeepingKinds.{keepingKinds}
 use Rattle.revocation.proofs.CarriedFacts.{passed-accepted}
@@ -61,7 +61,7 @@ module _ (s : List ℕ) (q : Request) (p : PassesEarly s q) (w : withdraws q ≡
 
   module _ (s′ : List ℕ) (e : s′ ≡ encode (effect plainly (decode s) q)) where
     pub effect-holds : HoldsBase (effect plainly (decode s) q) s′
-    effect-holds = holds (effect plainly (decode s) q) s′ (after-fits keepingKinds s q passed-allowed) e
+    effect-holds = holds-base (effect plainly (decode s) q) s′ (after-fits keepingKinds s q passed-allowed) e
 
     pub carried-done : (r : Reply) → r ≡ replyRead q (decode s′) → CarriedOut s q r s′
     carried-done r h = record {

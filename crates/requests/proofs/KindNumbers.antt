@@ -23,15 +23,16 @@ abbrev pub numbersFrom : ℕ → ℕ → List ℕ
 numbersFrom m zero = []
 numbersFrom m (suc n) = m ∷ numbersFrom (suc m) n
 
-pub among : (k m n : ℕ) → m ≤ k → k < m + n → anyb (λ x. eqb k x) (numbersFrom m n) ≡ true
-among k m zero l h = absurd (omega arith)
-among k m (suc n) l h = cases (eqb k m)
+pub kind-among : (k m n : ℕ) → m ≤ k → k < m + n → anyb (λ x. eqb k x) (numbersFrom m n) ≡ true
+kind-among k m zero l h = absurd (omega arith)
+kind-among k m (suc n) l h = cases (eqb k m)
     (λ e. rw e)
-    (λ e. let d = false-eq k m e in rw e (among k (suc m) n (omega (arith, d)) (omega arith)))
+    (λ e. let d = false-eq k m e in rw e (kind-among k (suc m) n (omega (arith, d)) (omega arith)))
 
 -- a number outside of a range is none of it
-pub apart : (k m n x : ℕ) → (k < m) ⊎ (n ≤ k) → m ≤ x → x < n → eqb k x ≡ false
-apart k m n x far l h = ne-false k x (λ e. ⊎-elim (λ w. omega (arith, w, e)) (λ w. omega (arith, w, e)) far)
+pub kind-apart : (k m n x : ℕ) → (k < m) ⊎ (n ≤ k) → m ≤ x → x < n → eqb k x ≡ false
+kind-apart k m n x far l h = ne-false k x (λ e. ⊎-elim (λ w. omega (arith, w, e)) (λ w. omega (arith, w, e))
+    far)
 
 module _ (q : Request) where
   pub is-one : (k : ℕ) → q .kind ≡ k → is q (k ∷ []) ≡ true
@@ -41,7 +42,8 @@ module _ (q : Request) where
   known e =
       let w = and-true (leb NEW (q .kind)) (leb (q .kind) REVOKEREF)
       (not-false (between NEW REVOKEREF (q .kind)) (in-range q e _ (inl refl))) in
-      among (q .kind) 1 12 (true-le NEW (q .kind) (w .0)) (omega (arith, true-le (q .kind) REVOKEREF (w .1)))
+      kind-among (q .kind) 1 12 (true-le NEW (q .kind) (w .0))
+      (omega (arith, true-le (q .kind) REVOKEREF (w .1)))
 
   -- one of the eight
   pub keeping : outOfRange q ≡ false → withdraws q ≡ false → is q keepingKinds ≡ true

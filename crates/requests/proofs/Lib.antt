@@ -1,3 +1,4 @@
 pub mod KindNumbers
 pub mod EffectReplies
+pub mod EarlyReplies
 pub mod RoomFacts

@@ -8,6 +8,7 @@ use mathlib.Core.List.{List, [], _∷_}
 use lib.Dec.{leb}
 use lib.ListN.{length, length-append}
 use Rattle.foundation.specs.Tests.{cases, le-true, le-false, true-le, false-le}
+use Rattle.foundation.specs.Lists.{kept-length, length-insertAt}
 use Rattle.model.specs.declared.Privilege.{Privilege}
 use Rattle.model.specs.declared.Request.{Request}
 use Rattle.model.specs.Ranges.{mostObjects, mostAdministrators, mostReferrers, mostAuthorizations, mostRules}
@@ -20,10 +21,8 @@ use Rattle.model.specs.Means.{plainly}
 use Rattle.model.specs.Step.{effect, countsHold, full}
 use Rattle.laws.specs.AuthorizationsAfter.{newAuthorization, granted-authorizations, same-authorizations}
 use Rattle.laws.specs.Privileges.{changed}
-use Rattle.edits.proofs.Kept.{length-insertAt}
 use Rattle.effects.specs.EffectRecords.{firstIndex}
 use Rattle.effects.proofs.PrivilegePlaces.{insert-place}
-use Rattle.effects.proofs.Dropping.{kept-length}
 
 -- no place is left in the body that the request adds to, or no label
 abbrev pub noRoom : Base → Request → Bool

@@ -7,8 +7,6 @@ ghost use Rattle.model.specs.Requests.{withdraws};
 ghost use Rattle.model.specs.Means.{plainly};
 ghost use Rattle.model.specs.Step.{full};
 use model::ADDRULE;
-use model::DENY;
-use model::GRANT;
 use model::GRANTADM;
 use model::GRANTREF;
 use model::NEW;
@@ -25,7 +23,7 @@ pub fn no_room(s: &[u8], q: Request) -> bool
     ((k == NEW) & (128 <= c.objects))
         | ((k == GRANTADM) & (128 <= c.administrators))
         | ((k == GRANTREF) & (128 <= c.referrers))
-        | (((k == GRANT) | (k == DENY)) & (1024 <= c.authorizations))
+        | (lookup::is_grant(q) & (1024 <= c.authorizations))
         | ((k == ADDRULE) & (64 <= c.rules))
         | (lookup::is_labelling(q) & (65535 <= last))
 }

@@ -1,5 +1,5 @@
 -- What a request does that the rows before 13 let pass is the library's answer to it (`passed-answered`),
--- and so are the refusals before (`number-answered`, `uncovered-answered`, `unsound-answered`).
+-- and so are refusals (`refuses`).
 use mathlib.Core.Path.{_≡_, refl, sym, ap, _∙_}
 use mathlib.Core.Logic.{_≢_}
 use mathlib.Core.Bool.{Bool, true, false}
@@ -7,22 +7,20 @@ use mathlib.Core.List.{List}
 use Prim.Native.Nat.{ℕ}
 use native.Mathlib.Omega.{arith}
 use lib.Dec.{eqb}
-use Rattle.foundation.specs.Tests.{pick, ne-false}
+use Rattle.foundation.specs.Tests.{pick}
 use Rattle.foundation.specs.Lists.{Mem}
 use Rattle.model.specs.declared.Request.{Request}
 use Rattle.model.specs.declared.Reply.{Reply}
-use Rattle.model.specs.declared.Reply.the-variants.{Refused, Unsupported}
+use Rattle.model.specs.declared.Reply.the-variants.{Refused}
 use Rattle.model.specs.Encoding.{encode, decode}
 use Rattle.model.specs.Soundness.{soundBytes}
 use Rattle.model.specs.SoundnessFacts.{sound-bytes}
 use Rattle.model.specs.Means.{plainly}
-use Rattle.model.specs.Step.{Row, firstNumber, full, effect, accepting, refusal, refusalReply}
-use Rattle.model.specs.StepFacts.{Accepted, accepted, first-none, reply-number}
+use Rattle.model.specs.Step.{Row, full, effect, accepting, refusal, refusalReply}
+use Rattle.model.specs.StepFacts.{Accepted, accepted, first-none}
 use Rattle.model.specs.Answers.{answering, request}
-use Rattle.laws.specs.RequestFacts.{request-accepted, request-refused, request-unsound}
-use Rattle.refusals.specs.declared.Early.the-variants.{Number, Uncovered}
-use Rattle.refusals.specs.Early.{earlyRows, earlyIs}
-use Rattle.refusals.proofs.EarlyFacts.{early-numbered, refusal-early}
+use Rattle.laws.specs.RequestFacts.{request-accepted, request-refused}
+use Rattle.laws.specs.EarlyRows.{earlyRows, early-numbered, refusal-early}
 use Rattle.revocation.specs.CarriedOut.{PassesEarly, CarriedOut}
 
 -- ---- on sound bytes
@@ -36,38 +34,13 @@ module _ (s : List ℕ) (q : Request) (e : soundBytes s ≡ true) where
       let w = sound-bytes s e in
       sym (ap (λ (x : List ℕ). request x q) (sym (w .0)) ∙ request-accepted (decode s) q (w .1) z)
 
-  refuses : (n : ℕ) → refusal plainly (decode s) q ≡ n → n ≢ 0 →
+  pub refuses : (n : ℕ) → refusal plainly (decode s) q ≡ n → n ≢ 0 →
       answering (refusalReply plainly (decode s) q n) s ≡ request s q
   refuses n h z =
       let w = sound-bytes s e in
       sym (ap (λ (x : List ℕ). request x q) (sym (w .0))
       ∙ request-refused (decode s) q (w .1) (λ y. z (sym h ∙ y))
       ∙ (λ i. answering (refusalReply plainly (decode s) q (h i)) (w .0 i)))
-
-  -- refused by one of the rows before 13
-  early-refuses : (n : ℕ) → firstNumber (earlyRows (decode s) q) ≡ n → n ≢ 0 →
-      answering (refusalReply plainly (decode s) q n) s ≡ request s q
-  early-refuses n h z = refuses n
-      (refusal-early (decode s) q
-      ∙ ap (λ (m : ℕ). pick (eqb m 0) (pick (full plainly (decode s) q) 13 0) m) h
-      ∙ ap (λ (x : Bool). pick x (pick (full plainly (decode s) q) 13 0) n) (ne-false n 0 z))
-      z
-
-  pub number-answered : (n : ℕ) → earlyIs (decode s) q (Number n) → answering (Refused n) s ≡ request s q
-  number-answered n i =
-      ap (λ (r : Reply). answering r s) (sym (reply-number (decode s) q n (i .2)))
-      ∙ early-refuses n (i .0) (i .1)
-
-  pub uncovered-answered : (t : ℕ) → earlyIs (decode s) q (Uncovered t) →
-      answering (Unsupported t) s ≡ request s q
-  uncovered-answered t i =
-      ap (λ (u : ℕ). answering (Unsupported u) s) (i .1) ∙ early-refuses 9 (i .0) (λ z. omega arith)
-
--- ---- on bytes that are not
-
-pub unsound-answered : (s : List ℕ) (q : Request) → soundBytes s ≡ false →
-    answering (Refused 2) s ≡ request s q
-unsound-answered s q e = sym (request-unsound s q e)
 
 -- ---- past the rows before 13
 

@@ -10,7 +10,7 @@ use lib.Dec.{leb, ltb, eqb}
 use lib.ListN.{length}
 use Rattle.foundation.specs.Tests.{pick, cases, le-true, le-false, true-le, false-le, must-fail, not-false}
 use Rattle.foundation.specs.Tests.{or-false}
-use Rattle.foundation.specs.Lists.{keepIf}
+use Rattle.foundation.specs.Lists.{keepIf, kept-length}
 use Rattle.foundation.specs.declared.Interval.{Interval}
 use Rattle.model.specs.declared.Request.{Request}
 use Rattle.model.specs.Ranges.{isSubject, isObject, isMode, isLabel, lastLabel, mostObjects}
@@ -23,10 +23,9 @@ use Rattle.model.specs.Step.{namesObject, namesSubject, namesMode, namesInterva
 use Rattle.model.specs.Step.{badInterval, full, effect}
 use Rattle.model.specs.StepFacts.{in-range}
 use Rattle.model.specs.SoundnessFacts.{Sound}
-use Rattle.model.specs.FitsFacts.{counts-fit}
+use Rattle.model.specs.FitsFacts.{counts-fit, at-most}
 use Rattle.model.specs.Kinds.{is-kinds, is-apart, intervalKinds, labelKinds, withdrawalKinds}
-use Rattle.effects.proofs.Dropping.{kept-length}
-use Rattle.refusals.proofs.AskedFacts.{upper, asked-passes}
+use Rattle.foundation.specs.Tests.{asked-passes}
 use Rattle.pieces.specs.declared.Cut.{Cut}
 use Rattle.pieces.specs.declared.CutKind.{CutKind}
 use Rattle.pieces.specs.declared.CutKind.the-variants.{Label, Grantor, Name}
@@ -41,25 +40,25 @@ labelNamers = REVOKE ∷ DROPRULE ∷ []
 
 module _ (q : Request) (r : outOfRange q ≡ false) where
   pub requester-most : q .requester ≤ 1023
-  requester-most = upper 1 1023 (q .requester)
+  requester-most = at-most 1 1023 (q .requester)
       (not-false (isSubject (q .requester)) (in-range q r _ (inr (inr (inl refl)))))
 
   pub object-most : namesObject q ≡ true → q .object ≤ 128
-  object-most k = upper 1 128 (q .object)
+  object-most k = at-most 1 128 (q .object)
       (asked-passes (namesObject q) (isObject (q .object)) k (in-range q r _ (inr (inr (inr (inl refl))))))
 
   pub subject-most : namesSubject q ≡ true → q .subject ≤ 1023
-  subject-most k = upper 1 1023 (q .subject)
+  subject-most k = at-most 1 1023 (q .subject)
       (asked-passes (namesSubject q) (isSubject (q .subject)) k
       (in-range q r _ (inr (inr (inr (inr (inl refl)))))))
 
   pub mode-most : namesMode q ≡ true → q .mode ≤ 8
-  mode-most k = upper 1 8 (q .mode)
+  mode-most k = at-most 1 8 (q .mode)
       (asked-passes (namesMode q) (isMode (q .mode)) k
       (in-range q r _ (inr (inr (inr (inr (inr (inl refl))))))))
 
   pub label-most : namesLabel q ≡ true → q .label ≤ lastLabel
-  label-most k = upper 1 lastLabel (q .label) (asked-passes (namesLabel q) (isLabel (q .label)) k
+  label-most k = at-most 1 lastLabel (q .label) (asked-passes (namesLabel q) (isLabel (q .label)) k
       (in-range q r _ (inr (inr (inr (inr (inr (inr (inr (inl refl))))))))))
 
 -- an interval that is named does not end before it starts

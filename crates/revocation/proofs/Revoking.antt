@@ -9,7 +9,7 @@ use mathlib.Core.List.{List, [], _∷_, _++_, append-nil}
 use lib.ListN.{length, take, drop}
 use lib.Seq.{take-all, drop-length}
 use Rattle.foundation.specs.Tests.{pick, le-true, le-false}
-use Rattle.foundation.specs.Lists.{Mem, each, keepIf, kept}
+use Rattle.foundation.specs.Lists.{Mem, each, keepIf, kept, kept-length}
 use Rattle.fields.specs.Field.{splice}
 use Rattle.model.specs.declared.Privilege.{Privilege}
 use Rattle.model.specs.declared.Authorization.{Authorization}
@@ -28,7 +28,7 @@ use Rattle.model.specs.Requests.{GRANTREF, REVOKEREF, is, withdraws, before, wi
 use Rattle.model.specs.Requests.{administratorsAfter}
 use Rattle.model.specs.Means.{plainly}
 use Rattle.model.specs.Step.{effect, full, accepting}
-use Rattle.model.specs.SoundnessFacts.{Sound, sound-tests, sound-bytes}
+use Rattle.model.specs.SoundnessFacts.{Sound, decoded-sound}
 use Rattle.model.specs.Kinds.{kind-is, is-apart, is-kinds, objectKinds, subjectKinds, labelKinds}
 use Rattle.model.specs.Kinds.{withdrawalKinds}
 use Rattle.laws.specs.KeepFacts.{Sorted}
@@ -50,16 +50,15 @@ use Rattle.pieces.specs.Cuts.{spared, CutOf}
 use Rattle.pieces.specs.Building.{Result, Built}
 use Rattle.withdrawal.proofs.Link.{withdrawn-is}
 use Rattle.effects.specs.EffectRecords.{Allowed, dropsBy}
-use Rattle.effects.proofs.AllowedEffects.{HoldsBase, holds, after-fits}
-use Rattle.effects.proofs.Dropping.{kept-length}
+use Rattle.effects.proofs.AllowedEffects.{HoldsBase, holds-base, after-fits}
 use Rattle.effects.proofs.Changes.{administrator-there}
-use Rattle.lookup.proofs.SoundBodies.{Fitting, lent, objects-lent, administrators-lent, authorizations-lent}
+use Rattle.encoding.proofs.SoundBodies.{Fitting, lent, objects-lent, administrators-lent, authorizations-lent}
 use Rattle.revocation.specs.CarriedOut.{PassesEarly, CarriedOut}
 use Rattle.revocation.proofs.CarriedFacts.{passed-row, passed-accepted}
 use Rattle.revocation.proofs.Revoked.{object-most, subject-most, withdrawal-full}
 
 pub passed-sound : (s : List ℕ) (q : Request) → PassesEarly s q → Sound (decode s)
-passed-sound s q p = sound-tests (decode s) (sound-bytes s (p .sound) .1)
+passed-sound s q p = decoded-sound s (p .sound)
 
 -- ---- the bodies as they are lent
 
@@ -158,7 +157,7 @@ module _ (t : List ℕ) (W : Written t) (s : List ℕ) (q : Request) (m : ℕ) (
     pub replaced-holds : HoldsBase (withAuthorizations (effect plainly (decode s) q .authorizations)
         (decode t))
         t₁
-    replaced-holds = holds (withAuthorizations ys (decode t)) t₁
+    replaced-holds = holds-base (withAuthorizations ys (decode t)) t₁
         (fits-authorizations ys (decode t) (W .fits) (omega (arith, l .result .count, l .result .fits))
         (l .fits))
         (e₁ ∙ ap (λ (x : List Authorization). encode (withAuthorizations x (decode t))) (l .result .records))
@@ -250,7 +249,7 @@ module _ (s : List ℕ) (q : Request) (p : PassesEarly s q) (k : is q (REVOKEADM
       removed-holds =
           let W = written-sound s (p .sound) in
           let t : Privilege → Bool = λ x. not (isPrivilege (q .object) (q .subject) x) in
-          holds (withAdministrators (without (q .object) (q .subject) (old .administrators)) old) s₁
+          holds-base (withAdministrators (without (q .object) (q .subject) (old .administrators)) old) s₁
           (fits-privileges Administrators (without (q .object) (q .subject) (old .administrators)) old
           (W .fits)
           (omega (arith, kept-length t (old .administrators), W .fits .counts .administrators))
@@ -278,7 +277,7 @@ module _ (s : List ℕ) (q : Request) (p : PassesEarly s q) (k : is q (REVOKEADM
             let W = removed-holds .written in
             let B = withAdministrators (without (q .object) (q .subject) (old .administrators)) old in
             let F : BaseFits B = subst (λ (b : Base). BaseFits b) (removed-holds .base) (W .fits) in
-            holds (withRules (keepIf stay (old .rules)) B) s₂
+            holds-base (withRules (keepIf stay (old .rules)) B) s₂
             (fits-rules (keepIf stay (old .rules)) B F
             (omega (arith, kept-length stay (old .rules), F .counts .rules))
             (λ r m. F .rules r (kept stay (old .rules) r m .0)))

@@ -12,7 +12,7 @@ use Rattle.model.specs.Encoding.{encode, decode}
 use Rattle.model.specs.Soundness.{soundBytes}
 use Rattle.model.specs.Means.{plainly}
 use Rattle.model.specs.Step.{firstNumber, full, effect, accepting}
-use Rattle.refusals.specs.Early.{earlyRows}
+use Rattle.laws.specs.EarlyRows.{earlyRows}
 
 -- the bytes are sound, and none of the rows before 13 applies
 pub record PassesEarly (s : List ℕ) (q : Request) : Type 0 where

@@ -9,8 +9,8 @@ use Rattle.foundation.specs.Lists.{keepIf}
 use Rattle.foundation.specs.Graph.{most, heavy, cyclic, rank}
 use Rattle.model.specs.declared.Rule.{Rule}
 use Rattle.encoding.specs.Format.{rulesIn, ruleAt}
-use Rattle.model.specs.Stratification.{feeds, precedes, negates, weight, stratified, stratum}
-use Rattle.foundation.specs.BitMasks.{asBit, maskOf}
+use Rattle.model.specs.Stratification.{precedes, negates, weight, stratified, stratum}
+use Rattle.foundation.specs.BitMasks.{asBit}
 
 -- the first n numbers of l are those of f
 abbrev pub FilledWith : ℕ → (ℕ → ℕ) → List ℕ → Type 0
@@ -19,10 +19,6 @@ FilledWith n f l = (i : ℕ) → i < n → getD l i 0 ≡ f i
 -- l holds f of each of the n rules, at the rule's place
 abbrev pub RuleTable : ℕ → List ℕ → (Rule → ℕ) → List ℕ → Type 0
 RuleTable n s f l = FilledWith n (λ i. f (ruleAt s i)) l
-
--- the mask of the rules that feed r
-abbrev pub feedersOf : List Rule → Rule → ℕ
-feedersOf rules r = maskOf (λ q. feeds q r) rules
 
 -- What a step from q to r counts, and whether r counts by itself: as in a stratum, or, if `every` step is to
 -- count, one each. No step that counts is on a circle then exactly if there is none.

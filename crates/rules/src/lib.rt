@@ -1,27 +1,17 @@
 // Which rule feeds which, and which links to which. The tests for circles and the strata of the rules:
 // `ranks`.
 ghost use mathlib.Core.Path.{_≡_};
-ghost use mathlib.Core.Bool.{Bool·beq};
 ghost use Rattle.model.specs.Stratification as model;
 
 mod ranks;
 
+use fields::alike;
 use model::Operator;
 use model::OptionTerm;
 use model::Rule;
 pub use ranks::is_circular;
 pub use ranks::is_stratified;
 pub use ranks::stratify;
-
-// Whether two tests agree.
-pub fn alike(a: bool, b: bool) -> bool
-    ensures { λ r. ⌜ r ≡ Bool·beq a b ⌝ }
-{
-    if a {
-        return b;
-    }
-    !b
-}
 
 // Equal, or one of the two is the star.
 fn meets(a: u16, b: u16) -> bool

@@ -4,7 +4,7 @@
 ghost use mathlib.Core.Path.{_≡_};
 ghost use mathlib.Core.Bool.{Bool, true};
 ghost use mathlib.Core.List.{List};
-ghost use Prim.Native.Nat.{ℕ, suc, _+_, _*_, _-_, _/_, _≤_, _<_, max};
+ghost use Prim.Native.Nat.{ℕ, suc, _+_, _*_, _-_, _/_, _≤_, _<_};
 ghost use lib.Dec.{eqb};
 ghost use lib.ListN.{length, getD, set};
 ghost use Rattle.foundation.specs.Tests.{pick};
@@ -21,6 +21,7 @@ use crate::links;
 use crate::negates;
 use encoding::rule_at;
 use fields::as_bit;
+use fields::larger;
 use model::RULE_BYTES;
 use model::Rule;
 
@@ -108,16 +109,6 @@ fn put_own(s: &[u8], n: usize, every: bool, own: &mut [u16; 65])
     }
 }
 
-// The larger of two numbers.
-fn larger_of(a: u16, b: u16) -> u16
-    ensures { λ x. ⌜ x ≡ max a b ⌝ }
-{
-    if a < b {
-        return b;
-    }
-    a
-}
-
 // The most of a number and of what c edges make of the numbers l.
 fn best_of(edges: &[u8; 4225], at: usize, c: usize, l: &[u16; 65], own: u16) -> u16
     requires { ⌜ (at + c ≤ 4225) × ((e : ℕ) → e < c → (getD (now edges) (at + e) 0 / 3 < 65)
@@ -128,7 +119,8 @@ fn best_of(edges: &[u8; 4225], at: usize, c: usize, l: &[u16; 65], own: u16) -> 
     let mut e = 0;
     while e < c {
         let x = edges[at + e];
-        best = larger_of(best, (x % 3) as u16 + l[(x / 3) as usize]);
+        let y = (x % 3) as u16 + l[(x / 3) as usize];
+        best = larger(best as u64, y as u64) as u16;
         e += 1;
     }
     best

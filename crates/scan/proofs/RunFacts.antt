@@ -1,6 +1,6 @@
 -- What is counted and in the list (`ScannedTo`, `AskedAt`) from instant to instant: at the start (`start`),
--- where the test is asked (`same`, `opens`, `closed`), on to the next (`onward`, `next-reached`), and behind
--- the end (`complete-open`, `complete-none`). Assumes nothing.
+-- where the test is asked (`same`, `opens`, `closed-run`), on to the next (`onward`, `next-reached`), and
+-- behind the end (`complete-open`, `complete-none`). Assumes nothing.
 use mathlib.Core.Path.{_≡_, refl, sym, ap, _∙_, subst}
 use Prim.Native.Nat.{ℕ, suc, _+_, _-_, _≤_, _<_}
 use native.Mathlib.Omega.{arith}
@@ -73,10 +73,10 @@ module _ (f : ℕ → Bool) (e : ℕ) (lent : List ℕ) where
         }
 
     -- it closes at t, where f fails
-    pub closed : w .inside ≡ true → t ≤ e → f t ≡ false → (list′ : List ℕ) →
+    pub closed-run : w .inside ≡ true → t ≤ e → f t ≡ false → (list′ : List ℕ) →
         list′ ≡ withPair (w .count) (w .from) (t - 1) list →
         AskedAt f e lent t (record { count = w .count + 1; inside = false; from = t }) list′
-    closed o h a list′ k = record {
+    closed-run o h a list′ k = record {
       listed = subst (λ (n : ℕ). Listed f e lent n t list′) (sym (add-one (w .count)))
           (closes o (omega arith) (λ z. a) list′ k);
       held = λ z. absurd (false≢true z);

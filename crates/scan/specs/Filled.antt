@@ -9,10 +9,6 @@ use lib.ListN.{length, drop}
 use Rattle.foundation.specs.declared.Interval.{Interval}
 use Rattle.model.specs.Answers.{words}
 
-pub words-length : (xs : List Interval) → length (words xs) ≡ 2 * length xs
-words-length [] = refl
-words-length (i ∷ xs) = omega (arith, words-length xs)
-
 -- the pair a, b in the place behind c pairs, if the list has such a place
 unfoldable pub withPair : ℕ → ℕ → ℕ → List ℕ → List ℕ
 withPair c a b [] = []

@@ -17,23 +17,24 @@ pub record Filling (intervals : List Interval) (n : ℕ) (list list′ : List �
   pub lent : list′ ≡ filled intervals list
 
 -- the intervals at the front of the list, if it has room for all of them; else the list as it was
-abbrev pub listed : List Interval → List ℕ → List ℕ
-listed xs list = pick (ltb (length list / 2) (length xs)) list (words xs ++ drop (2 * length xs) list)
+abbrev pub listedIfRoom : List Interval → List ℕ → List ℕ
+listedIfRoom xs list = pick (ltb (length list / 2) (length xs)) list (words xs ++ drop (2 * length xs) list)
 
 -- the intervals are counted, and listed; there are no more than can be
 pub record Listing (intervals : List Interval) (n : ℕ) (list list′ : List ℕ) : Type 0 where
   pub count : n ≡ length intervals
   pub few : n ≤ 1089
-  pub lent : list′ ≡ listed intervals list
+  pub lent : list′ ≡ listedIfRoom intervals list
 
 -- the list is too short, or not
-pub listed-short : (xs : List Interval) (list : List ℕ) → length list / 2 < length xs → listed xs list ≡ list
-listed-short xs list h =
+pub listedIfRoom-short : (xs : List Interval) (list : List ℕ) → length list / 2 < length xs → listedIfRoom xs
+    list ≡ list
+listedIfRoom-short xs list h =
     ap (λ (g : Bool). pick g list (words xs ++ drop (2 * length xs) list))
     (le-true (suc (length list / 2)) (length xs) h)
 
-pub listed-all : (xs : List Interval) (list : List ℕ) → length xs ≤ length list / 2 →
-    listed xs list ≡ words xs ++ drop (2 * length xs) list
-listed-all xs list h =
+pub listedIfRoom-all : (xs : List Interval) (list : List ℕ) → length xs ≤ length list / 2 →
+    listedIfRoom xs list ≡ words xs ++ drop (2 * length xs) list
+listedIfRoom-all xs list h =
     ap (λ (g : Bool). pick g list (words xs ++ drop (2 * length xs) list))
     (le-false (suc (length list / 2)) (length xs) (omega arith))

@@ -1,3 +1,1 @@
 pub mod Sections
-pub mod SectionWrites
-pub mod SectionFacts

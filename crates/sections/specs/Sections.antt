@@ -45,8 +45,8 @@ objectsOf coordinates = take 130 (drop 1536 coordinates)
 -- ---- of numbers, `size` being how many pairs there are
 
 -- the number of each pair
-abbrev pub numberOf : ℕ → List ℕ → List ℕ
-numberOf size numbers = take size numbers
+abbrev pub numberedOf : ℕ → List ℕ → List ℕ
+numberedOf size numbers = take size numbers
 
 -- the pair of each number
 abbrev pub listedOf : ℕ → List ℕ → List ℕ

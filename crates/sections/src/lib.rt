@@ -25,3 +25,16 @@ pub const SUBJECTS: usize = 512;
 pub const OBJECTS: usize = 1536;
 
 pub const COORDINATES: usize = 1666;
+
+// The same filled up to whole words.
+pub const PACKED: usize = 1672;
+
+// In words that are handed on to many questions: the outline, then the coordinates, eight bytes a word, how
+// many coordinates of subjects there are, how many of objects, and which rules are choosy; so many in all.
+pub const SUBJECT_COUNT: usize = 681;
+
+pub const OBJECT_COUNT: usize = 682;
+
+pub const CHOOSY: usize = 683;
+
+pub const HANDED: usize = 684;

@@ -1,5 +1,5 @@
--- The rules of a mask among the first r of a base's bytes (`upTo`): what a turn of a loop over the bits of
--- the mask adds to them, and where a rule stands among them (`position`).
+-- The rules of a mask among the first r of a base's bytes (`rulesUpTo`): what a turn of a loop over the bits
+-- of the mask adds to them, and where a rule stands among them (`position`).
 use mathlib.Core.Path.{_≡_, refl, sym, ap, _∙_}
 use mathlib.Core.Bool.{Bool, true, false}
 use mathlib.Core.List.{List, [], _∷_, _++_, append-assoc, append-nil}
@@ -7,8 +7,8 @@ use Prim.Native.Nat.{ℕ, zero, suc, _+_, _*_, _-_, _≤_, _<_}
 use native.Mathlib.Numerals.{add-one}
 use native.Mathlib.Omega.{arith}
 use lib.Dec.{leb}
-use lib.ListN.{length, take, drop, length-append, length-drop, take-append-drop}
-use lib.Seq.{length-take-le, drop-at, take-all}
+use lib.ListN.{length, take, drop, length-append, take-append-drop}
+use lib.Seq.{length-take-le, drop-at}
 use Rattle.foundation.specs.Tests.{pick, cases, true-le, false-le}
 use Rattle.foundation.specs.BitMasks.{asBit, bit, bit-le}
 use Rattle.foundation.specs.ByteRecords.{length-records, record-nth, records-split, records-copy}
@@ -63,46 +63,46 @@ module _ (m : ℕ) where
       front false ks ls = refl
 
   module _ (body : List ℕ) where
-    abbrev pub upTo : ℕ → List Rule
-    upTo r = selected m (rulesIn r body)
+    abbrev pub rulesUpTo : ℕ → List Rule
+    rulesUpTo r = selected m (rulesIn r body)
 
-    up-step : (r : ℕ) → upTo (suc r) ≡ upTo r ++ pick (bit r m) (ruleAt body r ∷ []) []
+    up-step : (r : ℕ) → rulesUpTo (suc r) ≡ rulesUpTo r ++ pick (bit r m) (ruleAt body r ∷ []) []
     up-step r =
-        ap upTo (sym (add-one r)) ∙ ap (selected m) (records-split 28 ruleOf r 1 body)
+        ap rulesUpTo (sym (add-one r)) ∙ ap (selected m) (records-split 28 ruleOf r 1 body)
         ∙ selected-append 0 (rulesIn r body) (ruleAt body r ∷ [])
-        ∙ ap (λ (n : ℕ). upTo r ++ selectedFrom m n (ruleAt body r ∷ []))
+        ∙ ap (λ (n : ℕ). rulesUpTo r ++ selectedFrom m n (ruleAt body r ∷ []))
         (let l = length-records 28 ruleOf r body in omega arith)
 
-    up-over : (r : ℕ) → bit r m ≡ false → upTo (suc r) ≡ upTo r
-    up-over r e = up-step r ∙ ap (λ (b : Bool). upTo r ++ pick b (ruleAt body r ∷ []) []) e
-        ∙ append-nil (upTo r)
+    up-over : (r : ℕ) → bit r m ≡ false → rulesUpTo (suc r) ≡ rulesUpTo r
+    up-over r e = up-step r ∙ ap (λ (b : Bool). rulesUpTo r ++ pick b (ruleAt body r ∷ []) []) e
+        ∙ append-nil (rulesUpTo r)
 
-    up-one : (r : ℕ) → bit r m ≡ true → upTo (suc r) ≡ upTo r ++ (ruleAt body r ∷ [])
-    up-one r e = up-step r ∙ ap (λ (b : Bool). upTo r ++ pick b (ruleAt body r ∷ []) []) e
+    up-one : (r : ℕ) → bit r m ≡ true → rulesUpTo (suc r) ≡ rulesUpTo r ++ (ruleAt body r ∷ [])
+    up-one r e = up-step r ∙ ap (λ (b : Bool). rulesUpTo r ++ pick b (ruleAt body r ∷ []) []) e
 
     -- where the bits are none, no rule comes in
-    pub up-same : (a b : ℕ) → a ≤ b → ((i : ℕ) → a ≤ i → i < b → bit i m ≡ false) → upTo b ≡ upTo a
-    up-same a b h z = unchanged upTo a b h (λ i p q. up-over i (z i p q))
+    pub up-same : (a b : ℕ) → a ≤ b → ((i : ℕ) → a ≤ i → i < b → bit i m ≡ false) → rulesUpTo b ≡ rulesUpTo a
+    up-same a b h z = unchanged rulesUpTo a b h (λ i p q. up-over i (z i p q))
 
     -- rule r has its turn, and r′ is the next
     pub up-turn : (r r′ : ℕ) → r < r′ → bit r m ≡ true → ((i : ℕ) → r + 1 ≤ i → i < r′ → bit i m ≡ false) →
-        upTo r′ ≡ upTo r ++ (ruleAt body r ∷ [])
+        rulesUpTo r′ ≡ rulesUpTo r ++ (ruleAt body r ∷ [])
     up-turn r r′ h e z = up-same (suc r) r′ (omega arith) (λ i p q. z i (omega arith) q) ∙ up-one r e
 
-    pub up-length : (r : ℕ) → length (upTo r) ≡ position m r
+    pub up-length : (r : ℕ) → length (rulesUpTo r) ≡ position m r
     up-length zero = refl
     up-length (suc r) = ap length (up-step r)
-        ∙ length-append (upTo r) (pick (bit r m) (ruleAt body r ∷ []) [])
+        ∙ length-append (rulesUpTo r) (pick (bit r m) (ruleAt body r ∷ []) [])
         ∙ more (bit r m) (up-length r)
       where
-        more : (b : Bool) → length (upTo r) ≡ position m r →
-            length (upTo r) + length (pick b (ruleAt body r ∷ []) []) ≡ position m r + asBit b
+        more : (b : Bool) → length (rulesUpTo r) ≡ position m r →
+            length (rulesUpTo r) + length (pick b (ruleAt body r ∷ []) []) ≡ position m r + asBit b
         more true e = omega arith
         more false e = omega arith
 
     -- those from a rule on that is selected
     up-split : (r d : ℕ) → bit r m ≡ true →
-        (rest : List Rule) × (upTo (suc r + d) ≡ upTo r ++ (ruleAt body r ∷ rest))
+        (rest : List Rule) × (rulesUpTo (suc r + d) ≡ rulesUpTo r ++ (ruleAt body r ∷ rest))
     up-split r d e =
         let more = rulesIn d (drop (suc r * 28) body) in
         let n = 0 + length (rulesIn (suc r) body) in (
@@ -110,23 +110,23 @@ module _ (m : ℕ) where
           ap (selected m) (records-split 28 ruleOf (suc r) d body)
               ∙ selected-append 0 (rulesIn (suc r) body) more
               ∙ ap (λ (l : List Rule). l ++ selectedFrom m n more) (up-one r e)
-              ∙ append-assoc (upTo r) (ruleAt body r ∷ []) (selectedFrom m n more),
+              ∙ append-assoc (rulesUpTo r) (ruleAt body r ∷ []) (selectedFrom m n more),
         )
 
     -- where the selected rules are k in other bytes, a rule that is one of them stands there at its position
-    pub at-position : (few : List ℕ) (k n r : ℕ) → rulesIn k few ≡ upTo n → r < n → bit r m ≡ true →
+    pub at-position : (few : List ℕ) (k n r : ℕ) → rulesIn k few ≡ rulesUpTo n → r < n → bit r m ≡ true →
         (position m r < k) × (ruleAt few (position m r) ≡ ruleAt body r)
     at-position few k n r w h e =
         let j = position m r in
         let s = up-split r (n - suc r) e in
         let c : suc r + (n - suc r) ≡ n = omega arith in
-        let u : rulesIn k few ≡ upTo r ++ (ruleAt body r ∷ s .0) = w ∙ ap upTo (sym c) ∙ s .1 in
-        let l : k ≡ length (upTo r) + suc (length (s .0)) = sym (length-records 28 ruleOf k few) ∙ ap length u
-        ∙ length-append (upTo r) (ruleAt body r ∷ s .0) in
+        let u : rulesIn k few ≡ rulesUpTo r ++ (ruleAt body r ∷ s .0) = w ∙ ap rulesUpTo (sym c) ∙ s .1 in
+        let l : k ≡ length (rulesUpTo r) + suc (length (s .0)) = sym (length-records 28 ruleOf k few)
+        ∙ ap length u ∙ length-append (rulesUpTo r) (ruleAt body r ∷ s .0) in
         let p : j < k = omega (arith, up-length r) in
         let d : ruleAt few j ∷ drop (suc j) (rulesIn k few) ≡ ruleAt body r ∷ s .0 =
         sym (record-nth 28 ruleOf k few j p) ∙ ap (drop j) u
-        ∙ drop-at (upTo r) (ruleAt body r ∷ s .0) j (up-length r) in
+        ∙ drop-at (rulesUpTo r) (ruleAt body r ∷ s .0) j (up-length r) in
         (p, cc)
 
 -- ---- a rule's bytes, copied behind k rules
@@ -137,9 +137,9 @@ unfolding splice
 front k few bytes h = rw (append-assoc (take (k * 28) few) bytes (drop (k * 28 + length bytes) few))
     (records-copy 28 ruleOf rule-own k few (bytes ++ drop (k * 28 + length bytes) few) h)
 
-pub copied : (k : ℕ) (few t : List ℕ) → k * 28 + 28 ≤ length few → 28 ≤ length t →
+pub rule-copied : (k : ℕ) (few t : List ℕ) → k * 28 + 28 ≤ length few → 28 ≤ length t →
     rulesIn (k + 1) (splice (k * 28) (take 28 t) few) ≡ rulesIn k few ++ (ruleOf t ∷ [])
-copied k few t h v =
+rule-copied k few t h v =
     let bytes = take 28 t in
     let l : length bytes ≡ 28 = length-take-le 28 t v in
     let after = drop (k * 28 + length bytes) few in
@@ -149,7 +149,3 @@ copied k few t h v =
     records-split 28 ruleOf k 1 (splice (k * 28) bytes few)
     ∙ ap (λ (x : Rule). rulesIn k (splice (k * 28) bytes few) ++ (x ∷ [])) b
     ∙ ap (λ (rs : List Rule). rs ++ (ruleOf t ∷ [])) (front k few bytes (omega arith))
-
--- what is lent of bytes from a place on
-pub lent : (s : List ℕ) (at : ℕ) → take (length s - at) (drop at s) ≡ drop at s
-lent s at = take-all (length s - at) (drop at s) (omega (arith, length-drop at s))

@@ -1,2 +1,1 @@
 pub mod Selection
-pub mod Selected

@@ -4,4 +4,5 @@ mod ranking;
 
 pub use history::history_start;
 pub use history::lasting_of;
+pub use ranking::counts_some;
 pub use ranking::strata_of;

@@ -16,10 +16,10 @@ use rules::negates;
 use words::next_bit;
 
 // Copies the rules of a mask to the front; how many they are.
-fn select(body: &[u8], n: usize, needed: u64, few: &mut [u8; 1792]) -> usize
+fn select(body: &[u8], n: usize, needed: u64, few: &mut [u8; 64 * RULE_BYTES]) -> usize
     requires { ⌜ (n ≤ 64) × (n * 28 ≤ length (now body)) × ((r : ℕ) → bit r needed ≡ true → r < n)
-        × (length (now few) ≡ 1792) ⌝ }
-    ensures { λ k. ⌜ (k ≤ 64) × (length (now (few .exit)) ≡ 1792)
+        × (length (now few) ≡ 64 * 28) ⌝ }
+    ensures { λ k. ⌜ (k ≤ 64) × (length (now (few .exit)) ≡ 64 * 28)
         × (rulesIn k (now (few .exit)) ≡ selected needed (rulesIn n (now (body .entry)))) ⌝ }
 {
     let mut k = 0;
@@ -50,7 +50,7 @@ fn spread_strata(ranks: &[u16; 65], needed: u64, strata: &mut [u16; 65])
 }
 
 // Whether one of some rules negates, or has a denial on its left: where none does, no step counts.
-fn counts_some(body: &[u8], rules: u64) -> bool
+pub fn counts_some(body: &[u8], rules: u64) -> bool
     requires { ⌜ RulesIn rules (now body) ⌝ }
     ensures { λ x. ⌜ (x ≡ false → (r : ℕ) → bit r rules ≡ true → Plain (ruleAt (now (body .entry)) r)) ⌝ }
 {
@@ -76,7 +76,7 @@ pub fn strata_of(body: &[u8], n: usize, needed: u64, strata: &mut [u16; 65])
         *strata = [0; 65];
         return;
     }
-    let mut few = [0u8; 1792];
+    let mut few = [0u8; 64 * RULE_BYTES];
     let mut ranks = [0u16; 65];
     let k = select(body, n, needed, &mut few);
     rules::stratify(&few, k, &mut ranks);

@@ -11,8 +11,10 @@ use Rattle.model.specs.Soundness.{soundBytes}
 use Rattle.model.specs.Text.{newline}
 use Rattle.serving.specs.declared.taking.Reached.{Reached}
 use Rattle.serving.specs.LineTurns.{Turned, LineKept}
-use Rattle.serving.specs.Pieces.{Took, beforeNewline}
-use Rattle.serving.proofs.PieceFacts.{before-all, before-behind, before-none, kept-turned, kept-none}
+use Rattle.laws.specs.FirstLine.{beforeNewline}
+use Rattle.serving.specs.Pieces.{Took}
+use Rattle.laws.specs.FirstLine.{before-all, before-behind, before-none}
+use Rattle.serving.proofs.PieceFacts.{kept-turned, kept-none}
 use Rattle.serving.specs.Stream.{finish, finishBytes}
 use Rattle.serving.proofs.StreamFacts.{feed-line, feed-goes-on}
 use Rattle.serving.specs.PieceSteps.{PieceStepped}

@@ -7,8 +7,9 @@ use lib.Dec.{eqb}
 use lib.Seq.{append-snoc}
 use Rattle.foundation.specs.Tests.{cases}
 use Rattle.model.specs.Text.{newline}
-use Rattle.serving.specs.LineTurns.{turnOf, replyText}
-use Rattle.serving.specs.Pieces.{ends}
+use Rattle.model.specs.Session.{replyLine}
+use Rattle.serving.specs.LineTurns.{lineTurn}
+use Rattle.laws.specs.FirstLine.{ends}
 use Rattle.serving.specs.Stream.{printed, feed, finish, ending, feed-append, FedUpTo}
 
 -- ---- one line of a piece
@@ -26,11 +27,11 @@ feed-goes-on s pending (c ∷ w) e = cases (eqb c newline)
 -- a line and its newline: it is answered
 pub feed-line : (s pending l : List ℕ) → ends l ≡ false →
     feed s pending (l ++ (newline ∷ []))
-    ≡ record { text = replyText s (pending ++ l); lent = turnOf s (pending ++ l) .lent; pending = [] }
+    ≡ record { text = replyLine s (pending ++ l); lent = lineTurn s (pending ++ l) .lent; pending = [] }
 feed-line s pending l e =
     feed-append s pending l (newline ∷ []) ∙ rw (
       feed-goes-on s pending l e,
-      append-nil (replyText s (pending ++ l)),
+      append-nil (replyLine s (pending ++ l)),
     )
 
 pub feeds-none : (s pending input : List ℕ) → FedUpTo s pending input input [] s pending

@@ -11,7 +11,8 @@ use lib.ListN.{length, take, drop, set, getD, length-set, length-append}
 use lib.Seq.{take-all, take-append-le, take-suc-set, drop-cons, drop-length, append-snoc}
 use Rattle.model.specs.Text.{newline}
 use Rattle.serving.specs.LineTurns.{LineKept}
-use Rattle.serving.specs.Pieces.{ends, beforeNewline, behindNewline, Took}
+use Rattle.laws.specs.FirstLine.{ends, beforeNewline, behindNewline}
+use Rattle.serving.specs.Pieces.{Took}
 
 -- ---- one byte more of a line
 
@@ -54,10 +55,10 @@ pub record LineWalk (len : ℕ) (line₀ piece : List ℕ) (from n i : ℕ) (lin
       (p : List ℕ) × LineKept p n line × (p ++ beforeNewline (drop i piece) ≡ pending ++ beforeNewline
       (drop from piece))
 
-pub walk-start : (len : ℕ) (line piece : List ℕ) (from : ℕ) → from ≤ length piece → len ≤ 97 →
+pub take-start : (len : ℕ) (line piece : List ℕ) (from : ℕ) → from ≤ length piece → len ≤ 97 →
     length line ≡ 97 →
     LineWalk len line piece from len from line
-walk-start len line piece from h f z = record {
+take-start len line piece from h f z = record {
   low = omega arith;
   high = h;
   few = f;

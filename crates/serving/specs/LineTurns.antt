@@ -1,25 +1,22 @@
 -- One line of a session over the bytes of a base, and pieces of input: what a step takes, prints and leaves.
 use mathlib.Core.Path.{_≡_}
-use Prim.Native.Nat.{ℕ, _+_, _≤_, min}
+use Prim.Native.Nat.{ℕ, _≤_, min}
 use mathlib.Core.Bool.{true}
-use mathlib.Core.List.{List, [], _∷_, _++_}
+use mathlib.Core.List.{List}
 use lib.ListN.{length, take}
 use Rattle.model.specs.Soundness.{soundBytes}
-use Rattle.model.specs.Text.{newline, readLine, printReply}
-use Rattle.model.specs.Session.{ByteTurn, byteTurn}
+use Rattle.model.specs.Text.{readLine}
+use Rattle.model.specs.Session.{ByteTurn, byteTurn, replyLine}
 
 -- what a line is answered on the bytes s
-abbrev pub turnOf : List ℕ → List ℕ → ByteTurn
-turnOf s line = byteTurn s (readLine line)
-
-abbrev pub replyText : List ℕ → List ℕ → List ℕ
-replyText s line = printReply (turnOf s line .reply) (turnOf s line .runs) ++ (newline ∷ [])
+abbrev pub lineTurn : List ℕ → List ℕ → ByteTurn
+lineTurn s line = byteTurn s (readLine line)
 
 -- a line was answered: n bytes stand at the front of `out`, and s′ in the place of s
 pub record Turned (s line : List ℕ) (n : ℕ) (out s′ : List ℕ) : Type 0 where
-  pub text : take n out ≡ replyText s line
+  pub text : take n out ≡ replyLine s line
   pub few : n ≤ 24001
-  pub bytes : s′ ≡ turnOf s line .lent
+  pub bytes : s′ ≡ lineTurn s line .lent
   pub sound : soundBytes s′ ≡ true
 
 -- the first bytes of the line that is not ended yet, `pending`, are kept: as many as tell that it is too long

@@ -3,32 +3,18 @@
 use mathlib.Core.Path.{_≡_, sym, ap, _∙_}
 use Prim.Native.Nat.{ℕ, _≤_, _<_}
 use native.Mathlib.Omega.{arith}
-use mathlib.Core.Bool.{Bool, true, false}
-use mathlib.Core.List.{List, [], _∷_, _++_}
-use lib.Dec.{leb, eqb}
+use mathlib.Core.Bool.{true, false}
+use mathlib.Core.List.{List, _++_}
+use lib.Dec.{leb}
 use lib.ListN.{length, take, drop}
 use lib.Seq.{take-all, length-take-le}
-use Rattle.foundation.specs.Tests.{cases, pick, le-false, true-le, false-le}
-use Rattle.foundation.specs.Lists.{anyb}
-use Rattle.model.specs.Text.{newline, unreadable, readLine}
+use Rattle.foundation.specs.Tests.{cases, le-false, true-le, false-le}
+use Rattle.model.specs.Text.{unreadable, readLine}
+use Rattle.laws.specs.FirstLine.{ends, beforeNewline, behindNewline}
 use Rattle.serving.specs.LineTurns.{LineKept}
 use Rattle.serving.specs.declared.taking.Reached.{Reached}
 
--- ---- the first line of some bytes
-
--- there is a newline
-abbrev pub ends : List ℕ → Bool
-ends s = anyb (λ c. eqb c newline) s
-
--- the bytes before the first newline, or all
-abbrev pub beforeNewline : List ℕ → List ℕ
-beforeNewline [] = []
-beforeNewline (c ∷ s) = let r = beforeNewline s in pick (eqb c newline) [] (c ∷ r)
-
--- the bytes behind the first newline, or none
-abbrev pub behindNewline : List ℕ → List ℕ
-behindNewline [] = []
-behindNewline (c ∷ s) = let r = behindNewline s in pick (eqb c newline) s r
+-- ---- a piece of input
 
 -- a piece was taken from `from` on up to the end of a line, or to its own: where it has come to, and what is
 -- kept of that line

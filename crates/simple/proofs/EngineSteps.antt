@@ -1,12 +1,12 @@
 -- Why each step of the engine is right: the laws of what holds and of what a rule derives (HoldsLaws), as the
 -- code asks them.
-use mathlib.Core.Path.{_≡_, refl, sym, ap, _∙_}
-use mathlib.Core.Bool.{Bool, true, false, not, _&&_, _||_, Bool·beq, true≢false}
+use mathlib.Core.Path.{_≡_, sym, ap, _∙_}
+use mathlib.Core.Bool.{Bool, true, false, not, _&&_, _||_, true≢false}
 use mathlib.Core.List.{List}
 use Prim.Native.Nat.{ℕ, _+_, _≤_, _<_}
 use native.Mathlib.Omega.{arith}
 use lib.Dec.{eqb}
-use Rattle.foundation.specs.Tests.{pick, cases, true-eq, false-eq, and-false, not-true, not-false, or-cases}
+use Rattle.foundation.specs.Tests.{cases, true-eq, false-eq, and-false, not-true, not-false, or-cases}
 use Rattle.foundation.specs.Tests.{or-none}
 use Rattle.foundation.specs.Lists.{Mem, anyb}
 use Rattle.foundation.specs.Intervals.{inInterval, always, always-all}
@@ -16,11 +16,10 @@ use Rattle.model.specs.declared.Rule.{Rule}
 use Rattle.model.specs.declared.Operator.{Operator}
 use Rattle.model.specs.declared.Pattern.{Pattern}
 use Rattle.model.specs.Base.{Base}
-use Rattle.model.specs.Support.{live}
 use Rattle.model.specs.Stratification.{stratified}
-use Rattle.model.specs.Rules.{fact, fits, derivesFor, rightOf, asked, operate, holds}
+use Rattle.model.specs.Rules.{derivesFor, rightOf, asked, operate, holds}
 use Rattle.model.specs.RightFacts.{right-positive, right-denial}
-use Rattle.model.specs.HoldsLaws.{derived, holding, holds-law, derived-law}
+use Rattle.model.specs.HoldsLaws.{holding, holds-law, derived-law}
 use Rattle.model.specs.Encoding.{ruleOf, decode}
 use Rattle.encoding.specs.Format.{countsOf}
 use Rattle.encoding.proofs.FormatFacts.{decoded-rules}
@@ -98,13 +97,6 @@ module _ (b : Base) (strata : stratified (b .rules) ≡ true) (r : Rule) (m : Me
 
 -- ---- throughout
 
--- an instant is as it is wanted
-pub alike-wanted : (h wanted : Bool) → Bool·beq h wanted ≡ pick wanted h (not h)
-alike-wanted true true = refl
-alike-wanted true false = refl
-alike-wanted false true = refl
-alike-wanted false false = refl
-
 -- one instant that is not
 pub not-throughout : (a t : ℕ) (f : ℕ → Bool) (u : ℕ) → a ≤ u → u ≤ t → f u ≡ false → false ≡ always a t f
 not-throughout a t f u h k e = cases (always a t f)
@@ -112,8 +104,8 @@ not-throughout a t f u h k e = cases (always a t f)
     (λ g. sym g)
 
 -- one instant more that is
-pub one-more : (a : ℕ) (f : ℕ → Bool) (u : ℕ) → ((v : ℕ) → a ≤ v → v < u → f v ≡ true) → f u ≡ true →
+pub through-next : (a : ℕ) (f : ℕ → Bool) (u : ℕ) → ((v : ℕ) → a ≤ v → v < u → f v ≡ true) → f u ≡ true →
     (v : ℕ) → a ≤ v → v < u + 1 → f v ≡ true
-one-more a f u h e v k l = cases (eqb v u)
+through-next a f u h e v k l = cases (eqb v u)
     (λ q. ap f (true-eq v u q) ∙ e)
     (λ q. let n = false-eq v u q in h v k (omega arith))

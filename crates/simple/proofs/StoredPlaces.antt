@@ -9,12 +9,12 @@ use lib.Seq.{drop-drop}
 use Rattle.model.specs.Soundness.{soundBytes}
 use Rattle.encoding.specs.declared.Counts.{Counts}
 use Rattle.encoding.specs.Format.{countsOf, authorizationsAt, rulesAt}
-use Rattle.lookup.proofs.SoundBodies.{fitting}
+use Rattle.encoding.proofs.SoundBodies.{fitting}
 
 -- the i-th record of w bytes of a body that starts at a
-pub placed : {R : Type 0} (w : ℕ) (f : List ℕ → R) (s : List ℕ) (at a i : ℕ) → at ≡ a →
+pub record-placed : {R : Type 0} (w : ℕ) (f : List ℕ → R) (s : List ℕ) (at a i : ℕ) → at ≡ a →
     f (drop (at + i * w) s) ≡ f (drop (i * w) (drop a s))
-placed w f s at a i e = ap (λ (n : ℕ). f (drop (n + i * w) s)) e ∙ ap f (sym (drop-drop (i * w) a s))
+record-placed w f s at a i e = ap (λ (n : ℕ). f (drop (n + i * w) s)) e ∙ ap f (sym (drop-drop (i * w) a s))
 
 -- it ends within the base, whose end is no large number
 module _ (s : List ℕ) (e : soundBytes s ≡ true) (c : Counts) (q : c ≡ countsOf s) (at i : ℕ) where

@@ -68,13 +68,9 @@ pub fn may_give(s: &[u8], r: Rule, p: Pattern) -> bool
     requires { ⌜ soundBytes (now s) ≡ true ⌝ }
     ensures { λ x. ⌜ x ≡ model.derivesFor (decode (now (s .entry))) p r ⌝ }
 {
-    let left = r.left;
-    let x = p.access;
     let o = p.option;
-    let same = ((left.subject == 0) | (left.subject as u32 == x.subject))
-        & ((left.mode == 0) | (left.mode as u32 == x.mode))
-        & lookup::stands_on(s, r, x.object)
-        & (left.negative == p.negative)
+    let same = lookup::stands_for(s, r, p.access)
+        & (r.left.negative == p.negative)
         & ((p.grantor == 0) | (p.grantor == r.author));
     same & fits_option(o, false)
 }

@@ -24,7 +24,7 @@ use Rattle.encoding.proofs.FormatFacts.{decoded-authorizations, decoded-rules, 
 use Rattle.bodies.specs.BodyTests.{objectsPart, privilegesPart, authorizationsPart, rulesPart}
 use Rattle.soundness.specs.BodiesAsked.{baseOf, partsHold}
 use Rattle.soundness.proofs.SoundParts.{sound-parts}
-use Rattle.lookup.proofs.SoundBodies.{rest-of}
+use Rattle.encoding.proofs.SoundBodies.{rest-of}
 
 -- what the format says of the length and the counts
 module _ (s : List ℕ) (e : formatFits s ≡ true) where

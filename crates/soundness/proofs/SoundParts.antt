@@ -21,7 +21,7 @@ use Rattle.model.specs.SoundnessFacts.{Sound, sound-tests, tests-sound}
 use Rattle.lookup.specs.NarrowedNumbers.{existsIn}
 use Rattle.model.specs.SoundTests.{order-test, ranges-test, intervals-test, exist-test, owners-test}
 use Rattle.model.specs.SoundTests.{labels-test}
-use Rattle.model.specs.ChainFacts.{chained-both, chained-each}
+use Rattle.laws.specs.Chained.{chained-both, chained-each}
 use Rattle.bodies.specs.BodyTests.{objectsPart, privilegeTest, privilegesPart, neighbours, authorizationTest}
 use Rattle.bodies.specs.BodyTests.{authorizationsPart, mayRuleIn, ruleTest, rulesPart}
 

@@ -104,20 +104,20 @@ module _ (f : Frame) (right first : List ℕ) (laid : TablesLaid (tablesOf f rig
 -- ---- the tables of rules, one after the other
 
 -- those of the rules of a mask below the c-th
-abbrev pub below : ℕ → ℕ → ℕ → Bool
-below takers c zero = false
-below takers c (suc zero) = false
-below takers c (suc (suc d)) = bit d takers && ltb d c
+abbrev pub takenBelow : ℕ → ℕ → ℕ → Bool
+takenBelow takers c zero = false
+takenBelow takers c (suc zero) = false
+takenBelow takers c (suc (suc d)) = bit d takers && ltb d c
 
 pub below-none : (takers c : ℕ) → ((i : ℕ) → 0 ≤ i → i < c → bit i takers ≡ false) → (d : ℕ) →
-    below takers c d ≡ false
+    takenBelow takers c d ≡ false
 below-none takers c z zero = refl
 below-none takers c z (suc zero) = refl
 below-none takers c z (suc (suc d)) = cases (ltb d c)
     (λ e. rw (z d (omega arith) (true-le (suc d) c e)))
     (λ e. rw e (and-false (bit d takers)))
 
-pub below-once : (takers c d : ℕ) → below takers c d ≡ true → ruleTable c d ≡ false
+pub below-once : (takers c d : ℕ) → takenBelow takers c d ≡ true → ruleTable c d ≡ false
 below-once takers c zero e = absurd (false≢true e)
 below-once takers c (suc zero) e = absurd (false≢true e)
 below-once takers c (suc (suc d)) e =
@@ -127,7 +127,7 @@ below-once takers c (suc (suc d)) e =
 -- up to the next rule of the mask
 pub below-step : (takers c k : ℕ) → bit c takers ≡ true → c < k →
     ((i : ℕ) → suc c ≤ i → i < k → bit i takers ≡ false) → (d : ℕ) →
-    below takers c d || ruleTable c d ≡ below takers k d
+    takenBelow takers c d || ruleTable c d ≡ takenBelow takers k d
 below-step takers c k b h z zero = ne-false 0 (suc (suc c)) (λ q. omega arith)
 below-step takers c k b h z (suc zero) = ne-false 1 (suc (suc c)) (λ q. omega arith)
 below-step takers c k b h z (suc (suc d)) = agree (bit d takers && ltb d c || eqb (suc (suc d)) (suc (suc c)))
@@ -152,14 +152,14 @@ below-step takers c k b h z (suc (suc d)) = agree (bit d takers && ltb d c || eq
         (λ y. let q = true-eq d c y in omega arith)
         (λ y. let q = false-eq d c y in absurd (true≢false (sym t ∙ z d (omega arith) l)))
 
-pub plain-once : (sign takers c : ℕ) → sign < 2 → (d : ℕ) → eqb d sign ≡ true → below takers c d ≡ false
+pub plain-once : (sign takers c : ℕ) → sign < 2 → (d : ℕ) → eqb d sign ≡ true → takenBelow takers c d ≡ false
 plain-once sign takers c h zero e = refl
 plain-once sign takers c h (suc zero) e = refl
 plain-once sign takers c h (suc (suc d)) e = absurd (omega (arith, true-eq (suc (suc d)) sign e))
 
 -- at the end all are given that take
 pub below-all : (sign takers : ℕ) → sign < 2 → takers < 2 ^ 64 → (d : ℕ) →
-    eqb d sign || below takers 64 d ≡ tableTakes sign takers d
+    eqb d sign || takenBelow takers 64 d ≡ tableTakes sign takers d
 below-all sign takers h s zero = or-false (eqb 0 sign)
 below-all sign takers h s (suc zero) = or-false (eqb 1 sign)
 below-all sign takers h s (suc (suc d)) =

@@ -1,4 +1,3 @@
 -- `LineEnd` has the law of a newline behind a text.
 pub mod LineEnd
-pub mod ShortFacts
 pub mod WritingFacts

@@ -4,9 +4,9 @@ use mathlib.Core.List.{List, [], _∷_, _++_}
 use Prim.Native.Nat.{ℕ, _≤_, _<_}
 use lib.ListN.{length, drop}
 use Rattle.model.specs.Text.{Line, newline, readLine}
-use Rattle.model.specs.Session.{byteTurn, WrittenText, shortestBuffer, textAnswer}
+use Rattle.model.specs.Session.{byteTurn, turnText, WrittenText, shortestBuffer, textAnswer}
 use Rattle.text.specs.declared.TextReply.{TextReply}
-use Rattle.text.specs.Writing.{written, Wrote, byteTurnText, writtenAnswer, answerTo, has-room}
+use Rattle.text.specs.Writing.{written, Wrote, writtenAnswer, answerTo, has-room}
 use Rattle.text.specs.Writing.{text-answer}
 
 -- the same text by another name
@@ -22,9 +22,9 @@ wrote-as {before = before} e p = record {
 -- ---- the answer to what a line says
 
 module _ (s : List ℕ) (l : Line) (out : List ℕ) where
-  module _ (h : shortestBuffer ≤ length out) (room : length (byteTurnText (byteTurn s l)) < length out) where
+  module _ (h : shortestBuffer ≤ length out) (room : length (turnText s l) < length out) where
     -- the text was written, and the base is left as the definition says
-    pub all-written : {s′ out′ : List ℕ} {w : TextReply} → Wrote (byteTurnText (byteTurn s l)) out out′ w →
+    pub all-written : {s′ out′ : List ℕ} {w : TextReply} → Wrote (turnText s l) out out′ w →
         s′ ≡ byteTurn s l .lent → written w s′ out′ ≡ answerTo s l out
     all-written p e =
         let q : written _ _ _ ≡ writtenAnswer s l out =

@@ -11,14 +11,15 @@ use Rattle.model.specs.declared.Request.{Request}
 use Rattle.model.specs.declared.Reply.the-variants.{Refused}
 use Rattle.model.specs.Answers.{request, mayAnswer, whenAnswer}
 use Rattle.model.specs.Text.{Line, order, asksMay, asksWhen, unreadable, readLine}
-use Rattle.model.specs.Session.{byteTurn, whenList, WrittenText, shortestBuffer, textAnswer}
+use Rattle.model.specs.Session.{turnText, whenList, WrittenText, shortestBuffer, textAnswer}
 use Rattle.printing.specs.Print.{longestReply}
 use Rattle.printing.proofs.Lengths.{reply-most}
-use Rattle.text.specs.Short.{short-length, request-short, may-short, when-fits}
-use Rattle.text.specs.Writing.{byteTurnText, answerTo, too-short, no-room, has-room, text-answer}
+use Rattle.printing.proofs.ShortFacts.{short-length}
+use Rattle.printing.proofs.ShortReplies.{request-short, may-short, when-fits}
+use Rattle.text.specs.Writing.{answerTo, too-short, no-room, has-room, text-answer}
 
 -- no text of a reply is longer than 24,000 bytes
-pub turn-most : (s : List ℕ) (l : Line) → length (byteTurnText (byteTurn s l)) ≤ longestReply
+pub turn-most : (s : List ℕ) (l : Line) → length (turnText s l) ≤ longestReply
 turn-most s (order q) = omega (arith, short-length (request s q .reply) [] (request-short s q))
 turn-most s (asksMay q) = omega (arith, short-length (mayAnswer s q) [] (may-short s q))
 turn-most s (asksWhen x) =
@@ -48,7 +49,7 @@ refused-untouched s line out =
     let l = readLine line in
     let e = text-answer s line out in
     cases (leb shortestBuffer (length out))
-    (λ a. cases (leb (length out) (length (byteTurnText (byteTurn s l))))
+    (λ a. cases (leb (length out) (length (turnText s l)))
     (λ b. inr (e ∙ no-room s l out (true-le _ _ b)))
     (λ b. inl (ap (λ (w : WrittenText). w .refusal)
     (e ∙ has-room s l out (true-le shortestBuffer (length out) a) (false-le _ _ b)))))

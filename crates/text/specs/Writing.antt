@@ -10,8 +10,8 @@ use lib.ListN.{length, drop, length-append}
 use Rattle.foundation.specs.Tests.{le-true, le-false, or-intro-left, or-true-right}
 use Rattle.model.specs.Step.{Row, row, firstNumber, refusedOr}
 use Rattle.model.specs.StepFacts.{answered, turned-away}
-use Rattle.model.specs.Text.{Line, newline, readLine, printReply}
-use Rattle.model.specs.Session.{ByteTurn, byteTurn, WrittenText, shortestBuffer, textAnswer}
+use Rattle.model.specs.Text.{Line, newline, readLine}
+use Rattle.model.specs.Session.{byteTurn, turnText, WrittenText, shortestBuffer, textAnswer}
 use Rattle.text.specs.declared.TextReply.{TextReply}
 
 -- what a function gives, and the base and the buffer after it
@@ -26,15 +26,11 @@ pub record Wrote (text before after : List ℕ) (w : TextReply) : Type 0 where
 
 -- ---- the answer to what a line says
 
--- what is printed of a turn
-abbrev pub byteTurnText : ByteTurn → List ℕ
-byteTurnText x = printReply (x .reply) (x .runs)
-
 module _ (s : List ℕ) (l : Line) (out : List ℕ) where
   abbrev tooShort : Bool
   tooShort =
       ltb (length out) shortestBuffer || ltb (length out)
-      (length (byteTurnText (byteTurn s l) ++ (newline ∷ [])))
+      (length (turnText s l ++ (newline ∷ [])))
 
   abbrev rows : List Row
   rows = row 13 tooShort ∷ []
@@ -44,7 +40,7 @@ module _ (s : List ℕ) (l : Line) (out : List ℕ) where
 
   abbrev pub writtenAnswer : WrittenText
   writtenAnswer =
-      let text = byteTurnText (byteTurn s l) ++ (newline ∷ []) in
+      let text = turnText s l ++ (newline ∷ []) in
       record {
         refusal = 0;
         count = length text;
@@ -68,20 +64,20 @@ module _ (s : List ℕ) (l : Line) (out : List ℕ) where
       (le-true (suc (length out)) 16 h))
 
   -- a buffer that has no room for the text and its newline
-  pub no-room : length out ≤ length (byteTurnText (byteTurn s l)) → answerTo ≡ writtenRefusal 13
+  pub no-room : length out ≤ length (turnText s l) → answerTo ≡ writtenRefusal 13
   no-room h =
-      let text = byteTurnText (byteTurn s l) in
+      let text = turnText s l in
       let long : ltb (length out) (length (text ++ (newline ∷ []))) ≡ true =
       le-true (suc (length out)) (length (text ++ (newline ∷ [])))
       (omega (arith, length-append text (newline ∷ []))) in
       refused-rows (or-true-right (ltb (length out) shortestBuffer) _ long)
 
-  module _ (h : shortestBuffer ≤ length out) (room : length (byteTurnText (byteTurn s l)) < length out) where
+  module _ (h : shortestBuffer ≤ length out) (room : length (turnText s l) < length out) where
     -- a buffer that has
     pub has-room : answerTo ≡ writtenAnswer
     unfolding answerTo
     has-room =
-        let text = byteTurnText (byteTurn s l) in
+        let text = turnText s l in
         let a : ltb (length out) shortestBuffer ≡ false = le-false (suc (length out)) 16 (omega arith) in
         let b : ltb (length out) (length (text ++ (newline ∷ []))) ≡ false =
         le-false (suc (length out)) (length (text ++ (newline ∷ [])))

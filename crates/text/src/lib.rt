@@ -7,7 +7,7 @@ ghost use lib.ListN.{length};
 ghost use Rattle.model.specs.Text.{order, asksMay, asksWhen, printReply};
 ghost use Rattle.model.specs.Session.{runsOf, shortestBuffer, textAnswer};
 ghost use Rattle.printing.specs.Print.{RunsFit};
-ghost use Rattle.text.specs.Short.{Short};
+ghost use Rattle.printing.specs.Print.{Short};
 ghost use Rattle.text.specs.Writing.{Wrote, written, answerTo};
 use model::Access;
 use model::Question;

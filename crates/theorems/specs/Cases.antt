@@ -49,8 +49,8 @@ abbrev pub manyDone : ℕ → ℕ → List ℕ
 manyDone zero i = text ("refused 13" ∷ [])
 manyDone (suc n) i = ascii "done " ++ decimal i ++ ascii " " ++ decimal i ++ (10 ∷ manyDone n (suc i))
 
-abbrev pub table : List Case
-table =
+abbrev pub caseTable : List Case
+caseTable =
     -- session S
     case (text (
     "4 1 NEW 7"
@@ -136,7 +136,7 @@ Passes [] = Unit {0}
 Passes (c ∷ rest) = (transcript (atMarks 64) (readAtMarks 64) (lines (c .input)) emptyBase ≡ c .output)
     × Passes rest
 
-computed : Passes (allMeters ∷ table)
+computed : Passes (allMeters ∷ caseTable)
 unfolding iter reaches cyclic rankIn rank prepend next walk supports supportedIn supported coveredFor feeds
     links precedes weight stratified holds stratum derivedBelow mayWith keepAt leaveAt restrictAt gapsAt
     alwaysAt mayAtMarks whenAtMarks decimal readLine fits standsFor derivesFor rightOf takes affects
@@ -190,15 +190,15 @@ at (d ∷ cs) p c (inl e) =
 at (d ∷ cs) p c (inr m) = at cs (p .1) c m
 
 -- a row that passes is what the definitions say
-said : (c : Case) → Mem c (allMeters ∷ table) → session (c .input) ≡ c .output
+said : (c : Case) → Mem c (allMeters ∷ caseTable) → session (c .input) ≡ c .output
 unfolding session
 said c m =
     ap₂ (λ (M : Means) (Q : Questions). transcript M Q (lines (c .input)) emptyBase) (same-means 64)
     (same-questions 64)
-    ∙ at (allMeters ∷ table) computed c m
+    ∙ at (allMeters ∷ caseTable) computed c m
 
 -- THEOREM 10: every row of the table is what the definitions say
-pub twelve : (c : Case) → Mem c table → session (c .input) ≡ c .output
+pub twelve : (c : Case) → Mem c caseTable → session (c .input) ≡ c .output
 twelve c m = said c (inr m)
 
 -- THEOREM: so is the session with a rule for all meters

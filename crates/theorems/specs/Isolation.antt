@@ -37,7 +37,7 @@ use Rattle.model.specs.SideFacts.{fits-eq, fits-is, stands-is, stands-same, rig
 use Rattle.model.specs.Step.{row, refusedOr}
 use Rattle.model.specs.Encoding.{decode}
 use Rattle.model.specs.Soundness.{soundBytes}
-use Rattle.model.specs.SoundnessFacts.{Sound, sound-tests, sound-bytes}
+use Rattle.model.specs.SoundnessFacts.{Sound, decoded-sound}
 use Rattle.model.specs.Answers.{Answer, answering, refusing, accessIn, mayReply, words, mayAnswer, whenAnswer}
 use Rattle.model.specs.Text.{asksMay, asksWhen, readLine}
 use Rattle.model.specs.Session.{whenList, replyLine}
@@ -324,10 +324,10 @@ module _ (block : ℕ → Bool) where
   module _ (s s′ : List ℕ) (e : soundBytes s ≡ true) (e′ : soundBytes s′ ≡ true) (k : Shut (decode s))
       (g : Agree (decode s) (decode s′)) where
     abbrev sb : Sound (decode s)
-    sb = sound-tests (decode s) (sound-bytes s e .1)
+    sb = decoded-sound s e
 
     abbrev sc : Sound (decode s′)
-    sc = sound-tests (decode s′) (sound-bytes s′ e′ .1)
+    sc = decoded-sound s′ e′
 
     -- THEOREM. 02: "every MAY (here and later the main engine's) ... about the set gets equal replies"
     pub may-isolated : (q : Question) → block (q .access .object) ≡ true → mayAnswer s q ≡ mayAnswer s′ q

@@ -30,9 +30,8 @@ use Rattle.model.specs.EncodingFacts.{decode-encode, encode-sound, empty-sound}
 use Rattle.model.specs.Soundness.{sound, soundBytes}
 use Rattle.model.specs.SoundnessFacts.{Sound, sound-tests}
 use Rattle.model.specs.Answers.{Answer, requests}
-use Rattle.model.specs.Ledger.{Entry, entry, Ledger, emptyLedger, standing, keepEntries, settle, newEntry}
-use Rattle.model.specs.Ledger.{enter}
-use Rattle.model.specs.Ledger.{follow, ledger, linesOf}
+use Rattle.model.specs.Ledger.{Entry, entry, Ledger, emptyLedger, standingHeads, keepEntries, settle}
+use Rattle.model.specs.Ledger.{newEntry, enter, follow, ledger, linesOf}
 use Rattle.laws.specs.LedgerFacts.{WithinLast, framed-keep, framed-append, live-lines, keep-lines}
 use Rattle.laws.specs.LedgerFacts.{restrict-settle, keep-all, linesOf-append, linesOf-one}
 use Rattle.model.specs.Kinds.{grantKinds, intervalKinds, withdrawalKinds, is-kinds, is-apart}
@@ -56,11 +55,11 @@ pub record Agrees (b : Base) (a : Ledger) : Type 0 where
 -- entries whose authorizations are all supported lose nothing
 settled : (b : Base) (es : List Entry) → Sound b → WithinLast es → b .authorizations ≡ linesOf es →
     settle (root b) es ≡ es
-settled b es s f e = keep-all (λ h t. supported (root b) (standing t es) h) es
+settled b es s f e = keep-all (λ h t. supported (root b) (standingHeads t es) h) es
     (λ t h m. subst (λ (hs : List Head). supported (root b) hs h ≡ true) (same t)
     (all-supported b s t h (subst (λ (hs : List Head). Mem h hs) (sym (same t)) m)))
   where
-    same : (t : ℕ) → live t (b .authorizations) ≡ standing t es
+    same : (t : ℕ) → live t (b .authorizations) ≡ standingHeads t es
     same t = ap (live t) e ∙ live-lines es f t
 
 module _ (b : Base) (a : Ledger) (q : Request) (s : Sound b) (g : Accepted b q) (agrees : Agrees b a) where

@@ -93,12 +93,12 @@ beside-sound = rw (all-always 5 9 (λ t. true) (λ u h k. refl))
 pub agreeing : Whole seven alone beside
 agreeing = refl
 
-pub there : (o : ℕ) → seven o ≡ true → exists alone o ≡ true
-there o e = rw (true-eq o 7 e)
+pub seven-exists : (o : ℕ) → seven o ≡ true → exists alone o ≡ true
+seven-exists o e = rw (true-eq o 7 e)
 
-pub closed : Closed seven alone
-closed = record {
-  existing = there;
+pub seven-closed : Closed seven alone
+seven-closed = record {
+  existing = seven-exists;
   shut = inside;
 }
   where

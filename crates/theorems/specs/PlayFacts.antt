@@ -10,8 +10,7 @@ use lib.Dec.{eqb}
 use lib.ListN.{length}
 use Rattle.foundation.specs.Tests.{pick, cases, true-eq, false-eq}
 use Rattle.model.specs.declared.Request.{Request}
-use Rattle.model.specs.declared.Reply.{Reply}
-use Rattle.model.specs.declared.Reply.the-variants.{Done, Refused, Unsupported, Yes, No, Runs}
+use Rattle.model.specs.declared.Reply.the-variants.{Done}
 use Rattle.model.specs.Base.{Base, emptyBase}
 use Rattle.model.specs.Requests.{grants, labels}
 use Rattle.model.specs.Means.{plainly}
@@ -20,7 +19,7 @@ use Rattle.model.specs.StepFacts.{step-accepted, step-refused}
 use Rattle.model.specs.Encoding.{encode, decode}
 use Rattle.model.specs.EncodingFacts.{decode-encode, empty-sound}
 use Rattle.model.specs.Soundness.{sound}
-use Rattle.model.specs.Answers.{Answer, request, requests}
+use Rattle.model.specs.Answers.{Answer, request, requests, labelOf}
 use Rattle.model.specs.Survival.{after}
 use Rattle.model.specs.Kinds.{grantKinds, labelKinds, is-kinds}
 use Rattle.laws.specs.SoundPrivileges.{last-stays}
@@ -104,14 +103,6 @@ after-more earlier g later z =
 
 -- ---- the reply
 
-labelIn : Reply → ℕ
-labelIn (Done label count) = label
-labelIn (Refused n) = 0
-labelIn (Unsupported t) = 0
-labelIn Yes = 0
-labelIn No = 0
-labelIn (Runs n) = 0
-
 module _ (earlier : List Request) (q : Request) (label count : ℕ)
     (e : request (after earlier) q .reply ≡ Done label count) where
   abbrev base : Base
@@ -126,10 +117,9 @@ module _ (earlier : List Request) (q : Request) (label count : ℕ)
 
   -- its label is the next one, if it takes one
   pub done-label : label ≡ pick (labels q) (suc (base .last)) 0
-  unfolding labelIn
   done-label =
-      sym (ap labelIn reply)
-      ∙ ap (λ (a : Answer). labelIn (a .reply)) (request-accepted base q (after-sound earlier) done-accepted)
+      sym (ap labelOf reply)
+      ∙ ap (λ (a : Answer). labelOf (a .reply)) (request-accepted base q (after-sound earlier) done-accepted)
 
 -- what the table lets pass is answered with the next label, or 0
 accepted-reply : (qs : List Request) (q : Request) → refusal plainly (baseAfter qs) q ≡ 0 →

@@ -96,8 +96,8 @@ module _ (b : Base) (q : Request) (s : Sound b) (g : Accepted b q) (h : Head) (t
       (entered m)
 
   -- what stood, was not taken and has a chain behind it stands
-  pub stands : Stands b h t → takes q h t ≡ false → Behind next h t → Stands next h t
-  stands m e c = cases (withdraws q)
+  pub still-stands : Stands b h t → takes q h t ≡ false → Behind next h t → Stands next h t
+  still-stands m e c = cases (withdraws q)
       (λ w. let x : Mem h (live t remaining) = rw left
       (keepIf-mem (λ k. not (takes q k t)) (live t (b .authorizations)) h m (ap not e)) in
       rw (withdrawn w) (keepIf-mem stays (live t remaining) h x
@@ -157,7 +157,7 @@ module _ (h : Head) (t : ℕ) where
       let base : decode (request x q .lent) ≡ c = ap decode bytes ∙ decode-encode c (effect-sound b q s z) in
       let untouched : takes q h t ≡ false =
       cases (takes q h t) (λ e. absurd (⊎-elim back lost (taken b q g h t m .0 e))) (λ e. e) in
-      let still = stands b q (sound-tests b s) g h t m untouched
+      let still = still-stands b q (sound-tests b s) g h t m untouched
       (subst (λ (d : Base). Behind d h t) base chain) in
       subst (λ (c : Base). Stands (play later c) h t) (sym (base-accepted b q z))
       (surviving later c (effect-sound b q s z) still (request x q .lent) bytes v)

@@ -4,7 +4,7 @@ use mathlib.Core.Path.{_≡_, refl, sym, ap, ap₂, _∙_}
 use Prim.Native.Nat.{ℕ, suc, _+_, _-_, _≤_, _<_}
 use native.Mathlib.Numerals.{add-one}
 use native.Mathlib.Omega.{arith}
-use mathlib.Core.Bool.{Bool, true, false, _&&_, true≢false}
+use mathlib.Core.Bool.{Bool, true, false, _&&_}
 use mathlib.Core.List.{List, [], _∷_, _++_, append-nil}
 use lib.Dec.{leb, eqb}
 use lib.ListN.{length, take, drop, getD, length-append, length-drop}
@@ -12,9 +12,9 @@ use lib.Seq.{take-all, take-suc, take-append-le, drop-cons, drop-length, getD-dr
 use lib.Seq.{length-take-le}
 use Rattle.foundation.specs.Tests.{cases, pick, agree, and-true, and-intro, true-le, eq-true, true-eq}
 use Rattle.foundation.specs.Bytes.{eqList, eqList-eq, eqList-refl}
-use Rattle.model.specs.Text.{newline, space, extend, split, closed, lines}
-use Rattle.serving.specs.Pieces.{ends, beforeNewline, behindNewline}
-use Rattle.serving.proofs.PieceFacts.{before-all, split-ended, split-whole}
+use Rattle.model.specs.Text.{newline, space, extend, split, withoutEmptyLast, lines}
+use Rattle.laws.specs.FirstLine.{ends, beforeNewline, behindNewline, before-all, behind-none, split-ended}
+use Rattle.laws.specs.FirstLine.{split-whole}
 use Rattle.vectors.specs.declared.lines.Span.{Span}
 use Rattle.model.specs.Base.{emptyBase}
 use Rattle.model.specs.Encoding.{encode}
@@ -24,7 +24,7 @@ use Rattle.model.specs.Answers.{create}
 use Rattle.laws.specs.Created.{created}
 use Rattle.serving.specs.LineTurns.{Turned}
 use Rattle.vectors.specs.Transcripts.{marked, opens, asks, unmarked, TranscriptState, stage, fresh}
-use Rattle.vectors.specs.Transcripts.{stands, nextState}
+use Rattle.vectors.specs.Transcripts.{lineStands, nextState}
 use Rattle.vectors.specs.Transcripts.{agrees, countStanding, stateAfter, linesLeft}
 use Rattle.vectors.specs.Said.{next-opens, next-asks, next-other}
 use Rattle.vectors.specs.LinePlaces.{Spans, Leads, Checks}
@@ -168,28 +168,24 @@ module _ (s line : List ℕ) where
 
 -- ---- the lines of a text
 
-closed-more : (p : List ℕ) (s : List ℕ) → closed (p ∷ split newline s) ≡ p ∷ lines s
-closed-more p [] = refl
-closed-more p (c ∷ s) = cases (eqb c newline)
+lines-more : (p : List ℕ) (s : List ℕ) → withoutEmptyLast (p ∷ split newline s) ≡ p ∷ lines s
+lines-more p [] = refl
+lines-more p (c ∷ s) = cases (eqb c newline)
     (λ e. rw e)
     (λ e. rw e (extended p c (split newline s)))
   where
-    extended : (p : List ℕ) (c : ℕ) (ps : List (List ℕ)) → closed (p ∷ extend c ps) ≡ p ∷ closed (extend c ps)
+    extended : (p : List ℕ) (c : ℕ) (ps : List (List ℕ)) → withoutEmptyLast (p ∷ extend c ps) ≡ p
+        ∷ withoutEmptyLast (extend c ps)
     extended p c [] = refl
     extended p c (q ∷ ps) = refl
-
-behind-none : (s : List ℕ) → ends s ≡ false → behindNewline s ≡ []
-behind-none [] e = refl
-behind-none (c ∷ s) e = cases (eqb c newline)
-    (λ p. absurd (true≢false (rw p at e)))
-    (λ p. rw p (behind-none s (rw p at e)))
 
 -- a text that has a byte has a first line, and those behind it
 pub lines-front : (s : List ℕ) → 0 < length s → lines s ≡ beforeNewline s ∷ lines (behindNewline s)
 lines-front [] h = absurd (omega arith)
 lines-front (c ∷ s) h = cases (ends (c ∷ s))
-    (λ e. ap closed (split-ended (c ∷ s) e) ∙ closed-more (beforeNewline (c ∷ s)) (behindNewline (c ∷ s)))
-    (λ e. ap closed (split-whole (c ∷ s) e) ∙ rw (before-all (c ∷ s) e, behind-none (c ∷ s) e))
+    (λ e. ap withoutEmptyLast (split-ended (c ∷ s) e) ∙ lines-more (beforeNewline (c ∷ s))
+    (behindNewline (c ∷ s)))
+    (λ e. ap withoutEmptyLast (split-whole (c ∷ s) e) ∙ rw (before-all (c ∷ s) e, behind-none (c ∷ s) e))
 
 -- ---- the walk through a transcript
 
@@ -227,8 +223,8 @@ line-here text at h f =
     lines-front (drop at text) (omega (arith, length-drop at text)) ∙ rw (f .line, f .rest)
 
 -- whether a line stands depends on what is owed, and what it leads to on the base
-stands-owed : (s owed l : List ℕ) → stands (stage s owed) l ≡ stands (stage [] owed) l
-unfolding stands
+stands-owed : (s owed l : List ℕ) → lineStands (stage s owed) l ≡ lineStands (stage [] owed) l
+unfolding lineStands
 stands-owed s owed l = refl
 
 next-base : (s owed l : List ℕ) → nextState (stage s owed) l ≡ nextState (stage s []) l
@@ -243,7 +239,7 @@ module _ {text s out : List ℕ} {n count at title : ℕ} (w : Goes text s out n
     {l : List ℕ} (at′ : ℕ) (here : lines (drop at text) ≡ l ∷ lines (drop at′ text)) where
   -- a line that stands leads on
   pub goes-on : {s′ out′ : List ℕ} {n′ title′ : ℕ} → at < at′ → at′ ≤ length text →
-      true ≡ stands (stage [] (take n out)) l → Leads s l n′ s′ out′ → title′ ≡ pick (opens l) at title →
+      true ≡ lineStands (stage [] (take n out)) l → Leads s l n′ s′ out′ → title′ ≡ pick (opens l) at title →
       Goes text s′ out′ n′ (count + 1) at′ title′
   goes-on {s′} {out′} {n′} lo hi st k q =
       let g = stage s (take n out) in
@@ -265,7 +261,7 @@ module _ {text s out : List ℕ} {n count at title : ℕ} (w : Goes text s out n
       }
 
   -- one that does not stand ends it
-  pub goes-wrong : false ≡ stands (stage [] (take n out)) l →
+  pub goes-wrong : false ≡ lineStands (stage [] (take n out)) l →
       Checks text (record { good = false; lines = count; n = n; at = at; title = title }) out
   goes-wrong st =
       let g = stage s (take n out) in

@@ -7,7 +7,7 @@ use mathlib.Core.List.{List, []}
 use lib.ListN.{length, take, drop}
 use Rattle.model.specs.Soundness.{soundBytes}
 use Rattle.model.specs.Text.{lines}
-use Rattle.serving.specs.Pieces.{beforeNewline, behindNewline}
+use Rattle.laws.specs.FirstLine.{beforeNewline, behindNewline}
 use Rattle.vectors.specs.declared.lines.Span.{Span}
 use Rattle.vectors.specs.declared.checks.Checked.{Checked}
 use Rattle.vectors.specs.Transcripts.{stage, fresh, nextState, agrees, countStanding, stateAfter}

@@ -4,22 +4,22 @@
 use mathlib.Core.Path.{_≡_, refl, sym, ap, _∙_}
 use Prim.Native.Nat.{ℕ}
 use native.Mathlib.Omega.{arith}
-use mathlib.Core.Bool.{Bool, true, false, _&&_, _||_}
+use mathlib.Core.Bool.{true, false, _&&_, _||_}
 use mathlib.Core.List.{List, [], _∷_, _++_, append-assoc}
 use lib.Dec.{leb, eqb}
 use lib.ListN.{length, getD}
-use Rattle.foundation.specs.Tests.{cases, pick, le-true, and-true, true-eq, false-eq}
+use Rattle.foundation.specs.Tests.{cases, pick, le-true, and-true, true-eq, false-eq, and-yes}
 use Rattle.foundation.specs.Bytes.{eqList-eq}
 use Rattle.model.specs.Base.{emptyBase}
 use Rattle.model.specs.EncodingFacts.{empty-sound}
 use Rattle.model.specs.Means.{plainly}
 use Rattle.model.specs.Questions.{asDefined}
 use Rattle.model.specs.Text.{newline, space, printReply}
-use Rattle.model.specs.Session.{transcript, byteTranscript}
+use Rattle.model.specs.Session.{transcript, byteTranscript, replyLine}
 use Rattle.laws.specs.SessionFacts.{same-transcript}
-use Rattle.serving.specs.LineTurns.{turnOf, replyText}
+use Rattle.serving.specs.LineTurns.{lineTurn}
 use Rattle.vectors.specs.Transcripts.{marked, opens, asks, tells, unmarked, TranscriptState, stage}
-use Rattle.vectors.specs.Transcripts.{fresh, stands}
+use Rattle.vectors.specs.Transcripts.{fresh, lineStands}
 use Rattle.vectors.specs.Transcripts.{nextState}
 use Rattle.vectors.specs.Transcripts.{agrees}
 
@@ -59,12 +59,12 @@ no-bytes [] e = refl
 no-bytes (c ∷ s) e = absurd (omega (arith, true-eq (length (c ∷ s)) 0 e))
 
 module _ (g : TranscriptState) (l : List ℕ) where
-  stands-told : tells l ≡ true → stands g l ≡ true → unmarked l ++ (newline ∷ []) ≡ g .owed
-  unfolding stands
+  stands-told : tells l ≡ true → lineStands g l ≡ true → unmarked l ++ (newline ∷ []) ≡ g .owed
+  unfolding lineStands
   stands-told t e = eqList-eq (unmarked l ++ (newline ∷ [])) (g .owed) (rw t at e)
 
-  stands-other : tells l ≡ false → stands g l ≡ true → g .owed ≡ []
-  unfolding stands
+  stands-other : tells l ≡ false → lineStands g l ≡ true → g .owed ≡ []
+  unfolding lineStands
   stands-other t e =
       no-bytes (g .owed)
       (and-true (eqb (length (g .owed)) 0) (eqb (length l) 0 || (opens l || asks l)) (rw t at e) .0)
@@ -74,7 +74,7 @@ module _ (g : TranscriptState) (l : List ℕ) where
   next-opens o = rw o
 
   pub next-asks : opens l ≡ false → asks l ≡ true →
-      nextState g l ≡ stage (turnOf (g .base) (unmarked l) .lent) (replyText (g .base) (unmarked l))
+      nextState g l ≡ stage (lineTurn (g .base) (unmarked l) .lent) (replyLine (g .base) (unmarked l))
   unfolding nextState
   next-asks o a = rw (o, a)
 
@@ -88,7 +88,7 @@ module _ (g : TranscriptState) (l : List ℕ) where
 abbrev answers : TranscriptState → List (List ℕ) → List ℕ
 answers g ls = g .owed ++ byteTranscript (askedLines ls) (g .base)
 
-module _ (g : TranscriptState) (l : List ℕ) (rest : List (List ℕ)) (s : stands g l ≡ true)
+module _ (g : TranscriptState) (l : List ℕ) (rest : List (List ℕ)) (s : lineStands g l ≡ true)
     (more : answers (nextState g l) rest ≡ toldLines rest) where
   said-opens : opens l ≡ true → answers g (l ∷ rest) ≡ toldLines (l ∷ rest)
   said-opens o = rw (o, stands-other g l (one-mark 35 60 l refl o) s)
@@ -96,7 +96,7 @@ module _ (g : TranscriptState) (l : List ℕ) (rest : List (List ℕ)) (s : stan
   said-asks : opens l ≡ false → asks l ≡ true → answers g (l ∷ rest) ≡ toldLines (l ∷ rest)
   said-asks o a =
       let t = one-mark 62 60 l refl a in
-      let x = turnOf (g .base) (unmarked l) in
+      let x = lineTurn (g .base) (unmarked l) in
       rw (o, a, t, stands-other g l t s)
       (sym (append-assoc (printReply (x .reply) (x .runs)) (newline ∷ [])
       (byteTranscript (askedLines rest) (x .lent)))
@@ -113,7 +113,7 @@ module _ (g : TranscriptState) (l : List ℕ) (rest : List (List ℕ)) (s : stan
 case-bytes : (g : TranscriptState) (ls : List (List ℕ)) → agrees g ls ≡ true → answers g ls ≡ toldLines ls
 case-bytes g [] e = rw (no-bytes (g .owed) e)
 case-bytes g (l ∷ rest) e =
-    let p = and-true (stands g l) (agrees (nextState g l) rest) e in
+    let p = and-true (lineStands g l) (agrees (nextState g l) rest) e in
     let m = case-bytes (nextState g l) rest (p .1) in
     cases (opens l)
     (λ o. said-opens g l rest (p .0) m o)
@@ -130,10 +130,10 @@ pub case-behind : (g : TranscriptState) (front : List (List ℕ)) (title : List 
     opens title ≡ true →
     agrees g (front ++ (title ∷ rest)) ≡ true → agrees fresh rest ≡ true
 case-behind g [] title rest o e =
-    let p = and-true (stands g title) (agrees (nextState g title) rest) e in
+    let p = and-true (lineStands g title) (agrees (nextState g title) rest) e in
     ap (λ (h : TranscriptState). agrees h rest) (sym (next-opens g title o)) ∙ p .1
 case-behind g (l ∷ front) title rest o e =
-    let p = and-true (stands g l) (agrees (nextState g l) (front ++ (title ∷ rest))) e in
+    let p = and-true (lineStands g l) (agrees (nextState g l) (front ++ (title ∷ rest))) e in
     case-behind (nextState g l) front title rest o (p .1)
 
 -- ---- lines and replies in turn
@@ -156,13 +156,9 @@ abbrev pub replies : List Exchange → List ℕ
 replies [] = []
 replies (x ∷ xs) = (x .reply ++ (newline ∷ [])) ++ replies xs
 
-and-one : (a : Bool) → a && true ≡ a
-and-one true = refl
-and-one false = refl
-
 has-mark : (c d : ℕ) (l : List ℕ) → marked d (c ∷ space ∷ l) ≡ eqb c d
 unfolding marked
-has-mark c d l = rw (le-true 2 (length (c ∷ space ∷ l)) (omega arith)) (and-one (eqb c d))
+has-mark c d l = rw (le-true 2 (length (c ∷ space ∷ l)) (omega arith)) (and-yes (eqb c d))
 
 exchanged-asked : (xs : List Exchange) → askedLines (exchanged xs) ≡ inputs xs
 exchanged-asked [] = refl

@@ -11,7 +11,8 @@ use Rattle.foundation.specs.Bytes.{eqList}
 use Rattle.model.specs.Base.{emptyBase}
 use Rattle.model.specs.Encoding.{encode}
 use Rattle.model.specs.Text.{newline, space}
-use Rattle.serving.specs.LineTurns.{turnOf, replyText}
+use Rattle.model.specs.Session.{replyLine}
+use Rattle.serving.specs.LineTurns.{lineTurn}
 
 -- ---- the marks of lines
 
@@ -47,33 +48,33 @@ abbrev pub fresh : TranscriptState
 fresh = stage (encode emptyBase) []
 
 -- a line stands: it tells the reply that is owed, or none is owed and it is of another known kind
-unfoldable pub stands : TranscriptState → List ℕ → Bool
-stands g l = pick (tells l)
+unfoldable pub lineStands : TranscriptState → List ℕ → Bool
+lineStands g l = pick (tells l)
     (eqList (unmarked l ++ (newline ∷ [])) (g .owed))
     (eqb (length (g .owed)) 0 && (eqb (length l) 0 || (opens l || asks l)))
 
 -- what is owed of a reply is owed once; a new case forgets the base of the one before
 unfoldable pub nextState : TranscriptState → List ℕ → TranscriptState
 nextState g l = pick (opens l) fresh
-    (pick (asks l) (stage (turnOf (g .base) (unmarked l) .lent) (replyText (g .base) (unmarked l)))
+    (pick (asks l) (stage (lineTurn (g .base) (unmarked l) .lent) (replyLine (g .base) (unmarked l)))
     (stage (g .base) []))
 
 -- every line stands, and no reply is owed at the end
 abbrev pub agrees : TranscriptState → List (List ℕ) → Bool
 agrees g [] = eqb (length (g .owed)) 0
-agrees g (l ∷ rest) = let r = agrees (nextState g l) rest in stands g l && r
+agrees g (l ∷ rest) = let r = agrees (nextState g l) rest in lineStands g l && r
 
 -- how many lines stand before the first that does not
 abbrev pub countStanding : TranscriptState → List (List ℕ) → ℕ
 countStanding g [] = 0
-countStanding g (l ∷ rest) = let n = suc (countStanding (nextState g l) rest) in pick (stands g l) n 0
+countStanding g (l ∷ rest) = let n = suc (countStanding (nextState g l) rest) in pick (lineStands g l) n 0
 
 -- where the lines that stand have led
 abbrev pub stateAfter : TranscriptState → List (List ℕ) → TranscriptState
 stateAfter g [] = g
-stateAfter g (l ∷ rest) = let h = stateAfter (nextState g l) rest in pick (stands g l) h g
+stateAfter g (l ∷ rest) = let h = stateAfter (nextState g l) rest in pick (lineStands g l) h g
 
 -- the lines from the first that does not stand on
 abbrev pub linesLeft : TranscriptState → List (List ℕ) → List (List ℕ)
 linesLeft g [] = []
-linesLeft g (l ∷ rest) = let ls = linesLeft (nextState g l) rest in pick (stands g l) ls (l ∷ rest)
+linesLeft g (l ∷ rest) = let ls = linesLeft (nextState g l) rest in pick (lineStands g l) ls (l ∷ rest)

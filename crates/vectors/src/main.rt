@@ -12,8 +12,9 @@ ghost use lib.ListN.{length};
 ghost use Rattle.model.specs.Text.{lines};
 ghost use Rattle.vectors.specs.Transcripts.{fresh, agrees};
 use checks::check;
-use messages::put;
+use fields::as_bit;
 use messages::put_number;
+use messages::put_text;
 use messages::say;
 use messages::say_stands;
 use messages::say_wrong;
@@ -55,7 +56,7 @@ fn check_file(i: usize) -> bool {
     let mut name = io::buffer();
     let k = os::arg(i, &mut name);
     if os::errno() != 0 {
-        put(b"the name of a file is too long\n");
+        put_text(b"the name of a file is too long\n");
         return false;
     }
     let fd = os::open_read(&name[..k]);
@@ -68,24 +69,17 @@ fn check_file(i: usize) -> bool {
     good
 }
 
-// 1 for a file that stands, else 0.
-fn as_bit(good: bool) -> usize
-    ensures { λ r. ⌜ r ≤ 1 ⌝ }
-{
-    if good { 1 } else { 0 }
-}
-
 // Checks the files one after the other.
 fn main() {
     let end = os::arg_count();
     let mut good = 0;
     let mut i = 1;
     while i < end {
-        good += as_bit(check_file(i));
+        good += as_bit(check_file(i)) as usize;
         i += 1;
     }
     put_number(good);
-    put(b" of ");
+    put_text(b" of ");
     put_number(i - 1);
-    put(b" files stand\n");
+    put_text(b" files stand\n");
 }

@@ -7,7 +7,7 @@ use crate::lines::line_at;
 use libc::STDOUT_FILENO;
 
 // Writes some bytes.
-pub fn put(b: &[u8]) {
+pub fn put_text(b: &[u8]) {
     io::write_all(STDOUT_FILENO, b);
 }
 
@@ -18,18 +18,18 @@ pub fn put_number(n: usize) {
 
 // A line about a file: its name, and what there is to say.
 pub fn say(name: &[u8], what: &[u8]) {
-    put(name);
-    put(b": ");
-    put(what);
-    put(b"\n");
+    put_text(name);
+    put_text(b": ");
+    put_text(what);
+    put_text(b"\n");
 }
 
 // Every line stands.
 pub fn say_stands(name: &[u8], lines: usize) {
-    put(name);
-    put(b": ");
+    put_text(name);
+    put_text(b": ");
     put_number(lines);
-    put(b" lines stand\n");
+    put_text(b" lines stand\n");
 }
 
 // Writes the line of a text that begins at a place.
@@ -38,7 +38,7 @@ fn put_line(text: &[u8], at: usize)
 {
     let p = line_at(text, at);
     let end = p.end;
-    put(&text[at..end]);
+    put_text(&text[at..end]);
 }
 
 // The case that a line belongs to, by its title.
@@ -46,24 +46,24 @@ fn say_case(text: &[u8], title: usize)
     requires { ⌜ title ≤ length (now text) ⌝ }
 {
     if title == text.len() {
-        put(b"before any case\n");
+        put_text(b"before any case\n");
         return;
     }
-    put(b"case \"");
+    put_text(b"case \"");
     put_line(text, title);
-    put(b"\"\n");
+    put_text(b"\"\n");
 }
 
 // What the text says at the place, if it goes on there.
 fn say_line(text: &[u8], at: usize)
     requires { ⌜ at ≤ length (now text) ⌝ }
 {
-    put(b"  it says: ");
+    put_text(b"  it says: ");
     if at == text.len() {
-        put(b"nothing more");
+        put_text(b"nothing more");
     }
     put_line(text, at);
-    put(b"\n");
+    put_text(b"\n");
 }
 
 // Whether the text tells a reply at the place.
@@ -78,12 +78,12 @@ fn tells_at(text: &[u8], at: usize) -> bool {
 // What was answered, newline and all, if a reply was owed; or that there was none, if the text tells one.
 fn say_answer(reply: &[u8], told: bool) {
     if 0 < reply.len() {
-        put(b"  answered: ");
-        put(reply);
+        put_text(b"  answered: ");
+        put_text(reply);
         return;
     }
     if told {
-        put(b"  answered: nothing\n");
+        put_text(b"  answered: nothing\n");
     }
 }
 
@@ -93,10 +93,10 @@ pub fn say_wrong(name: &[u8], text: &[u8], out: &[u8], c: Checked)
 {
     let at = c.at;
     let n = c.n;
-    put(name);
-    put(b": line ");
+    put_text(name);
+    put_text(b": line ");
     put_number(c.lines + 1);
-    put(b" does not stand, ");
+    put_text(b" does not stand, ");
     say_case(text, c.title);
     say_line(text, at);
     say_answer(&out[..n], tells_at(text, at));

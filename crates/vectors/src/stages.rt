@@ -8,7 +8,7 @@ ghost use Rattle.foundation.specs.Tests.{pick};
 ghost use Rattle.foundation.specs.Bytes.{eqList};
 ghost use Rattle.model.specs.Soundness.{soundBytes};
 ghost use Rattle.model.specs.Text.{newline};
-ghost use Rattle.vectors.specs.Transcripts.{marked as Transcripts·marked, stands as Transcripts·stands};
+ghost use Rattle.vectors.specs.Transcripts.{marked as Transcripts·marked, lineStands};
 ghost use Rattle.vectors.specs.Transcripts.{opens, unmarked, stage};
 ghost use Rattle.vectors.specs.LinePlaces.{Leads};
 
@@ -37,7 +37,7 @@ fn tells_owed(line: &[u8], owed: &[u8]) -> bool
 
 // Whether a line stands where a reply is owed, or none.
 pub fn stands(line: &[u8], owed: &[u8]) -> bool
-    ensures { λ r. ⌜ r ≡ Transcripts·stands (stage [] (now (owed .entry))) (now (line .entry)) ⌝ }
+    ensures { λ r. ⌜ r ≡ lineStands (stage [] (now (owed .entry))) (now (line .entry)) ⌝ }
 {
     if marked(line, b'<') {
         return tells_owed(line, owed);

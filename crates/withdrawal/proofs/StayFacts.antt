@@ -19,7 +19,8 @@ use Rattle.laws.specs.KeepFacts.{intervalsOf, live-keep}
 use Rattle.laws.specs.LedgerFacts.{refine-maximal, keep-append, keep-pieces}
 use Rattle.cover.specs.declared.Want.{Want}
 use Rattle.cover.specs.Cover.{wantOf, wanted, coveredBy}
-use Rattle.cover.proofs.CoverFacts.{supports-wanted, any-live}
+use Rattle.model.specs.SupportFacts.{any-live}
+use Rattle.cover.proofs.CoverFacts.{supports-wanted}
 use Rattle.pieces.proofs.PartFacts.{wanted-before}
 use Rattle.withdrawal.specs.Stays.{stays, untilInstant}
 

@@ -29,15 +29,15 @@ ones-top w h =
     ap (λ (n : ℕ). n / 2 ^ (64 - w)) s ∙ high (2 ^ w - 1) (64 - w) (ones-lt (64 - w))
 
 -- a field ends within its word
-pub inside : (k i : ℕ) → k ≤ 6 → starts k i % 64 + 2 ^ k ≤ 64
-inside zero i h = omega arith
-inside (suc zero) i h = omega arith
-inside (suc (suc zero)) i h = omega arith
-inside (suc (suc (suc zero))) i h = omega arith
-inside (suc (suc (suc (suc zero)))) i h = omega arith
-inside (suc (suc (suc (suc (suc zero))))) i h = omega arith
-inside (suc (suc (suc (suc (suc (suc zero)))))) i h = omega arith
-inside (suc (suc (suc (suc (suc (suc (suc k))))))) i h = absurd (omega arith)
+pub field-inside : (k i : ℕ) → k ≤ 6 → starts k i % 64 + 2 ^ k ≤ 64
+field-inside zero i h = omega arith
+field-inside (suc zero) i h = omega arith
+field-inside (suc (suc zero)) i h = omega arith
+field-inside (suc (suc (suc zero))) i h = omega arith
+field-inside (suc (suc (suc (suc zero)))) i h = omega arith
+field-inside (suc (suc (suc (suc (suc zero))))) i h = omega arith
+field-inside (suc (suc (suc (suc (suc (suc zero)))))) i h = omega arith
+field-inside (suc (suc (suc (suc (suc (suc (suc k))))))) i h = absurd (omega arith)
 
 -- and before the next
 pub gap : (k i j : ℕ) → k ≤ 6 → i < j → starts k i + 2 ^ k ≤ starts k j
@@ -76,14 +76,14 @@ module _ (k i v : ℕ) (ws : List ℕ) (few : k ≤ 6) (within : starts k i < 64
   abbrev place : ℕ
   place = starts k i % 64
 
-  abbrev pub after : List ℕ
-  after = set ws at (bitOr (getD ws at 0) (v * 2 ^ place % 18446744073709551616))
+  abbrev pub wordsAfter : List ℕ
+  wordsAfter = set ws at (bitOr (getD ws at 0) (v * 2 ^ place % 18446744073709551616))
 
   shift : v * 2 ^ place % 18446744073709551616 ≡ v * 2 ^ place
-  shift = shl-exact (2 ^ k) place 64 small (omega (arith, inside k i few))
+  shift = shl-exact (2 ^ k) place 64 small (omega (arith, field-inside k i few))
 
   -- field j of the word after
-  read : (m : ℕ) → getD after at 0 / 2 ^ m % 2 ^ (2 ^ k)
+  read : (m : ℕ) → getD wordsAfter at 0 / 2 ^ m % 2 ^ (2 ^ k)
       ≡ bitOr (getD ws at 0 / 2 ^ m % 2 ^ (2 ^ k)) (v * 2 ^ place / 2 ^ m % 2 ^ (2 ^ k))
   read m =
       let w : ℕ = getD ws at 0 in
@@ -93,36 +93,36 @@ module _ (k i v : ℕ) (ws : List ℕ) (few : k ≤ 6) (within : starts k i < 64
       ∙ ap (λ (n : ℕ). n % 2 ^ (2 ^ k)) (or-shr w (v * 2 ^ place) m)
       ∙ or-mod (w / 2 ^ m) (v * 2 ^ place / 2 ^ m) (2 ^ k)
 
-  same : fieldOf k after i ≡ bitOr (fieldOf k ws i) v
+  same : fieldOf k wordsAfter i ≡ bitOr (fieldOf k ws i) v
   unfolding fieldOf
   same = read place ∙ ap (bitOr (getD ws at 0 / 2 ^ place % 2 ^ (2 ^ k)))
       (ap (λ (n : ℕ). n % 2 ^ (2 ^ k)) (shl-shr v place) ∙ mod-eq-of-lt small)
 
-  near : (j : ℕ) → starts k j / 64 ≡ at → (i < j) ⊎ (j < i) → fieldOf k after j ≡ fieldOf k ws j
+  near : (j : ℕ) → starts k j / 64 ≡ at → (i < j) ⊎ (j < i) → fieldOf k wordsAfter j ≡ fieldOf k ws j
   unfolding fieldOf
   near j e d =
       let m : ℕ = starts k j % 64 in
       let l : (place + 2 ^ k ≤ m) ⊎ (m + 2 ^ k ≤ place) = ⊎-elim
       (λ o. inl (omega (arith, gap k i j few o))) (λ o. inr (omega (arith, gap k j i few o))) d in
-      ap (λ (n : ℕ). getD after n 0 / 2 ^ m % 2 ^ (2 ^ k)) e ∙ read m
+      ap (λ (n : ℕ). getD wordsAfter n 0 / 2 ^ m % 2 ^ (2 ^ k)) e ∙ read m
       ∙ ap (bitOr (getD ws at 0 / 2 ^ m % 2 ^ (2 ^ k))) (aside v (2 ^ k) place m small l)
       ∙ or-zero-r (getD ws at 0 / 2 ^ m % 2 ^ (2 ^ k))
       ∙ ap (λ (n : ℕ). getD ws n 0 / 2 ^ m % 2 ^ (2 ^ k)) (sym e)
 
-  far : (j : ℕ) → (starts k j / 64 ≡ at → ⊥) → fieldOf k after j ≡ fieldOf k ws j
+  far : (j : ℕ) → (starts k j / 64 ≡ at → ⊥) → fieldOf k wordsAfter j ≡ fieldOf k ws j
   unfolding fieldOf
   far j n = ap (λ (w : ℕ). w / 2 ^ (starts k j % 64) % 2 ^ (2 ^ k))
       (getD-set-other ws at (starts k j / 64) (bitOr (getD ws at 0) (v * 2 ^ place % 18446744073709551616))
       0 n)
 
-  other : (j : ℕ) → (i < j) ⊎ (j < i) → fieldOf k after j ≡ fieldOf k ws j
+  other : (j : ℕ) → (i < j) ⊎ (j < i) → fieldOf k wordsAfter j ≡ fieldOf k ws j
   other j d = cases (eqb (starts k j / 64) at)
       (λ e. near j (true-eq (starts k j / 64) at e) d)
       (λ e. far j (false-eq (starts k j / 64) at e))
 
-  pub join-law : (j : ℕ) → fieldOf k after j ≡ joined k ws i v j
+  pub join-law : (j : ℕ) → fieldOf k wordsAfter j ≡ joined k ws i v j
   join-law j = cases (eqb j i)
-      (λ e. rw e (ap (fieldOf k after) (true-eq j i e) ∙ same))
+      (λ e. rw e (ap (fieldOf k wordsAfter) (true-eq j i e) ∙ same))
       (λ e. rw e (other j (apart (false-eq j i e))))
     where
       apart : (j ≡ i → ⊥) → (i < j) ⊎ (j < i)

@@ -3,14 +3,14 @@ use mathlib.Core.Path.{_≡_, refl, sym, ap, ap₂, _∙_}
 use mathlib.Core.Bool.{Bool, true, false, not, _&&_, _||_}
 use Prim.Native.Nat.{ℕ, zero, suc, _+_, _*_, _-_, _/_, _%_, _^_, _≤_, _<_, min, max}
 use native.Mathlib.Nat.{pow-succ', div-one, div-eq-of-lt, one-mul, max-le, min-le-left, min-zero, zero-min}
-use native.Mathlib.Nat.{lt-of-lt-of-le}
+use native.Mathlib.Nat.{div-div-eq-div-mul, div-lt-iff-lt-mul, div-le-self, lt-of-lt-of-le}
 use native.Mathlib.Omega.{arith}
 use lib.Bits.{bitAnd, bitOr, and-step, or-step, and-self, and-shr, or-shr, and-le-l}
 use lib.Dec.{eqb, leb, ltb}
-use lib.Pow.{pow-mono}
+use lib.Pow.{pow-mono, pow-pos, pow-add, field, mod-mod-pow}
 use Rattle.foundation.specs.Tests.{cases, agree, le-true, le-false, true-le, false-le, and-true, true-eq}
 use Rattle.foundation.specs.Tests.{false-eq}
-use Rattle.foundation.specs.BitMasks.{bit}
+use Rattle.foundation.specs.BitMasks.{bit, mask-test, power-above}
 use Rattle.words.specs.Ones.{bit-half, bit-shl, span-bit}
 
 -- ---- one digit
@@ -89,6 +89,21 @@ bit-less (suc i) a b =
     bit-half i (less a b) ∙ ap (bit i) (less-half a b .0) ∙ bit-less i (a / 2) (b / 2)
     ∙ sym (ap₂ (λ (x y : Bool). x && not y) (bit-half i a) (bit-half i b))
 
+-- a word without one of its bits is smaller
+pub cut-less : (x k : ℕ) → bit k x ≡ true → less x (2 ^ k) < x
+cut-less x k e =
+    let a : bitAnd x (2 ^ k) ≡ 2 ^ k = true-eq (bitAnd x (2 ^ k)) (2 ^ k) (mask-test k x ∙ e) in
+    omega (arith, pow-pos k, and-le-l x (2 ^ k))
+
+-- the bits below the n-th are those of the rest
+pub bit-rest : (x m n : ℕ) → m < n → bit m (x % 2 ^ n) ≡ bit m x
+bit-rest x m n h =
+    let d : ℕ = n - suc m in
+    let s : (d + 1) + m ≡ n = omega arith in
+    ap (λ (k : ℕ). eqb (x % 2 ^ k / 2 ^ m % 2) 1) (sym s)
+    ∙ ap (λ (k : ℕ). eqb (k % 2) 1) (field x (d + 1) m)
+    ∙ ap (λ (k : ℕ). eqb k 1) (mod-mod-pow (x / 2 ^ m) d 1)
+
 -- ---- a power of two has one bit
 
 power-bit : (k i : ℕ) → bit i (2 ^ k) ≡ leb k i && (leb 0 (i - k) && ltb (i - k) 1)
@@ -113,6 +128,14 @@ no-bits (suc n) x h z =
     let q : x / 2 ≡ 0 = no-bits n (x / 2) (omega arith) (λ i m. sym (bit-half i x)
     ∙ z (suc i) (omega arith)) in
     omega arith
+
+-- a number with no bit from the n-th on is below 2^n
+pub below-power : (n x : ℕ) → ((i : ℕ) → n ≤ i → bit i x ≡ false) → x < 2 ^ n
+below-power n x z =
+    let q : x / 2 ^ n ≡ 0 =
+    no-bits x (x / 2 ^ n) (omega (arith, div-le-self x (2 ^ n), power-above x)) (λ i m.
+    rw (div-div-eq-div-mul x (2 ^ n) (2 ^ i), ← pow-add 2 n i) (z (n + i) (omega arith))) in
+    omega (arith, div-lt-iff-lt-mul {k = 2 ^ n} {x = x} {y = 1} (pow-pos n) .0 (omega arith))
 
 -- a number has no bit behind its last
 pub bit-inside : (n x i : ℕ) → x < 2 ^ n → bit i x ≡ true → i < n

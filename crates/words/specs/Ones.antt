@@ -1,15 +1,16 @@
 -- The ones of a word: those between two places (`span-bit`), and those at the low end (`first-ones`), which
 -- the operators that look back want.
 use mathlib.Core.Path.{_≡_, refl, sym, ap, ap₂, _∙_}
-use mathlib.Core.Bool.{Bool, true, false, not, _&&_}
+use mathlib.Core.Bool.{Bool, _&&_}
 use Prim.Native.Nat.{ℕ, zero, suc, _+_, _*_, _-_, _/_, _%_, _^_, _≤_, _<_, min}
-use native.Mathlib.Nat.{pow-succ', div-one, div-div-eq-div-mul, zero-div, min-le-left, min-zero, zero-min}
+use native.Mathlib.Nat.{pow-succ', div-one, div-div-eq-div-mul, zero-div, min-zero, zero-min}
 use native.Mathlib.Nat.{mul-assoc}
 use native.Mathlib.Omega.{arith}
 use lib.Dec.{eqb, leb, ltb}
 use lib.Bits.{bitAnd, and-step, and-self, and-le-l}
 use lib.Pow.{pow-pos, pow-add, shl-shr, shr-shr, high-ones}
 use Rattle.foundation.specs.Tests.{cases, agree, le-true, le-false, true-le, false-le, eq-true, ne-false}
+use Rattle.foundation.specs.Tests.{and-assoc}
 use Rattle.foundation.specs.BitMasks.{bit}
 
 -- every bit up to the i-th is set
@@ -20,10 +21,6 @@ upTo (suc i) x = upTo i x && bit (suc i) x
 -- one bit further is the bit of the half
 pub bit-half : (i x : ℕ) → bit (suc i) x ≡ bit i (x / 2)
 bit-half i x = rw (pow-succ' 2 i, ← div-div-eq-div-mul x 2 (2 ^ i))
-
-and-assoc : (a b c : Bool) → (a && b) && c ≡ a && (b && c)
-and-assoc true b c = refl
-and-assoc false b c = refl
 
 -- all up to the next: the lowest, and all of the half
 pub upTo-half : (i x : ℕ) → upTo (suc i) x ≡ bit 0 x && upTo i (x / 2)

@@ -5,6 +5,7 @@
 use mathlib.Core.Path.{_≡_, refl, sym, ap, _∙_, subst}
 use Prim.Native.Nat.{ℕ, zero, suc, _+_, _*_, _<_, _^_}
 use native.Mathlib.Omega.{arith}
+use native.Mathlib.Numerals.{add-one}
 use mathlib.Core.Bool.{Bool, true, false}
 use mathlib.Core.List.{List, [], _∷_}
 use lib.ListN.{length, set, getD, length-set}
@@ -101,9 +102,6 @@ holds false a = absurd a
 fails : (t : Bool) → (Holds t → ⊥) → t ≡ false
 fails true f = absurd (f tt)
 fails false _ = refl
-
-one-more : (i : ℕ) → i + 1 ≡ suc i
-one-more i = omega arith
 
 -- ---- the function
 abbrev byte : Ty
@@ -535,7 +533,7 @@ module _ {M : Type 1} (𝓤 : URA M) (H : Heap 𝓤) (A : Atoms 𝓤) (W : Given
         (tt, (tt, tt))
         (same-place r, subst (Room u8) (sym (same-length r)) room₂) $ fjoin ! $
         rewrite ! 0 (λ (l : List ℕ). ‵ (Own₂ l)) (stored r e) refl $
-        rewrite ! 8 (λ (j : ℕ). ‵ (fat fullShare word l₉ 0 (vint w64 j))) (one-more i) refl $
+        rewrite ! 8 (λ (j : ℕ). ‵ (fat fullShare word l₉ 0 (vint w64 j))) (add-one i) refl $
         move ! (0 ∷ 3 ∷ 6 ∷ 1 ∷ 5 ∷ 7 ∷ 2 ∷ 4 ∷ []) $ by ! next)))))))
       where
         d : Question

@@ -18,7 +18,7 @@ returns c =
     let w = length (now (start .args .column)) in
     let text = now (start .args .text) in
     copied .copy .ensures
-    ∙ ap (λ (s : List ℕ). splice (w - length text) (take (length text) text) s) (filled .fill .ensures)
+    ∙ ap (λ (s : List ℕ). splice (w - length text) (take (length text) text) s) (filled .fill-bytes .ensures)
     ∙ right w text (start .pre)
 
 pub put-right-spec : {M : Type 1} → statement M

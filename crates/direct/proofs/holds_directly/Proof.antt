@@ -6,7 +6,7 @@ use mathlib.Core.Bool.{Bool, true, false, not, _&&_, _||_}
 use mathlib.Core.Logic.{⊎-elim}
 use Prim.Native.Nat.{_+_, _≤_, _-_}
 use denote.Ref.{now}
-use Rattle.foundation.specs.Tests.{or-true, or-false}
+use Rattle.foundation.specs.Tests.{or-true, or-false, and-yes}
 use Rattle.direct.proofs.FoundLoop.{heldFrom, granted-turn, denied-turn, no-turn, all-held}
 use Rattle.direct.proofs.FoundLoop.{denied-held}
 use Rattle.direct.proofs.holds_directly.Statement.{statement}
@@ -35,10 +35,6 @@ returns c =
     (v .before .authorization-at .ensures) (v .is-live-for .ensures) (l .inv .2)
     ∙ (λ k. (c .before .if2 .taken k && c .if3 .taken k)
     || heldFrom (now (a .lines)) (a .total) (a .x) (a .t) true (l .i + 1))))
-
-and-right : (g : Bool) → g ≡ g && true
-and-right true = refl
-and-right false = refl
 
 loop-again : tie.Need-loop-again Inv-loop μ-loop
 loop-again c =
@@ -83,7 +79,7 @@ returns-2 : tie.Need-returns-2 Inv-loop μ-loop
 returns-2 c =
     let l = c .before .loop in
     let a = c .before .before .before .before .before .args in
-    and-right (l .granted)
+    sym (and-yes (l .granted))
     ∙ sym (all-held (now (a .lines)) (a .total) (a .x) (a .t) (l .i) (l .granted) false (search needs)
     (l .inv .1) (l .inv .2))
 

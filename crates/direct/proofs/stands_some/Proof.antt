@@ -12,7 +12,7 @@ use Rattle.model.specs.Encoding.{ruleOf, decode}
 use Rattle.model.specs.Rules.{standsFor}
 use Rattle.model.specs.SideFacts.{stands-same}
 use Rattle.encoding.specs.Format.{rulesIn}
-use Rattle.lookup.proofs.RecordLoops.{AnyFrom, any-starts, any-fails, any-passes, any-ends}
+use Rattle.foundation.specs.RecordLoops.{AnyFrom, any-starts, any-fails, any-passes, any-ends}
 use Rattle.direct.proofs.stands_some.Statement.{statement}
 use Rattle.direct.proofs.stands_some.Tie as tie
 
@@ -44,7 +44,7 @@ returns c =
     let l = c .before .before .before .before .loop in
     let d = decode (now (a .s)) in
     λ b e z. any-passes 28 ruleOf (λ q. standsFor d q (a .x)) (a .n) (now (a .body)) (l .i) _ _ (search needs)
-    (c .before .stands .ensures) (c .before .before .rule-at .ensures) (c .if1 .taken) (l .inv)
+    (c .before .stands-for .ensures) (c .before .before .rule-at .ensures) (c .if1 .taken) (l .inv)
     ∙ same-answer b d (a .x) (rulesIn (a .n) (now (a .body))) e z
 
 loop-again : tie.Need-loop-again Inv-loop μ-loop
@@ -54,7 +54,7 @@ loop-again c =
       search needs,
       any-fails 28 ruleOf (λ q. standsFor (decode (now (a .s))) q (a .x)) (a .n) (now (a .body)) (l .i) _ _
           (search needs)
-          (c .before .stands .ensures) (c .before .before .rule-at .ensures) (c .if1 .left) (l .inv),
+          (c .before .stands-for .ensures) (c .before .before .rule-at .ensures) (c .if1 .left) (l .inv),
     )
 
 returns-2 : tie.Need-returns-2 Inv-loop μ-loop

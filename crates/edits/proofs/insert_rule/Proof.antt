@@ -1,68 +1,15 @@
 -- `edits::insert_rule` meets its contract, by `insertion`.
 use borrow.Author.Needs.{needs}
-use native.Mathlib.Omega.{arith}
-use mathlib.Core.Path.{refl}
-use denote.Ref.{now}
-use Rattle.edits.proofs.EditedBytes.{written-length, edited}
-use Rattle.edits.proofs.BodyEdits.{rules, count-is, insertion}
+use Rattle.edits.proofs.BodyEdits.{rules, insertion}
+use Rattle.edits.proofs.BodyEditRules.{count-rises, put-old-room, put-new-room, put-counts, edit-rules}
 use Rattle.edits.proofs.insert_rule.Statement.{statement}
 use Rattle.edits.proofs.insert_rule.Tie as tie
-
-counts-of-requires : tie.Need-counts-of-requires
-counts-of-requires c κs = omega (
-  arith,
-  written-length (now (c .before .before .args .s))
-      (c .before .before .pre .0),
-)
-
-add-with-rule-count : tie.Need-add-with-rule-count
-add-with-rule-count c =
-    let n = c .before .before .before in
-    let d = n .before .before .before in
-    omega (
-      arith,
-      d .pre,
-      count-is rules (now (d .args .s)) (d .pre .0) (n .counts-of .result)
-          (n .counts-of .ensures),
-    )
-
-reshape-requires : tie.Need-reshape-requires
-reshape-requires c κs =
-    let p = c .before .before .before in
-    let n = p .before in
-    let d = n .before .before .before in
-    let e = insertion rules (now (d .args .s)) (d .pre .0) (n .counts-of .result) (n .counts-of .ensures)
-    (p .rules-at .result) (d .args .i) (n .counts-of .result .rules) (d .args .r) (c .with-rule-count .result)
-    (p .rules-at .ensures) refl (c .with-rule-count .ensures) (d .pre .1) (d .pre .2) in
-    (e .old-room, e .new-room, omega (arith, e .long), e .counts)
-
-put-rule-requires : tie.Need-put-rule-requires
-put-rule-requires c κs =
-    let r = c .before .before .before in
-    let w = r .before in
-    let p = w .before .before .before in
-    let n = p .before in
-    let d = n .before .before .before in
-    let e = insertion rules (now (d .args .s)) (d .pre .0) (n .counts-of .result) (n .counts-of .ensures)
-    (p .rules-at .result) (d .args .i) (n .counts-of .result .rules) (d .args .r) (w .with-rule-count .result)
-    (p .rules-at .ensures) refl (w .with-rule-count .ensures) (d .pre .1) (d .pre .2) in
-    omega (arith, e .new-room, r .reshape .kept .0)
-
-returns : tie.Need-returns
-returns c =
-    let u = c .before .before in
-    let r = u .before .before .before .before in
-    let w = r .before in
-    let p = w .before .before .before in
-    let n = p .before in
-    let d = n .before .before .before in
-    let e = insertion rules (now (d .args .s)) (d .pre .0) (n .counts-of .result) (n .counts-of .ensures)
-    (p .rules-at .result) (d .args .i) (n .counts-of .result .rules) (d .args .r) (w .with-rule-count .result)
-    (p .rules-at .ensures) refl (w .with-rule-count .ensures) (d .pre .1) (d .pre .2) in
-    edited e (r .reshape .ensures) (u .put-rule .ensures)
 
 pub insert-rule-spec : {M : Type 1} → statement M
 insert-rule-spec =
     tie.close
-    (tie.spec counts-of-requires (λ c κs. search needs) (λ c. search needs) (λ c. search needs)
-    add-with-rule-count (λ c κs. search needs) reshape-requires put-rule-requires (λ c. search needs) returns)
+    (tie.spec (λ c κs. search edit-rules) (λ c κs. search needs) (λ c. search needs) (λ c. search needs)
+    (λ c. search (count-rises rules, edit-rules)) (λ c κs. search needs)
+    (λ c κs. search (put-old-room rules, put-new-room rules, put-counts rules, edit-rules))
+    (λ c κs. search (put-new-room rules, edit-rules)) (λ c. search needs)
+    (λ c. search (insertion rules, edit-rules)))

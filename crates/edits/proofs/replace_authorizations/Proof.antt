@@ -1,81 +1,57 @@
 -- `edits::replace_authorizations` meets its contract, by `replacement`.
 use borrow.Author.Needs.{needs}
 use native.Mathlib.Omega.{arith}
-use mathlib.Core.Path.{sym, ap, _∙_}
+use mathlib.Core.Path.{_≡_, sym, ap, _∙_}
+use mathlib.Core.Bool.{true}
 use mathlib.Core.List.{List}
-use Prim.Native.Nat.{ℕ}
-use denote.Ref.{now}
+use Prim.Native.Nat.{ℕ, _+_, _*_, _≤_}
+use lib.ListN.{length, take}
 use Rattle.foundation.specs.Bytes.{records}
-use Rattle.model.specs.Encoding.{authorizationOf}
-use Rattle.fields.specs.Field.{splice}
 use Rattle.foundation.specs.ByteRecords.{length-records}
-use Rattle.edits.proofs.EditedBytes.{written-length, edited}
+use Rattle.foundation.specs.Lists.{each}
+use Rattle.model.specs.Ranges.{mostAuthorizations}
+use Rattle.model.specs.Effects.{withAuthorizations}
+use Rattle.model.specs.Encoding.{encode, decode, authorizationOf, authorizationBytes}
+use Rattle.fields.specs.Field.{splice}
+use Rattle.encoding.specs.declared.Counts.{Counts}
+use Rattle.encoding.specs.Format.{countsOf, countsFit, contentsOf, authorizationsAt}
+use Rattle.edits.specs.Edits.{Written, resized, withAuthorizationCount}
+use Rattle.edits.proofs.EditedBytes.{Edit, edited}
 use Rattle.edits.proofs.BodyEdits.{authorizations, replacement}
+use Rattle.edits.proofs.BodyEditRules.{edit-rules}
 use Rattle.edits.proofs.replace_authorizations.Statement.{statement}
 use Rattle.edits.proofs.replace_authorizations.Tie as tie
 
-counts-of-requires : tie.Need-counts-of-requires
-counts-of-requires c κs =
-    let d = c .before .before .before in
-    omega (arith, written-length (now (d .args .s)) (d .pre .0))
+-- m authorizations that stand in t are put in for those of the base
+module _ (s : List ℕ) (W : Written s) (c : Counts) (e : c ≡ countsOf s) (at m : ℕ) (c′ : Counts)
+    (p : at ≡ authorizationsAt c) (q : c′ ≡ withAuthorizationCount m c) (h : m ≤ mostAuthorizations) where
+  for-all : (t : List ℕ) → Edit s (withAuthorizations (records 24 authorizationOf m t) (decode s)) at
+      (24 * c .authorizations) (24 * m) c′ (each (records 24 authorizationOf m t) authorizationBytes)
+  for-all t = replacement authorizations s W c e at m (records 24 authorizationOf m t) c′ p q
+      (sym (length-records 24 authorizationOf m t)) h
 
-reshape-requires : tie.Need-reshape-requires
-reshape-requires c κs =
-    let p = c .before .before .before in
-    let n = p .before in
-    let d = n .before .before .before .before in
-    let ys = records 24 authorizationOf (d .args .m) (now (d .args .built)) in
-    let e = replacement authorizations (now (d .args .s)) (d .pre .0) (n .counts-of .result)
-    (n .counts-of .ensures)
-    (p .authorizations-at .result) (d .args .m) ys (c .with-authorization-count .result)
-    (p .authorizations-at .ensures)
-    (c .with-authorization-count .ensures)
-    (sym (length-records 24 authorizationOf (d .args .m) (now (d .args .built))))
-    (d .pre .1) in
-    (e .old-room, e .new-room, omega (arith, e .long), e .counts)
+  all-place : at + 24 * c .authorizations ≤ length s
+  all-place = for-all s .old-room
 
-copy-requires : tie.Need-copy-requires
-copy-requires c κs =
-    let r = c .before .before .before in
-    let w = r .before in
-    let p = w .before .before .before in
-    let n = p .before in
-    let d = n .before .before .before .before in
-    let ys = records 24 authorizationOf (d .args .m) (now (d .args .built)) in
-    let e = replacement authorizations (now (d .args .s)) (d .pre .0) (n .counts-of .result)
-    (n .counts-of .ensures)
-    (p .authorizations-at .result) (d .args .m) ys (w .with-authorization-count .result)
-    (p .authorizations-at .ensures)
-    (w .with-authorization-count .ensures)
-    (sym (length-records 24 authorizationOf (d .args .m) (now (d .args .built))))
-    (d .pre .1) in
-    (omega (arith, e .new-room, r .reshape .kept .0), omega (arith, d .pre .2))
+  all-room : (z : List ℕ) → length z ≡ length s → at + 24 * m ≤ length z
+  all-room z g = omega (arith, for-all s .new-room)
 
-returns : tie.Need-returns
-returns c =
-    let u = c .before .before in
-    let r = u .before .before .before .before in
-    let w = r .before in
-    let p = w .before .before .before in
-    let n = p .before in
-    let d = n .before .before .before .before in
-    let ys = records 24 authorizationOf (d .args .m) (now (d .args .built)) in
-    let e = replacement authorizations (now (d .args .s)) (d .pre .0) (n .counts-of .result)
-    (n .counts-of .ensures)
-    (p .authorizations-at .result) (d .args .m) ys (w .with-authorization-count .result)
-    (p .authorizations-at .ensures)
-    (w .with-authorization-count .ensures)
-    (sym (length-records 24 authorizationOf (d .args .m) (now (d .args .built))))
-    (d .pre .1) in
-    edited e (r .reshape .ensures)
-    (u .copy .ensures ∙ ap (λ (x : List ℕ). splice (p .authorizations-at .result) x (r .reshape .last .0))
-    (d .pre .3))
+  all-counts : countsFit c′ ≡ true
+  all-counts = for-all s .counts
+
+  -- what is copied is how those are written
+  all-written : (t y z : List ℕ) →
+      y ≡ splice 12 (contentsOf c′) (resized at (24 * c .authorizations) (24 * m) s) →
+      z ≡ splice at (take (24 * m) t) y →
+      take (24 * m) t ≡ each (records 24 authorizationOf m t) authorizationBytes →
+      z ≡ encode (withAuthorizations (records 24 authorizationOf m t) (decode s))
+  all-written t y z f g w = edited (for-all t) f (g ∙ ap (λ (x : List ℕ). splice at x y) w)
 
 pub replace-authorizations-spec : {M : Type 1} → statement M
 replace-authorizations-spec =
     tie.close
-    (tie.spec counts-of-requires (λ c κs. search needs) (λ c. search needs) (λ c. search needs)
-    (λ c. search needs)
-    (λ c. search needs) (λ c κs. search needs) reshape-requires (λ c. search needs) copy-requires
-    (λ c. search needs)
-    returns)
+    (tie.spec (λ c κs. search edit-rules) (λ c κs. search needs) (λ c. search needs) (λ c. search needs)
+    (λ c. search needs) (λ c. search needs) (λ c κs. search needs)
+    (λ c κs. search (all-place, all-room, all-counts, edit-rules)) (λ c. search needs)
+    (λ c κs. (search (all-room, edit-rules), search needs)) (λ c. search needs)
+    (λ c. search (all-written, needs)))

@@ -9,7 +9,7 @@ use Rattle.model.specs.Means.{plainly}
 use Rattle.model.specs.Step.{effect}
 use Rattle.edits.specs.declared.PrivilegeBody.the-variants.{Objects}
 use Rattle.edits.specs.Edits.{withStamp, withPrivileges, privilegesOf}
-use Rattle.effects.proofs.AllowedEffects.{allowed-written, effect-new}
+use Rattle.effects.proofs.AllowedEffects.{allowed-written, effect-object}
 use Rattle.effects.proofs.Changes.{owner-fits, put-room, put-done}
 use Rattle.effects.proofs.new_object.Statement.{statement}
 use Rattle.effects.proofs.new_object.Tie as tie
@@ -34,7 +34,7 @@ effects : (c : tie.After-owner-of) →
 effects c =
     let d = c .before .before .before .before .before .before .before in
     let b = decode (now (d .args .s)) in
-    effect-new b (d .args .q) (d .pre .kind)
+    effect-object b (d .args .q) (d .pre .kind)
     ∙ (λ j. withPrivileges Objects (insert (sym (c .owner-of .ensures) j) (privilegesOf Objects b))
     (withStamp (d .args .q .now) (b .last) b))
 

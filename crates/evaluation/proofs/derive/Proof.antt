@@ -11,8 +11,8 @@ use Rattle.questions.specs.OperatorSteps.{lasting}
 use Rattle.words.specs.Ones.{allFrom}
 use Rattle.derivation.specs.Words.{wantedWord}
 use Rattle.derivation.specs.Derive.{FirstBit, Derived}
-use Rattle.evaluation.proofs.RuleWords.{wanted-le, first-of, neither, plain-derived, broken-derived}
-use Rattle.evaluation.proofs.RuleWords.{idle-derived, lasting-derived}
+use Rattle.evaluation.proofs.RuleWords.{wanted-le, first-active, neither, plain-derived}
+use Rattle.evaluation.proofs.RuleWords.{broken-derived, idle-derived, lasting-derived}
 use Rattle.evaluation.proofs.derive.Statement.{statement}
 use Rattle.evaluation.proofs.derive.Tie as tie
 
@@ -46,7 +46,8 @@ ones-from-requires c κs =
             .active),
         c .before .before .before .before .before .pre,
       ),
-      first-of (a .active) (c .next-bit .result) (n .1) (c .before .before .before .before .before .pre) (x
+      first-active (a .active) (c .next-bit .result) (n .1) (c .before .before .before .before .before .pre)
+          (x
           .1) (λ i h. x .2 i (omega arith) h) (x .3) .0,
     )
 
@@ -58,7 +59,7 @@ returns-3 c =
     .left) in
     let n = neither (a .broken) (a .active) (c .before .before .if2 .left) in
     let x = c .before .next-bit .ensures in
-    let f = first-of (a .active) (c .before .next-bit .result) (n .1) (c .before .before .before .before
+    let f = first-active (a .active) (c .before .next-bit .result) (n .1) (c .before .before .before .before
     .before .before .pre) (x .1)
     (λ i h. x .2 i (omega arith) h) (x .3) in
     let w = c .before .before .before .before .before .wanted .ensures in

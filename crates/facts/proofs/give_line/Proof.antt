@@ -61,7 +61,7 @@ give-requires c κs =
       omega (arith, c .sign-of .ensures, bit-le (a .a .head .negative)),
       λ d m. and-true (bit d (f .choosy)) (fitsRule (now (a .body)) (a .a .head) d)
           (sym (k .takers-of .ensures d) ∙ m) .0,
-      span-fits (a .w .count) (f .width) (s .span .result) (now (a .marks)) (a .a .interval) (omega arith)
+      span-fits (a .w .count) (f .width) (s .span .result) (now (a .marks)) (a .a .interval)
           (p .0 .fits) (s .span .ensures),
     )
 

@@ -5,7 +5,7 @@ use mathlib.Core.Path.{_≡_, refl, _∙_}
 use Prim.Native.Nat.{_-_, _≤_}
 use denote.Ref.{now}
 use lib.ListN.{length, take, drop}
-use Rattle.sections.specs.SectionFacts.{lent-rest}
+use Rattle.foundation.specs.Lists.{lent-rest}
 use Rattle.relevance.specs.Chosen.{picked}
 use Rattle.facts.specs.Facts.{settingIn, LineSteps}
 use Rattle.facts.proofs.LineGiving.{picked-start, picked-turn}

@@ -2,71 +2,24 @@
 use borrow.Author.Needs.{needs}
 use native.Mathlib.Omega.{arith}
 use mathlib.Core.Path.{ap}
-use Prim.Native.Nat.{_+_, _*_, _-_}
+use Prim.Native.Nat.{_+_, _*_, _-_, _<_}
 use denote.Ref.{now}
-use lib.ListN.{getD}
+use lib.ListN.{length, getD}
 use Rattle.relevance.specs.declared.choice.Cell.{Cell}
 use Rattle.facts.proofs.place_for.Statement.{statement}
 use Rattle.facts.proofs.place_for.Tie as tie
 
-mul-j : tie.Need-mul-j
-mul-j c =
-    let e = c .before .before in
-    let s = e .before .before .before in
-    let g = s .args .g in
+-- the pair's number is one of those that were given
+numbered : (c : tie.After-cell-of) →
+    (let r = c .cell-of .result in
+    let a = c .before .before .before .args in
+    r .object * a .g .subjects + r .subject < length (now (a .number)))
+numbered c =
+    let s = c .before .before .before in
     omega (
       arith,
-      ap (λ (r : Cell). r .object * g .subjects + r .subject) (e .cell-of .ensures .0),
+      ap (λ (r : Cell). r .object * s .args .g .subjects + r .subject) (c .cell-of .ensures .0),
       s .pre .1,
-      s .pre .2,
-    )
-
-add-j : tie.Need-add-j
-add-j c =
-    let e = c .before .before .before in
-    let s = e .before .before .before in
-    let g = s .args .g in
-    omega (
-      arith,
-      ap (λ (r : Cell). r .object * g .subjects + r .subject) (e .cell-of .ensures .0),
-      s .pre .1,
-      s .pre .2,
-    )
-
-cast-j : tie.Need-cast-j
-cast-j c =
-    let e = c .before .before .before in
-    let s = e .before .before .before in
-    let g = s .args .g in
-    omega (
-      arith,
-      ap (λ (r : Cell). r .object * g .subjects + r .subject) (e .cell-of .ensures .0),
-      s .pre .1,
-      s .pre .2,
-    )
-
-mul-t10 : tie.Need-mul-t10
-mul-t10 c =
-    let e = c .before .before .before in
-    let s = e .before .before .before in
-    let g = s .args .g in
-    omega (
-      arith,
-      ap (λ (r : Cell). r .object * g .subjects + r .subject) (e .cell-of .ensures .0),
-      s .pre .1,
-      s .pre .2,
-    )
-
-shared-slice-read-t12 : tie.Need-shared-slice-read-t12
-shared-slice-read-t12 c =
-    let e = c .before .before .before .before in
-    let s = e .before .before .before in
-    let g = s .args .g in
-    omega (
-      arith,
-      ap (λ (r : Cell). r .object * g .subjects + r .subject) (e .cell-of .ensures .0),
-      s .pre .1,
-      s .pre .2,
     )
 
 cast-t8 : tie.Need-cast-t8
@@ -87,5 +40,9 @@ returns c =
 pub place-for-spec : {M : Type 1} → statement M
 place-for-spec =
     tie.close
-    (tie.spec (λ c κs. search needs) mul-j add-j cast-j mul-t10 shared-slice-read-t12 cast-t8
+    (tie.spec (λ c κs. search needs) (λ c. omega (arith, numbered (c .before .before)))
+    (λ c. omega (arith, numbered (c .before .before .before)))
+    (λ c. omega (arith, numbered (c .before .before .before)))
+    (λ c. omega (arith, numbered (c .before .before .before)))
+    (λ c. omega (arith, numbered (c .before .before .before .before))) cast-t8
     (λ c. search needs) (λ c. search needs) returns)

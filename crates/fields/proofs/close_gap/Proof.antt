@@ -3,7 +3,7 @@ use mathlib.Core.List.{List}
 use Prim.Native.Nat.{ℕ}
 use denote.Ref.{now}
 use Rattle.fields.specs.Field.{splice}
-use Rattle.fields.proofs.ByteLaws.{part-back, part-length, closed-part}
+use Rattle.fields.proofs.ByteLaws.{part-back, part-length, gapClosed-part}
 use borrow.Author.Needs.{needs}
 use Rattle.fields.proofs.close_gap.Statement.{statement}
 use Rattle.fields.proofs.close_gap.Tie as tie
@@ -16,7 +16,7 @@ returns c =
     part-back (now (a .s)) (a .from) (a .to) (t .last .0) (search needs) (search needs) (t .kept .0
     ∙ part-length (now (a .s)) (a .from) (a .to) (a .w) (p .0) (p .1))
     ∙ ap (λ (l : List ℕ). splice (a .from) l (now (a .s))) (t .ensures)
-    ∙ closed-part (now (a .s)) (a .from) (a .to) (a .w) (p .0) (p .1)
+    ∙ gapClosed-part (now (a .s)) (a .from) (a .to) (a .w) (p .0) (p .1)
 
 pub close-gap-spec : {M : Type 1} → statement M
 close-gap-spec =

@@ -2,7 +2,7 @@ use borrow.Author.Needs.{needs}
 use native.Mathlib.Omega.{arith}
 use Prim.Native.Nat.{_+_}
 use denote.Ref.{now}
-use Rattle.fields.proofs.ByteLaws.{le-suc}
+use Rattle.foundation.specs.BytesFacts.{le-suc}
 use Rattle.fields.proofs.le16.Statement.{statement}
 use Rattle.fields.proofs.le16.Tie as tie
 

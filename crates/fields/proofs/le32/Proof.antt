@@ -1,7 +1,7 @@
 use borrow.Author.Needs.{needs}
 use native.Mathlib.Omega.{arith}
 use denote.Ref.{now}
-use Rattle.fields.proofs.ByteLaws.{le-add-at}
+use Rattle.foundation.specs.BytesFacts.{le-add-at}
 use Rattle.fields.proofs.le32.Statement.{statement}
 use Rattle.fields.proofs.le32.Tie as tie
 

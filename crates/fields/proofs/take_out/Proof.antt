@@ -27,8 +27,9 @@ returns : tie.Need-returns
 returns c =
     let a = c .before .before .before .before .before .before .before .before .before .args in
     let m = c .before .before .before .before .before .before .move-down in
-    both (now (a .s)) (m .last .0) (c .before .before .clear .last .0) (a .w) (search needs) (m .kept .0)
-    (m .ensures) (c .before .before .clear .ensures)
+    both (now (a .s)) (m .last .0) (c .before .before .clear-bytes .last .0) (a .w) (search needs)
+    (m .kept .0)
+    (m .ensures) (c .before .before .clear-bytes .ensures)
 
 pub take-out-spec : {M : Type 1} → statement M
 take-out-spec =

@@ -2,14 +2,14 @@
 use borrow.Author.Needs.{needs}
 use native.Mathlib.Omega.{arith}
 use mathlib.Core.Path.{_≡_, refl, sym, ap, _∙_}
-use mathlib.Core.Bool.{Bool, true, false, _&&_}
+use mathlib.Core.Bool.{Bool, _&&_}
 use Prim.Native.Nat.{ℕ, _+_, _-_, _≤_}
 use lib.Dec.{eqb}
 use lib.ListN.{length, drop, getD}
 use lib.Seq.{drop-length}
 use denote.Ref.{now}
 use Rattle.foundation.specs.Lists.{allb}
-use Rattle.foundation.specs.Tests.{and-assoc}
+use Rattle.foundation.specs.Tests.{and-assoc, and-yes}
 use Rattle.fields.proofs.ByteLaws.{all-bytes-step}
 use Rattle.fields.proofs.zeros.Statement.{statement}
 use Rattle.fields.proofs.zeros.Tie as tie
@@ -22,11 +22,6 @@ Inv-loop s all₀ i₀ all i = (i ≤ length s) × (allb isZero s ≡ all && all
 
 abbrev μ-loop : tie.MeasureT-loop
 μ-loop s all₀ i₀ all i = length s - i
-
--- behind the last byte the answer is that so far
-none-left : (a : Bool) → a && true ≡ a
-none-left true = refl
-none-left false = refl
 
 loop-again : tie.Need-loop-again Inv-loop μ-loop
 loop-again c =
@@ -45,7 +40,7 @@ returns c =
     let s = now (c .before .before .args .s) in
     let l = c .before .loop in
     let e : l .i ≡ length s = omega arith in
-    sym (l .inv .1 ∙ rw (e, drop-length s) (none-left (l .all)))
+    sym (l .inv .1 ∙ rw (e, drop-length s) (and-yes (l .all)))
 
 pub zeros-spec : {M : Type 1} → statement M
 zeros-spec =

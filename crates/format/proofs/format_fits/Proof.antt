@@ -11,8 +11,8 @@ use lib.ListN.{length}
 use denote.Ref.{now}
 use Rattle.encoding.specs.Format.{countsFit}
 use Rattle.format.proofs.FormatTests.{other-length, counts-beyond, format-asked}
-use Rattle.lookup.proofs.SoundBodies.{rest-long}
-use Rattle.encoding.proofs.Contents.{CountsWithin, within}
+use Rattle.encoding.proofs.SoundBodies.{rest-long}
+use Rattle.encoding.proofs.Contents.{CountsWithin, fit-within}
 use Rattle.format.proofs.format_fits.Statement.{statement}
 use Rattle.format.proofs.format_fits.Tie as tie
 
@@ -21,7 +21,7 @@ fit : (c : tie.Else2) → countsFit (c .before .before .counts-of .result) ≡ t
 fit c = sym (c .before .counts-fit .ensures) ∙ not-false _ (c .if2 .left)
 
 fitting : (c : tie.Else2) → CountsWithin (c .before .before .counts-of .result)
-fitting c = within _ (fit c)
+fitting c = fit-within _ (fit c)
 
 -- where the bodies stand
 placed : (c : tie.After-end-at) →

@@ -10,10 +10,9 @@ use denote.Ref.{now}
 use lib.Bits.{bitAnd}
 use lib.Dec.{eqb, ltb}
 use lib.ListN.{getD}
-use Rattle.foundation.specs.BitMasks.{bit}
+use Rattle.foundation.specs.BitMasks.{bit, bit-zero}
 use Rattle.foundation.specs.Tests.{true-eq}
 use Rattle.words.specs.Bits.{bit-and}
-use Rattle.masks.proofs.SingleBits.{no-bit}
 use Rattle.masks.proofs.BitWalk.{pass-start, pass-turn, pass-end, bring-one}
 use Rattle.masks.proofs.transpose.Statement.{statement}
 use Rattle.masks.proofs.transpose.Tie as tie
@@ -37,7 +36,7 @@ loop-holds c =
     let e = c .next-bit .ensures in (
       e .1,
       e .3,
-      λ r p h. ap (bit p) (b .before .pre .0 r h) ∙ no-bit p
+      λ r p h. ap (bit p) (b .before .pre .0 r h) ∙ bit-zero p
           ∙ sym (ap (λ (x : Bool). x && looks (now (a .feed)) (a .rules) r p)
           (pass-start (λ k. bit k (a .rules)) (c .next-bit .result) p (e .2))),
     )

@@ -7,7 +7,7 @@ use Prim.Native.Nat.{ℕ, _/_, _%_}
 use lib.Dec.{eqb}
 use lib.Pow.{shr-shr}
 use Rattle.words.specs.Bits.{bit-or}
-use Rattle.places.specs.ReachedNumbers.{bit-rest}
+use Rattle.words.specs.Bits.{bit-rest}
 use Rattle.places.proofs.either_sign.Statement.{statement}
 use Rattle.places.proofs.either_sign.Tie as tie
 

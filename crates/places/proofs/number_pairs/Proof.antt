@@ -10,7 +10,8 @@ use lib.ListN.{length, getD, set, length-set}
 use lib.Seq.{getD-set-same, getD-set-other}
 use Rattle.foundation.specs.Tests.{cases, true-eq, false-eq}
 use Rattle.foundation.specs.BitMasks.{asBit}
-use Rattle.places.specs.ReachedNumbers.{used, before, before-none, before-step, before-le}
+use Rattle.places.specs.ReachedNumbers.{used, usedBefore, usedBefore-none, usedBefore-step}
+use Rattle.places.specs.ReachedNumbers.{usedBefore-le}
 use Rattle.places.proofs.number_pairs.Statement.{statement}
 use Rattle.places.proofs.number_pairs.Tie as tie
 use Rattle.places.proofs.number_pairs.Reads as reads
@@ -19,16 +20,21 @@ use Rattle.places.proofs.counted.Reads as counted-reads
 
 abbrev Inv-loop : tie.InvT-loop
 Inv-loop need number₀ n₀ j₀ number n j =
-    (j ≤ length need) × (n ≡ before need j) × (length number ≡ length need)
-    × ((i : ℕ) → i < j → getD number i 0 ≡ before need i)
+    (j ≤ length need) × (n ≡ usedBefore need j) × (length number ≡ length need)
+    × ((i : ℕ) → i < j → getD number i 0 ≡ usedBefore need i)
 
 abbrev μ-loop : tie.MeasureT-loop
 μ-loop need number₀ n₀ j₀ number n j = length need - j
 
 loop-holds : tie.Need-loop-holds Inv-loop μ-loop
 loop-holds c =
-    let a = c .before .before .args in
-    (omega arith, sym (before-none (now (a .need))), c .before .before .pre .1, λ i h. absurd (omega arith))
+    let a = c .before .before .args in (
+      omega arith,
+      sym (usedBefore-none (now (a .need))),
+      c .before .before .pre .1,
+      λ i h. absurd
+          (omega arith),
+    )
 
 mul-number : tie.Need-mul-number Inv-loop μ-loop
 mul-number c = search needs
@@ -49,7 +55,7 @@ counted-requires c κs =
     omega (
       arith,
       l .inv .1,
-      before-le (now (a .need)) (l .j),
+      usedBefore-le (now (a .need)) (l .j),
       c .before .before .before .before .before
           .pre .0,
     )
@@ -69,7 +75,7 @@ loop-again c =
     let h : l .j < length (l .number) = omega (arith, i .2) in (
       omega arith,
       c .counted .ensures ∙ ap (λ (n : ℕ). n + asBit (used (getD need (l .j) 0))) (i .1)
-          ∙ sym (before-step need (l .j) (omega arith)) ∙ ap (before need) (sym (add-one (l .j))),
+          ∙ sym (usedBefore-step need (l .j) (omega arith)) ∙ ap (usedBefore need) (sym (add-one (l .j))),
       length-set (l .number) (l .j) (l .n) ∙ i .2,
       λ k g. cases (eqb k (l .j))
           (λ e. let q = true-eq k (l .j) e in rw q (getD-set-same (l .number) (l .j) (l .n) 0 h ∙ i .1))
@@ -83,7 +89,7 @@ cast-result c =
     omega (
       arith,
       l .inv .1,
-      before-le (now (c .before .before .before .before .args .need)) (l .j),
+      usedBefore-le (now (c .before .before .before .before .args .need)) (l .j),
       c
           .before .before .before .before .pre .0,
     )
@@ -96,7 +102,7 @@ returns c =
     let l = c .before .loop in
     let need = now (c .before .before .before .before .args .need) in
     let e : l .j ≡ length need = omega arith in
-    (l .inv .1 ∙ ap (before need) e, λ j h. l .inv .3 j (omega arith))
+    (l .inv .1 ∙ ap (usedBefore need) e, λ j h. l .inv .3 j (omega arith))
 
 pub number-pairs-spec : {M : Type 1} → statement M
 number-pairs-spec =

@@ -9,7 +9,7 @@ use lib.ListN.{length}
 use Rattle.foundation.specs.BitMasks.{bit}
 use Rattle.reach.specs.Net.{has, aimPair}
 use Rattle.reach.specs.Reach.{Grown, KeepsWithin}
-use Rattle.reach.proofs.Growth.{grown-none, grown-then, AimsNeeded, done-start, done-turn}
+use Rattle.reach.proofs.Growth.{need-kept, grown-then, AimsNeeded, done-start, done-turn}
 use Rattle.reach.proofs.follow.Statement.{statement}
 use Rattle.reach.proofs.follow.Tie as tie
 
@@ -30,7 +30,7 @@ loop-holds c =
     let a = c .before .before .before .before .args in
     let e = c .next-bit .ensures in (
       e .1,
-      grown-none (now (a .need)) (now (a .todo)),
+      need-kept (now (a .need)) (now (a .todo)),
       done-start (now (a .right)) (a .rules) (a .at .subjects) (a .at .object) (a .at .subject) (a .at .mode)
           (c .next-bit .result) (now (a .need)) (λ i l. e .2 i (omega arith) l),
       e .3,

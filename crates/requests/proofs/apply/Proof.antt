@@ -12,7 +12,7 @@ use Rattle.model.specs.declared.Request.{Request}
 use Rattle.model.specs.Requests.{NEW, GRANT, DENY, ADDRULE, DROPRULE, GRANTADM, GRANTREF, REVOKEREF, is}
 use Rattle.effects.specs.EffectRecords.{Allowed}
 use Rattle.requests.specs.KeepingKinds.{keepingKinds}
-use Rattle.requests.proofs.KindNumbers.{among, apart, is-one}
+use Rattle.requests.proofs.KindNumbers.{kind-among, kind-apart, is-one}
 use Rattle.requests.proofs.apply.Statement.{statement}
 use Rattle.requests.proofs.apply.Tie as tie
 
@@ -28,8 +28,8 @@ module _ {s : List ℕ} {q : Request} (a : Allowed keepingKinds s q) where
       let no : (k : ℕ) → q .kind ≢ k → eqb (q .kind) k ≡ false = ne-false (q .kind) in
       rw (
         no NEW n₁,
-        apart (q .kind) 1 4 GRANT far (omega arith) (omega arith),
-        apart (q .kind) 1 4 DENY far (omega arith) (omega arith),
+        kind-apart (q .kind) 1 4 GRANT far (omega arith) (omega arith),
+        kind-apart (q .kind) 1 4 DENY far (omega arith) (omega arith),
         no ADDRULE n₇,
         no DROPRULE n₈,
         no GRANTADM n₉,
@@ -72,7 +72,8 @@ grant-requires c κs =
     let d = m .before .before in
     let n : d .args .q .kind ≢ 1 = m .match .rest .0 .0 .0 .1 in
     allowed (d .pre) (GRANT ∷ DENY ∷ [])
-    (among (d .args .q .kind) 2 2 (omega (arith, n, e .if1 .left)) (omega (arith, c .before .if2 .taken)))
+    (kind-among (d .args .q .kind) 2 2 (omega (arith, n, e .if1 .left))
+    (omega (arith, c .before .if2 .taken)))
 
 revoke-referrer-requires : tie.Need-revoke-referrer-requires
 revoke-referrer-requires c κs =

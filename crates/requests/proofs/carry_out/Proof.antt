@@ -8,16 +8,16 @@ use mathlib.Core.Bool.{false}
 use Rattle.foundation.specs.Tests.{ne-false}
 use Rattle.model.specs.declared.Request.{Request}
 use Rattle.model.specs.Requests.{REVOKE, REVOKEP, REVOKEN, REVOKEADM, withdraws}
-use Rattle.requests.proofs.KindNumbers.{among, apart, is-one}
+use Rattle.requests.proofs.KindNumbers.{kind-among, kind-apart, is-one}
 use Rattle.requests.proofs.carry_out.Statement.{statement}
 use Rattle.requests.proofs.carry_out.Tie as tie
 
 -- none of the kinds that withdraw
 keeps : (q : Request) → (q .kind < 4) ⊎ (7 ≤ q .kind) → q .kind ≢ REVOKEADM → withdraws q ≡ false
 keeps q far n = rw (
-  apart (q .kind) 4 7 REVOKE far (omega arith) (omega arith),
-  apart (q .kind) 4 7 REVOKEP far (omega arith) (omega arith),
-  apart (q .kind) 4 7 REVOKEN far (omega arith) (omega arith),
+  kind-apart (q .kind) 4 7 REVOKE far (omega arith) (omega arith),
+  kind-apart (q .kind) 4 7 REVOKEP far (omega arith) (omega arith),
+  kind-apart (q .kind) 4 7 REVOKEN far (omega arith) (omega arith),
   ne-false (q .kind) REVOKEADM n,
 )
 
@@ -31,7 +31,7 @@ revoke-requires : tie.Need-revoke-requires
 revoke-requires c κs =
     let e = c .before .before in
     let d = e .before .before .before in
-    (d .pre, among (d .args .q .kind) 4 3 (e .if1 .left) (omega (arith, c .before .if2 .taken)))
+    (d .pre, kind-among (d .args .q .kind) 4 3 (e .if1 .left) (omega (arith, c .before .if2 .taken)))
 
 add-or-drop-requires : tie.Need-add-or-drop-requires
 add-or-drop-requires c κs =

@@ -3,7 +3,7 @@ use borrow.Author.Needs.{needs}
 use mathlib.Core.Path.{sym, _∙_}
 use denote.Ref.{now}
 use Rattle.foundation.specs.Tests.{not-true, not-false}
-use Rattle.revocation.proofs.CarriedFacts.{unsound-answered}
+use Rattle.laws.specs.RequestFacts.{request-unsound}
 use Rattle.requests.proofs.request.Statement.{statement}
 use Rattle.requests.proofs.request.Tie as tie
 
@@ -11,8 +11,8 @@ returns : tie.Need-returns
 returns c =
     let i = c .before in
     let d = i .before .before .before in
-    unsound-answered (now (d .args .s)) (d .args .q)
-    (sym (i .is-sound .ensures) ∙ not-true (i .is-sound .result) (c .if1 .taken))
+    sym (request-unsound (now (d .args .s)) (d .args .q)
+    (sym (i .is-sound .ensures) ∙ not-true (i .is-sound .result) (c .if1 .taken)))
 
 step-requires : tie.Need-step-requires
 step-requires c κs =

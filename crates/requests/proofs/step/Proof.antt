@@ -5,7 +5,8 @@ use denote.Ref.{now}
 use Rattle.model.specs.Encoding.{decode}
 use Rattle.refusals.specs.Early.{earlyIs}
 use Rattle.revocation.specs.CarriedOut.{PassesEarly}
-use Rattle.revocation.proofs.CarriedFacts.{number-answered, uncovered-answered, passed-answered}
+use Rattle.requests.proofs.EarlyReplies.{number-answered, uncovered-answered}
+use Rattle.revocation.proofs.CarriedFacts.{passed-answered}
 use Rattle.requests.proofs.step.Statement.{statement}
 use Rattle.requests.proofs.step.Tie as tie
 

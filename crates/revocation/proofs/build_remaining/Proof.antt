@@ -9,7 +9,7 @@ use Rattle.model.specs.declared.Authorization.{Authorization}
 use Rattle.encoding.specs.Format.{administratorsAt, authorizationsAt}
 use Rattle.edits.proofs.Written.{written-sound}
 use Rattle.pieces.specs.Building.{Built}
-use Rattle.lookup.proofs.SoundBodies.{Fitting, there}
+use Rattle.encoding.proofs.SoundBodies.{Fitting, there}
 use Rattle.revocation.proofs.CarriedFacts.{passed-row}
 use Rattle.revocation.proofs.Revoking.{passed-sound, written-fitting, lent-sorted, remains}
 use Rattle.revocation.proofs.build_remaining.Statement.{statement}

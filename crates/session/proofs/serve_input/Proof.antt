@@ -17,7 +17,8 @@ use Rattle.session.specs.Input.{FrontAnswered, answered-none, answered-t
 use Rattle.session.proofs.serve_input.Statement.{statement}
 use Rattle.session.proofs.serve_input.Tie as tie
 
-pub record Inv (s₀ line₀ : List ℕ) (len : ℕ) (buf₀ out₀ s line buf out : List ℕ) (g : InputState) : Type 0
+pub record InputLoop (s₀ line₀ : List ℕ) (len : ℕ) (buf₀ out₀ s line buf out : List ℕ)
+    (g : InputState) : Type 0
   where
     pub input : List ℕ
     pub read : Read input (g .channel)
@@ -29,7 +30,7 @@ pub record Inv (s₀ line₀ : List ℕ) (len : ℕ) (buf₀ out₀ s line buf o
     pub same : length buf ≡ length buf₀
 
 abbrev Inv-loop : tie.InvT-loop
-Inv-loop s₀ line₀ len buf₀ out₀ g₀ s line buf out g = Inv s₀ line₀ len buf₀ out₀ s line buf out g
+Inv-loop s₀ line₀ len buf₀ out₀ g₀ s line buf out g = InputLoop s₀ line₀ len buf₀ out₀ s line buf out g
 
 abbrev μ-loop : tie.MeasureT-loop
 μ-loop s₀ line₀ len buf₀ out₀ g₀ s line buf out g = 18446744073709551615 - g .channel .reads

@@ -19,7 +19,7 @@ use Rattle.session.specs.Input.{AnsweredUpTo, answers-none, answers-step
 use Rattle.session.proofs.serve_piece.Statement.{statement}
 use Rattle.session.proofs.serve_piece.Tie as tie
 
-pub record Inv (s₀ line₀ piece out₀ : List ℕ) (from : InputState) (s line out : List ℕ) (g : InputState)
+pub record PieceLoop (s₀ line₀ piece out₀ : List ℕ) (from : InputState) (s line out : List ℕ) (g : InputState)
     (at : ℕ) : Type 0 where
   pub answers : (pending : List ℕ) → LineKept pending (from .len) line₀ →
       AnsweredUpTo s₀ pending piece (drop at piece) (from .channel .sent) (g .len) (g .channel .sent) s line
@@ -31,7 +31,7 @@ pub record Inv (s₀ line₀ piece out₀ : List ℕ) (from : InputState) (s lin
   pub within : at ≤ length piece
 
 abbrev Inv-loop : tie.InvT-loop
-Inv-loop s₀ line₀ piece out₀ g₀ at₀ s line out g at = Inv s₀ line₀ piece out₀ g₀ s line out g at
+Inv-loop s₀ line₀ piece out₀ g₀ at₀ s line out g at = PieceLoop s₀ line₀ piece out₀ g₀ s line out g at
 
 abbrev μ-loop : tie.MeasureT-loop
 μ-loop s₀ line₀ piece out₀ g₀ at₀ s line out g at = length piece - at

@@ -3,14 +3,14 @@
 -- before it can give or deny.
 use borrow.Author.Needs.{needs}
 use native.Mathlib.Omega.{arith}
-use mathlib.Core.Path.{_≡_, refl, sym, ap, _∙_}
+use mathlib.Core.Path.{_≡_, sym, ap, _∙_}
 use mathlib.Core.Bool.{Bool, true, false, not, Bool·beq}
 use mathlib.Core.List.{List}
 use Prim.Native.Nat.{ℕ, _+_, _*_, _-_, _≤_, _<_}
 use denote.Ref.{now}
 use borrow.Fn.Kinds.{In}
 use borrow.Fn.PlainCycle.{Measures, is, falls, and}
-use Rattle.foundation.specs.Tests.{not-true, not-false, or-none}
+use Rattle.foundation.specs.Tests.{not-true, not-false, or-none, beq-pick}
 use Rattle.foundation.specs.Intervals.{inInterval-true, always, all-always}
 use Rattle.model.specs.declared.Pattern.{Pattern}
 use Rattle.model.specs.declared.Operator.{Operator}
@@ -20,8 +20,8 @@ use Rattle.model.specs.Rules.{operate, holds}
 use Rattle.model.specs.HoldsLaws.{holding}
 use Rattle.model.specs.Encoding.{ruleOf, decode}
 use Rattle.encoding.specs.Format.{countsOf}
-use Rattle.lookup.proofs.SoundBodies.{base-sound}
-use Rattle.lookup.proofs.RecordLoops.{AnyFrom, any-starts, any-fails, any-passes, any-ends}
+use Rattle.encoding.proofs.SoundBodies.{base-sound}
+use Rattle.foundation.specs.RecordLoops.{AnyFrom, any-starts, any-fails, any-passes, any-ends}
 use Rattle.simple.specs.Stored.{rulesFrom}
 use Rattle.simple.specs.Engine.{ServedRules, grantedAt, givesIn, wantedIn}
 use Rattle.simple.proofs.Depth.{depthFor, reach, sight, sight-denial, reach-rule, sight-right}
@@ -417,7 +417,7 @@ module _ (t : ℕ) where
       ≡ wantedIn (decode (now (a .s))) (a .p) (a .wanted) (l .loop .u))
   wanted c =
       let a = c .before .before .before .before .args in
-      ap (λ (x : Bool). Bool·beq x (a .wanted)) (c .in-force .ensures) ∙ steps.alike-wanted _ (a .wanted)
+      ap (λ (x : Bool). Bool·beq x (a .wanted)) (c .in-force .ensures) ∙ beq-pick _ (a .wanted)
 
   throughout-returns : throughout-lts.Need-returns (throughout-claims t) (throughout-at t) throughout.Post
       throughout-Inv-loop throughout-μ-loop
@@ -437,7 +437,7 @@ module _ (t : ℕ) where
   so-far c =
       let l = c .before .before .before in
       let a = l .before .before .args in
-      steps.one-more (a .from) (wantedIn (decode (now (a .s))) (a .p) (a .wanted)) (l .loop .u)
+      steps.through-next (a .from) (wantedIn (decode (now (a .s))) (a .p) (a .wanted)) (l .loop .u)
       (l .loop .inv .2) (sym (wanted (c .before)) ∙ not-false _ (c .if1 .left))
 
   throughout-loop-again : throughout-lts.Need-loop-again (throughout-claims t) (throughout-at t)

@@ -13,7 +13,7 @@ use Rattle.words.specs.Sums.{SumGrown, grown-both}
 use Rattle.places.specs.declared.Region.{Region}
 use Rattle.places.specs.Regions.{sizeOf, indexIn}
 use Rattle.tables.specs.TableGiving.{tablesOf, TablesGiven, tableTakes}
-use Rattle.tables.proofs.GivingSteps.{plain-fits, given-plain, given-nothing, given-then, below}
+use Rattle.tables.proofs.GivingSteps.{plain-fits, given-plain, given-nothing, given-then, takenBelow}
 use Rattle.tables.proofs.GivingSteps.{below-none, below-once, below-step, plain-once, below-all}
 use Rattle.tables.proofs.give.Statement.{statement}
 use Rattle.tables.proofs.give.Tie as tie
@@ -21,7 +21,8 @@ use Rattle.tables.proofs.give.Tie as tie
 abbrev Inv-loop : tie.InvT-loop
 Inv-loop words₀ right first f p sign takers v fresh₀ c₀ words fresh c =
     (c ≤ 64) × (c < 64 → bit c takers ≡ true)
-    × TablesGiven (tablesOf f right first) (f .width) (p .pair) (p .point) (below takers c) v words₀ words
+    × TablesGiven (tablesOf f right first) (f .width) (p .pair) (p .point) (takenBelow takers c) v words₀
+    words
     × ((old : List ℕ) → SumGrown fresh₀ old words₀ → SumGrown fresh old words)
 
 abbrev μ-loop : tie.MeasureT-loop
@@ -66,7 +67,7 @@ loop-holds c =
       e .1,
       e .3,
       given-nothing (tablesOf (a .f) (now (a .right)) (now (a .first))) (a .f .width) (a .p .pair)
-          (a .p .point) (a .v) (below (a .takers) (c .next-bit .result)) (w .join-in .last .0)
+          (a .p .point) (a .v) (takenBelow (a .takers) (c .next-bit .result)) (w .join-in .last .0)
           (below-none (a .takers) (c .next-bit .result) (e .2)),
       λ old g. g,
     )
@@ -102,7 +103,7 @@ loop-again c =
     let g = c .before .before .before .give-rule in (
       e .1,
       e .3,
-      given-then (below takers k) (below-once takers (l .c))
+      given-then (takenBelow takers k) (below-once takers (l .c))
           (below-step takers (l .c) k (l .inv .1 (omega arith)) (omega arith)
           (λ i h m. e .2 i (omega arith) m))
           (l .inv .2) (g .ensures .0),

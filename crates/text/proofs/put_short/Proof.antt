@@ -3,8 +3,7 @@ use borrow.Author.Needs.{needs}
 use native.Mathlib.Omega.{arith}
 use mathlib.Core.List.{[]}
 use Rattle.model.specs.Session.{runsOf}
-use Rattle.text.specs.Short.{short-length}
-use Rattle.text.proofs.ShortFacts.{short-fits}
+use Rattle.printing.proofs.ShortFacts.{short-length, short-fits}
 use Rattle.text.proofs.put_short.Statement.{statement}
 use Rattle.text.proofs.put_short.Tie as tie
 

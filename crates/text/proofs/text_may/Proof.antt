@@ -7,8 +7,10 @@ use denote.Ref.{now}
 use Rattle.model.specs.declared.Reply.{Reply}
 use Rattle.model.specs.Answers.{mayAnswer}
 use Rattle.model.specs.Text.{asksMay, printReply}
-use Rattle.text.specs.Short.{Short, short-length, may-short}
-use Rattle.text.proofs.ShortFacts.{short-runs}
+use Rattle.printing.proofs.ShortFacts.{short-length}
+use Rattle.printing.specs.Print.{Short}
+use Rattle.printing.proofs.ShortReplies.{may-short}
+use Rattle.printing.proofs.ShortFacts.{short-runs}
 use Rattle.text.proofs.WritingFacts.{wrote-as, all-written}
 use Rattle.text.proofs.text_may.Statement.{statement}
 use Rattle.text.proofs.text_may.Tie as tie

@@ -6,8 +6,10 @@ use mathlib.Core.List.{[]}
 use denote.Ref.{now}
 use Rattle.model.specs.Answers.{Answer, request}
 use Rattle.model.specs.Text.{order, printReply}
-use Rattle.text.specs.Short.{Short, short-length, request-short}
-use Rattle.text.proofs.ShortFacts.{short-runs}
+use Rattle.printing.proofs.ShortFacts.{short-length}
+use Rattle.printing.specs.Print.{Short}
+use Rattle.printing.proofs.ShortReplies.{request-short}
+use Rattle.printing.proofs.ShortFacts.{short-runs}
 use Rattle.text.proofs.WritingFacts.{wrote-as, all-written}
 use Rattle.text.proofs.text_order.Statement.{statement}
 use Rattle.text.proofs.text_order.Tie as tie

@@ -6,10 +6,10 @@ use lib.ListN.{length}
 use denote.Ref.{now}
 use Rattle.model.specs.Answers.{Answer}
 use Rattle.model.specs.Text.{asksWhen, printReply}
-use Rattle.model.specs.Session.{runsOf, whenList, byteTurn}
+use Rattle.model.specs.Session.{runsOf, whenList, turnText}
 use Rattle.printing.specs.Print.{RunsFit}
-use Rattle.text.specs.Short.{when-fits}
-use Rattle.text.specs.Writing.{byteTurnText, no-room}
+use Rattle.printing.proofs.ShortReplies.{when-fits}
+use Rattle.text.specs.Writing.{no-room}
 use Rattle.text.proofs.WritingFacts.{wrote-as, all-written}
 use Rattle.text.proofs.text_when.Statement.{statement}
 use Rattle.text.proofs.text_when.Tie as tie
@@ -23,7 +23,7 @@ fits c =
 -- the text that is counted is the definition's
 said : (c : tie.After-when) → (let a = c .before .before .before .before .args in
     printReply (c .when .result) (runsOf (c .when .result) (c .when .last .1 .1 .0))
-    ≡ byteTurnText (byteTurn (now (a .base)) (asksWhen (a .x))))
+    ≡ turnText (now (a .base)) (asksWhen (a .x)))
 unfolding whenList
 said c = ap (λ (a : Answer). printReply (a .reply) (runsOf (a .reply) (a .lent))) (c .when .ensures)
 

@@ -10,7 +10,7 @@ use Rattle.model.specs.Step.{firstNumber}
 use Rattle.model.specs.declared.Reply.the-variants.{Refused, Runs}
 use Rattle.model.specs.Rules.{when}
 use Rattle.model.specs.Answers.{answering, refusing}
-use Rattle.scan.specs.Listing.{listed-short, listed-all}
+use Rattle.scan.specs.Listing.{listedIfRoom-short, listedIfRoom-all}
 use Rattle.answers.specs.AskingRows.{accessRows}
 use Rattle.answers.proofs.AnswersByRows.{asked-in, when-refused, when-short, when-listed}
 use Rattle.answers.proofs.asking.when_sound.Statement.{statement}
@@ -44,7 +44,7 @@ returns-2 c =
     let e = l .list-runs .ensures in
     let runs = when (decode (now (a .s))) (a .x) in
     let h : length (now (a .list)) / 2 < length runs = omega (arith, e .count, c .if2 .taken) in
-    ap (answering (Refused 13)) (e .lent ∙ listed-short runs (now (a .list)) h)
+    ap (answering (Refused 13)) (e .lent ∙ listedIfRoom-short runs (now (a .list)) h)
     ∙ sym (when-short (now (a .s)) (a .x) (now (a .list)) (d .pre) (passes (l .before .before)) h)
 
 -- how many there are fits in 32 bits
@@ -59,7 +59,7 @@ returns-3 c =
     let e = l .list-runs .ensures in
     let runs = when (decode (now (a .s))) (a .x) in
     let h : length runs ≤ length (now (a .list)) / 2 = omega (arith, e .count, c .if2 .left) in
-    (λ k. answering (Runs (e .count k)) ((e .lent ∙ listed-all runs (now (a .list)) h) k))
+    (λ k. answering (Runs (e .count k)) ((e .lent ∙ listedIfRoom-all runs (now (a .list)) h) k))
     ∙ sym (when-listed (now (a .s)) (a .x) (now (a .list)) (d .pre) (passes (l .before .before)) h)
 
 pub when-sound-spec : {M : Type 1} → statement M

@@ -2,7 +2,7 @@
 use mathlib.Core.Path.{_∙_, ap}
 use denote.Ref.{now}
 use Rattle.model.specs.Encoding.{isNegative, hasOption}
-use Rattle.fields.proofs.ByteLaws.{le-at}
+use Rattle.foundation.specs.BytesFacts.{le-at}
 use Rattle.encoding.proofs.RecordFields.{byte-at, interval-at}
 use borrow.Author.Needs.{needs}
 use Rattle.encoding.proofs.bodies.authorization_at.Statement.{statement}

@@ -1,7 +1,7 @@
 -- `privilege_at` meets its contract, field by field.
 use mathlib.Core.Path.{_∙_}
 use denote.Ref.{now}
-use Rattle.fields.proofs.ByteLaws.{le-at}
+use Rattle.foundation.specs.BytesFacts.{le-at}
 use borrow.Author.Needs.{needs}
 use Rattle.encoding.proofs.bodies.privilege_at.Statement.{statement}
 use Rattle.encoding.proofs.bodies.privilege_at.Tie as tie

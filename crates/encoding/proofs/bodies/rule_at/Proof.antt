@@ -5,7 +5,7 @@ use lib.ListN.{getD}
 use denote.Ref.{now}
 use Rattle.model.specs.Requests.{operatorOf}
 use Rattle.model.specs.Encoding.{bit, optionOf}
-use Rattle.fields.proofs.ByteLaws.{le-at}
+use Rattle.foundation.specs.BytesFacts.{le-at}
 use Rattle.foundation.specs.BitMasks.{mask-test}
 use Rattle.encoding.proofs.RecordFields.{byte-at, interval-at}
 use borrow.Author.Needs.{needs}

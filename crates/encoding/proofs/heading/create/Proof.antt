@@ -32,7 +32,7 @@ returns-2 c =
     let b : c₃ .put-counts .last .0 ≡ encode emptyBase =
     c₃ .put-counts .ensures
     ∙ ap (splice 12 (contentsOf noRecords)) (c₂ .put-mark .ensures)
-    ∙ ap (λ (l : List ℕ). splice 12 (contentsOf noRecords) (splice 0 mark l)) (c₁ .clear .ensures)
+    ∙ ap (λ (l : List ℕ). splice 12 (contentsOf noRecords) (splice 0 mark l)) (c₁ .clear-bytes .ensures)
     ∙ ap (λ (n : ℕ). splice 12 (contentsOf noRecords) (splice 0 mark (replicate n 0))) fits
     ∙ empty-bytes in
     (ap (λ (a : Answer). a .reply) e, b ∙ ap (λ (a : Answer). a .lent) e)

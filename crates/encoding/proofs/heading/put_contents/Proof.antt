@@ -6,7 +6,7 @@ use Prim.Native.Nat.{_+_, _≤_}
 use lib.ListN.{length}
 use denote.Ref.{now}
 use Rattle.fields.proofs.ByteLaws.{splice-then}
-use Rattle.encoding.proofs.Contents.{CountsWithin, within}
+use Rattle.encoding.proofs.Contents.{CountsWithin, fit-within}
 use borrow.Author.Needs.{needs}
 use Rattle.encoding.proofs.heading.put_contents.Statement.{statement}
 use Rattle.encoding.proofs.heading.put_contents.Tie as tie
@@ -26,7 +26,7 @@ start₄ c = start₃ (c .before .before .before .before .before)
 
 -- the counts' bounds, by which each offset fits 16 bits
 most : (c : tie.Start) → CountsWithin (c .args .c)
-most c = within (c .args .c) (c .pre .1)
+most c = fit-within (c .args .c) (c .pre .1)
 
 cast-put-pair : tie.Need-cast-put-pair
 cast-put-pair c = let m = most (start₁ c) in omega arith

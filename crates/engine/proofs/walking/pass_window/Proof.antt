@@ -15,7 +15,7 @@ use Rattle.model.specs.Rules.{may}
 use Rattle.encoding.specs.Format.{ruleAt}
 use Rattle.questions.specs.OperatorSteps.{lasting}
 use Rattle.grounding.specs.RuleTurns.{wordsFor}
-use Rattle.sections.specs.SectionFacts.{lent-rest}
+use Rattle.foundation.specs.Lists.{lent-rest}
 use Rattle.grounding.proofs.Parts.{bitsBack, bits-rest}
 use Rattle.engine.specs.declared.WindowWalk.{WindowWalk}
 use Rattle.engine.specs.Going.{Roomy, Start}

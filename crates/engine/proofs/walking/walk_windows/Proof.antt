@@ -12,7 +12,7 @@ use Rattle.sections.specs.Sections.{whichOf}
 use Rattle.grounding.specs.RuleTurns.{fieldsIn, bitsIn}
 use Rattle.engine.specs.declared.WindowWalk.{WindowWalk}
 use Rattle.engine.specs.Going.{Start, GoingIn, WalksIn}
-use Rattle.engine.proofs.Onward.{startOf, starts, finds}
+use Rattle.engine.proofs.Onward.{startOf, walk-starts, finds}
 use Rattle.engine.proofs.walking.walk_windows.Statement.{statement}
 use Rattle.engine.proofs.walking.walk_windows.Tie as tie
 
@@ -35,7 +35,7 @@ abbrev μ-loop : tie.MeasureT-loop
 loop-holds : tie.Need-loop-holds Inv-loop μ-loop
 loop-holds c =
     let a = c .before .before .before .before .before .before .before .before .before .args in (
-      (λ base x w. starts w (omega (arith, c .struct-known .given)) (now (a .list))),
+      (λ base x w. walk-starts w (omega (arith, c .struct-known .given)) (now (a .list))),
       refl,
       refl,
       refl,

@@ -1,12 +1,11 @@
 -- The rules that are left are needed, and the words keep their length: so they may have their turns.
 use borrow.Author.Needs.{needs}
-use native.Mathlib.Omega.{arith}
-use mathlib.Core.Path.{refl, _∙_}
+use mathlib.Core.Path.{refl, sym, ap, _∙_}
 use mathlib.Core.Logic.{inl, inr}
 use mathlib.Core.List.{[]}
 use denote.Ref.{now}
+use Rattle.foundation.specs.BitMasks.{bit, none-set}
 use Rattle.grounding.specs.RuleTurns.{wordsFor}
-use Rattle.engine.proofs.Evaluating.{no-bit}
 use Rattle.engine.proofs.Sectioned.{part-alike}
 use Rattle.engine.proofs.window.derive_all.Statement.{statement}
 use Rattle.engine.proofs.window.derive_all.Tie as tie
@@ -59,7 +58,7 @@ returns-2 c =
         turns = d .derive-rules .ensures .0;
         fewer = d .derive-rules .ensures .2;
         strata = [];
-        closed = inl ((λ q h e. no-bit q (d .derive-rules .result) (omega (arith, c .if1 .left)) e), refl);
+        closed = inl ((λ q h e. none-set q (ap (bit q) (sym (c .if1 .left)) ∙ e)), refl);
       },
       d .derive-rules .ensures .1,
     )

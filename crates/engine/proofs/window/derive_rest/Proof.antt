@@ -14,7 +14,7 @@ use lib.ListN.{length, getD}
 use Rattle.foundation.specs.Tests.{cases, eq-true, true-eq, true-le, false-le, and-true}
 use Rattle.foundation.specs.BitMasks.{bit}
 use Rattle.sections.specs.Sections.{activeOf}
-use Rattle.reach.proofs.Growth.{none-set}
+use Rattle.foundation.specs.BitMasks.{none-set}
 use Rattle.grounding.specs.RuleTurns.{preparedIn, fieldsIn, bitsIn, wordsFor, Strata, none, then}
 use Rattle.engine.proofs.Sectioned.{part-alike, passes, passed, less-other, less-in}
 use Rattle.engine.proofs.window.derive_rest.Statement.{statement}

@@ -14,12 +14,13 @@ use Rattle.model.specs.Stratification.{stratified}
 use Rattle.encoding.specs.Format.{rulesIn, ruleAt}
 use Rattle.windows.specs.Windows.{inside}
 use Rattle.relevance.specs.Chosen.{picked, selected}
-use Rattle.sections.specs.SectionWrites.{part-long, putBack, back-own, back-length}
-use Rattle.sections.specs.Sections.{activeOf, numberOf}
+use Rattle.sections.proofs.SectionWrites.{part-long, putBack, back-own, back-length}
+use Rattle.sections.specs.Sections.{activeOf, numberedOf}
 use Rattle.facts.specs.declared.WindowTask.{WindowTask}
 use Rattle.grounding.specs.RuleTurns.{wordsFor, fieldsIn, bitsIn, SlicedIn}
-use Rattle.sections.specs.SectionFacts.{lent-rest}
-use Rattle.engine.proofs.Sectioned.{lent, part-alike, front-own, front-rest}
+use Rattle.foundation.specs.Lists.{lent-rest}
+use Rattle.encoding.proofs.SoundBodies.{lent}
+use Rattle.engine.proofs.Sectioned.{part-alike, front-own, front-rest}
 use Rattle.engine.proofs.Sectioned.{setting-same, prepared-same}
 use Rattle.engine.proofs.Evaluating.{ready-as, able-as, low-in, evaluated-in}
 use Rattle.engine.proofs.window.evaluate.Statement.{statement}
@@ -52,7 +53,7 @@ module _ (a : tie.After-spans) where
   abbrev body : List ℕ
   body = drop (w .body) (now (s .args .records))
 
-  abbrev body-is : lent (w .body) (now (s .args .records)) ≡ body
+  abbrev body-is : lent (now (s .args .records)) (w .body) ≡ body
   body-is = lent-rest (w .body) (now (s .args .records))
 
   abbrev k : ℕ
@@ -156,7 +157,7 @@ give-lines-requires c κs =
     let a = base g in
     let x = s a .args in (
       ready-as (setting-same (new a) (old a) (same a) (body a) (w a) (now (x .coordinates))
-          (numberOf (length (now (x .need))) (now (x .numbers))) (now (x .marks)))
+          (numberedOf (length (now (x .need))) (now (x .numbers))) (now (x .marks)))
           (lent-rest (2 * length (now (x .need))) (now (x .numbers)))
           (fields-long a (work1 g) (work1-long g)) (s a .pre .0),
       s a .pre .1 .1 .4,
@@ -207,7 +208,7 @@ derive-all-requires c κs =
     let low = low-in (w a) (body a) (now (x .coordinates)) (now (x .need)) (now (x .numbers)) (now (x .marks))
     (old a) (new a) (active a) (same a) (own a) (u .short) (u .fits) (acts a) in (
       (
-        (λ r e. able-as (prepared-same (new a) (old a) (same a) (lent (w a .body) (now (x .records))) (body a)
+        (λ r e. able-as (prepared-same (new a) (old a) (same a) (lent (now (x .records)) (w a .body)) (body a)
             (now (x .coordinates)) (now (x .need)) (now (x .numbers)) (now (x .numbers)) f (body-is a) refl)
             (part-alike (n a) (work2 l) (work (cleared l)) (work2-long l)) (ap length (work2-rest l))
             (s a .pre .1 .0 (activeOf (new a)) low r e)),

@@ -7,7 +7,7 @@ use denote.Ref.{now}
 use lib.ListN.{length}
 use lib.Seq.{length-take-le}
 use Rattle.words.specs.Sums.{SumGrown, grown-none, grown-both}
-use Rattle.sections.specs.Sections.{leftOf, firstOf, rightsOf, numberOf, fieldsOf, brokenOf}
+use Rattle.sections.specs.Sections.{leftOf, firstOf, rightsOf, numberedOf, fieldsOf, brokenOf}
 use Rattle.grounding.specs.RuleSteps.{Step, PairsReady, PairsRan}
 use Rattle.grounding.proofs.Parts.{lentOf, lent-all, lent-length, both-length}
 use Rattle.grounding.proofs.StepRows.{row-length, PairsTo, pairs-start, pairs-turn, pairs-end}
@@ -78,8 +78,9 @@ standing-modes-requires c κs =
     let k = a .t .words in
     let size = length (now (a .need)) in
     let p : PairsReady (a .t) (a .f) (leftOf (now (a .outline))) (now (a .need))
-    (lentOf size (now (a .numbers))) (numberOf size (now (a .numbers))) (length (fieldsOf k (now (a .work))))
-    (length (brokenOf k (now (a .work)))) (a .range .from) (a .range .to) =
+    (lentOf size (now (a .numbers))) (numberedOf size (now (a .numbers)))
+    (length (fieldsOf k (now (a .work)))) (length (brokenOf k (now (a .work)))) (a .range .from)
+    (a .range .to) =
     rw (lent-all size (now (a .numbers))) (s .pre .0) in
     let d = p .low (c .before .before .before .before .loop .n) (c .before .before .if1 .taken) in (
       d .0,
@@ -101,7 +102,7 @@ derive-modes-requires c κs =
     let w = now (a .work) in
     let size = length (now (a .need)) in
     let p : PairsReady (a .t) (a .f) (leftOf (now (a .outline))) (now (a .need))
-    (lentOf size (now (a .numbers))) (numberOf size (now (a .numbers))) (length (fieldsOf k w))
+    (lentOf size (now (a .numbers))) (numberedOf size (now (a .numbers))) (length (fieldsOf k w))
     (length (brokenOf k w)) (a .range .from) (a .range .to) =
     rw (lent-all size (now (a .numbers))) (s .pre .0) in
     let e : length (fieldsOf k (l .work)) ≡ length (fieldsOf k w) =
@@ -151,7 +152,7 @@ returns c =
     let l = c .before .before .loop in
     let r : PairsRan (a .t) (a .f) (leftOf (now (a .outline))) (now (a .need))
     (lentOf size (now (a .numbers)))
-    (Step (a .t) (a .f) (numberOf size (now (a .numbers))) (brokenOf k (now (a .work)))
+    (Step (a .t) (a .f) (numberedOf size (now (a .numbers))) (brokenOf k (now (a .work)))
     (rightsOf (now (a .coordinates))) (firstOf (now (a .outline)))) (a .range .from) (a .range .to)
     (fieldsOf k (now (a .work))) (fieldsOf k (l .work)) =
     pairs-end (a .t) (a .f) (leftOf (now (a .outline))) (now (a .need)) (lentOf size (now (a .numbers)))

@@ -10,7 +10,7 @@ use Rattle.words.specs.Fields.{fieldOf, joined}
 use Rattle.sections.specs.Sections.{brokenOf}
 use Rattle.grounding.specs.RuleSteps.{brokenAt}
 use Rattle.grounding.proofs.StepBits.{bit-number, bit-room, mark-set, mark-none, joined-empty}
-use Rattle.sections.specs.SectionFacts.{lent-rest}
+use Rattle.foundation.specs.Lists.{lent-rest}
 use Rattle.grounding.proofs.Parts.{bitsBack, bits-own, bits-rest, both-length}
 use Rattle.grounding.proofs.pairs.mark_broken_at.Statement.{statement}
 use Rattle.grounding.proofs.pairs.mark_broken_at.Tie as tie

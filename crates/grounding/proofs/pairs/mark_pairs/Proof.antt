@@ -6,7 +6,7 @@ use Prim.Native.Nat.{_-_, _≤_}
 use denote.Ref.{now}
 use lib.ListN.{length}
 use lib.Seq.{length-take-le}
-use Rattle.sections.specs.Sections.{numberOf, fieldsOf, brokenOf}
+use Rattle.sections.specs.Sections.{numberedOf, fieldsOf, brokenOf}
 use Rattle.grounding.specs.RuleSteps.{Mark, PairsReady, PairsRan}
 use Rattle.grounding.proofs.Parts.{lentOf, lent-all, lent-length, both-length}
 use Rattle.grounding.proofs.StepRows.{row-length, PairsTo, pairs-start, pairs-turn, pairs-end}
@@ -72,7 +72,7 @@ standing-modes-requires c κs =
     let k = a .t .words in
     let size = length (now (a .need)) in
     let p : PairsReady (a .t) (a .f) (now (a .left)) (now (a .need)) (lentOf size (now (a .numbers)))
-    (numberOf size (now (a .numbers))) (length (fieldsOf k (now (a .work))))
+    (numberedOf size (now (a .numbers))) (length (fieldsOf k (now (a .work))))
     (length (brokenOf k (now (a .work)))) (a .range .from) (a .range .to) =
     rw (lent-all size (now (a .numbers))) (s .pre .0) in
     let d = p .low (c .before .before .before .loop .n) (c .before .if1 .taken) in
@@ -88,7 +88,7 @@ mark-modes-requires c κs =
     let w = now (a .work) in
     let size = length (now (a .need)) in
     let p : PairsReady (a .t) (a .f) (now (a .left)) (now (a .need)) (lentOf size (now (a .numbers)))
-    (numberOf size (now (a .numbers))) (length (fieldsOf k w)) (length (brokenOf k w)) (a .range .from)
+    (numberedOf size (now (a .numbers))) (length (fieldsOf k w)) (length (brokenOf k w)) (a .range .from)
     (a .range .to) =
     rw (lent-all size (now (a .numbers))) (s .pre .0) in
     let e : length (brokenOf k (l .work)) ≡ length (brokenOf k w) =
@@ -135,7 +135,7 @@ returns c =
     let size = length (now (a .need)) in
     let l = c .before .before .loop in
     let r : PairsRan (a .t) (a .f) (now (a .left)) (now (a .need)) (lentOf size (now (a .numbers)))
-    (Mark (a .t) (a .f) (numberOf size (now (a .numbers))) (fieldsOf k (now (a .work))) (a .last))
+    (Mark (a .t) (a .f) (numberedOf size (now (a .numbers))) (fieldsOf k (now (a .work))) (a .last))
     (a .range .from) (a .range .to) (brokenOf k (now (a .work))) (brokenOf k (l .work)) =
     pairs-end (a .t) (a .f) (now (a .left)) (now (a .need)) (lentOf size (now (a .numbers))) (l .n)
     (omega (arith, c .if1 .left)) (l .inv .1) in

@@ -6,7 +6,7 @@ use Prim.Native.Nat.{ℕ, _*_, _/_, _^_}
 use lib.Bits.{bitAnd, and-le-r}
 use Rattle.foundation.specs.BitMasks.{bit}
 use Rattle.words.proofs.FieldLaws.{bit-shifted}
-use Rattle.grounding.proofs.Modes.{needed, all-modes, own-mode, no-mode}
+use Rattle.grounding.proofs.Modes.{neededModes, all-modes, own-mode, no-mode}
 use Rattle.grounding.proofs.pairs.modes_at.Statement.{statement}
 use Rattle.grounding.proofs.pairs.modes_at.Tie as tie
 
@@ -21,7 +21,7 @@ returns c = let a = c .before .args in all-modes (a .t) (a .need) (c .if1 .taken
 returns-2 : tie.Need-returns-2
 returns-2 c =
     let a = c .before .before .args in
-    λ m. ap (λ (n : ℕ). bit m (bitAnd (needed (a .t) (a .need)) n))
+    λ m. ap (λ (n : ℕ). bit m (bitAnd (neededModes (a .t) (a .need)) n))
     (bit-shifted (a .t .left .mode) (omega arith))
     ∙ own-mode (a .t) (a .need) (c .before .if1 .left) m
 

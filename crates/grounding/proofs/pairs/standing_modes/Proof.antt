@@ -2,7 +2,7 @@
 use borrow.Author.Needs.{needs}
 use mathlib.Core.Path.{sym, _∙_}
 use mathlib.Core.Bool.{true≢false, false≢true}
-use Rattle.masks.proofs.SingleBits.{no-bit}
+use Rattle.foundation.specs.BitMasks.{bit-zero}
 use Rattle.grounding.proofs.pairs.standing_modes.Statement.{statement}
 use Rattle.grounding.proofs.pairs.standing_modes.Tie as tie
 
@@ -15,7 +15,7 @@ returns c =
 
 returns-2 : tie.Need-returns-2
 returns-2 c = (
-  (λ m b. absurd (false≢true (sym (no-bit m) ∙ b))),
+  (λ m b. absurd (false≢true (sym (bit-zero m) ∙ b))),
   (λ m o s b. absurd (true≢false (sym (c .before .stands-at-pair .ensures .1 o s) ∙ c .if1 .left))),
 )
 

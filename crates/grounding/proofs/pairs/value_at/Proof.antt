@@ -16,7 +16,7 @@ use Rattle.sections.specs.Sections.{fieldsOf, brokenOf}
 use Rattle.tables.specs.declared.Place.{Place}
 use Rattle.evaluation.proofs.RuleWords.{broken-derived}
 use Rattle.grounding.specs.RuleSteps.{forceAt, forceIn, brokenAt, brokenIn, Ordinary}
-use Rattle.sections.specs.SectionFacts.{lent-rest}
+use Rattle.foundation.specs.Lists.{lent-rest}
 use Rattle.grounding.proofs.pairs.value_at.Statement.{statement}
 use Rattle.grounding.proofs.pairs.value_at.Tie as tie
 

@@ -12,11 +12,11 @@ use Rattle.foundation.specs.Tests.{and-true, and-intro, or-intro-left, or-true-
 use Rattle.foundation.specs.BitMasks.{bit}
 use Rattle.sections.specs.Sections.{feedOf, activeOf}
 use Rattle.words.specs.Bits.{bit-or}
-use Rattle.reach.proofs.Growth.{none-set}
+use Rattle.foundation.specs.BitMasks.{none-set}
 use Rattle.masks.proofs.BitWalk.{bits-le}
 use Rattle.grounding.specs.RuleTurns.{preparedIn, wordsFor, fieldsIn, bitsIn, SlicedIn}
 use Rattle.grounding.specs.RuleTurns.{RuleRan, Rounds, none, then}
-use Rattle.sections.specs.SectionWrites.{part-long}
+use Rattle.sections.proofs.SectionWrites.{part-long}
 use Rattle.grounding.proofs.Parts.{front-below, both-length}
 use Rattle.grounding.proofs.TurnRounds.{ran-length, others, among, measure, lighter, less-to-do}
 use Rattle.grounding.proofs.turns.close.Statement.{statement}

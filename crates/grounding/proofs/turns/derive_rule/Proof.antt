@@ -8,11 +8,11 @@ use denote.Ref.{now}
 use lib.ListN.{length}
 use lib.Seq.{length-take-le}
 use Rattle.words.specs.Sums.{grown-none}
-use Rattle.sections.specs.Sections.{leftOf, firstOf, rightsOf, numberOf, listedOf, fieldsOf, brokenOf}
+use Rattle.sections.specs.Sections.{leftOf, firstOf, rightsOf, numberedOf, listedOf, fieldsOf, brokenOf}
 use Rattle.grounding.specs.declared.RuleTurn.{RuleTurn}
 use Rattle.grounding.specs.RuleSteps.{Step}
 use Rattle.grounding.specs.RuleTurns.{fieldsIn}
-use Rattle.sections.specs.SectionWrites.{in-part}
+use Rattle.sections.proofs.SectionWrites.{in-part}
 use Rattle.grounding.proofs.Parts.{both-length}
 use Rattle.grounding.proofs.StepRows.{row-length}
 use Rattle.grounding.proofs.TurnRounds.{ready-as, ran-as}
@@ -59,7 +59,7 @@ derive-pairs-requires c κs =
     let size = length (now (a .need)) in
     let q = ap (λ (t : RuleTurn). t .words) (d .turn-of .ensures) in (
       ready-as (a .f) (leftOf (now (a .outline))) (now (a .need)) (listedOf size (now (a .numbers)))
-          (numberOf size (now (a .numbers))) (d .turn-of .ensures) (c .before .range-of .ensures)
+          (numberedOf size (now (a .numbers))) (d .turn-of .ensures) (c .before .range-of .ensures)
           (now (a .work)) (s .pre .0 .pairs),
       rw q (s .pre .0 .ready),
       rw q (s .pre .1),
@@ -85,8 +85,8 @@ returns-2 c =
     let new = g .derive-pairs .last .1 .1 .1 .1 .1 .1 .1 .0 in
     let e = g .derive-pairs .ensures in (
       inr (ran-as (a .f) (leftOf (now (a .outline))) (now (a .need)) (listedOf size (now (a .numbers)))
-          (numberOf size (now (a .numbers))) (d .turn-of .ensures) (g .before .before .range-of .ensures)
-          (λ t. Step t (a .f) (numberOf size (now (a .numbers))) (brokenOf (t .words) (now (a .work)))
+          (numberedOf size (now (a .numbers))) (d .turn-of .ensures) (g .before .before .range-of .ensures)
+          (λ t. Step t (a .f) (numberedOf size (now (a .numbers))) (brokenOf (t .words) (now (a .work)))
           (rightsOf (now (a .coordinates))) (firstOf (now (a .outline))))
           (λ k. fieldsOf k (now (a .work))) (λ k. fieldsOf k new) (e .0)),
       rw q at (e .1),

@@ -12,7 +12,7 @@ use Rattle.sections.specs.Sections.{feedOf, activeOf}
 use Rattle.masks.specs.RuleMasks.{RuleReady}
 use Rattle.grounding.specs.RuleTurns.{preparedIn, wordsFor, fieldsIn, bitsIn, SlicedIn}
 use Rattle.grounding.specs.RuleTurns.{RuleRan, Turns, none, then}
-use Rattle.sections.specs.SectionWrites.{part-long}
+use Rattle.sections.proofs.SectionWrites.{part-long}
 use Rattle.grounding.proofs.Parts.{both-length}
 use Rattle.grounding.proofs.TurnRounds.{ran-length, others, among}
 use Rattle.grounding.proofs.turns.derive_rules.Statement.{statement}

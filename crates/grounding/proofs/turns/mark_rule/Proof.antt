@@ -10,7 +10,7 @@ use lib.Seq.{length-take-le}
 use Rattle.model.specs.declared.Rule.{Rule}
 use Rattle.encoding.specs.Format.{ruleAt}
 use Rattle.questions.specs.OperatorSteps.{lasting}
-use Rattle.sections.specs.Sections.{leftOf, numberOf, listedOf, fieldsOf, brokenOf}
+use Rattle.sections.specs.Sections.{leftOf, numberedOf, listedOf, fieldsOf, brokenOf}
 use Rattle.grounding.specs.declared.RuleTurn.{RuleTurn}
 use Rattle.grounding.specs.RuleSteps.{Mark}
 use Rattle.grounding.proofs.Parts.{both-length}
@@ -59,7 +59,7 @@ mark-pairs-requires c κs =
     let size = length (now (a .need)) in
     let q = ap (λ (t : RuleTurn). t .words) (d .turn-of .ensures) in (
       ready-as f (leftOf (now (a .outline))) (now (a .need)) (listedOf size (now (a .numbers)))
-          (numberOf size (now (a .numbers))) (d .turn-of .ensures) (c .before .before .range-of .ensures)
+          (numberedOf size (now (a .numbers))) (d .turn-of .ensures) (c .before .before .range-of .ensures)
           (now (a .work)) (s .pre .0 .pairs),
       omega (arith, length-take-le 152 (now (a .outline)) (omega (arith, s .pre .1 .outlined))),
       s .pre .1 .numbered,
@@ -96,9 +96,9 @@ returns c =
       inr (
         h,
         ran-as f (leftOf (now (a .outline))) (now (a .need)) (listedOf size (now (a .numbers)))
-            (numberOf size (now (a .numbers))) (d .turn-of .ensures)
+            (numberedOf size (now (a .numbers))) (d .turn-of .ensures)
             (g .before .before .before .range-of .ensures)
-            (λ t. Mark t f (numberOf size (now (a .numbers))) (fieldsOf (t .words) (now (a .work)))
+            (λ t. Mark t f (numberedOf size (now (a .numbers))) (fieldsOf (t .words) (now (a .work)))
             (a .e .last))
             (λ k. brokenOf k (now (a .work))) (λ k. brokenOf k new) (e .0),
       ),

@@ -14,7 +14,7 @@ use Rattle.model.specs.declared.Rule.{Rule}
 use Rattle.sections.specs.Sections.{feedOf, firstOf, sidesOf, rightsOf}
 use Rattle.places.specs.Regions.{sizeOf}
 use Rattle.tables.specs.TableLayout.{regionAt, wholeRegion}
-use Rattle.sections.specs.SectionWrites.{in-part, part-long}
+use Rattle.sections.proofs.SectionWrites.{in-part, part-long}
 use Rattle.grounding.proofs.turns.turn_of.Statement.{statement}
 use Rattle.grounding.proofs.turns.turn_of.Tie as tie
 

@@ -1,13 +1,12 @@
 -- `lookup::bodies::has_object` meets its contract: the answer for all is that for the records from i on.
 -- Assumes nothing.
-use borrow.Author.Needs.{needs}
 use Prim.Native.Nat.{ℕ, _-_}
 use mathlib.Core.Bool.{Bool}
 use lib.Dec.{eqb}
 use Rattle.model.specs.declared.Privilege.{Privilege}
 use Rattle.model.specs.Encoding.{privilegeOf}
-use denote.Ref.{now}
-use Rattle.lookup.proofs.RecordLoops.{AnyFrom, any-starts, any-fails, any-passes, any-ends}
+use Rattle.foundation.specs.RecordLoops.{AnyFrom}
+use Rattle.foundation.specs.RecordLoops.{any-loop}
 use Rattle.lookup.proofs.bodies.has_object.Statement.{statement}
 use Rattle.lookup.proofs.bodies.has_object.Tie as tie
 
@@ -20,37 +19,9 @@ Inv-loop s n object i₀ i = AnyFrom 4 privilegeOf (ofObject object) n s i
 abbrev μ-loop : tie.MeasureT-loop
 μ-loop s n object i₀ i = n - i
 
-loop-holds : tie.Need-loop-holds Inv-loop μ-loop
-loop-holds c =
-    let a = c .before .args in
-    (search needs, any-starts 4 privilegeOf (ofObject (a .object)) (a .n) (now (a .s)))
-
-returns : tie.Need-returns Inv-loop μ-loop
-returns c =
-    let a = c .before .before .before .before .before .before .args in
-    let l = c .before .before .before .before .loop in
-    any-passes 4 privilegeOf (ofObject (a .object)) (a .n) (now (a .s)) (l .i) _ _ (search needs)
-    (c .before .is-of-object .ensures) (c .before .before .privilege-at .ensures) (c .if1 .taken) (l .inv)
-
-loop-again : tie.Need-loop-again Inv-loop μ-loop
-loop-again c =
-    let a = c .before .before .before .before .before .before .args in
-    let l = c .before .before .before .before .loop in (
-      search needs,
-      any-fails 4 privilegeOf (ofObject (a .object)) (a .n) (now (a .s)) (l .i) _ _ (search needs)
-          (c .before .is-of-object .ensures) (c .before .before .privilege-at .ensures) (c .if1 .left)
-          (l .inv),
-    )
-
-returns-2 : tie.Need-returns-2 Inv-loop μ-loop
-returns-2 c =
-    let a = c .before .before .before .args in
-    let l = c .before .loop in
-    any-ends 4 privilegeOf (ofObject (a .object)) (a .n) (now (a .s)) (l .i) (search needs) (l .inv)
-
 pub has-object-spec : {M : Type 1} → statement M
 has-object-spec =
     tie.close
-    (tie.spec Inv-loop μ-loop loop-holds (λ c. search needs) (λ c κs. search needs)
-    (λ c κs. search needs) returns
-    (λ c. search needs) (λ c. search needs) loop-again returns-2)
+    (tie.spec Inv-loop μ-loop (λ c. search any-loop) (λ c. search any-loop) (λ c κs. search any-loop)
+    (λ c κs. search any-loop) (λ c. search any-loop) (λ c. search any-loop) (λ c. search any-loop)
+    (λ c. search any-loop) (λ c. search any-loop))

@@ -1,12 +1,12 @@
 use borrow.Author.Needs.{needs}
 use native.Mathlib.Omega.{arith}
-use mathlib.Core.Path.{_≡_, refl, sym, ap, ap₂, _∙_}
+use mathlib.Core.Path.{_≡_, sym, ap, ap₂, _∙_}
 use mathlib.Core.Logic.{⊎-elim}
-use mathlib.Core.Bool.{Bool, true, false, _&&_, _||_}
+use mathlib.Core.Bool.{Bool, true, _&&_, _||_}
 use Prim.Native.Nat.{ℕ, _*_, _%_, _^_, _≤_, _<_, _-_}
 use denote.Ref.{now}
 use lib.Dec.{eqb, ltb}
-use Rattle.foundation.specs.BitMasks.{bit}
+use Rattle.foundation.specs.BitMasks.{bit, bit-zero}
 use Rattle.foundation.specs.Tests.{true-eq}
 use Rattle.words.specs.Bits.{bit-or}
 use Rattle.model.specs.declared.Rule.{Rule}
@@ -14,7 +14,7 @@ use Rattle.model.specs.Base.{controls}
 use Rattle.model.specs.Encoding.{decode}
 use Rattle.outlines.specs.LeftMasks.{controlledBy}
 use Rattle.words.proofs.FieldLaws.{bit-shifted}
-use Rattle.masks.proofs.SingleBits.{no-bit, one-bit}
+use Rattle.masks.proofs.SingleBits.{one-bit}
 use Rattle.masks.proofs.BitWalk.{pass-start, pass-turn, pass-end, take-one, leave-one}
 use Rattle.outlines.proofs.controlled.by_control.Statement.{statement}
 use Rattle.outlines.proofs.controlled.by_control.Tie as tie
@@ -33,7 +33,7 @@ loop-holds c =
     let e = c .next-bit .ensures in (
       e .1,
       e .3,
-      λ j. no-bit j ∙ sym (ap (λ (b : Bool). b && controlledBy (now (a .s)) (now (a .body)) (a .o) j)
+      λ j. bit-zero j ∙ sym (ap (λ (b : Bool). b && controlledBy (now (a .s)) (now (a .body)) (a .o) j)
           (pass-start (λ i. bit i (a .f)) (c .next-bit .result) j (e .2))),
     )
 

@@ -1,17 +1,17 @@
 use borrow.Author.Needs.{needs}
 use native.Mathlib.Omega.{arith}
-use mathlib.Core.Path.{_≡_, refl, sym, ap, ap₂, _∙_}
+use mathlib.Core.Path.{_≡_, sym, ap, ap₂, _∙_}
 use mathlib.Core.Logic.{⊎-elim}
 use mathlib.Core.Bool.{Bool, true, _&&_, _||_}
 use Prim.Native.Nat.{ℕ, _*_, _%_, _^_, _≤_, _<_, _-_}
 use denote.Ref.{now}
 use lib.Dec.{eqb, ltb}
-use Rattle.foundation.specs.BitMasks.{bit}
+use Rattle.foundation.specs.BitMasks.{bit, bit-zero}
 use Rattle.encoding.specs.Format.{ruleAt}
 use Rattle.words.specs.Bits.{bit-or}
 use Rattle.foundation.specs.Tests.{true-eq, eq-true, ne-false}
 use Rattle.words.proofs.FieldLaws.{bit-shifted}
-use Rattle.masks.proofs.SingleBits.{no-bit, one-bit}
+use Rattle.masks.proofs.SingleBits.{one-bit}
 use Rattle.masks.proofs.BitWalk.{pass-start, pass-turn, pass-end, take-one, leave-one}
 use Rattle.model.specs.declared.Rule.{Rule}
 use Rattle.outlines.proofs.feed.by_author.Statement.{statement}
@@ -34,7 +34,7 @@ loop-holds c =
     let e = c .next-bit .ensures in (
       e .1,
       e .3,
-      λ j. no-bit j ∙ sym (ap (λ (b : Bool). b && eqb (a .author) (ruleAt (now (a .body)) j .author))
+      λ j. bit-zero j ∙ sym (ap (λ (b : Bool). b && eqb (a .author) (ruleAt (now (a .body)) j .author))
           (pass-start (λ i. bit i (a .f)) (c .next-bit .result) j (e .2))),
     )
 

@@ -1,16 +1,14 @@
 use borrow.Author.Needs.{needs}
-use native.Mathlib.Omega.{arith}
-use mathlib.Core.Path.{_≡_, refl}
+use mathlib.Core.Path.{sym}
 use Rattle.foundation.specs.BitMasks.{bit}
-use Rattle.foundation.specs.Tests.{eq-true, ne-false}
-use Rattle.masks.proofs.BitWalk.{and-last}
+use Rattle.foundation.specs.Tests.{eq-true, ne-false, and-yes}
 use Rattle.outlines.proofs.feed.by_grantor.Statement.{statement}
 use Rattle.outlines.proofs.feed.by_grantor.Tie as tie
 
 returns : tie.Need-returns
 returns c =
     let a = c .before .before .args in
-    λ q. rw (eq-true (a .grantor) 0 (c .if1 .taken)) (and-last (bit q (a .f)))
+    λ q. rw (eq-true (a .grantor) 0 (c .if1 .taken)) (sym (and-yes (bit q (a .f))))
 
 returns-2 : tie.Need-returns-2
 returns-2 c =

@@ -6,9 +6,8 @@ use Prim.Native.Nat.{ℕ, _+_, _≤_, _<_, _-_}
 use denote.Ref.{now}
 use lib.Dec.{eqb, ltb}
 use lib.ListN.{length, getD}
-use Rattle.foundation.specs.BitMasks.{bit}
+use Rattle.foundation.specs.BitMasks.{bit, bit-zero}
 use Rattle.foundation.specs.Tests.{true-eq}
-use Rattle.masks.proofs.SingleBits.{no-bit}
 use Rattle.masks.proofs.BitWalk.{pass-start, pass-turn, pass-end, bring-one}
 use Rattle.outlines.proofs.feed.draw_fed.Statement.{statement}
 use Rattle.outlines.proofs.feed.draw_fed.Tie as tie
@@ -31,7 +30,7 @@ loop-holds c =
       e .3,
       b .pre .1,
       (λ w h. refl),
-      λ i r h. ap (bit r) (b .pre .0 (64 + i) (omega arith)) ∙ no-bit r
+      λ i r h. ap (bit r) (b .pre .0 (64 + i) (omega arith)) ∙ bit-zero r
           ∙ sym (ap (λ (x : Bool). x && bit i (getD (now (b .args .feed)) r 0))
           (pass-start (λ k. bit k (b .args .choosy)) (c .next-bit .result) r (e .2))),
     )

@@ -8,9 +8,10 @@ use lib.ListN.{length, getD}
 use lib.Seq.{length-take-le}
 use Rattle.foundation.specs.Tests.{cases, true-eq, false-eq, ne-false}
 use Rattle.encoding.specs.Format.{rulesIn, ruleAt}
-use Rattle.rules.specs.RankTables.{feedersOf, RuleTable}
+use Rattle.rules.specs.RankTables.{RuleTable}
 use Rattle.sections.specs.Sections.{leftOf, feedOf}
-use Rattle.sections.specs.SectionWrites.{part-long, part-word, same-front}
+use Rattle.sections.proofs.SectionWrites.{part-long, part-word, same-front}
+use Rattle.outlines.specs.Feed.{feedersOf}
 use Rattle.outlines.proofs.feed.draw_feeders.Statement.{statement}
 use Rattle.outlines.proofs.feed.draw_feeders.Tie as tie
 

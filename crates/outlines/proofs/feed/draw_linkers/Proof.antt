@@ -8,8 +8,9 @@ use lib.Dec.{ltb}
 use lib.ListN.{length, getD, set, length-set}
 use lib.Seq.{length-take-le, take-set-le}
 use Rattle.foundation.specs.Tests.{pick, le-false}
+use Rattle.foundation.specs.BytesFacts.{set-word}
 use Rattle.sections.specs.Sections.{leftOf, feedOf, rightsOf, sidesOf}
-use Rattle.sections.specs.SectionWrites.{part-long, in-part, part-word, set-word}
+use Rattle.sections.proofs.SectionWrites.{part-long, in-part, part-word}
 use Rattle.outlines.specs.Feed.{linkersWord}
 use Rattle.outlines.proofs.MaskWords.{join-turn}
 use Rattle.outlines.proofs.feed.draw_linkers.Statement.{statement}

@@ -1,16 +1,10 @@
 use borrow.Author.Needs.{needs}
-use native.Mathlib.Omega.{arith}
-use mathlib.Core.Path.{_≡_, refl}
-use mathlib.Core.Bool.{Bool, true, false, _&&_}
-use Rattle.foundation.specs.Tests.{and-false}
+use mathlib.Core.Path.{_≡_}
+use Rattle.foundation.specs.Tests.{and-false, and-yes}
 use Rattle.model.specs.declared.OptionTerm.the-variants.{With, Without, Either}
 use Rattle.model.specs.Stratification.{isStar}
 use Rattle.outlines.proofs.feed.is_choosy.Statement.{statement}
 use Rattle.outlines.proofs.feed.is_choosy.Tie as tie
-
-and-all : (a : Bool) → a && true ≡ a
-and-all true = refl
-and-all false = refl
 
 returns : tie.Need-returns
 returns c =
@@ -25,7 +19,7 @@ returns-2 c =
 returns-3 : tie.Need-returns-3
 returns-3 c =
     let e : c .before .before .before .args .r .option ≡ Either = c .before .enum-told3 .given .1 in
-    rw (e, and-all (isStar (c .before .before .before .args .r .grantor)))
+    rw (e, and-yes (isStar (c .before .before .before .args .r .grantor)))
 
 pub is-choosy-spec : {M : Type 1} → statement M
 is-choosy-spec = tie.close (tie.spec (λ c. search needs) (λ c. search needs) (λ c. search needs) returns

@@ -1,15 +1,12 @@
 use borrow.Author.Needs.{needs}
-use native.Mathlib.Omega.{arith}
-use mathlib.Core.Path.{_≡_, refl, sym, _∙_}
+use mathlib.Core.Path.{_≡_, sym, _∙_}
 use mathlib.Core.Bool.{_&&_}
 use denote.Ref.{now}
-use Rattle.foundation.specs.BitMasks.{bit}
-use Rattle.foundation.specs.Tests.{and-false}
+use Rattle.foundation.specs.BitMasks.{bit, bit-zero}
+use Rattle.foundation.specs.Tests.{and-false, and-yes}
 use Rattle.model.specs.declared.OptionTerm.the-variants.{With, Without, Either}
 use Rattle.model.specs.Rules.{fitsGrantor}
 use Rattle.encoding.specs.Format.{ruleAt}
-use Rattle.masks.proofs.SingleBits.{no-bit}
-use Rattle.masks.proofs.BitWalk.{and-last}
 use Rattle.outlines.proofs.feed.narrowed.Statement.{statement}
 use Rattle.outlines.proofs.feed.narrowed.Tie as tie
 
@@ -17,22 +14,22 @@ returns : tie.Need-returns
 returns c =
     let a = c .before .before .before .args in
     let e : a .r .option ≡ With = c .enum-told .given .1 in
-    λ q. rw e (no-bit q ∙ sym (and-false (bit q (a .f) && fitsGrantor (a .r .grantor)
+    λ q. rw e (bit-zero q ∙ sym (and-false (bit q (a .f) && fitsGrantor (a .r .grantor)
     (ruleAt (now (a .body)) q .author))))
 
 returns-2 : tie.Need-returns-2
 returns-2 c =
     let a = c .before .before .before .before .args in
     let e : a .r .option ≡ Without = c .before .enum-told2 .given .1 in
-    λ q. rw e (c .by-grantor .ensures q ∙ and-last (bit q (a .f) && fitsGrantor (a .r .grantor)
-    (ruleAt (now (a .body)) q .author)))
+    λ q. rw e (c .by-grantor .ensures q ∙ sym (and-yes (bit q (a .f) && fitsGrantor (a .r .grantor)
+    (ruleAt (now (a .body)) q .author))))
 
 returns-3 : tie.Need-returns-3
 returns-3 c =
     let a = c .before .before .before .before .args in
     let e : a .r .option ≡ Either = c .before .enum-told3 .given .1 in
-    λ q. rw e (c .by-grantor2 .ensures q ∙ and-last (bit q (a .f) && fitsGrantor (a .r .grantor)
-    (ruleAt (now (a .body)) q .author)))
+    λ q. rw e (c .by-grantor2 .ensures q ∙ sym (and-yes (bit q (a .f) && fitsGrantor (a .r .grantor)
+    (ruleAt (now (a .body)) q .author))))
 
 pub narrowed-spec : {M : Type 1} → statement M
 narrowed-spec =

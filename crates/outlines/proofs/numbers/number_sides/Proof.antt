@@ -6,7 +6,7 @@ use Prim.Native.Nat.{ℕ, _≤_, _<_, _-_}
 use denote.Ref.{now}
 use lib.ListN.{length, getD}
 use Rattle.sections.specs.Sections.{subjectsOf, objectsOf}
-use Rattle.sections.specs.SectionWrites.{zero-part, part-long, putBack, back-length}
+use Rattle.sections.proofs.SectionWrites.{zero-part, part-long, putBack, back-length}
 use Rattle.outlines.specs.Coordinates.{HasCoordinates, subjectOnRight, objectOnRight}
 use Rattle.outlines.proofs.CoordinateTurns.{numbered-start, numbered-turn, both-long, both-subjects}
 use Rattle.outlines.proofs.CoordinateTurns.{both-objects, objects-between, both-front}

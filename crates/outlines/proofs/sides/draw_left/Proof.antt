@@ -7,11 +7,12 @@ use Prim.Native.Nat.{ℕ, _+_, _*_, _≤_, _<_, _-_}
 use denote.Ref.{now}
 use lib.ListN.{length, drop}
 use Rattle.foundation.specs.BitMasks.{bit-le}
+use Rattle.foundation.specs.BytesFacts.{rest-behind}
 use Rattle.model.specs.declared.Rule.{Rule}
 use Rattle.model.specs.declared.Side.{Side}
 use Rattle.encoding.specs.Format.{ruleAt}
 use Rattle.sections.specs.Sections.{sidesOf, subjectsOf, objectsOf}
-use Rattle.sections.specs.SectionWrites.{same-rest, rest-behind}
+use Rattle.sections.proofs.SectionWrites.{same-rest}
 use Rattle.outlines.specs.Outline.{LeftSides, signsOf}
 use Rattle.outlines.proofs.SideCodes.{section-turn}
 use Rattle.outlines.proofs.sides.draw_left.Statement.{statement}

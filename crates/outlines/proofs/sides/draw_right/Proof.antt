@@ -10,7 +10,7 @@ use Rattle.model.specs.declared.Rule.{Rule}
 use Rattle.model.specs.declared.Side.{Side}
 use Rattle.encoding.specs.Format.{ruleAt}
 use Rattle.sections.specs.Sections.{rightsOf, subjectsOf, objectsOf}
-use Rattle.sections.specs.SectionWrites.{same-rest}
+use Rattle.sections.proofs.SectionWrites.{same-rest}
 use Rattle.outlines.specs.Outline.{RightSides}
 use Rattle.outlines.proofs.SideCodes.{section-turn, section-kept}
 use Rattle.outlines.proofs.sides.draw_right.Statement.{statement}

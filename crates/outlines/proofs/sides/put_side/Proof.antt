@@ -8,7 +8,7 @@ use lib.ListN.{length-set}
 use lib.Seq.{getD-set-other}
 use denote.Ref.{now}
 use Rattle.foundation.specs.Tests.{pick}
-use Rattle.sections.specs.SectionWrites.{in-part}
+use Rattle.sections.proofs.SectionWrites.{in-part}
 use Rattle.outlines.proofs.SideCodes.{four-kept, four-first, four-second, four-third, four-fourth}
 use Rattle.outlines.proofs.sides.put_side.Statement.{statement}
 use Rattle.outlines.proofs.sides.put_side.Tie as tie

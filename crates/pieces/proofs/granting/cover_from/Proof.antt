@@ -12,19 +12,16 @@ use Rattle.model.specs.Encoding.{authorizationOf}
 use Rattle.cover.specs.First.{first}
 use Rattle.cover.proofs.FirstFacts.{first-past}
 use Rattle.cover.specs.Cover.{coveredBy}
-use Rattle.encoding.specs.Format.{authorizationsIn}
-use Rattle.foundation.specs.ByteRecords.{rest, rest-all, rest-step, rest-end}
-use Rattle.pieces.proofs.NearestFacts.{near-low, near-step, first-none}
+use Rattle.encoding.specs.Format.{authorizationsIn, authorizationsFrom}
+use Rattle.foundation.specs.ByteRecords.{rest-all, rest-step, rest-end}
+use Rattle.pieces.proofs.NearestFacts.{near-low, near-step, nearest-none}
 use Rattle.pieces.proofs.granting.cover_from.Statement.{statement}
 use Rattle.pieces.proofs.granting.cover_from.Tie as tie
-
-abbrev left : ℕ → List ℕ → ℕ → List Authorization
-left n s i = rest 24 authorizationOf n s i
 
 abbrev Inv-loop : tie.InvT-loop
 Inv-loop s n w a b d₀ i₀ d i =
     (i ≤ n) × (a ≤ d) × (first (coveredBy w (authorizationsIn n s)) a b
-    ≡ first (coveredBy w (left n s i)) a d)
+    ≡ first (coveredBy w (authorizationsFrom n s i)) a d)
 
 abbrev μ-loop : tie.MeasureT-loop
 μ-loop s n w a b d₀ i₀ d i = n - i
@@ -44,12 +41,12 @@ turned : (c : tie.After-nearest Inv-loop μ-loop) →
     let i = c .before .before .loop .i in
     (a .a ≤ c .nearest .result)
     × (first (coveredBy (a .w) (authorizationsIn (a .n) (now (a .s)))) (a .a) (a .b)
-    ≡ first (coveredBy (a .w) (left (a .n) (now (a .s)) (i + 1))) (a .a) (c .nearest .result)))
+    ≡ first (coveredBy (a .w) (authorizationsFrom (a .n) (now (a .s)) (i + 1))) (a .a) (c .nearest .result)))
 turned c =
     let a = c .before .before .before .before .args in
     let l = c .before .before .loop in
     let x = authorizationOf (drop (l .i * 24) (now (a .s))) in
-    let xs = left (a .n) (now (a .s)) (l .i + 1) in (
+    let xs = authorizationsFrom (a .n) (now (a .s)) (l .i + 1) in (
       omega (arith, near-low (a .w) (a .a) (l .d) x (l .inv .1), c .nearest .ensures),
       l .inv .2
           ∙ ap (λ (ys : List Authorization). first (coveredBy (a .w) ys) (a .a) (l .d))
@@ -71,7 +68,7 @@ returns-2 c =
     sym (l .inv .2
     ∙ ap (λ (xs : List Authorization). first (coveredBy (a .w) xs) (a .a) (l .d))
     (rest-end 24 authorizationOf (a .n) (now (a .s)) (l .i) (search needs))
-    ∙ first-none (coveredBy (a .w) []) (a .a) (l .d) (l .inv .1) (λ t. refl))
+    ∙ nearest-none (coveredBy (a .w) []) (a .a) (l .d) (l .inv .1) (λ t. refl))
 
 pub cover-from-spec : {M : Type 1} → statement M
 cover-from-spec =

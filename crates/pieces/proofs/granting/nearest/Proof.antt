@@ -31,8 +31,8 @@ returns c =
     let r = c₁ .before .before .before .authorization-at in
     let a = c₁ .before .before .before .before .before .args in
     answer (a .w) (a .a) (a .d) (r .result) (authorizationOf (drop (a .at) (now (a .s))))
-    (c₁ .later .result) true
-    (r .ensures) (c₁ .later .ensures) (rw (← c .before .may-support .ensures) (c .if1 .taken))
+    (c₁ .larger .result) true
+    (r .ensures) (c₁ .larger .ensures) (rw (← c .before .may-support .ensures) (c .if1 .taken))
 
 returns-2 : tie.Need-returns-2
 returns-2 c =
@@ -40,8 +40,8 @@ returns-2 c =
     let r = c₁ .before .before .before .authorization-at in
     let a = c₁ .before .before .before .before .before .args in
     answer (a .w) (a .a) (a .d) (r .result) (authorizationOf (drop (a .at) (now (a .s))))
-    (c₁ .later .result) false
-    (r .ensures) (c₁ .later .ensures) (rw (← c .before .may-support .ensures) (c .if1 .left))
+    (c₁ .larger .result) false
+    (r .ensures) (c₁ .larger .ensures) (rw (← c .before .may-support .ensures) (c .if1 .left))
 
 pub nearest-spec : {M : Type 1} → statement M
 nearest-spec =

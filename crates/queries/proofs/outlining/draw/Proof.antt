@@ -9,12 +9,12 @@ use lib.ListN.{length, getD}
 use Rattle.model.specs.Encoding.{decode}
 use Rattle.foundation.specs.BitMasks.{bit}
 use Rattle.sections.specs.Sections.{leftOf, feedOf, sidesOf, rightsOf, subjectsOf, objectsOf}
-use Rattle.sections.specs.SectionWrites.{putBack, part-long, zero-part}
+use Rattle.sections.proofs.SectionWrites.{putBack, part-long, zero-part}
 use Rattle.outlines.specs.Coordinates.{Chart, Charted}
-use Rattle.outlines.specs.CoordinateFacts.{numbered-apart}
+use Rattle.outlines.proofs.CoordinateFacts.{numbered-apart}
 use Rattle.outlines.specs.Outline.{LeftSides}
 use Rattle.outlines.specs.LeftMasks.{WrittenMasks, Controlled}
-use Rattle.outlines.specs.StandingRules.{left-placed, masked, starred-below}
+use Rattle.outlines.proofs.StandingRules.{left-placed, masked, starred-below}
 use Rattle.queries.specs.Drawing.{RulesDrawn}
 use Rattle.queries.proofs.Sectioning.{still-charted, still-rights, still-lefts, still-behind}
 use Rattle.queries.proofs.Sectioning.{left-long, left-back, left-feed, drawn-moved}

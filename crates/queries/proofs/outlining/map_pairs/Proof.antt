@@ -9,9 +9,9 @@ use denote.Ref.{now}
 use lib.ListN.{length}
 use lib.Seq.{length-take-le}
 use Rattle.foundation.specs.BitMasks.{bit}
-use Rattle.sections.specs.SectionWrites.{putBack, back-length, part-long}
+use Rattle.sections.proofs.SectionWrites.{putBack, back-length, part-long}
 use Rattle.reach.specs.Net.{Formed}
-use Rattle.places.specs.ReachedNumbers.{before-le}
+use Rattle.places.specs.ReachedNumbers.{usedBefore-le}
 use Rattle.queries.proofs.Sectioning.{map-moved, twice-number, twice-listed}
 use Rattle.queries.proofs.outlining.map_pairs.Statement.{statement}
 use Rattle.queries.proofs.outlining.map_pairs.Tie as tie
@@ -157,7 +157,7 @@ cast-t29 c =
     omega (
       arith,
       n .number-pairs .ensures .0,
-      before-le need (length need),
+      usedBefore-le need (length need),
       few _ _ _ (s .pre .7),
       y .ensures .2,
     )

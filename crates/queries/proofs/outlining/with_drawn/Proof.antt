@@ -12,8 +12,8 @@ use Rattle.model.specs.declared.Access.{Access}
 use Rattle.model.specs.Base.{Base}
 use Rattle.model.specs.Encoding.{decode}
 use Rattle.sections.specs.Sections.{leftOf, subjectsOf, objectsOf}
-use Rattle.sections.specs.SectionFacts.{lent-rest}
-use Rattle.sections.specs.SectionWrites.{putBack, part-long, in-part}
+use Rattle.foundation.specs.Lists.{lent-rest}
+use Rattle.sections.proofs.SectionWrites.{putBack, part-long, in-part}
 use Rattle.outlines.specs.LeftMasks.{Owned}
 use Rattle.queries.specs.declared.Inquiry.{Inquiry}
 use Rattle.queries.specs.Drawing.{chartFor, ownOf, still-drawn}

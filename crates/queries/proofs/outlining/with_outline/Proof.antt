@@ -7,7 +7,7 @@ use Prim.Native.Nat.{ℕ, _*_}
 use denote.Ref.{now}
 use Rattle.model.specs.Encoding.{decode}
 use Rattle.sections.specs.Sections.{leftOf, feedOf, sidesOf, rightsOf, subjectsOf, objectsOf}
-use Rattle.sections.specs.SectionFacts.{lent-rest}
+use Rattle.foundation.specs.Lists.{lent-rest}
 use Rattle.outlines.specs.Coordinates.{WellFormed}
 use Rattle.queries.specs.Drawing.{RulesDrawn, chartFor}
 use Rattle.queries.specs.Asking.{zeros-blank}

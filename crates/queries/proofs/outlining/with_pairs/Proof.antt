@@ -14,15 +14,15 @@ use Rattle.model.specs.Base.{Base}
 use Rattle.encoding.specs.Format.{ruleAt}
 use Rattle.questions.specs.OperatorSteps.{lasting}
 use Rattle.sections.specs.Sections.{leftOf, firstOf, startsOf, rightsOf, subjectsOf, objectsOf}
-use Rattle.sections.specs.Sections.{numberOf, listedOf}
-use Rattle.sections.specs.SectionFacts.{lent-rest}
-use Rattle.sections.specs.SectionWrites.{putBack, back-length, part-long}
-use Rattle.places.specs.ReachedNumbers.{before-le}
+use Rattle.sections.specs.Sections.{numberedOf, listedOf}
+use Rattle.foundation.specs.Lists.{lent-rest}
+use Rattle.sections.proofs.SectionWrites.{putBack, back-length, part-long}
+use Rattle.places.specs.ReachedNumbers.{usedBefore-le}
 use Rattle.masks.specs.RuleMasks.{Needed, PairCode, RulesIn}
 use Rattle.engine.specs.declared.WindowWalk.{WindowWalk}
 use Rattle.queries.specs.Drawing.{Mapped, chartFor, chart-small, map-small, code-pair, needed-in}
 use Rattle.queries.specs.Asking.{TaskIn, WalkStart, pair-in, pair-few, sketch-formed, lasts-in}
-use Rattle.queries.specs.Asking.{lasts-room, sketch-tabled, finds-answers, part-blank, pairs-few}
+use Rattle.queries.specs.Asking.{lasts-room, sketch-tabled, finds-answers, part-blank, sketch-few}
 use Rattle.queries.specs.Starting.{GroundIn}
 use Rattle.queries.proofs.Sectioning.{listed-at, needed-listed, laid-long, laid-front, laid-first}
 use Rattle.queries.proofs.Sectioning.{laid-starts, front-left, front-feed, ground-moved}
@@ -142,7 +142,7 @@ mapped : (c : tie.After-map-pairs) →
     (let s = start c in
     Mapped (chartFor (subjectsOf (now (s .args .coordinates)))
     (objectsOf (now (s .args .coordinates))) (s .args .k .extent)) (leftOf (now (s .args .outline)))
-    (rightsOf (now (s .args .coordinates))) (needed c) (numberOf (length (needed c)) (numbered c))
+    (rightsOf (now (s .args .coordinates))) (needed c) (numberedOf (length (needed c)) (numbered c))
     (listedOf (length (needed c)) (numbered c)) (c .map-pairs .result))
 mapped c =
     let s = start c in
@@ -150,7 +150,7 @@ mapped c =
     (objectsOf (now (s .args .coordinates)))
 
 few-pairs : (c : tie.After-map-pairs) → c .map-pairs .result .pairs ≤ length (needed c)
-few-pairs c = omega (arith, mapped c .grid .2, before-le (needed c) (length (needed c)))
+few-pairs c = omega (arith, mapped c .grid .2, usedBefore-le (needed c) (length (needed c)))
 
 part-needed-rules-end : tie.Need-part-needed-rules-end
 part-needed-rules-end c =
@@ -160,7 +160,7 @@ part-needed-rules-end c =
 mul-needed-rules : tie.Need-mul-needed-rules
 mul-needed-rules c =
     let s = start (c .before .before .before .before .before .before .before) in
-    omega (arith, s .pre .2, pairs-few (s .pre .4 .1 .sketch))
+    omega (arith, s .pre .2, sketch-few (s .pre .4 .1 .sketch))
 
 sub-needed-rules-2 : tie.Need-sub-needed-rules-2
 sub-needed-rules-2 c =
@@ -369,7 +369,7 @@ cast-t32 c =
       arith,
       getD-take (length (needed y)) (numbered y) at 0 (pair-there y),
       mapped y .numbers .1 at (pair-there y),
-      before-le (needed y) at,
+      usedBefore-le (needed y) at,
       pair-few (s .pre .4 .1 .sketch),
     )
 

@@ -6,7 +6,7 @@ use mathlib.Core.List.{List}
 use Prim.Native.Nat.{ℕ, _*_}
 use denote.Ref.{now}
 use lib.ListN.{length, take, drop}
-use Rattle.sections.specs.SectionWrites.{putBack, part-long, zero-part, back-length}
+use Rattle.sections.proofs.SectionWrites.{putBack, part-long, zero-part, back-length}
 use Rattle.queries.proofs.Handing.{second-in, third-in, handed-long, put-together}
 use Rattle.queries.proofs.prepared.draw_words.Statement.{statement}
 use Rattle.queries.proofs.prepared.draw_words.Tie as tie

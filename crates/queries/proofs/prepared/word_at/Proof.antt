@@ -1,7 +1,7 @@
 use borrow.Author.Needs.{needs}
 use native.Mathlib.Omega.{arith}
 use denote.Ref.{now}
-use Rattle.fields.proofs.ByteLaws.{le-add-at}
+use Rattle.foundation.specs.BytesFacts.{le-add-at}
 use Rattle.queries.proofs.prepared.word_at.Statement.{statement}
 use Rattle.queries.proofs.prepared.word_at.Tie as tie
 

@@ -1,42 +1,23 @@
 -- The fields have room in the words, and the bits behind them.
 use borrow.Author.Needs.{needs}
-use denote.Ref.{now}
-use Rattle.queries.specs.Starting.{begun-roomy, begun-walk}
+use Rattle.queries.proofs.TableWalks.{walk-ready, walk-finds}
 use Rattle.queries.proofs.sizes.walk_wide.Statement.{statement}
 use Rattle.queries.proofs.sizes.walk_wide.Tie as tie
 
 walk-windows-requires : tie.Need-walk-windows-requires
 walk-windows-requires c κs =
-    let s = c .before .before .before .before .before .before .before .before .before .before .before .before
-    .before .before .before .before in
-    let r = c .before .before .before .before .sized in
-    let e = c .before .before .before .before .before .broken-words .ensures in
-    let p = s .pre in
-    let work = now (s .args .work) in
-    let w = begun-walk (p .0) work (p .1 .0) (p .2) (r .result) (rw e at (r .ensures)) (p .3 .2) in (
-      begun-roomy (p .0) work (p .1 .0) (p .2) (r .result) (rw e at (r .ensures)),
-      (
-        w .small,
-        p .3 .1,
-        w .walks,
-      ),
-    )
+    let d = c .before .before .before .before in
+    let b = d .before in
+    let s = b .before .before .before .before .before .before .before .before .before .before .before in
+    walk-ready _ (s .pre) (b .broken-words .ensures) (d .sized .ensures)
 
 returns : tie.Need-returns
 returns c =
-    let s = c .before .before .before .before .before .before .before .before .before .before .before .before
-    .before .before .before .before .before .before .before .before .before .before .before .before .before in
-    let y = c .before .before .before .before .before .before .before .before .walk-windows in
-    let r = c .before .before .before .before .before .before .before .before .before .before .before .before
-    .before .sized in
-    let e = c .before .before .before .before .before .before .before .before .before .before .before .before
-    .before .before .broken-words .ensures in
-    let p = s .pre in
-    let work = now (s .args .work) in (
-      λ base x b. let w = begun-walk (p .0) work (p .1 .0) (p .2) (r .result) (rw e at (r .ensures)) b in
-          w .found (y .result) (now (s .args .list)) _ (y .ensures .0 (w .small) x (w .walks)),
-      y .ensures .1,
-    )
+    let y = c .before .before .before .before .before .before .before .before in
+    let d = y .before .before .before .before .before in
+    let b = d .before in
+    let s = b .before .before .before .before .before .before .before .before .before .before .before in
+    walk-finds _ (s .pre) (b .broken-words .ensures) (d .sized .ensures) (y .walk-windows .ensures)
 
 pub walk-wide-spec : {M : Type 1} → statement M
 walk-wide-spec =

@@ -1,25 +1,11 @@
 -- `kind_at` meets its contract: one field, read by its bytes.
-use mathlib.Core.Path.{refl}
-use denote.Ref.{now}
 use borrow.Author.Needs.{needs}
-use Rattle.model.specs.Text.{oneOf, grammar}
-use Rattle.reading.specs.ParsedLines.{readerFor}
 use Rattle.reading.proofs.FieldReaders.{field-read}
 use Rattle.reading.proofs.places.kind_at.Statement.{statement}
 use Rattle.reading.proofs.places.kind_at.Tie as tie
-
-returns : tie.Need-returns
-returns c =
-    let f = c .before .before .before in
-    let a = f .before .before .args in
-    field-read (oneOf grammar) (now (a .s)) (a .at) (f .field-bounds .result .from)
-    (f .field-bounds .result .to)
-    (c .before .read-kind .result .known) (readerFor (c .before .read-kind .result .value))
-    (c .behind .result)
-    (f .field-bounds .ensures) refl (c .before .read-kind .ensures) (c .behind .ensures)
 
 pub kind-at-spec : {M : Type 1} → statement M
 kind-at-spec =
     tie.close
     (tie.spec (λ c κs. search needs) (λ c. search needs) (λ c. search needs) (λ c. search needs)
-    (λ c κs. search needs) (λ c κs. search needs) returns)
+    (λ c κs. search needs) (λ c κs. search needs) (λ c. search field-read))

@@ -16,7 +16,7 @@ use Rattle.model.specs.Stratification.{stratified}
 use Rattle.fields.specs.Field.{splice}
 use Rattle.encoding.specs.Format.{rulesAt, rulesIn}
 use Rattle.refusals.proofs.AskedFacts.{rule-request-in}
-use Rattle.lookup.proofs.SoundBodies.{lent, Fitting, fitting, there, rules-lent}
+use Rattle.encoding.proofs.SoundBodies.{lent, Fitting, fitting, there, rules-lent}
 use Rattle.refusals.proofs.ByKind.{strata-rule, strata-none}
 use Rattle.refusals.proofs.Added.{added-rules}
 use Rattle.refusals.proofs.circles.not_stratified.Statement.{statement}

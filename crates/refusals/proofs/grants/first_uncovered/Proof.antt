@@ -16,7 +16,7 @@ use Rattle.model.specs.Requests.{grants, newHead}
 use Rattle.encoding.specs.Format.{authorizationsAt}
 use Rattle.cover.specs.Gaps.{GapIs}
 use Rattle.refusals.proofs.AskedFacts.{GrantIn, grant-in, no-grant, in-control, uncovered-is}
-use Rattle.lookup.proofs.SoundBodies.{fitting, there, authorizations-lent}
+use Rattle.encoding.proofs.SoundBodies.{fitting, there, authorizations-lent}
 use Rattle.refusals.proofs.grants.first_uncovered.Statement.{statement}
 use Rattle.refusals.proofs.grants.first_uncovered.Tie as tie
 

@@ -6,7 +6,7 @@ use denote.Ref.{now}
 use lib.Dec.{eqb}
 use Rattle.foundation.specs.Tests.{pick}
 use Rattle.foundation.specs.CoordinateTables.{coordinate}
-use Rattle.sections.specs.SectionWrites.{in-part}
+use Rattle.sections.proofs.SectionWrites.{in-part}
 use Rattle.relevance.proofs.choice.cell_of.Statement.{statement}
 use Rattle.relevance.proofs.choice.cell_of.Tie as tie
 

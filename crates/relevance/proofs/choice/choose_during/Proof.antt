@@ -24,26 +24,8 @@ Inv-loop lines total x asked coordinates stride need which₀ n₀ i₀ which n 
 abbrev μ-loop : tie.MeasureT-loop
 μ-loop lines total x asked coordinates stride need which₀ n₀ i₀ which n i = total - i
 
-loop-holds : tie.Need-loop-holds Inv-loop μ-loop
-loop-holds c =
-    let a = c .before .before .before .before .args in
-    chose-start (isChosen (a .asked) (subjectsOf (now (a .coordinates))) (objectsOf (now (a .coordinates)))
-    (a .x) (a .stride) (now (a .need))) (now (a .lines)) (a .total) (now (a .which))
-
 mul-authorization-at : tie.Need-mul-authorization-at Inv-loop μ-loop
-mul-authorization-at c =
-    let b = c .before .before .before .before .before .before in
-    omega (
-      arith,
-      number-inside (c .before .loop .i) (b .args .total) (now (b .args .lines)) (omega arith)
-          (b .pre .0 .bytes),
-    )
-
-authorization-at-requires : tie.Need-authorization-at-requires Inv-loop μ-loop
-authorization-at-requires c κs =
-    let b = c .before .before .before .before .before .before in
-    number-inside (c .before .loop .i) (b .args .total) (now (b .args .lines)) (omega arith)
-    (b .pre .0 .bytes)
+mul-authorization-at c = omega (arith, c .before .before .before .before .before .before .pre .0 .bytes)
 
 -- the test of the instants is passed
 cast-which : tie.Need-cast-which Inv-loop μ-loop
@@ -105,20 +87,10 @@ loop-again c =
     (a .stride) (now (a .need)) (r .result)) (w .0 .left))))
     (c .if1 .came)
 
-same-length : tie.Need-same-length Inv-loop μ-loop
-same-length c = c .before .loop .inv .same-length
-
-returns : tie.Need-returns Inv-loop μ-loop
-returns c =
-    let a = c .before .before .before .before .before .before .args in
-    let l = c .before .loop in
-    chose-end (isChosen (a .asked) (subjectsOf (now (a .coordinates))) (objectsOf (now (a .coordinates)))
-    (a .x) (a .stride) (now (a .need))) (now (a .lines)) (a .total) (now (a .which)) (l .which) (l .n)
-    (l .i) (l .inv) (omega arith)
-
 pub choose-during-spec : {M : Type 1} → statement M
 choose-during-spec =
     tie.close
-    (tie.spec Inv-loop μ-loop loop-holds mul-authorization-at authorization-at-requires cast-which
-    (λ c. search needs) slice-write-which cell-of-requires is-needed-requires counted-requires
-    (λ c. search needs) (λ c. search needs) loop-again same-length returns)
+    (tie.spec Inv-loop μ-loop (λ c. search chose-start) mul-authorization-at
+    (λ c κs. search (number-inside, needs)) cast-which (λ c. search needs) slice-write-which
+    cell-of-requires is-needed-requires counted-requires (λ c. search needs) (λ c. search needs) loop-again
+    (λ c. search needs) (λ c. search (chose-end, needs)))

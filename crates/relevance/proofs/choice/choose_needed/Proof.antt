@@ -25,26 +25,8 @@ Inv-loop lines total x coordinates stride need which₀ n₀ i₀ which n i =
 abbrev μ-loop : tie.MeasureT-loop
 μ-loop lines total x coordinates stride need which₀ n₀ i₀ which n i = total - i
 
-loop-holds : tie.Need-loop-holds Inv-loop μ-loop
-loop-holds c =
-    let a = c .before .before .before .before .args in
-    chose-start (isChosen ever (subjectsOf (now (a .coordinates))) (objectsOf (now (a .coordinates)))
-    (a .x) (a .stride) (now (a .need))) (now (a .lines)) (a .total) (now (a .which))
-
 mul-authorization-at : tie.Need-mul-authorization-at Inv-loop μ-loop
-mul-authorization-at c =
-    let b = c .before .before .before .before .before .before in
-    omega (
-      arith,
-      number-inside (c .before .loop .i) (b .args .total) (now (b .args .lines)) (omega arith)
-          (b .pre .0 .bytes),
-    )
-
-authorization-at-requires : tie.Need-authorization-at-requires Inv-loop μ-loop
-authorization-at-requires c κs =
-    let b = c .before .before .before .before .before .before in
-    number-inside (c .before .loop .i) (b .args .total) (now (b .args .lines)) (omega arith)
-    (b .pre .0 .bytes)
+mul-authorization-at c = omega (arith, c .before .before .before .before .before .before .pre .0 .bytes)
 
 cast-which : tie.Need-cast-which Inv-loop μ-loop
 cast-which c =
@@ -90,20 +72,10 @@ loop-again c =
     (during-all (r .result) (omega (arith, r .ok))) (k .ensures .0) (c .before .is-needed .ensures)
     (c .counted .ensures)
 
-same-length : tie.Need-same-length Inv-loop μ-loop
-same-length c = c .before .loop .inv .same-length
-
-returns : tie.Need-returns Inv-loop μ-loop
-returns c =
-    let a = c .before .before .before .before .before .before .args in
-    let l = c .before .loop in
-    chose-end (isChosen ever (subjectsOf (now (a .coordinates))) (objectsOf (now (a .coordinates)))
-    (a .x) (a .stride) (now (a .need))) (now (a .lines)) (a .total) (now (a .which)) (l .which) (l .n)
-    (l .i) (l .inv) (omega arith)
-
 pub choose-needed-spec : {M : Type 1} → statement M
 choose-needed-spec =
     tie.close
-    (tie.spec Inv-loop μ-loop loop-holds mul-authorization-at authorization-at-requires cast-which
-    (λ c. search needs) slice-write-which cell-of-requires is-needed-requires counted-requires
-    (λ c. search needs) (λ c. search needs) loop-again same-length returns)
+    (tie.spec Inv-loop μ-loop (λ c. search chose-start) mul-authorization-at
+    (λ c κs. search (number-inside, needs)) cast-which (λ c. search needs) slice-write-which
+    cell-of-requires is-needed-requires counted-requires (λ c. search needs) (λ c. search needs) loop-again
+    (λ c. search needs) (λ c. search (chose-end, needs)))

@@ -14,8 +14,8 @@ use Rattle.model.specs.declared.Authorization.{Authorization}
 use Rattle.model.specs.Encoding.{authorizationOf}
 use Rattle.model.specs.Report.{isOn}
 use Rattle.foundation.specs.ByteRecords.{rest-all, rest-end}
-use Rattle.encoding.specs.Format.{authorizationsIn}
-use Rattle.report.proofs.Adding.{left, count-next}
+use Rattle.encoding.specs.Format.{authorizationsIn, authorizationsFrom}
+use Rattle.report.proofs.Adding.{count-next}
 use Rattle.report.proofs.sheet.count_on.Statement.{statement}
 use Rattle.report.proofs.sheet.count_on.Tie as tie
 
@@ -25,7 +25,7 @@ on o xs = length (keepIf (isOn o) xs)
 
 abbrev Inv-loop : tie.InvT-loop
 Inv-loop lines n object k₀ i₀ k i =
-    (i ≤ n) × (k ≤ i) × (k + on object (left n lines i) ≡ on object (authorizationsIn n lines))
+    (i ≤ n) × (k ≤ i) × (k + on object (authorizationsFrom n lines i) ≡ on object (authorizationsIn n lines))
 
 abbrev μ-loop : tie.MeasureT-loop
 μ-loop lines n object k₀ i₀ k i = n - i

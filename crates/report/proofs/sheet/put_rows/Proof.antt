@@ -16,17 +16,19 @@ use Rattle.model.specs.Encoding.{authorizationOf}
 use Rattle.model.specs.Soundness.{authorizationIn}
 use Rattle.model.specs.Report.{rowsOn}
 use Rattle.foundation.specs.ByteRecords.{rest-all, rest-end, all-step}
-use Rattle.encoding.specs.Format.{authorizationsIn}
+use Rattle.foundation.specs.BytesFacts.{rest-behind}
+use Rattle.encoding.specs.Format.{authorizationsIn, authorizationsFrom}
 use Rattle.printing.proofs.Placed.{printed-room}
-use Rattle.report.proofs.Adding.{left, rowOf, rows-next, put-before, put-behind, alike-behind}
+use Rattle.report.proofs.Adding.{rowOf, rows-next, put-before, put-behind}
 use Rattle.report.proofs.sheet.put_rows.Statement.{statement}
 use Rattle.report.proofs.sheet.put_rows.Tie as tie
 
 abbrev Inv-loop : tie.InvT-loop
 Inv-loop lines n object page₀ at₀ i₀ page at i =
     (i ≤ n) × (at ≤ length page) × (length page ≡ length page₀)
-    × (allb authorizationIn (left n lines i) ≡ true)
-    × (take at page ++ rowsOn object (left n lines i) ≡ rowsOn object (authorizationsIn n lines))
+    × (allb authorizationIn (authorizationsFrom n lines i) ≡ true)
+    × (take at page ++ rowsOn object (authorizationsFrom n lines i)
+    ≡ rowsOn object (authorizationsIn n lines))
     × (drop at page ≡ drop at page₀)
 
 abbrev μ-loop : tie.MeasureT-loop
@@ -48,12 +50,13 @@ loop-holds c =
 ranges : (c : tie.After-authorization-at Inv-loop μ-loop) → (let l = c .before .before in
     let a = l .before .before .before .args in
     (authorizationIn (c .authorization-at .result) ≡ true)
-    × (allb authorizationIn (left (a .n) (now (a .lines)) (l .loop .i + 1)) ≡ true))
+    × (allb authorizationIn (authorizationsFrom (a .n) (now (a .lines)) (l .loop .i + 1)) ≡ true))
 ranges c =
     let l = c .before .before in
     let a = l .before .before .before .args in
     let x = c .authorization-at .result in
-    and-true (authorizationIn x) (allb authorizationIn (left (a .n) (now (a .lines)) (l .loop .i + 1)))
+    and-true (authorizationIn x)
+    (allb authorizationIn (authorizationsFrom (a .n) (now (a .lines)) (l .loop .i + 1)))
     (sym (all-step 24 authorizationOf authorizationIn (a .n) (now (a .lines)) (l .loop .i) (authorizationIn x)
     (omega arith) (ap authorizationIn (sym (c .authorization-at .ensures)))) ∙ l .loop .inv .3)
 
@@ -61,9 +64,9 @@ ranges c =
 next : (c : tie.After-is-on Inv-loop μ-loop) → (let r = c .before .before in
     let l = r .before .before in
     let a = l .before .before .before .args in
-    rowsOn (a .object) (left (a .n) (now (a .lines)) (l .loop .i))
+    rowsOn (a .object) (authorizationsFrom (a .n) (now (a .lines)) (l .loop .i))
     ≡ rowOf (c .is-on .result) (r .authorization-at .result)
-    ++ rowsOn (a .object) (left (a .n) (now (a .lines)) (l .loop .i + 1)))
+    ++ rowsOn (a .object) (authorizationsFrom (a .n) (now (a .lines)) (l .loop .i + 1)))
 next c =
     let r = c .before .before in
     let l = r .before .before in
@@ -81,7 +84,7 @@ room c =
     let start = l .before .before .before in
     let a = start .args in
     let row = rowOf (c .is-on .result) (r .authorization-at .result) in
-    let rest = rowsOn (a .object) (left (a .n) (now (a .lines)) (l .loop .i + 1)) in
+    let rest = rowsOn (a .object) (authorizationsFrom (a .n) (now (a .lines)) (l .loop .i + 1)) in
     let front = take (l .loop .at) (l .loop .page) in
     omega (
       arith,
@@ -106,7 +109,7 @@ loop-again c =
     let p = put .put-if .ensures in
     let h = room on in
     let same = printed-room p h in
-    let rest = rowsOn (a .object) (left (a .n) (now (a .lines)) (l .loop .i + 1)) in (
+    let rest = rowsOn (a .object) (authorizationsFrom (a .n) (now (a .lines)) (l .loop .i + 1)) in (
       search needs,
       omega (arith, p .ends, same, h),
       same ∙ l .loop .inv .2,
@@ -117,7 +120,7 @@ loop-again c =
           ∙ ap (λ (x : List ℕ). take (l .loop .at) (l .loop .page) ++ x) (sym (next on))
           ∙ l .loop .inv .4,
       put-behind p h
-          ∙ alike-behind (l .loop .at) (put .put-if .result) (l .loop .page) (now (a .page))
+          ∙ rest-behind (now (a .page)) (l .loop .page) (l .loop .at) (put .put-if .result)
           (omega (arith, p .ends))
           (l .loop .inv .5),
     )

@@ -11,7 +11,7 @@ use Rattle.model.specs.Ranges.{isObject}
 use Rattle.model.specs.EncodingFacts.{sound-length}
 use Rattle.model.specs.Report.{rowsOn}
 use Rattle.encoding.specs.Format.{authorizationsAt}
-use Rattle.lookup.proofs.SoundBodies.{authorizations-in, fitting, there, authorizations-lent}
+use Rattle.encoding.proofs.SoundBodies.{authorizations-in, fitting, there, authorizations-lent}
 use Rattle.report.specs.Sheet.{sheetFilled}
 use Rattle.report.proofs.SheetByRows.{report-range, report-unknown, report-filled}
 use Rattle.report.proofs.sheet.report_sound.Statement.{statement}

@@ -14,8 +14,8 @@ use Rattle.model.specs.declared.Request.{Request}
 use Rattle.model.specs.Encoding.{decode}
 use Rattle.model.specs.EncodingFacts.{sound-length}
 use Rattle.model.specs.Soundness.{soundBytes}
-use Rattle.model.specs.SoundnessFacts.{sound-bytes, sound-tests}
-use Rattle.model.specs.Requests.{labels, withdraws}
+use Rattle.model.specs.SoundnessFacts.{decoded-sound}
+use Rattle.model.specs.Requests.{labels, withdraws, grants}
 use Rattle.model.specs.Means.{plainly}
 use Rattle.model.specs.Step.{full}
 use Rattle.encoding.specs.declared.Counts.{Counts}
@@ -27,25 +27,26 @@ use Rattle.requests.proofs.room.no_room.Statement.{statement}
 use Rattle.requests.proofs.room.no_room.Tie as tie
 
 -- what the code asks
-abbrev asked : ℕ → Counts → Bool → ℕ → Bool
-asked k c labelling last =
+abbrev asked : ℕ → Counts → Bool → Bool → ℕ → Bool
+asked k c granting labelling last =
     (eqb k 1 && leb 128 (c .objects))
     || (eqb k 9 && leb 128 (c .administrators))
     || (eqb k 11 && leb 128 (c .referrers))
-    || ((eqb k 2 || eqb k 3) && leb 1024 (c .authorizations))
+    || (granting && leb 1024 (c .authorizations))
     || (eqb k 7 && leb 64 (c .rules))
     || (labelling && leb 65535 last)
 
 asked-is : (s : List ℕ) (q : Request) → soundBytes s ≡ true → withdraws q ≡ false →
-    (c : Counts) → c ≡ countsOf s → (l : Bool) → l ≡ labels q → (n : ℕ) → n ≡ le 2 (drop 8 s) →
-    asked (q .kind) c l n ≡ full plainly (decode s) q
-asked-is s q e w c ec l el n en =
+    (c : Counts) → c ≡ countsOf s → (g : Bool) → g ≡ grants q → (l : Bool) → l ≡ labels q →
+    (n : ℕ) → n ≡ le 2 (drop 8 s) →
+    asked (q .kind) c g l n ≡ full plainly (decode s) q
+asked-is s q e w c ec g eg l el n en =
     let b = decode s in
     let d = decoded-lengths s in
-    let a : asked (q .kind) (countsOf s) (labels q) (decode s .last) ≡ noRoom (decode s) q =
+    let a : asked (q .kind) (countsOf s) (grants q) (labels q) (decode s .last) ≡ noRoom (decode s) q =
     rw (d .0, d .1, d .2, d .3, d .4) (simp or-false) in
-    (λ i. asked (q .kind) (ec i) (el i) (last-read s n en i)) ∙ a
-    ∙ sym (room-is b q (sound-tests b (sound-bytes s e .1) .counts) w)
+    (λ i. asked (q .kind) (ec i) (eg i) (el i) (last-read s n en i)) ∙ a
+    ∙ sym (room-is b q (decoded-sound s e .counts) w)
 
 counts-of-requires : tie.Need-counts-of-requires
 counts-of-requires c κs = omega (arith, sound-length (now (c .before .args .s)) (c .before .pre .0))
@@ -59,12 +60,14 @@ le16-requires c κs = omega (
 
 returns : tie.Need-returns
 returns c =
-    let n = c .before .before .before .before .before .before in
+    let g = c .before .before .before in
+    let n = g .before .before .before .before in
     let k = n .before in
     let d = k .before .before in
     asked-is (now (d .args .s)) (d .args .q) (d .pre .0) (d .pre .1) (k .counts-of .result)
-    (k .counts-of .ensures)
+    (k .counts-of .ensures) (g .is-grant .result) (g .is-grant .ensures)
     (c .is-labelling .result) (c .is-labelling .ensures) (n .le16 .result) (n .le16 .ensures)
 
 pub no-room-spec : {M : Type 1} → statement M
-no-room-spec = tie.close (tie.spec counts-of-requires le16-requires (λ c κs. search needs) returns)
+no-room-spec = tie.close
+    (tie.spec counts-of-requires le16-requires (λ c κs. search needs) (λ c κs. search needs) returns)

@@ -3,7 +3,7 @@ use borrow.Author.Needs.{needs}
 use native.Mathlib.Omega.{arith}
 use native.Mathlib.Numerals.{add-one}
 use mathlib.Core.Path.{_≡_, refl, sym, ap, _∙_}
-use Prim.Native.Nat.{ℕ, _+_, _-_, _/_, _%_, _≤_, max}
+use Prim.Native.Nat.{ℕ, _+_, _-_, _/_, _%_, _≤_, _<_, max}
 use lib.ListN.{getD}
 use denote.Ref.{now}
 use Rattle.rules.specs.Edges.{bestOf}
@@ -11,35 +11,49 @@ use Rattle.rules.proofs.ranks.best_of.Statement.{statement}
 use Rattle.rules.proofs.ranks.best_of.Tie as tie
 
 abbrev Inv-loop : tie.InvT-loop
-Inv-loop edges at c l own best₀ e₀ best e = (e ≤ c) × (best ≡ bestOf e (λ k. getD edges (at + k) 0) l own)
+Inv-loop edges at c l own best₀ e₀ best e =
+    (e ≤ c) × (best < 65536) × (best ≡ bestOf e (λ k. getD edges (at + k) 0) l own)
 
 abbrev μ-loop : tie.MeasureT-loop
 μ-loop edges at c l own best₀ e₀ best e = c - e
 
 loop-holds : tie.Need-loop-holds Inv-loop μ-loop
-loop-holds c = (omega arith, refl)
+loop-holds c = (omega arith, search needs, refl)
 
-cast-larger-of-2 : tie.Need-cast-larger-of-2 Inv-loop μ-loop
-cast-larger-of-2 c =
+cast-y-2 : tie.Need-cast-y-2 Inv-loop μ-loop
+cast-y-2 c =
     let l = c .before .before in
     omega (arith, l .before .pre .1 (l .loop .e) (search needs) .0)
 
-mul-larger-of : tie.Need-mul-larger-of Inv-loop μ-loop
-mul-larger-of c =
+mul-y : tie.Need-mul-y Inv-loop μ-loop
+mul-y c =
     let l = c .before .before in
     omega (arith, l .before .pre .1 (l .loop .e) (search needs) .0)
 
-element-copy-out-larger-of : tie.Need-element-copy-out-larger-of Inv-loop μ-loop
-element-copy-out-larger-of c =
+element-copy-out-y : tie.Need-element-copy-out-y Inv-loop μ-loop
+element-copy-out-y c =
     let i = c .before in
     let l = i .before in
     omega (arith, l .before .pre .1 (l .loop .e) (search needs) .0)
 
-add-larger-of : tie.Need-add-larger-of Inv-loop μ-loop
-add-larger-of c =
+add-y : tie.Need-add-y Inv-loop μ-loop
+add-y c =
     let i = c .before .before in
     let l = i .before in
     omega (arith, l .before .pre .1 (l .loop .e) (search needs) .1)
+
+cast-larger : tie.Need-cast-larger Inv-loop μ-loop
+cast-larger c = search needs
+
+cast-larger-2 : tie.Need-cast-larger-2 Inv-loop μ-loop
+cast-larger-2 c =
+    let l = c .before .before .before in
+    omega (arith, l .before .pre .1 (l .loop .e) (search needs) .1)
+
+cast-best : tie.Need-cast-best Inv-loop μ-loop
+cast-best c =
+    let l = c .before .before .before .before in
+    omega (arith, c .larger .ensures, l .loop .inv .1, l .before .pre .1 (l .loop .e) (search needs) .1)
 
 loop-again : tie.Need-loop-again Inv-loop μ-loop
 loop-again c =
@@ -48,8 +62,9 @@ loop-again c =
     let row : ℕ → ℕ = λ k. getD (now (a .edges)) (a .at + k) 0 in
     let e = l .loop .e in (
       search needs,
-      c .larger-of .ensures
-          ∙ ap (λ (b : ℕ). max b (row e % 3 + getD (now (a .l)) (row e / 3) 0)) (l .loop .inv .1)
+      omega (arith, c .larger .ensures, l .loop .inv .1, l .before .pre .1 e (search needs) .1),
+      c .larger .ensures
+          ∙ ap (λ (b : ℕ). max b (row e % 3 + getD (now (a .l)) (row e / 3) 0)) (l .loop .inv .2)
           ∙ ap (λ (k : ℕ). bestOf k row (now (a .l)) (a .own)) (sym (add-one e)),
     )
 
@@ -58,12 +73,12 @@ returns c =
     let l = c .before in
     let a = l .before .args in
     let e : l .loop .e ≡ a .c = omega (arith, l .loop .inv .0) in
-    l .loop .inv .1 ∙ ap (λ (k : ℕ). bestOf k (λ k. getD (now (a .edges)) (a .at + k) 0) (now (a .l))
+    l .loop .inv .2 ∙ ap (λ (k : ℕ). bestOf k (λ k. getD (now (a .edges)) (a .at + k) 0) (now (a .l))
     (a .own)) e
 
 pub best-of-spec : {M : Type 1} → statement M
 best-of-spec =
     tie.close
     (tie.spec Inv-loop μ-loop loop-holds (λ c. search needs) (λ c. search needs) (λ c. search needs)
-    cast-larger-of-2 mul-larger-of element-copy-out-larger-of add-larger-of (λ c κs. search needs)
+    cast-y-2 mul-y element-copy-out-y add-y cast-larger cast-larger-2 (λ c κs. search needs) cast-best
     (λ c. search needs) (λ c. search needs) loop-again returns)

@@ -4,7 +4,7 @@ use mathlib.Core.Path.{_≡_, refl, sym, _∙_}
 use mathlib.Core.Bool.{Bool, true, false, not, _&&_, true≢false}
 use denote.Ref.{now}
 use Rattle.foundation.specs.Tests.{and-true, not-true}
-use Rattle.scan.proofs.RunFacts.{same, opens, closed}
+use Rattle.scan.proofs.RunFacts.{same, opens, closed-run}
 use Rattle.scan.proofs.runs.note.Statement.{statement}
 use Rattle.scan.proofs.runs.note.Tie as tie
 
@@ -45,7 +45,7 @@ returns-2 c =
     let d = c .before .before .before .before .before in
     let a = d .before .before .before .before .before .args in
     let z = ends d in (
-      λ f e lent r q h. closed f e lent (a .t) (a .w) (now (a .list)) r (z .1) h (sym q ∙ z .0) _
+      λ f e lent r q h. closed-run f e lent (a .t) (a .w) (now (a .list)) r (z .1) h (sym q ∙ z .0) _
           (c .before .before .before .put-run .ensures),
       search needs,
     )

@@ -1,27 +1,28 @@
 -- The loop's invariant: the rules passed that are selected stand at the front.
 use borrow.Author.Needs.{needs}
 use native.Mathlib.Omega.{arith}
-use mathlib.Core.Path.{_≡_, sym, ap, _∙_}
+use mathlib.Core.Path.{_≡_, refl, sym, ap, _∙_}
 use mathlib.Core.Bool.{true}
 use mathlib.Core.List.{List, [], _∷_, _++_}
 use Prim.Native.Nat.{ℕ, _+_, _*_, _-_, _≤_, _<_}
 use denote.Ref.{now}
 use lib.ListN.{length, take, drop, length-drop}
 use lib.Seq.{length-take-le}
+use Rattle.foundation.specs.Lists.{lent-rest}
 use Rattle.foundation.specs.Tests.{cases}
 use Rattle.foundation.specs.BitMasks.{bit}
 use Rattle.fields.specs.Field.{splice}
 use Rattle.fields.proofs.ByteLaws.{length-splice}
 use Rattle.model.specs.declared.Rule.{Rule}
 use Rattle.encoding.specs.Format.{rulesIn, ruleAt}
-use Rattle.selection.proofs.SelectedLoop.{upTo, up-same, up-turn, copied, lent}
+use Rattle.selection.proofs.SelectedLoop.{rulesUpTo, up-same, up-turn, rule-copied}
 use Rattle.selection.proofs.ranking.select.Statement.{statement}
 use Rattle.selection.proofs.ranking.select.Tie as tie
 
 abbrev Inv-loop : tie.InvT-loop
 Inv-loop body n needed few₀ k₀ r₀ few k r =
     (r ≤ 64) × (r < 64 → bit r needed ≡ true) × (length few ≡ 1792) × (k ≤ r)
-    × (rulesIn k few ≡ upTo needed body r)
+    × (rulesIn k few ≡ rulesUpTo needed body r)
 
 abbrev μ-loop : tie.MeasureT-loop
 μ-loop body n needed few₀ k₀ r₀ few k r = 64 - r
@@ -54,7 +55,7 @@ copy-requires c κs =
         arith,
         p .2 (l .r) (l .inv .1 (omega arith)),
         p .1,
-        ap length (lent body (l .r * 28)),
+        ap length (lent-rest (l .r * 28) body),
         length-drop (l .r * 28) body,
       ),
     )
@@ -70,14 +71,14 @@ loop-again c =
     let x = l .inv .1 (omega arith) in
     let v : 28 ≤ length t = omega (arith, s .pre .2 (l .r) x, s .pre .1, length-drop (l .r * 28) body) in
     let w : c .before .copy .last .0 ≡ splice (l .k * 28) (take 28 t) (l .few) = c .before .copy .ensures
-    ∙ ap (λ (b : List ℕ). splice (l .k * 28) (take 28 b) (l .few)) (lent body (l .r * 28)) in
+    ∙ ap (λ (b : List ℕ). splice (l .k * 28) (take 28 b) (l .few)) (lent-rest (l .r * 28) body) in
     let h : l .k * 28 + 28 ≤ length (l .few) = omega (arith, l .inv .2, l .inv .3) in
     let z : length (take 28 t) ≡ 28 = length-take-le 28 t v in (
       e .1,
       e .3,
       ap length w ∙ length-splice (l .k * 28) (take 28 t) (l .few) (omega arith) ∙ l .inv .2,
       omega (arith, e .0, l .inv .3),
-      ap (rulesIn (l .k + 1)) w ∙ copied (l .k) (l .few) t h v
+      ap (rulesIn (l .k + 1)) w ∙ rule-copied (l .k) (l .few) t h v
           ∙ ap (λ (rs : List Rule). rs ++ (ruleAt body (l .r) ∷ [])) (l .inv .4)
           ∙ sym (up-turn (a .needed) body (l .r) (c .next-bit2 .result) (omega (arith, e .0)) x (e .2)),
     )

@@ -15,7 +15,7 @@ use Rattle.laws.specs.Plain.{Plain, stratum-none}
 use Rattle.encoding.specs.Format.{rulesIn, ruleAt}
 use Rattle.relevance.specs.Chosen.{selected}
 use Rattle.selection.specs.Selection.{position}
-use Rattle.selection.specs.Selected.{rule-selected, selected-rule}
+use Rattle.selection.proofs.Selected.{rule-selected, selected-rule}
 use Rattle.selection.proofs.SelectedLoop.{at-position}
 use Rattle.selection.proofs.ranking.strata_of.Statement.{statement}
 use Rattle.selection.proofs.ranking.strata_of.Tie as tie

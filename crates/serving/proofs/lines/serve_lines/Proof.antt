@@ -16,7 +16,7 @@ use Rattle.serving.proofs.Behind.{PieceFedTo, stands-none, stands-then,
 use Rattle.serving.proofs.lines.serve_lines.Statement.{statement}
 use Rattle.serving.proofs.lines.serve_lines.Tie as tie
 
-pub record Inv (s₀ line₀ : List ℕ) (len : ℕ) (piece : List ℕ) (from : ℕ) (out₀ s line out : List ℕ)
+pub record LinesLoop (s₀ line₀ : List ℕ) (len : ℕ) (piece : List ℕ) (from : ℕ) (out₀ s line out : List ℕ)
     (g : Stepped) : Type 0 where
   pub stands : (pending : List ℕ) → LineKept pending len line₀ → PieceFedTo s₀ pending piece from g s line out
   pub sound : soundBytes s ≡ true
@@ -29,7 +29,7 @@ pub record Inv (s₀ line₀ : List ℕ) (len : ℕ) (piece : List ℕ) (from : 
   pub none : g .at ≡ from → g .n ≡ 0
 
 abbrev Inv-loop : tie.InvT-loop
-Inv-loop s₀ line₀ len piece from out₀ g₀ s line out g = Inv s₀ line₀ len piece from out₀ s line out g
+Inv-loop s₀ line₀ len piece from out₀ g₀ s line out g = LinesLoop s₀ line₀ len piece from out₀ s line out g
 
 abbrev μ-loop : tie.MeasureT-loop
 μ-loop s₀ line₀ len piece from out₀ g₀ s line out g = length piece - g .at

@@ -6,7 +6,7 @@ use Prim.Native.Nat.{_-_}
 use lib.ListN.{length}
 use native.Mathlib.Omega.{arith}
 use borrow.Author.Tests.{eq-eqb, ne-eqb}
-use Rattle.serving.proofs.Walk.{LineWalk, walk-start, walk-byte, walk-ended, walk-whole}
+use Rattle.serving.proofs.Walk.{LineWalk, take-start, walk-byte, walk-ended, walk-whole}
 use Rattle.serving.proofs.taking.take_line.Statement.{statement}
 use Rattle.serving.proofs.taking.take_line.Tie as tie
 
@@ -19,7 +19,7 @@ abbrev μ-loop : tie.MeasureT-loop
 loop-holds : tie.Need-loop-holds Inv-loop μ-loop
 loop-holds c =
     let a = c .before .args in
-    walk-start (a .len) (now (a .line)) (now (a .piece)) (a .from) (search needs) (search needs)
+    take-start (a .len) (now (a .line)) (now (a .piece)) (a .from) (search needs) (search needs)
     (search needs)
 
 returns : tie.Need-returns Inv-loop μ-loop

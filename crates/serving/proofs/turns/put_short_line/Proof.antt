@@ -2,8 +2,8 @@
 use borrow.Author.Needs.{needs}
 use mathlib.Core.Path.{ap}
 use Rattle.model.specs.Text.{printReply}
-use Rattle.text.proofs.ShortFacts.{short-fits, short-runs}
-use Rattle.serving.proofs.ReplyFacts.{printed-as}
+use Rattle.printing.proofs.ShortFacts.{short-fits, short-runs}
+use Rattle.serving.proofs.ReplyFacts.{printedLine-as}
 use Rattle.serving.proofs.turns.put_short_line.Statement.{statement}
 use Rattle.serving.proofs.turns.put_short_line.Tie as tie
 
@@ -15,7 +15,7 @@ returns : tie.Need-returns
 returns c =
     let p = c .before .before in
     let d = p .before .before .before .before in
-    printed-as (ap (printReply (d .args .r)) (short-runs (d .args .r) _ (d .pre .1)))
+    printedLine-as (ap (printReply (d .args .r)) (short-runs (d .args .r) _ (d .pre .1)))
     (p .put-reply-line .ensures)
 
 pub put-short-line-spec : {M : Type 1} → statement M

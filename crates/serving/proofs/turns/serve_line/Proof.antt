@@ -4,7 +4,7 @@ use mathlib.Core.Path.{_≡_, refl, sym, ap, _∙_}
 use denote.Ref.{now}
 use Rattle.model.specs.Text.{readLine}
 use Rattle.reading.specs.ParsedLines.{lineOf, askedOf}
-use Rattle.serving.proofs.ReplyFacts.{turned}
+use Rattle.serving.proofs.ReplyFacts.{line-turned}
 use Rattle.serving.proofs.turns.serve_line.Statement.{statement}
 use Rattle.serving.proofs.turns.serve_line.Tie as tie
 
@@ -20,7 +20,8 @@ returns c =
     let t = u .before .before in
     let r = t .before .before in
     let d = r .before .before .before .before in
-    turned (now (d .args .s)) _ (d .pre .0) (sym (ap lineOf (t .enum-told .given .1)) ∙ r .read-line .ensures)
+    line-turned (now (d .args .s)) _ (d .pre .0) (sym (ap lineOf (t .enum-told .given .1))
+    ∙ r .read-line .ensures)
     (u .put-short-line .ensures) refl
 
 returns-2 : tie.Need-returns-2
@@ -29,7 +30,7 @@ returns-2 c =
     let a = o .before .before .before .before in
     let k = a .before .before in
     let d = k .before .before .before .before .before .before .before in
-    turned (now (d .args .s)) _ (d .pre .0) (sym (ap askedOf (a .a2 .given .1)) ∙ asked k)
+    line-turned (now (d .args .s)) _ (d .pre .0) (sym (ap askedOf (a .a2 .given .1)) ∙ asked k)
     (o .serve-order .ensures .0) (o .serve-order .ensures .1)
 
 returns-3 : tie.Need-returns-3
@@ -38,7 +39,7 @@ returns-3 c =
     let a = m .before .before .before .before in
     let k = a .before .before in
     let d = k .before .before .before .before .before .before .before in
-    turned (now (d .args .s)) _ (d .pre .0) (sym (ap askedOf (a .a3 .given .1)) ∙ asked k)
+    line-turned (now (d .args .s)) _ (d .pre .0) (sym (ap askedOf (a .a3 .given .1)) ∙ asked k)
     (m .serve-may .ensures) refl
 
 returns-4 : tie.Need-returns-4
@@ -47,7 +48,7 @@ returns-4 c =
     let a = w .before .before .before .before in
     let k = a .before .before in
     let d = k .before .before .before .before .before .before .before in
-    turned (now (d .args .s)) _ (d .pre .0) (sym (ap askedOf (a .a4 .given .1)) ∙ asked k)
+    line-turned (now (d .args .s)) _ (d .pre .0) (sym (ap askedOf (a .a4 .given .1)) ∙ asked k)
     (w .serve-when .ensures) refl
 
 pub serve-line-spec : {M : Type 1} → statement M

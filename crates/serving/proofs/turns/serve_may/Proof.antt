@@ -5,8 +5,9 @@ use mathlib.Core.List.{[]}
 use denote.Ref.{now}
 use Rattle.model.specs.declared.Reply.{Reply}
 use Rattle.model.specs.Text.{printReply}
-use Rattle.text.specs.Short.{Short, may-short}
-use Rattle.serving.proofs.ReplyFacts.{printed-as}
+use Rattle.printing.specs.Print.{Short}
+use Rattle.printing.proofs.ShortReplies.{may-short}
+use Rattle.serving.proofs.ReplyFacts.{printedLine-as}
 use Rattle.serving.proofs.turns.serve_may.Statement.{statement}
 use Rattle.serving.proofs.turns.serve_may.Tie as tie
 
@@ -18,7 +19,7 @@ put-short-line-requires c κs =
 returns : tie.Need-returns
 returns c =
     let p = c .before .before in
-    printed-as (ap (λ (r : Reply). printReply r []) (p .before .may-sound .ensures))
+    printedLine-as (ap (λ (r : Reply). printReply r []) (p .before .may-sound .ensures))
     (p .put-short-line .ensures)
 
 pub serve-may-spec : {M : Type 1} → statement M

@@ -5,8 +5,9 @@ use mathlib.Core.List.{[]}
 use denote.Ref.{now}
 use Rattle.model.specs.Answers.{Answer}
 use Rattle.model.specs.Text.{printReply}
-use Rattle.text.specs.Short.{Short, request-short}
-use Rattle.serving.proofs.ReplyFacts.{printed-as}
+use Rattle.printing.specs.Print.{Short}
+use Rattle.printing.proofs.ShortReplies.{request-short}
+use Rattle.serving.proofs.ReplyFacts.{printedLine-as}
 use Rattle.serving.proofs.turns.serve_order.Statement.{statement}
 use Rattle.serving.proofs.turns.serve_order.Tie as tie
 
@@ -23,7 +24,7 @@ returns : tie.Need-returns
 returns c =
     let p = c .before .before in
     let t = p .before .before .before in (
-      printed-as (ap (λ (x : Answer). printReply (x .reply) []) (t .step .ensures))
+      printedLine-as (ap (λ (x : Answer). printReply (x .reply) []) (t .step .ensures))
           (p .put-short-line .ensures),
       ap (λ (x : Answer). x .lent) (t .step .ensures),
     )

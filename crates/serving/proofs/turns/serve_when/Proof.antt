@@ -6,8 +6,8 @@ use Rattle.model.specs.Answers.{Answer}
 use Rattle.model.specs.Text.{printReply}
 use Rattle.model.specs.Session.{runsOf, whenList}
 use Rattle.printing.specs.Print.{RunsFit}
-use Rattle.text.specs.Short.{when-fits}
-use Rattle.serving.proofs.ReplyFacts.{printed-as}
+use Rattle.printing.proofs.ShortReplies.{when-fits}
+use Rattle.serving.proofs.ReplyFacts.{printedLine-as}
 use Rattle.serving.proofs.turns.serve_when.Statement.{statement}
 use Rattle.serving.proofs.turns.serve_when.Tie as tie
 
@@ -25,7 +25,7 @@ unfolding whenList
 returns c =
     let p = c .before .before in
     let w = p .before .before .before .before in
-    printed-as (ap (λ (a : Answer). printReply (a .reply) (runsOf (a .reply) (a .lent)))
+    printedLine-as (ap (λ (a : Answer). printReply (a .reply) (runsOf (a .reply) (a .lent)))
     (w .when-sound .ensures))
     (p .put-reply-line .ensures)
 

@@ -16,8 +16,8 @@ use Rattle.model.specs.Support.{live}
 use Rattle.model.specs.Rules.{fits}
 use Rattle.encoding.specs.Format.{countsOf}
 use Rattle.encoding.proofs.FormatFacts.{decoded-authorizations}
-use Rattle.cover.proofs.CoverFacts.{any-live}
-use Rattle.lookup.proofs.RecordLoops.{AnyFrom, any-starts, any-fails, any-passes, any-ends}
+use Rattle.model.specs.SupportFacts.{any-live}
+use Rattle.foundation.specs.RecordLoops.{AnyFrom, any-starts, any-fails, any-passes, any-ends}
 use Rattle.simple.specs.Stored.{linesFrom}
 use Rattle.simple.proofs.sides.is_granted.Statement.{statement}
 use Rattle.simple.proofs.sides.is_granted.Tie as tie

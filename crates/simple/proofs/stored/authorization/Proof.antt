@@ -8,7 +8,7 @@ use denote.Ref.{now}
 use Rattle.model.specs.Encoding.{authorizationOf}
 use Rattle.model.specs.EncodingFacts.{sound-length}
 use Rattle.encoding.specs.Format.{countsOf, authorizationsAt}
-use Rattle.simple.proofs.StoredPlaces.{placed, line-ends}
+use Rattle.simple.proofs.StoredPlaces.{record-placed, line-ends}
 use Rattle.simple.proofs.stored.authorization.Statement.{statement}
 use Rattle.simple.proofs.stored.authorization.Tie as tie
 
@@ -29,7 +29,7 @@ returns c =
     let n = c .before .before in
     let a = n .before .before .args in
     c .authorization-at .ensures
-    ∙ placed 24 authorizationOf (now (a .s)) (c .before .authorizations-at .result)
+    ∙ record-placed 24 authorizationOf (now (a .s)) (c .before .authorizations-at .result)
     (authorizationsAt (countsOf (now (a .s)))) (a .i)
     (c .before .authorizations-at .ensures ∙ ap authorizationsAt (n .counts-of .ensures))
 

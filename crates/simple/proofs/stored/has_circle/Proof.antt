@@ -7,7 +7,7 @@ use denote.Ref.{now}
 use Rattle.model.specs.EncodingFacts.{sound-length}
 use Rattle.model.specs.Circles.{circular}
 use Rattle.encoding.specs.Format.{countsOf, rulesAt, rulesIn}
-use Rattle.lookup.proofs.SoundBodies.{lent, fitting, there, rules-lent}
+use Rattle.encoding.proofs.SoundBodies.{lent, fitting, there, rules-lent}
 use Rattle.simple.proofs.stored.has_circle.Statement.{statement}
 use Rattle.simple.proofs.stored.has_circle.Tie as tie
 

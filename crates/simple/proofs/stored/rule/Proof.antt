@@ -8,7 +8,7 @@ use denote.Ref.{now}
 use Rattle.model.specs.Encoding.{ruleOf}
 use Rattle.model.specs.EncodingFacts.{sound-length}
 use Rattle.encoding.specs.Format.{countsOf, rulesAt}
-use Rattle.simple.proofs.StoredPlaces.{placed, rule-ends}
+use Rattle.simple.proofs.StoredPlaces.{record-placed, rule-ends}
 use Rattle.simple.proofs.stored.rule.Statement.{statement}
 use Rattle.simple.proofs.stored.rule.Tie as tie
 
@@ -29,7 +29,7 @@ returns c =
     let n = c .before .before in
     let a = n .before .before .args in
     c .rule-at .ensures
-    ∙ placed 28 ruleOf (now (a .s)) (c .before .rules-at .result)
+    ∙ record-placed 28 ruleOf (now (a .s)) (c .before .rules-at .result)
     (rulesAt (countsOf (now (a .s)))) (a .i)
     (c .before .rules-at .ensures ∙ ap rulesAt (n .counts-of .ensures))
 

@@ -6,8 +6,8 @@ use native.Mathlib.Omega.{arith}
 use lib.ListN.{length}
 use denote.Ref.{now}
 use Rattle.encoding.specs.Format.{countsFit}
-use Rattle.lookup.proofs.SoundBodies.{rest-long}
-use Rattle.encoding.proofs.Contents.{CountsWithin, within}
+use Rattle.encoding.proofs.SoundBodies.{rest-long}
+use Rattle.encoding.proofs.Contents.{CountsWithin, fit-within}
 use Rattle.soundness.proofs.Decoded.{format-length, format-counts, sound-asked}
 use Rattle.soundness.proofs.parts.parts_hold.Statement.{statement}
 use Rattle.soundness.proofs.parts.parts_hold.Tie as tie
@@ -16,7 +16,7 @@ long : (c : tie.Start) → length (now (c .args .s)) ≡ 27936
 long c = format-length (now (c .args .s)) (c .pre)
 
 fitting : (c : tie.After-counts-of) → CountsWithin (c .counts-of .result)
-fitting c = within (c .counts-of .result) (ap countsFit (c .counts-of .ensures)
+fitting c = fit-within (c .counts-of .result) (ap countsFit (c .counts-of .ensures)
     ∙ format-counts (now (c .before .before .args .s)) (c .before .before .pre))
 
 -- where the bodies stand

@@ -2,7 +2,7 @@
 use borrow.Author.Needs.{needs}
 use denote.Ref.{now}
 use mathlib.Core.Path.{sym, _∙_}
-use Rattle.vectors.specs.Transcripts.{stands}
+use Rattle.vectors.specs.Transcripts.{lineStands}
 use Rattle.vectors.proofs.LineWalks.{marked-long}
 use Rattle.vectors.proofs.stages.stands.Statement.{statement}
 use Rattle.vectors.proofs.stages.stands.Tie as tie
@@ -13,11 +13,11 @@ tells-owed-requires c κs =
     (sym (c .before .marked .ensures) ∙ c .if1 .taken)
 
 returns : tie.Need-returns
-unfolding stands
+unfolding lineStands
 returns c = rw (sym (c .before .before .marked .ensures) ∙ c .before .if1 .taken) (c .tells-owed .ensures)
 
 returns-2 : tie.Need-returns-2
-unfolding stands
+unfolding lineStands
 returns-2 c =
     let e = c .before .before in
     rw (sym (e .before .marked .ensures) ∙ e .if1 .left, c .before .marked2 .ensures, c .marked3 .ensures)

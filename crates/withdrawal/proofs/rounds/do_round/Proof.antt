@@ -3,15 +3,15 @@ use borrow.Author.Needs.{needs}
 use native.Mathlib.Omega.{arith}
 use mathlib.Core.Path.{_≡_, refl, sym, ap, _∙_, subst}
 use mathlib.Core.List.{List, _∷_}
-use Prim.Native.Nat.{ℕ, _+_, _*_, _-_, _≤_, _<_}
+use Prim.Native.Nat.{_+_, _*_, _-_, _≤_, _<_}
 use lib.ListN.{length, drop}
 use denote.Ref.{now}
 use Rattle.foundation.specs.BytesFacts.{bytes-drop}
 use Rattle.model.specs.declared.Authorization.{Authorization}
 use Rattle.model.specs.Encoding.{authorizationOf}
 use Rattle.support.specs.Hops.{rootsIn}
-use Rattle.encoding.specs.Format.{authorizationsIn}
-use Rattle.foundation.specs.ByteRecords.{rest, rest-all, rest-step, rest-end}
+use Rattle.encoding.specs.Format.{authorizationsIn, authorizationsFrom}
+use Rattle.foundation.specs.ByteRecords.{rest-all, rest-step, rest-end}
 use Rattle.pieces.specs.Cuts.{behindAll}
 use Rattle.withdrawal.proofs.TurnFacts.{turns-at, turns-full}
 use Rattle.withdrawal.proofs.Walks.{RoundAt, walk-start, walk-pos, walk-end, walk-next, walk-full}
@@ -19,16 +19,13 @@ use Rattle.withdrawal.proofs.Instants.{end-below}
 use Rattle.withdrawal.proofs.rounds.do_round.Statement.{statement}
 use Rattle.withdrawal.proofs.rounds.do_round.Tie as tie
 
-abbrev left : ℕ → List ℕ → ℕ → List Authorization
-left n s i = rest 24 authorizationOf n s i
-
 abbrev Inv-loop : tie.InvT-loop
 Inv-loop owners no' administrators na s n c from to out₀ sorted₀ m k₀ pos₀ i₀ out sorted k pos i =
     (i ≤ n)
     × (length out ≡ length out₀)
     × (length sorted ≡ length sorted₀)
     × RoundAt (rootsIn no' owners na administrators) c (authorizationsIn n s) from to
-    (left n s i) k pos out sorted
+    (authorizationsFrom n s i) k pos out sorted
 
 abbrev μ-loop : tie.MeasureT-loop
 μ-loop owners no' administrators na s n c from to out₀ sorted₀ m k₀ pos₀ i₀ out sorted k pos i = n - i
@@ -54,7 +51,7 @@ next : (c : tie.After-authorization-at Inv-loop μ-loop) →
     (let a = c .before .before .before .before .before .before .before .before .args in
     let l = c .before .before .loop in
     let x = c .authorization-at .result in
-    (left (a .n) (now (a .s)) (l .i) ≡ x ∷ left (a .n) (now (a .s)) (l .i + 1))
+    (authorizationsFrom (a .n) (now (a .s)) (l .i) ≡ x ∷ authorizationsFrom (a .n) (now (a .s)) (l .i + 1))
     × (x .interval .end < behindAll))
 next c =
     let start = c .before .before .before .before .before .before .before .before in
@@ -63,7 +60,7 @@ next c =
     let e = c .authorization-at .ensures in
     let known = c .before .before .before .before .before .shared-slice-known3 .given in (
       rest-step 24 authorizationOf (start .args .n) s i (search needs)
-          ∙ ap (λ (y : Authorization). y ∷ left (start .args .n) s (i + 1)) (sym e),
+          ∙ ap (λ (y : Authorization). y ∷ authorizationsFrom (start .args .n) s (i + 1)) (sym e),
       omega (
         arith,
         ap (λ (y : Authorization). y .interval .end) e,

@@ -7,22 +7,19 @@ use Prim.Native.Nat.{ℕ, _+_, _*_, _-_, _≤_, _<_}
 use lib.ListN.{drop}
 use denote.Ref.{now}
 use Rattle.foundation.specs.Bytes.{le}
-use Rattle.fields.proofs.ByteLaws.{le-at}
+use Rattle.foundation.specs.BytesFacts.{le-at}
 use Rattle.model.specs.declared.Authorization.{Authorization}
 use Rattle.model.specs.Encoding.{authorizationOf}
-use Rattle.encoding.specs.Format.{authorizationsIn}
-use Rattle.foundation.specs.ByteRecords.{rest, rest-all, rest-step, rest-end}
+use Rattle.encoding.specs.Format.{authorizationsIn, authorizationsFrom}
+use Rattle.foundation.specs.ByteRecords.{rest-all, rest-step, rest-end}
 use Rattle.withdrawal.specs.Times.{endOf, pullOf, raiseOf}
 use Rattle.withdrawal.proofs.TimeFacts.{end-cons, end-nil}
 use Rattle.withdrawal.proofs.rounds.round_end.Statement.{statement}
 use Rattle.withdrawal.proofs.rounds.round_end.Tie as tie
 
-abbrev left : ℕ → List ℕ → ℕ → List Authorization
-left n s i = rest 24 authorizationOf n s i
-
 abbrev Inv-loop : tie.InvT-loop
 Inv-loop s n t top₀ d₀ i₀ top d i =
-    (i ≤ n) × (endOf t (authorizationsIn n s) 0 4294967296 ≡ endOf t (left n s i) top d)
+    (i ≤ n) × (endOf t (authorizationsIn n s) 0 4294967296 ≡ endOf t (authorizationsFrom n s i) top d)
 
 abbrev μ-loop : tie.MeasureT-loop
 μ-loop s n t top₀ d₀ i₀ top d i = n - i
@@ -35,11 +32,12 @@ loop-holds c =
 
 -- a turn, by the time that was read
 turn : (t n : ℕ) (s : List ℕ) (i top d g : ℕ) → i < n → g ≡ le 4 (drop (i * 24 + 12) s) →
-    endOf t (left n s i) top d ≡ endOf t (left n s (i + 1)) (raiseOf t g top) (pullOf t g top d)
+    endOf t (authorizationsFrom n s i) top d
+    ≡ endOf t (authorizationsFrom n s (i + 1)) (raiseOf t g top) (pullOf t g top d)
 turn t n s i top d g h q =
     ap (λ (xs : List Authorization). endOf t xs top d) (rest-step 24 authorizationOf n s i h)
-    ∙ end-cons t (authorizationOf (drop (i * 24) s)) (left n s (i + 1)) top d
-    ∙ ap (λ (x : ℕ). endOf t (left n s (i + 1)) (raiseOf t x top) (pullOf t x top d))
+    ∙ end-cons t (authorizationOf (drop (i * 24) s)) (authorizationsFrom n s (i + 1)) top d
+    ∙ ap (λ (x : ℕ). endOf t (authorizationsFrom n s (i + 1)) (raiseOf t x top) (pullOf t x top d))
     (sym (q ∙ le-at 4 s (i * 24) 12))
 
 loop-again : tie.Need-loop-again Inv-loop μ-loop
@@ -50,7 +48,7 @@ loop-again c =
       l .inv .1
           ∙ turn (a .t) (a .n) (now (a .s)) (l .i) (l .top) (l .d) _ (search needs)
           (c .before .before .le32 .ensures)
-          ∙ (λ k. endOf (a .t) (left (a .n) (now (a .s)) (l .i + 1))
+          ∙ (λ k. endOf (a .t) (authorizationsFrom (a .n) (now (a .s)) (l .i + 1))
           (sym (c .raise .ensures) k) (sym (c .before .pull .ensures) k)),
     )
 

@@ -11,25 +11,23 @@ use denote.Ref.{now}
 use Rattle.foundation.specs.Tests.{pick}
 use Rattle.model.specs.declared.Authorization.{Authorization}
 use Rattle.model.specs.Encoding.{authorizationOf}
-use Rattle.encoding.specs.Format.{authorizationsIn}
-use Rattle.foundation.specs.ByteRecords.{rest, rest-step, rest-end, drop-records}
+use Rattle.encoding.specs.Format.{authorizationsIn, authorizationsFrom}
+use Rattle.foundation.specs.ByteRecords.{rest-step, rest-end, drop-records}
 use Rattle.withdrawal.specs.RoundTurns.{pieceOf, leading}
 use Rattle.withdrawal.proofs.rounds.skip.Statement.{statement}
 use Rattle.withdrawal.proofs.rounds.skip.Tie as tie
 
-abbrev left : ℕ → List ℕ → ℕ → List Authorization
-left n s i = rest 24 authorizationOf n s i
-
 abbrev Inv-loop : tie.InvT-loop
 Inv-loop out m pos a p₀ p =
     (p ≤ m)
-    × (pos + leading (pieceOf a) (drop pos (authorizationsIn m out)) ≡ p + leading (pieceOf a) (left m out p))
+    × (pos + leading (pieceOf a) (drop pos (authorizationsIn m out))
+    ≡ p + leading (pieceOf a) (authorizationsFrom m out p))
 
 abbrev μ-loop : tie.MeasureT-loop
 μ-loop out m pos a p₀ p = m - p
 
 -- what stands from `pos` on
-behind : (m pos : ℕ) (s : List ℕ) → pos ≤ m → drop pos (authorizationsIn m s) ≡ left m s pos
+behind : (m pos : ℕ) (s : List ℕ) → pos ≤ m → drop pos (authorizationsIn m s) ≡ authorizationsFrom m s pos
 behind m pos s h =
     let e : m ≡ pos + (m - pos) = omega arith in
     ap (λ (k : ℕ). drop pos (authorizationsIn k s)) e ∙ drop-records 24 authorizationOf pos (m - pos) s
@@ -45,16 +43,19 @@ loop-holds c =
 -- a turn, by what the test says of the authorization that was read
 turn : (a x : Authorization) (m : ℕ) (s : List ℕ) (p : ℕ) (b : Bool) → p < m →
     x ≡ authorizationOf (drop (p * 24) s) →
-    pieceOf a x ≡ b → leading (pieceOf a) (left m s p) ≡ pick b (leading (pieceOf a) (left m s (p + 1)) + 1) 0
+    pieceOf a x ≡ b →
+    leading (pieceOf a) (authorizationsFrom m s p)
+    ≡ pick b (leading (pieceOf a) (authorizationsFrom m s (p + 1)) + 1) 0
 turn a x m s p b h q e =
     ap (leading (pieceOf a)) (rest-step 24 authorizationOf m s p h)
-    ∙ ap (λ (z : Bool). pick z (leading (pieceOf a) (left m s (p + 1)) + 1) 0) (ap (pieceOf a) (sym q) ∙ e)
+    ∙ ap (λ (z : Bool). pick z (leading (pieceOf a) (authorizationsFrom m s (p + 1)) + 1) 0)
+    (ap (pieceOf a) (sym q) ∙ e)
 
 turned : (c : tie.After-is-piece Inv-loop μ-loop) (b : Bool) → c .is-piece .result ≡ b →
     (let a = c .before .before .before .before .before .args in
     let p = c .before .before .before .loop .p in
-    leading (pieceOf (a .a)) (left (a .m) (now (a .out)) p)
-    ≡ pick b (leading (pieceOf (a .a)) (left (a .m) (now (a .out)) (p + 1)) + 1) 0)
+    leading (pieceOf (a .a)) (authorizationsFrom (a .m) (now (a .out)) p)
+    ≡ pick b (leading (pieceOf (a .a)) (authorizationsFrom (a .m) (now (a .out)) (p + 1)) + 1) 0)
 turned c b e =
     let a = c .before .before .before .before .before .args in
     let l = c .before .before .before .loop in

@@ -1,0 +1,2 @@
+-- `NeighbourLoops` has the laws of a loop over neighbours in a body.
+pub mod NeighbourLoops
