@@ -15,6 +15,7 @@ use Rattle.foundation.specs.Intervals.{inInterval}
 use Rattle.foundation.specs.BitMasks.{asBit, bit, bit-le, bit-true}
 use Rattle.words.specs.Bits.{bit-and}
 use Rattle.windows.specs.Windows.{inside}
+use Rattle.reach.specs.Net.{turned}
 use Rattle.places.specs.declared.Region.{Region}
 use Rattle.places.specs.declared.Point.{Point}
 use Rattle.places.specs.Regions.{sizeOf, In}
@@ -38,7 +39,7 @@ use Rattle.outlines.specs.NeededAccesses.{needed}
 use Rattle.outlines.proofs.NeededFacts.{needed-known}
 use Rattle.outlines.proofs.StandingRules.{rule-bit}
 use Rattle.outlines.specs.Feed.{isEither, isChoosy}
-use Rattle.grounding.specs.RuleSteps.{turned, turnedPoint}
+use Rattle.grounding.specs.RuleSteps.{turnedPoint}
 use Rattle.grounding.specs.Meaning.{pat, Kept, TurnOf}
 use Rattle.grounding.specs.RuleTurns.{Prepared, lookedBy, turnIn}
 use Rattle.engine.specs.Drawn.{SamePowers, Drawn, mappingOf}

@@ -20,7 +20,7 @@ use facts::WindowTask;
 use facts::give_lines;
 use grounding::close;
 use grounding::derive_rules;
-use masks::clear;
+use masks::clear_words;
 use masks::of_stratum;
 use masks::spans;
 use masks::words_for;
@@ -153,7 +153,7 @@ pub fn evaluate(
         w.count,
         &mut outline[ACTIVE..OUTLINE],
     );
-    clear(&mut work[..k], k);
+    clear_words(&mut work[..k], k);
     give_lines(
         records,
         w,

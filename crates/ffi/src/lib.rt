@@ -1,7 +1,7 @@
 // The library for C and Rust: the functions of crate base on numbers, truth values and lent slices.
 // They add nothing but the wording: every contract is that of base's function, on the request or question
-// that the numbers say. What a caller takes out of a packed reply is said in specs/Numbers.antt
-// (`refusal-back`, `label-back`, `number-back`) and specs/Bounds.antt (`request-parts` for a
+// that the numbers say. What a caller takes out of a packed reply is said in specs/PackedReplies.antt
+// (`refusal-back`, `label-back`, `number-back`) and specs/ReplyBounds.antt (`request-parts` for a
 // request, `text-parts` for a line of text, `report-parts` for a rights sheet).
 ghost use mathlib.Core.Path.{_≡_};
 ghost use Rattle.foundation.specs.Intervals.{interval};

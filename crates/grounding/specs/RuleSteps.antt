@@ -11,6 +11,7 @@ use Rattle.foundation.specs.Tests.{pick}
 use Rattle.foundation.specs.BitMasks.{asBit, bit}
 use Rattle.words.specs.Bits.{less}
 use Rattle.words.specs.Fields.{fieldOf, joined}
+use Rattle.reach.specs.Net.{turned}
 use Rattle.places.specs.declared.Grid.{Grid}
 use Rattle.places.specs.declared.Region.{Region}
 use Rattle.places.specs.declared.Point.{Point}
@@ -24,10 +25,6 @@ use Rattle.derivation.specs.Derive.{Derived}
 use Rattle.grounding.specs.declared.RuleTurn.{RuleTurn}
 
 -- ---- the place on the right
-
--- a coordinate of a right side: its own, or that of the left side
-abbrev pub turned : ℕ → ℕ → ℕ
-turned code own = pick (free code) own code
 
 abbrev pub turnedPoint : Region → Point → Point
 turnedPoint b x = record {

@@ -27,7 +27,7 @@ use masks::has_bit;
 use masks::next_dirty;
 use masks::next_ready;
 use masks::transpose;
-use masks::without;
+use masks::without_rule;
 use masks::words_for;
 use model::RULE_BYTES;
 use places::Grid;
@@ -207,7 +207,7 @@ pub fn derive_rules(
     while at.rule < 64 {
         let r = at.rule;
         derive_rule(body, r, f, outline, coordinates, need, numbers, work);
-        rest = without(rest, r);
+        rest = without_rule(rest, r);
         at = next_ready(&outline[FEED..FIRST], rest, r, at.up);
     }
     rest
@@ -241,7 +241,7 @@ pub fn close(
     while dirty != 0 {
         at = next_dirty(dirty, at.rule, at.up);
         let r = at.rule;
-        dirty = without(dirty, r);
+        dirty = without_rule(dirty, r);
         if derive_rule(body, r, f, outline, coordinates, need, numbers, work) {
             dirty = dirty | fed[r as usize];
         }

@@ -37,7 +37,7 @@ fn with_bit(m: u64, r: u32) -> u64
 }
 
 // The mask without bit r, which it has.
-pub fn without(m: u64, r: u32) -> u64
+pub fn without_rule(m: u64, r: u32) -> u64
     requires { ⌜ (r < 64) × (bit r m ≡ true) ⌝ }
     ensures { λ x. ⌜ (x < m) × ((i : ℕ) → bit i x ≡ bit i m && not (eqb i r)) ⌝ }
 {
@@ -266,7 +266,7 @@ pub fn spans(
 }
 
 // Clears the first n words.
-pub fn clear(words: &mut [u64], n: usize)
+pub fn clear_words(words: &mut [u64], n: usize)
     requires { ⌜ n ≤ length (now words) ⌝ }
     ensures { λ _. ⌜ ((j : ℕ) → j < n → getD (now (words .exit)) j 0 ≡ 0)
         × (length (now (words .exit)) ≡ length (now (words .entry))) ⌝ }

@@ -14,8 +14,9 @@ use Rattle.engine.specs.declared.Found.{Found}
 use Rattle.engine.specs.declared.WindowWalk.{WindowWalk}
 use Rattle.engine.specs.Going.{Roomy, WalksIn}
 use Rattle.engine.specs.Posed.{Finds}
-use Rattle.queries.specs.Starting.{BegunIn, Sectioned, Sized, RoomFor, brokenWords, framed, zeros-at}
-use Rattle.queries.specs.Starting.{begun-roomy, begun-walk, begun-fields, begun-bits}
+use Rattle.queries.specs.Starting.{BegunIn, Sectioned, Sized, RoomFor, brokenWords}
+use Rattle.queries.proofs.StartingFacts.{framed, zeros-at, begun-roomy, begun-walk, begun-fields}
+use Rattle.queries.proofs.StartingFacts.{begun-bits}
 
 module _ (records outline coordinates need numbers : List ℕ) (w : WindowWalk) where
   abbrev Begins : Type 0

@@ -89,7 +89,7 @@ fn runs_in(s: &[u8], records: &[u8], n: Totals, x: Access, list: &mut [u32]) -> 
         Filling (when base x) r (now (list .entry)) (now (list .exit))) ⌝ }
 {
     let w = track_of(s, records, n, x, list);
-    scan::finish(list, w, 4294967295)
+    scan::finish_runs(list, w, 4294967295)
 }
 
 // Counts the maximal intervals where MAY says yes, and puts them at the front of the list, if there is room

@@ -1,7 +1,7 @@
 // The intervals of WHEN, written down while the instants are asked about one after the other.
 mod runs;
 
-pub use runs::finish;
+pub use runs::finish_runs;
 pub use runs::note;
 pub use runs::note_word;
 

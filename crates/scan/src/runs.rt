@@ -65,7 +65,7 @@ pub fn note_word(list: &mut [u32], w: Track, marks: &[u32; 63], count: usize, ye
 }
 
 // How many intervals there are, once the last instant, e, has been asked about.
-pub fn finish(list: &mut [u32], w: Track, e: u32) -> usize
+pub fn finish_runs(list: &mut [u32], w: Track, e: u32) -> usize
     requires { ⌜ (w .inside ≡ true → w .count < 1089) ⌝ }
     ensures { λ r. ⌜ ((f : ℕ → Bool) (lent : List ℕ) → ScannedTo f e lent (suc e) w (now (list .entry)) →
         (r ≡ length (maximal 0 e f)) × (now (list .exit) ≡ filled (maximal 0 e f) lent)) ⌝ }

@@ -8,8 +8,8 @@ ghost use Rattle.model.specs.Soundness.{soundBytes};
 ghost use Rattle.model.specs.Stratification.{isStar};
 ghost use Rattle.model.specs.Rules as model;
 ghost use Rattle.simple.specs.Engine.{grantedAt};
-use crate::stored::authorization;
 use crate::stored::authorization_count;
+use crate::stored::stored_authorization;
 use lookup::has_instant;
 use model::Access;
 use model::Head;
@@ -52,7 +52,7 @@ pub fn is_granted(s: &[u8], p: Pattern, t: u32) -> bool
     let n = authorization_count(s);
     let mut i = 0;
     while i < n {
-        let a = authorization(s, i);
+        let a = stored_authorization(s, i);
         let h = a.head;
         let j = a.interval;
         if has_instant(j, t) & fits(h, p) {

@@ -27,7 +27,7 @@ pub fn authorization_count(s: &[u8]) -> usize
 }
 
 // The i-th of them.
-pub fn authorization(s: &[u8], i: usize) -> Authorization
+pub fn stored_authorization(s: &[u8], i: usize) -> Authorization
     requires { ⌜ (soundBytes (now s) ≡ true) × (i < countsOf (now s) .authorizations) ⌝ }
     ensures { λ a. ⌜ a ≡ lineIn (now (s .entry)) i ⌝ }
 {

@@ -30,29 +30,29 @@ abbrev pub case : List ℕ → List ℕ → Case
 case i o = record { input = i; output = o }
 
 -- the lines of a text, each with its newline
-abbrev pub text : List String → List ℕ
-text [] = []
-text (l ∷ rest) = ascii l ++ (10 ∷ text rest)
+abbrev pub caseText : List String → List ℕ
+caseText [] = []
+caseText (l ∷ rest) = ascii l ++ (10 ∷ caseText rest)
 
 -- the beginning of the four cases with a rule: meters 7 and 8
 abbrev pub ruleCase : String → String → String → String → Case
 ruleCase first second rule runs = case
-    (text ("0 1 NEW 7" ∷ "0 1 NEW 8" ∷ first ∷ second ∷ rule ∷ "WHEN 3 1 7" ∷ []))
-    (text ("done 0 0" ∷ "done 0 0" ∷ "done 1 1" ∷ "done 2 2" ∷ "done 3 2" ∷ runs ∷ []))
+    (caseText ("0 1 NEW 7" ∷ "0 1 NEW 8" ∷ first ∷ second ∷ rule ∷ "WHEN 3 1 7" ∷ []))
+    (caseText ("done 0 0" ∷ "done 0 0" ∷ "done 1 1" ∷ "done 2 2" ∷ "done 3 2" ∷ runs ∷ []))
 
 -- "Line 1,024 is taken, 1,025 gets 13": n grants and one more
 abbrev pub manyGrants : ℕ → List ℕ
-manyGrants zero = text ("1 1 GRANT 1 7 2 50 50 n" ∷ [])
-manyGrants (suc n) = text ("1 1 GRANT 1 7 2 50 50 n" ∷ []) ++ manyGrants n
+manyGrants zero = caseText ("1 1 GRANT 1 7 2 50 50 n" ∷ [])
+manyGrants (suc n) = caseText ("1 1 GRANT 1 7 2 50 50 n" ∷ []) ++ manyGrants n
 
 abbrev pub manyDone : ℕ → ℕ → List ℕ
-manyDone zero i = text ("refused 13" ∷ [])
+manyDone zero i = caseText ("refused 13" ∷ [])
 manyDone (suc n) i = ascii "done " ++ decimal i ++ ascii " " ++ decimal i ++ (10 ∷ manyDone n (suc i))
 
 abbrev pub caseTable : List Case
 caseTable =
     -- session S
-    case (text (
+    case (caseText (
     "4 1 NEW 7"
     ∷ "4 1 GRANTADM 7 5"
     ∷ "5 1 GRANT 1 7 2 50 200 y"
@@ -65,7 +65,7 @@ caseTable =
     ∷ "61 3 GRANT 1 7 9 61 90 n"
     ∷ "60 1 REVOKE 1"
     ∷ []))
-    (text (
+    (caseText (
     "done 0 0"
     ∷ "done 0 0"
     ∷ "done 1 1"
@@ -79,17 +79,17 @@ caseTable =
     ∷ "refused 4"
     ∷ []))
     -- "owner gives 2, 2 gives 3, 3 gives 2 ...: withdrawing the first leaves 0 lines"
-    ∷ case (text (
+    ∷ case (caseText (
     "0 1 NEW 7"
     ∷ "1 1 GRANT 1 7 2 10 20 y"
     ∷ "2 2 GRANT 1 7 3 10 20 y"
     ∷ "3 3 GRANT 1 7 2 10 20 y"
     ∷ "4 1 REVOKE 1"
     ∷ []))
-    (text ("done 0 0" ∷ "done 1 1" ∷ "done 2 2" ∷ "done 3 3" ∷ "done 0 0" ∷ []))
+    (caseText ("done 0 0" ∷ "done 1 1" ∷ "done 2 2" ∷ "done 3 3" ∷ "done 0 0" ∷ []))
     -- "Grant 40 to 100 with denial 50 to 70: 40-49 71-100"
-    ∷ case (text ("0 1 NEW 7" ∷ "0 1 GRANT 1 7 3 40 100 n" ∷ "0 1 DENY 1 7 3 50 70" ∷ "WHEN 3 1 7" ∷ []))
-    (text ("done 0 0" ∷ "done 1 1" ∷ "done 2 2" ∷ "40-49 71-100" ∷ []))
+    ∷ case (caseText ("0 1 NEW 7" ∷ "0 1 GRANT 1 7 3 40 100 n" ∷ "0 1 DENY 1 7 3 50 70" ∷ "WHEN 3 1 7" ∷ []))
+    (caseText ("done 0 0" ∷ "done 1 1" ∷ "done 2 2" ∷ "40-49 71-100" ∷ []))
     -- "Right side held 10 to 40 and 50 to 100, rule 10 to 90: WHENEVER 10-40 50-90, ASLONGAS 10-40"
     ∷ ruleCase "0 1 GRANT 1 8 2 10 40 n" "0 1 GRANT 1 8 2 50 100 n"
     "0 1 ADDRULE 3 1 7 + WHENEVER 2 1 8 + * * 10 90" "10-40 50-90"
@@ -102,31 +102,32 @@ caseTable =
     ∷ ruleCase "0 1 GRANT 1 8 2 120 200 n" "0 1 GRANT 1 8 2 201 inf n"
     "0 1 ADDRULE 3 1 7 + UNLESS 2 1 8 + * * 40 300" "40-119"
     -- "Grant on 50 to 50: one instant"
-    ∷ case (text ("0 1 NEW 7" ∷ "0 1 GRANT 1 7 3 50 50 n" ∷ "WHEN 3 1 7" ∷ []))
-    (text ("done 0 0" ∷ "done 1 1" ∷ "50-50" ∷ []))
+    ∷ case (caseText ("0 1 NEW 7" ∷ "0 1 GRANT 1 7 3 50 50 n" ∷ "WHEN 3 1 7" ∷ []))
+    (caseText ("done 0 0" ∷ "done 1 1" ∷ "50-50" ∷ []))
     -- "Withdrawing 50 to 50 from 50 to 51 leaves 51-51"
-    ∷ case (text ("0 1 NEW 7" ∷ "0 1 GRANT 1 7 3 50 51 n" ∷ "1 1 REVOKEP 1 7 3 50 50" ∷ "WHEN 3 1 7" ∷ []))
-    (text ("done 0 0" ∷ "done 1 1" ∷ "done 0 1" ∷ "51-51" ∷ []))
+    ∷ case
+    (caseText ("0 1 NEW 7" ∷ "0 1 GRANT 1 7 3 50 51 n" ∷ "1 1 REVOKEP 1 7 3 50 50" ∷ "WHEN 3 1 7" ∷ []))
+    (caseText ("done 0 0" ∷ "done 1 1" ∷ "done 0 1" ∷ "51-51" ∷ []))
     -- "A grant at the very time its backing was granted: 9"
-    ∷ case (text ("0 1 NEW 7" ∷ "1 1 GRANT 1 7 2 50 51 y" ∷ "1 2 GRANT 1 7 3 50 51 y" ∷ []))
-    (text ("done 0 0" ∷ "done 1 1" ∷ "refused 9" ∷ []))
+    ∷ case (caseText ("0 1 NEW 7" ∷ "1 1 GRANT 1 7 2 50 51 y" ∷ "1 2 GRANT 1 7 3 50 51 y" ∷ []))
+    (caseText ("done 0 0" ∷ "done 1 1" ∷ "refused 9" ∷ []))
     -- "WHENEVERNOT feeding itself: 12"
-    ∷ case (text ("0 1 NEW 7" ∷ "0 1 ADDRULE 3 1 7 + WHENEVERNOT 3 1 7 + * * 0 9" ∷ []))
-    (text ("done 0 0" ∷ "refused 12" ∷ []))
+    ∷ case (caseText ("0 1 NEW 7" ∷ "0 1 ADDRULE 3 1 7 + WHENEVERNOT 3 1 7 + * * 0 9" ∷ []))
+    (caseText ("done 0 0" ∷ "refused 12" ∷ []))
     -- "Line 1,024 is taken, 1,025 gets 13"
-    ∷ case (text ("0 1 NEW 7" ∷ []) ++ manyGrants 1024) (text ("done 0 0" ∷ []) ++ manyDone 1024 1)
+    ∷ case (caseText ("0 1 NEW 7" ∷ []) ++ manyGrants 1024) (caseText ("done 0 0" ∷ []) ++ manyDone 1024 1)
     ∷ []
 
 -- 02, CR 8: subject 9 has nothing and writes a rule for all meters. Who refers to a meter gains nothing by
 -- it, an administrator does while it is one, and an owner; a star on one side gets 3, and one closes a circle
 abbrev pub allMeters : Case
 allMeters = case
-    (text ("0 9 ADDRULE 3 1 * + WHENEVER 4 1 * + * * 0 99" ∷ "0 1 NEW 7" ∷ "0 1 GRANT 1 7 4 5 9 n"
+    (caseText ("0 9 ADDRULE 3 1 * + WHENEVER 4 1 * + * * 0 99" ∷ "0 1 NEW 7" ∷ "0 1 GRANT 1 7 4 5 9 n"
     ∷ "0 1 GRANTREF 7 9" ∷ "WHEN 3 1 7" ∷ "1 1 GRANTADM 7 9" ∷ "WHEN 3 1 7" ∷ "2 1 REVOKEADM 7 9" ∷
     "WHEN 3 1 7"
     ∷ "2 9 ADDRULE 3 1 * + WHENEVER 4 1 7 + * * 2 9" ∷ "2 8 ADDRULE 4 1 * + WHENEVERNOT 3 1 * + * * 2 9"
     ∷ "3 9 NEW 8" ∷ "3 9 GRANT 1 8 4 6 7 n" ∷ "WHEN 3 1 8" ∷ []))
-    (text ("done 1 0" ∷ "done 0 0" ∷ "done 2 1" ∷ "done 0 1" ∷ "none" ∷ "done 0 1" ∷ "5-9" ∷ "done 0 1" ∷
+    (caseText ("done 1 0" ∷ "done 0 0" ∷ "done 2 1" ∷ "done 0 1" ∷ "none" ∷ "done 0 1" ∷ "5-9" ∷ "done 0 1" ∷
     "none"
     ∷ "refused 3" ∷ "refused 12" ∷ "done 0 1" ∷ "done 3 2" ∷ "6-7" ∷ []))
 

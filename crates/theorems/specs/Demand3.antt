@@ -19,7 +19,7 @@ use Rattle.model.specs.Ledger.{ledger, linesOf}
 use Rattle.model.specs.Survival.{after, Given, Stands, Behind, Survives}
 use Rattle.theorems.specs.LedgerLines.{ledger-lines}
 use Rattle.theorems.specs.PlayFacts.{baseAfter, after-base, accepted-done}
-use Rattle.theorems.specs.Remains.{Entered, origin, head-gives, remains}
+use Rattle.theorems.specs.Remains.{Entered, stood-or-entered, head-gives, remains}
 use Rattle.theorems.specs.Labels.{one-place}
 
 -- what demand 3 says of a list of requests and the bytes s after it
@@ -67,7 +67,7 @@ gives-all qs h t m = ⊎-elim
         ends = i .1;
       },
     ))
-    (origin h t qs emptyBase empty-sound (subst (λ (b : Base). Stands b h t) (after-base qs) m))
+    (stood-or-entered h t qs emptyBase empty-sound (subst (λ (b : Base). Stands b h t) (after-base qs) m))
 
 -- DEMAND 3: for every list of requests, malformed or refused ones included, from an empty base
 pub demand3 : (qs : List Request) → Demand3 qs (after qs)

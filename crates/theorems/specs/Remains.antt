@@ -1,6 +1,6 @@
 -- An instant of an accepted grant or denial remains in the bytes after a list exactly if a chain was behind
 -- it right after that request, and it survives the later ones (theorem 9): `remains`. What stands after a
--- list was given by one of its requests: `origin`.
+-- list was given by one of its requests: `stood-or-entered`.
 use mathlib.Core.Path.{_≡_, refl, sym, ap, _∙_, subst}
 use mathlib.Core.Logic.{_≢_, _⊎_, inl, inr, _↔_, ⊎-elim}
 use Prim.Native.Nat.{ℕ, suc, _≤_}
@@ -51,8 +51,8 @@ module _ (b : Base) (q : Request) (s : Sound b) (g : Accepted b q) (h : Head) (t
   next = effect plainly b q
 
   -- what stands has a chain behind it
-  pub behind : Stands next h t → Behind next h t
-  behind m = supported-chain (root next) (live t (next .authorizations)) h .0
+  pub stands-behind : Stands next h t → Behind next h t
+  stands-behind m = supported-chain (root next) (live t (next .authorizations)) h .0
       (all-supported next (sound-after b q s g) t h m)
 
   -- what the request leaves, before unsupported instants go
@@ -133,7 +133,7 @@ module _ (h : Head) (t : ℕ) where
         w .0,
         accepted (ap (λ (a : Answer). a .reply) (request-accepted b q s z)) (λ x. none (inl x))
             (λ x. none (inr x))
-            (subst (λ (d : Base). Behind d h t) (sym base) (behind b q k g h t (p .0)))
+            (subst (λ (d : Base). Behind d h t) (sym base) (stands-behind b q k g h t (p .0)))
             (subst (λ (x : List ℕ). Survives h t later x) (sym bytes) (p .1)),
       ))
       (λ e. let n = false-eq (refusal plainly b q) 0 e in
@@ -174,10 +174,11 @@ module _ (h : Head) (t : ℕ) where
     pub inside : inInterval (giving .interval) t ≡ true
 
   -- what stands after a list stood before it, or the list gave it
-  pub origin : (qs : List Request) (b : Base) → sound b ≡ true → Stands (play qs b) h t →
+  pub stood-or-entered : (qs : List Request) (b : Base) → sound b ≡ true → Stands (play qs b) h t →
       Stands b h t ⊎ Entered qs b
-  origin [] b s m = inl m
-  origin (q ∷ qs) b s m = ⊎-elim now later-on (origin qs (step b q .base) (step-sound b q s) m)
+  stood-or-entered [] b s m = inl m
+  stood-or-entered (q ∷ qs) b s m =
+      ⊎-elim now later-on (stood-or-entered qs (step b q .base) (step-sound b q s) m)
     where
       now : Stands (step b q .base) h t → Stands b h t ⊎ Entered (q ∷ qs) b
       now n = cases (eqb (refusal plainly b q) 0)
@@ -270,7 +271,7 @@ module _ (qs earlier : List Request) (g : Request) (later : List Request) (h : H
       subst (λ (k : Head). k .label ≤ b .last) (sym given-head) (given-label base g is-grant) in
       let now : Stands b h t = subst (λ (k : Head). Stands b k t) (sym given-head)
       (fresh base g t is-grant inside) in
-      let now-behind = behind base g (sound-tests base s) (passed base g passes) h t now in
+      let now-behind = stands-behind base g (sound-tests base s) (passed base g passes) h t now in
       let next : decode (after (earlier ++ (g ∷ []))) ≡ b =
       after-base (earlier ++ (g ∷ [])) ∙ after-one earlier g passes in
       let bytes : after (earlier ++ (g ∷ [])) ≡ encode b =

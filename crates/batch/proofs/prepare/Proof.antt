@@ -2,7 +2,7 @@
 use borrow.Author.Needs.{needs}
 use native.Mathlib.Omega.{arith}
 use mathlib.Core.Path.{refl}
-use Rattle.queries.specs.Asking.{zeros-blank}
+use Rattle.queries.proofs.AskingFacts.{zeros-blank}
 use Rattle.batch.proofs.prepare.Statement.{statement}
 use Rattle.batch.proofs.prepare.Tie as tie
 

@@ -107,12 +107,12 @@ module _ (a : tie.After-spans) where
   fields-long l e = part-alike k l (now (s .args .work)) e
       ∙ ap (λ (m : ℕ). length (take m (now (s .args .work)))) k-is
 
-slice-aggregate-clear : tie.Need-slice-aggregate-clear
-slice-aggregate-clear c =
+slice-aggregate-clear-words : tie.Need-slice-aggregate-clear-words
+slice-aggregate-clear-words c =
     let a = c .before .before .before in sym (length-take-le (k a) (now (s a .args .work)) (room a))
 
-clear-requires : tie.Need-clear-requires
-clear-requires c κs =
+clear-words-requires : tie.Need-clear-words-requires
+clear-words-requires c κs =
     let a = c .before .before .before in omega (arith, length-take-le (k a) (now (s a .args .work)) (room a))
 
 slice-aggregate-give-lines : tie.Need-slice-aggregate-give-lines
@@ -124,7 +124,7 @@ slice-aggregate-give-lines c =
 
 -- ---- once the words are cleared
 
-module _ (g : tie.After-clear) where
+module _ (g : tie.After-clear-words) where
   abbrev base : tie.After-spans
   base = g .before .before .before .before
 
@@ -132,19 +132,19 @@ module _ (g : tie.After-clear) where
   work = now (s base .args .work)
 
   abbrev clear-part : List ℕ
-  clear-part = g .clear .last .0
+  clear-part = g .clear-words .last .0
 
   abbrev work1 : List ℕ
   work1 = clear-part ++ drop (k base) work
 
   work1-long : length work1 ≡ length work
-  work1-long = length-front work clear-part (k base) (g .clear .ensures .1)
+  work1-long = length-front work clear-part (k base) (g .clear-words .ensures .1)
 
   work1-own : take (k base) work1 ≡ clear-part
-  work1-own = front-own (k base) (k base) refl work clear-part (room base) (g .clear .ensures .1)
+  work1-own = front-own (k base) (k base) refl work clear-part (room base) (g .clear-words .ensures .1)
 
   work1-rest : drop (k base) work1 ≡ drop (k base) work
-  work1-rest = front-rest (k base) (k base) refl work clear-part (room base) (g .clear .ensures .1)
+  work1-rest = front-rest (k base) (k base) refl work clear-part (room base) (g .clear-words .ensures .1)
 
 slice-aggregate-give-lines-2 : tie.Need-slice-aggregate-give-lines-2
 slice-aggregate-give-lines-2 c =
@@ -168,7 +168,7 @@ give-lines-requires c κs =
 -- ---- once the authorizations are given
 
 module _ (l : tie.After-give-lines) where
-  abbrev cleared : tie.After-clear
+  abbrev cleared : tie.After-clear-words
   cleared = l .before .before .before .before .before .before .before
 
   abbrev at-spans : tie.After-spans
@@ -195,7 +195,7 @@ module _ (l : tie.After-give-lines) where
   work2-rest = front-rest (k at-spans) (n at-spans) (k-is at-spans) (work1 cleared) given-part room2
       (l .give-lines .ensures .1)
       ∙ front-rest (k at-spans) (n at-spans) (k-is at-spans) (work cleared) (clear-part cleared)
-      (held at-spans .roomy) (cleared .clear .ensures .1)
+      (held at-spans .roomy) (cleared .clear-words .ensures .1)
 
 derive-all-requires : tie.Need-derive-all-requires
 derive-all-requires c κs =
@@ -238,7 +238,7 @@ returns c =
     let g = cleared l in (
       evaluated-in (w a) (body a) (now (x .coordinates)) (now (x .need)) (now (x .numbers)) (now (x .marks))
           (old a) (new a) (active a) (same a) (own a) (u .short) (u .fits) (acts a) (k a) (k-is a) (body-is a)
-          (g .clear .ensures .0) (work1-own g)
+          (g .clear-words .ensures .0) (work1-own g)
           (ap (λ (v : List ℕ). picked (now (x .records)) v (w a .chosen .authorizations))
           (lent-rest (2 * length (now (x .need))) (now (x .numbers))))
           (l .give-lines .ensures .0) (work2-own l) (work2-rest l) (d .derive-all .ensures .0),
@@ -251,7 +251,7 @@ evaluate-spec =
     tie.close
     (tie.spec (λ c κs. search needs) (λ c. search needs) (λ c. search needs) (λ c. search needs)
     (λ c. search needs) (λ c. search needs) (λ c. search needs) (λ c. search needs) spans-requires
-    (λ c. search needs) slice-aggregate-clear clear-requires (λ c. search needs) (λ c. search needs)
-    (λ c. search needs) (λ c. search needs) slice-aggregate-give-lines (λ c. search needs)
+    (λ c. search needs) slice-aggregate-clear-words clear-words-requires (λ c. search needs)
+    (λ c. search needs) (λ c. search needs) (λ c. search needs) slice-aggregate-give-lines (λ c. search needs)
     slice-aggregate-give-lines-2 give-lines-requires derive-all-requires (λ c. search needs)
     (λ c. search needs) returns)

@@ -50,8 +50,8 @@ loop-holds c = ((λ w t. t), (λ q e. e), refl, omega arith, c .transpose .ensur
 next-dirty-requires : tie.Need-next-dirty-requires Inv-loop μ-loop
 next-dirty-requires c κs = (omega arith, c .before .loop .inv .3)
 
-without-requires : tie.Need-without-requires Inv-loop μ-loop
-without-requires c κs = c .next-dirty .ensures
+without-rule-requires : tie.Need-without-rule-requires Inv-loop μ-loop
+without-rule-requires c κs = c .next-dirty .ensures
 
 derive-rule-requires : tie.Need-derive-rule-requires Inv-loop μ-loop
 derive-rule-requires c κs =
@@ -80,7 +80,7 @@ array-read-dirty c = c .before .before .before .before .before .before .next-dir
 loop-less : tie.Need-loop-less Inv-loop μ-loop
 loop-less c =
     let d = c .before .before .before in
-    let x = d .before .before .without in
+    let x = d .before .before .without-rule in
     let n = d .before .before .before .next-dirty in
     let b = d .before .before .before .before .before in
     let l = b .loop in
@@ -105,7 +105,7 @@ loop-less c =
 loop-again : tie.Need-loop-again Inv-loop μ-loop
 loop-again c =
     let d = c .before .before .before in
-    let x = d .before .before .without in
+    let x = d .before .before .without-rule in
     let n = d .before .before .before .next-dirty in
     let b = d .before .before .before .before .before in
     let l = b .loop in
@@ -144,7 +144,7 @@ loop-again c =
 loop-less-2 : tie.Need-loop-less-2 Inv-loop μ-loop
 loop-less-2 c =
     let d = c .before .before .before in
-    let x = d .before .before .without in
+    let x = d .before .before .without-rule in
     let b = d .before .before .before .before .before in
     let l = b .loop in
     let a = b .before .before .before .before .before .before .before .before .before .before .args in
@@ -154,7 +154,7 @@ loop-less-2 c =
 loop-again-2 : tie.Need-loop-again-2 Inv-loop μ-loop
 loop-again-2 c =
     let d = c .before .before .before in
-    let x = d .before .before .without in
+    let x = d .before .before .without-rule in
     let n = d .before .before .before .next-dirty in
     let b = d .before .before .before .before .before in
     let l = b .loop in
@@ -197,5 +197,5 @@ pub close-spec : {M : Type 1} → statement M
 close-spec =
     tie.close
     (tie.spec Inv-loop μ-loop (λ c. search needs) (λ c. search needs) (λ c. search needs) transpose-requires
-    loop-holds next-dirty-requires without-requires derive-rule-requires (λ c. search needs)
+    loop-holds next-dirty-requires without-rule-requires derive-rule-requires (λ c. search needs)
     (λ c. search needs) array-read-dirty loop-less loop-again loop-less-2 loop-again-2 same-length returns)

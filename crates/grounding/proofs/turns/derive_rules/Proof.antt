@@ -61,8 +61,8 @@ derive-rule-requires c κs =
       held,
     )
 
-without-requires : tie.Need-without-requires Inv-loop μ-loop
-without-requires c κs =
+without-rule-requires : tie.Need-without-rule-requires Inv-loop μ-loop
+without-rule-requires c κs =
     let l = c .before .before .before .before .before .before .loop in
     let h : l .at .rule < 64 = omega arith in
     (h, l .inv .3 .own h)
@@ -76,11 +76,11 @@ next-ready-requires-2 c κs =
     )
 
 loop-less : tie.Need-loop-less Inv-loop μ-loop
-loop-less c = c .before .before .without .ensures .0
+loop-less c = c .before .before .without-rule .ensures .0
 
 loop-again : tie.Need-loop-again Inv-loop μ-loop
 loop-again c =
-    let w = c .before .before .without in
+    let w = c .before .before .without-rule in
     let d = c .before .before .before .before .before in
     let l = d .before .before .before .before .loop in
     let early = d .before .before .before .before .before .before in
@@ -120,5 +120,5 @@ pub derive-rules-spec : {M : Type 1} → statement M
 derive-rules-spec =
     tie.close
     (tie.spec Inv-loop μ-loop (λ c. search needs) (λ c. search needs) (λ c. search needs) next-ready-requires
-    loop-holds derive-rule-requires without-requires (λ c. search needs) (λ c. search needs)
+    loop-holds derive-rule-requires without-rule-requires (λ c. search needs) (λ c. search needs)
     (λ c. search needs) next-ready-requires-2 loop-less loop-again same-length returns)

@@ -16,8 +16,8 @@ use Rattle.encoding.specs.Format.{authorizationsIn, rulesIn}
 use Rattle.direct.specs.Direct.{heldDirectly, direct-may}
 use Rattle.scan.specs.Runs.{ScannedTo}
 use native.Mathlib.Omega.{arith}
-use Rattle.queries.specs.Asking.{access-ranges}
 use Rattle.queries.specs.Starting.{Bodies}
+use Rattle.queries.proofs.AskingFacts.{access-ranges}
 use Rattle.queries.proofs.ask.track_of.Statement.{statement}
 use Rattle.queries.proofs.ask.track_of.Tie as tie
 

@@ -16,8 +16,10 @@ use Rattle.foundation.specs.Lists.{lent-rest}
 use Rattle.sections.proofs.SectionWrites.{putBack, part-long, in-part}
 use Rattle.outlines.specs.LeftMasks.{Owned}
 use Rattle.queries.specs.declared.Inquiry.{Inquiry}
-use Rattle.queries.specs.Drawing.{chartFor, ownOf, still-drawn}
-use Rattle.queries.specs.Asking.{TaskIn, BodiesIn, access-ranges, sketched}
+use Rattle.queries.specs.Drawing.{chartFor, ownOf}
+use Rattle.queries.specs.Asking.{TaskIn, BodiesIn}
+use Rattle.queries.proofs.DrawingFacts.{still-drawn}
+use Rattle.queries.proofs.AskingFacts.{access-ranges, sketched}
 use Rattle.queries.proofs.Sectioning.{left-long, left-back, left-feed, front-left, front-feed}
 use Rattle.queries.proofs.Sectioning.{drawn-moved, sketch-moved, sketch-at}
 use Rattle.queries.proofs.outlining.with_drawn.Statement.{statement}

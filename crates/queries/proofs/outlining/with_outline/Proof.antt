@@ -10,7 +10,7 @@ use Rattle.sections.specs.Sections.{leftOf, feedOf, sidesOf, rightsOf, subjects
 use Rattle.foundation.specs.Lists.{lent-rest}
 use Rattle.outlines.specs.Coordinates.{WellFormed}
 use Rattle.queries.specs.Drawing.{RulesDrawn, chartFor}
-use Rattle.queries.specs.Asking.{zeros-blank}
+use Rattle.queries.proofs.AskingFacts.{zeros-blank}
 use Rattle.queries.proofs.outlining.with_outline.Statement.{statement}
 use Rattle.queries.proofs.outlining.with_outline.Tie as tie
 

@@ -20,10 +20,12 @@ use Rattle.sections.proofs.SectionWrites.{putBack, back-length, part-long}
 use Rattle.places.specs.ReachedNumbers.{usedBefore-le}
 use Rattle.masks.specs.RuleMasks.{Needed, PairCode, RulesIn}
 use Rattle.engine.specs.declared.WindowWalk.{WindowWalk}
-use Rattle.queries.specs.Drawing.{Mapped, chartFor, chart-small, map-small, code-pair, needed-in}
-use Rattle.queries.specs.Asking.{TaskIn, WalkStart, pair-in, pair-few, sketch-formed, lasts-in}
-use Rattle.queries.specs.Asking.{lasts-room, sketch-tabled, finds-answers, part-blank, sketch-few}
+use Rattle.queries.specs.Drawing.{Mapped, chartFor}
 use Rattle.queries.specs.Starting.{GroundIn}
+use Rattle.queries.specs.Asking.{TaskIn, WalkStart}
+use Rattle.queries.proofs.DrawingFacts.{chart-small, map-small, code-pair, needed-in}
+use Rattle.queries.proofs.AskingFacts.{pair-in, pair-few, sketch-formed, lasts-in, lasts-room}
+use Rattle.queries.proofs.AskingFacts.{sketch-tabled, finds-answers, part-blank, sketch-few}
 use Rattle.queries.proofs.Sectioning.{listed-at, needed-listed, laid-long, laid-front, laid-first}
 use Rattle.queries.proofs.Sectioning.{laid-starts, front-left, front-feed, ground-moved}
 use Rattle.queries.proofs.outlining.with_pairs.Statement.{statement}

@@ -6,7 +6,7 @@ use Prim.Native.Nat.{ℕ, _*_}
 use denote.Ref.{now}
 use lib.ListN.{length, take}
 use lib.Seq.{length-take-le}
-use Rattle.queries.specs.Asking.{part-blank, sketch-few}
+use Rattle.queries.proofs.AskingFacts.{part-blank, sketch-few}
 use Rattle.queries.proofs.outlining.with_part.Statement.{statement}
 use Rattle.queries.proofs.outlining.with_part.Tie as tie
 

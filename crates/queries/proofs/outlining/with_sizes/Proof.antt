@@ -4,7 +4,7 @@ use native.Mathlib.Omega.{arith}
 use Prim.Native.Nat.{ℕ, _+_, _*_, _≤_}
 use lib.Dec.{leb}
 use Rattle.foundation.specs.Tests.{and-true, true-le}
-use Rattle.queries.specs.Asking.{zeros-blank, sketch-few}
+use Rattle.queries.proofs.AskingFacts.{zeros-blank, sketch-few}
 use Rattle.queries.proofs.outlining.with_sizes.Statement.{statement}
 use Rattle.queries.proofs.outlining.with_sizes.Tie as tie
 

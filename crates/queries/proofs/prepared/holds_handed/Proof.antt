@@ -2,7 +2,7 @@
 use borrow.Author.Needs.{needs}
 use mathlib.Core.Path.{sym, _∙_}
 use native.Mathlib.Omega.{arith}
-use Rattle.queries.specs.Asking.{access-ranges}
+use Rattle.queries.proofs.AskingFacts.{access-ranges}
 use Rattle.queries.proofs.QuestionBodies.{rules-as, rules-there, held-alone}
 use Rattle.queries.proofs.prepared.holds_handed.Statement.{statement}
 use Rattle.queries.proofs.prepared.holds_handed.Tie as tie

@@ -6,7 +6,7 @@ use mathlib.Core.List.{List}
 use Prim.Native.Nat.{ℕ}
 use denote.Ref.{now}
 use Rattle.model.specs.EncodingFacts.{sound-length}
-use Rattle.queries.specs.Asking.{zeros-blank}
+use Rattle.queries.proofs.AskingFacts.{zeros-blank}
 use Rattle.queries.proofs.Handing.{rules-in, rules-formed, handed-on}
 use Rattle.queries.proofs.prepared.prepare.Statement.{statement}
 use Rattle.queries.proofs.prepared.prepare.Tie as tie

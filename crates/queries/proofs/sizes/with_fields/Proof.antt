@@ -1,7 +1,7 @@
 -- The tables have room by the tests.
 use borrow.Author.Needs.{needs}
 use native.Mathlib.Omega.{arith}
-use Rattle.queries.specs.Starting.{begun-bits}
+use Rattle.queries.proofs.StartingFacts.{begun-bits}
 use Rattle.queries.proofs.sizes.with_fields.Statement.{statement}
 use Rattle.queries.proofs.sizes.with_fields.Tie as tie
 

@@ -14,9 +14,9 @@ use Rattle.encoding.specs.Format.{ruleAt}
 use Rattle.masks.specs.RuleMasks.{RulesIn}
 use Rattle.engine.specs.declared.Found.{Found}
 use Rattle.engine.specs.Posed.{Finds}
-use Rattle.queries.specs.Drawing.{needed-in}
-use Rattle.queries.specs.Starting.{ground-ready, entry-room, picked-sectioned, picked-begun}
-use Rattle.queries.specs.Starting.{begun-nothing}
+use Rattle.queries.proofs.DrawingFacts.{needed-in}
+use Rattle.queries.proofs.StartingFacts.{ground-ready, entry-room, picked-sectioned, picked-begun}
+use Rattle.queries.proofs.StartingFacts.{begun-nothing}
 use Rattle.queries.proofs.sizes.with_lines.Statement.{statement}
 use Rattle.queries.proofs.sizes.with_lines.Tie as tie
 

@@ -56,8 +56,8 @@ loop-holds c =
       ),
     )
 
-authorization-requires : tie.Need-authorization-requires Inv-loop μ-loop
-authorization-requires c κs =
+stored-authorization-requires : tie.Need-stored-authorization-requires Inv-loop μ-loop
+stored-authorization-requires c κs =
     let l = c .before in
     (l .before .before .before .pre, omega (arith, l .loop .inv .0))
 
@@ -69,7 +69,7 @@ returns c =
     let i = l .loop .inv in
     any-passes 24 authorizationOf (gives (a .p) (a .t)) _ (linesFrom (now (a .s))) (l .loop .i) _ _
     (search needs) (λ k. h .before .has-instant .ensures k && h .fits2 .ensures k)
-    (h .before .before .before .before .authorization .ensures)
+    (h .before .before .before .before .stored-authorization .ensures)
     (c .if1 .taken) (i .1)
     ∙ given-is (now (a .s)) (a .p) (a .t) _ (i .0)
 
@@ -84,7 +84,7 @@ loop-again c =
         search needs,
         any-fails 24 authorizationOf (gives (a .p) (a .t)) _ (linesFrom (now (a .s))) (l .loop .i) _ _
             (search needs) (λ k. h .before .has-instant .ensures k && h .fits2 .ensures k)
-            (h .before .before .before .before .authorization .ensures)
+            (h .before .before .before .before .stored-authorization .ensures)
             (c .if1 .left) (i .1),
       ),
     )
@@ -100,5 +100,6 @@ returns-2 c =
 pub is-granted-spec : {M : Type 1} → statement M
 is-granted-spec =
     tie.close
-    (tie.spec Inv-loop μ-loop (λ c κs. search needs) loop-holds authorization-requires (λ c κs. search needs)
-    (λ c κs. search needs) returns (λ c. search needs) (λ c. search needs) loop-again returns-2)
+    (tie.spec Inv-loop μ-loop (λ c κs. search needs) loop-holds stored-authorization-requires
+    (λ c κs. search needs) (λ c κs. search needs) returns (λ c. search needs) (λ c. search needs) loop-again
+    returns-2)

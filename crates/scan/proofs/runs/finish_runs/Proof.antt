@@ -1,9 +1,9 @@
--- `scan::runs::finish`: an interval that is open at the end is the last one.
+-- `scan::runs::finish_runs`: an interval that is open at the end is the last one.
 use borrow.Author.Needs.{needs}
 use denote.Ref.{now}
 use Rattle.scan.proofs.RunFacts.{complete-open, complete-none}
-use Rattle.scan.proofs.runs.finish.Statement.{statement}
-use Rattle.scan.proofs.runs.finish.Tie as tie
+use Rattle.scan.proofs.runs.finish_runs.Statement.{statement}
+use Rattle.scan.proofs.runs.finish_runs.Tie as tie
 
 put-run-requires : tie.Need-put-run-requires
 put-run-requires c κs =
@@ -28,5 +28,5 @@ returns-2 c =
     let a = c .before .before .args in
     λ f lent r. complete-none f (a .e) lent (a .w) (now (a .list)) r (c .if1 .left)
 
-pub finish-spec : {M : Type 1} → statement M
-finish-spec = tie.close (tie.spec put-run-requires add-result (λ c. search needs) returns returns-2)
+pub finish-runs-spec : {M : Type 1} → statement M
+finish-runs-spec = tie.close (tie.spec put-run-requires add-result (λ c. search needs) returns returns-2)

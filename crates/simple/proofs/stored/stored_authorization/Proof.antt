@@ -1,4 +1,4 @@
--- `authorization` meets its contract: the record at its place.
+-- `stored_authorization` meets its contract: the record at its place.
 use borrow.Author.Needs.{needs}
 use native.Mathlib.Omega.{arith}
 use mathlib.Core.Path.{ap, _∙_}
@@ -9,8 +9,8 @@ use Rattle.model.specs.Encoding.{authorizationOf}
 use Rattle.model.specs.EncodingFacts.{sound-length}
 use Rattle.encoding.specs.Format.{countsOf, authorizationsAt}
 use Rattle.simple.proofs.StoredPlaces.{record-placed, line-ends}
-use Rattle.simple.proofs.stored.authorization.Statement.{statement}
-use Rattle.simple.proofs.stored.authorization.Tie as tie
+use Rattle.simple.proofs.stored.stored_authorization.Statement.{statement}
+use Rattle.simple.proofs.stored.stored_authorization.Tie as tie
 
 counts-of-requires : tie.Need-counts-of-requires
 counts-of-requires c κs = omega (arith, sound-length (now (c .before .args .s)) (c .before .pre .0))
@@ -33,8 +33,8 @@ returns c =
     (authorizationsAt (countsOf (now (a .s)))) (a .i)
     (c .before .authorizations-at .ensures ∙ ap authorizationsAt (n .counts-of .ensures))
 
-pub authorization-spec : {M : Type 1} → statement M
-authorization-spec =
+pub stored-authorization-spec : {M : Type 1} → statement M
+stored-authorization-spec =
     tie.close
     (tie.spec counts-of-requires (λ c κs. search needs) (λ c. omega (arith, ends c))
     (λ c. omega (arith, ends c)) (λ c κs. ends c .0) returns)

@@ -23,9 +23,8 @@ use Rattle.tables.specs.TableLayout.{regionAt, roomOf, wholeRegion}
 use Rattle.outlines.specs.Coordinates.{WellFormed, Chart, Charted, namedIn, subjectOnRight, objectOnRight}
 use Rattle.outlines.specs.Outline.{RightSides, LeftSides}
 use Rattle.outlines.proofs.StandingRules.{star-is}
-use Rattle.queries.specs.Reached.{numbersBelow, in-below, many, subjectOnly, objectOnly, named}
-use Rattle.queries.specs.Reached.{namesNone}
-use Rattle.queries.specs.Reached.{kinds-all, pairsMost, Codes}
+use Rattle.queries.proofs.Reached.{numbersBelow, in-below, many, subjectOnly, objectOnly, named}
+use Rattle.queries.proofs.Reached.{namesNone, kinds-all, pairsMost, Codes}
 
 -- ---- numbers
 

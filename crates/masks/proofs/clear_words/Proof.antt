@@ -5,8 +5,8 @@ use mathlib.Core.Path.{_≡_, _∙_}
 use Prim.Native.Nat.{ℕ, _-_, _≤_, _<_}
 use lib.ListN.{length, getD, length-set}
 use Rattle.masks.proofs.BitLoops.{zero-turn}
-use Rattle.masks.proofs.clear.Statement.{statement}
-use Rattle.masks.proofs.clear.Tie as tie
+use Rattle.masks.proofs.clear_words.Statement.{statement}
+use Rattle.masks.proofs.clear_words.Tie as tie
 
 abbrev Inv-loop : tie.InvT-loop
 Inv-loop words₀ n i₀ words i =
@@ -31,7 +31,7 @@ returns c =
     let l = c .before .loop in
     (λ j h. l .inv .2 j (omega arith), l .inv .1)
 
-pub clear-spec : {M : Type 1} → statement M
-clear-spec =
+pub clear-words-spec : {M : Type 1} → statement M
+clear-words-spec =
     tie.close (tie.spec Inv-loop μ-loop loop-holds (λ c. search needs) (λ c. search needs)
     (λ c. search needs) (λ c. search needs) loop-again (λ c. search needs) returns)

@@ -9,8 +9,8 @@ use Rattle.words.specs.Bits.{bit-less}
 use Rattle.words.specs.Bits.{cut-less}
 use Rattle.words.proofs.FieldLaws.{bit-shifted}
 use Rattle.masks.proofs.SingleBits.{one-bit}
-use Rattle.masks.proofs.without.Statement.{statement}
-use Rattle.masks.proofs.without.Tie as tie
+use Rattle.masks.proofs.without_rule.Statement.{statement}
+use Rattle.masks.proofs.without_rule.Tie as tie
 
 sub-result : tie.Need-sub-result
 sub-result c = and-le-l (c .args .m) _
@@ -23,5 +23,5 @@ returns c =
       λ i. bit-less i (a .m) (2 ^ a .r) ∙ ap (λ (x : Bool). bit i (a .m) && not x) (one-bit (a .r) i),
     )
 
-pub without-spec : {M : Type 1} → statement M
-without-spec = tie.close (tie.spec (λ c. search needs) sub-result returns)
+pub without-rule-spec : {M : Type 1} → statement M
+without-rule-spec = tie.close (tie.spec (λ c. search needs) sub-result returns)
