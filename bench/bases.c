@@ -46,12 +46,19 @@ static side side_of(uint32_t subject, uint32_t mode, uint32_t object)
     return (side){subject == 0, subject, mode == 0, mode, object == 0, object, false};
 }
 
-/* A rule of owner 1 from start to end. A choosy one looks only at what owner 1 granted. */
-static void full_rule(side left, uint32_t operation, side right, bool choosy, uint32_t start, uint32_t end)
+/* A rule of owner 1 from start to end, which looks at what a grantor granted, with 0 for a star. */
+static void rule_by(
+    side left, uint32_t operation, side right, uint32_t grantor, uint32_t start, uint32_t end)
 {
     must(&(request){.kind = ACCESS_BASE_ADDRULE, .now = 1, .requester = 1, .start = start, .end = end,
-                    .rule = {.left = left, .operation = operation, .right = right, .any_grantor = !choosy,
-                             .grantor = 1, .any_option = true}});
+                    .rule = {.left = left, .operation = operation, .right = right,
+                             .any_grantor = grantor == 0, .grantor = grantor, .any_option = true}});
+}
+
+/* The same; a choosy one looks only at what owner 1 granted. */
+static void full_rule(side left, uint32_t operation, side right, bool choosy, uint32_t start, uint32_t end)
+{
+    rule_by(left, operation, right, choosy ? 1 : 0, start, end);
 }
 
 /* A rule for all time: left subject, mode and object, operator, right subject, mode and object. */
@@ -145,6 +152,44 @@ void all_meters(void)
 void all_meters_aslongas(void)
 {
     all_meters_of(ACCESS_BASE_ASLONGAS);
+}
+
+/* Rings: on all of an owner's 20 meters from each of 20 subjects to the next, from each meter to the next and
+ * from each mode to the next, the last of each looking at the first again, 16 rules for every place, and
+ * lines apart: what one line gives goes round 3,200 places. The 16 look at what `grantor` granted, or at what
+ * different ones did, and the others at what owner 1 did where they are choosy. */
+static void rings_of(bool choosy, uint32_t grantor, bool different)
+{
+    make(20);
+    for (uint32_t i = 0; i < ROOMY_LINES; i++)
+        grant(0, 1, 1 + i / 3 % 8, 1 + i % 20, 3 + i * 7 % 20, 10 + 4 * i, 11 + 4 * i);
+    for (uint32_t j = 0; j < 20; j++)
+        full_rule(side_of(3 + j, 0, 0), ACCESS_BASE_WHENEVER, side_of(3 + (j + 1) % 20, 0, 0), choosy, 5,
+                  ACCESS_BASE_LAST);
+    for (uint32_t j = 0; j < 20; j++)
+        full_rule(side_of(0, 0, 1 + j), ACCESS_BASE_WHENEVER, side_of(0, 0, 1 + (j + 1) % 20), choosy, 5,
+                  ACCESS_BASE_LAST);
+    for (uint32_t j = 0; j < 8; j++)
+        full_rule(side_of(0, 1 + j, 0), ACCESS_BASE_WHENEVER, side_of(0, 1 + (j + 1) % 8, 0), choosy, 5,
+                  ACCESS_BASE_LAST);
+    for (uint32_t j = 0; j < 16; j++)
+        rule_by(side_of(0, 0, 0), ACCESS_BASE_WHENEVER, side_of(0, 0, 0), different ? grantor + j : grantor,
+                5, ACCESS_BASE_LAST);
+}
+
+void rings(void)
+{
+    rings_of(false, 0, false);
+}
+
+void rings_choosy(void)
+{
+    rings_of(true, 1, false);
+}
+
+void rings_kinds(void)
+{
+    rings_of(true, 1, true);
 }
 
 /* ---- without rules */

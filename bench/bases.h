@@ -17,6 +17,9 @@ void widest_unless(void);
 void widest_circle(void);
 void all_meters(void);
 void all_meters_aslongas(void);
+void rings(void);
+void rings_choosy(void);
+void rings_kinds(void);
 
 /* Without rules. */
 void across(void);

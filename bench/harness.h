@@ -97,16 +97,17 @@ static reply compare(const char *name, call_of *call, uint32_t count)
 /* A row's rounds end after so many seconds, be they fewer. */
 #define ROW_SECONDS 6.0
 
-enum { ROUNDS = 60 };
+enum { ROUNDS = 200 };
 
-/* A kind of call, its refusal, how many make a round, and the seconds that one took in the best round. */
+/* A kind of call, its refusal, how many make a round, and the seconds that one took in each round. */
 struct timed {
     call_of *call;
     uint32_t refusal;
     struct side_of {
         const struct library *library;
         uint32_t count;
-        double best;
+        int rounds;
+        double took[ROUNDS];
     } proved, plain;
 };
 
@@ -132,18 +133,20 @@ static double seconds_for(const struct timed *t, const struct library *l, uint32
 /* Begins with rounds of a millisecond, and of at least so many calls. */
 static void begin(const struct timed *t, struct side_of *s, const struct library *l, uint32_t least)
 {
-    *s = (struct side_of){l, least, 1e9};
+    s->library = l;
+    s->count = least;
+    s->rounds = 0;
     while (s->count < 1u << 20 && seconds_for(t, l, s->count) < 0.001)
         s->count *= 2;
 }
 
 static void one_round(const struct timed *t, struct side_of *s)
 {
-    s->best = lesser(s->best, seconds_for(t, s->library, s->count) / s->count);
+    s->took[s->rounds++] = seconds_for(t, s->library, s->count) / s->count;
 }
 
 /* Times kinds of calls through both libraries, in rounds that take turns, so that what disturbs the machine
- * for a while disturbs all of them. */
+ * for a while disturbs all of them; every second round goes through the kinds backwards. */
 static void time_in_turns(struct timed *t, int kinds, uint32_t least)
 {
     for (int k = 0; k < kinds; k++) {
@@ -152,9 +155,9 @@ static void time_in_turns(struct timed *t, int kinds, uint32_t least)
     }
     double from = seconds();
     for (int round = 0; round < ROUNDS && (round == 0 || seconds() - from < ROW_SECONDS); round++)
-        for (int k = 0; k < kinds; k++) {
-            one_round(&t[k], &t[k].plain);
-            one_round(&t[k], &t[k].proved);
+        for (int i = 0; i < 2 * kinds; i++) {
+            int k = (round % 2 == 0 ? i : 2 * kinds - 1 - i) % kinds;
+            one_round(&t[k], i < kinds ? &t[k].plain : &t[k].proved);
         }
 }
 
@@ -164,15 +167,39 @@ struct both {
     double proved, plain;
 };
 
-static struct both whole(const struct timed *t)
+/* The best round. */
+static double best_round(const struct side_of *s)
 {
-    return (struct both){t->proved.best, t->plain.best};
+    double least = s->took[0];
+    for (int i = 1; i < s->rounds; i++)
+        least = lesser(least, s->took[i]);
+    return least;
 }
 
-/* What the first kind takes beyond the second. */
+static int rising(const void *a, const void *b)
+{
+    double x = *(const double *)a, y = *(const double *)b;
+    return (x > y) - (x < y);
+}
+
+/* What one kind takes beyond another: the median of what they differ by, round by round. */
+static double median_beyond(const struct side_of *s, const struct side_of *less)
+{
+    double by[ROUNDS];
+    for (int i = 0; i < s->rounds; i++)
+        by[i] = s->took[i] - less->took[i];
+    qsort(by, (size_t)s->rounds, sizeof *by, rising);
+    return (by[(s->rounds - 1) / 2] + by[s->rounds / 2]) / 2;
+}
+
+static struct both whole(const struct timed *t)
+{
+    return (struct both){best_round(&t->proved), best_round(&t->plain)};
+}
+
 static struct both beyond(const struct timed *t, const struct timed *less)
 {
-    return (struct both){t->proved.best - less->proved.best, t->plain.best - less->plain.best};
+    return (struct both){median_beyond(&t->proved, &less->proved), median_beyond(&t->plain, &less->plain)};
 }
 
 static void print_both(struct both b, double unit, int digits)

@@ -154,6 +154,9 @@ static void all_questions(void)
     questions("eight rules for all of an owner's 128 meters", one_owner, 2, 1000);
     questions("64 rules, 43 of them for all of an owner's 22 meters, each naming its grantor", all_meters, 3, 1500);
     questions("the same with ASLONGAS", all_meters_aslongas, 3, 1500);
+    questions("rings of 20 subjects, 20 meters and 8 modes", rings, 3, 1500);
+    questions("such rings, each rule naming its grantor", rings_choosy, 3, 1500);
+    questions("such rings, 16 rules naming different grantors", rings_kinds, 3, 1500);
 }
 
 int main(int argc, char **argv)

@@ -1,16 +1,16 @@
 -- What has passed a channel: the digests of the bytes that were read and of those that were handed to be
 -- written, how many reads there were, what the last one answered, and whether every write worked. That a read
 -- gives what was sent, and that what is handed over is written, is left to trust.
-use mathlib.Core.Path.{_≡_, refl, sym, ap, _∙_}
+use mathlib.Core.Path.{_≡_}
 use mathlib.Core.Logic.{_⊎_, ⊎-elim}
 use mathlib.Core.Bool.{true}
-use mathlib.Core.List.{List, [], _++_}
+use mathlib.Core.List.{List}
 use Prim.Native.Nat.{ℕ, _+_, _≤_, _<_}
 use native.Mathlib.Omega.{arith}
 use lib.IntN.{ℤ, pos, negsuc}
 use lib.ListN.{length, take}
 use Rattle.io.specs.Counts.{clamped}
-use Rattle.channel.specs.Digests.{digest, digest-none, digest-twice}
+use Rattle.channel.specs.Digests.{digest}
 use Rattle.channel.specs.declared.Channel.{Channel}
 
 -- what a read that answered `got` left at the front of the buffer
@@ -60,48 +60,6 @@ Through c = (c .got ≡ pos 0) ⊎ (c .got ≡ negsuc 0)
 -- where every write worked, that is why the program stopped, or its reads can no longer be counted
 abbrev pub Stopped : Channel → Type 0
 Stopped c = c .ok ≡ true → Through c ⊎ (18446744073709551615 ≤ c .reads)
-
--- ---- laws
-
--- at the start
-pub read-none : {c : Channel} → Opened c → Read [] c
-read-none o = record {
-  seen = o .seen ∙ sym (digest-none 0);
-  asked = λ z. let n : _≡_ {A = ℕ} 1 0 = cc in omega arith;
-}
-
--- one read more
-pub read-more : {input buf : List ℕ} {c r : Channel} → Read input c → Fetched c buf r →
-    Read (input ++ arrived (r .got) buf) r
-read-more {input} {buf} {c} {r} w f = record {
-  seen = f .seen ∙ ap (λ (n : ℕ). digest n (arrived (r .got) buf)) (w .seen)
-      ∙ digest-twice 0 input (arrived (r .got) buf);
-  asked = λ z. omega (arith, f .reads);
-}
-
--- and nothing between that read and `r`
-pub fetched-then : {buf : List ℕ} {b c r : Channel} → Fetched b buf c → Unread c r → Fetched b buf r
-fetched-then {buf} {b} f u = record {
-  seen = u .seen ∙ f .seen ∙ ap (λ (z : ℤ). digest (b .seen) (arrived z buf)) (sym (u .got));
-  reads = u .reads ∙ f .reads;
-}
-
--- no read in between
-pub read-same : {input : List ℕ} {c r : Channel} → Read input c → Unread c r → Read input r
-read-same w u = record {
-  seen = u .seen ∙ w .seen;
-  asked = λ z. omega (arith, u .reads, w .asked (sym (u .got) ∙ z));
-}
-
-pub unread-none : (c : Channel) → Unread c c
-unread-none c = record { seen = refl; reads = refl; got = refl }
-
-pub unread-then : {a b c : Channel} → Unread a b → Unread b c → Unread a c
-unread-then u v = record {
-  seen = v .seen ∙ u .seen;
-  reads = v .reads ∙ u .reads;
-  got = v .got ∙ u .got;
-}
 
 -- where nothing was read and every write worked, the program is not to stop
 pub unread-goes-on : {b c : Channel} → Opened b → Unread b c → c .ok ≡ true → Stopped c → ⊥

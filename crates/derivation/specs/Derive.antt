@@ -8,10 +8,10 @@ use lib.Dec.{ltb}
 use Rattle.foundation.specs.Tests.{cases, true-le, false-le}
 use Rattle.foundation.specs.Intervals.{inInterval, inInterval-in, inInterval-true}
 use Rattle.foundation.specs.BitMasks.{bit, power-above, bit-zero}
+use Rattle.foundation.specs.BitLaws.{no-bits}
 use Rattle.model.specs.declared.Operator.{Operator}
 use Rattle.model.specs.declared.Rule.{Rule}
 use Rattle.questions.specs.OperatorSteps.{lasting}
-use Rattle.words.specs.Bits.{no-bits}
 use Rattle.derivation.specs.Window.{made}
 use Rattle.derivation.specs.Lasting.{made-idle, made-plain}
 use Rattle.derivation.specs.Words.{derivedWord, Framed, word-made}

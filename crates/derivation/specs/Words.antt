@@ -11,13 +11,14 @@ use Rattle.foundation.specs.Tests.{pick, cases, true-le, false-le, eq-true, ne-
 use Rattle.foundation.specs.Tests.{or-intro-left, or-true-right}
 use Rattle.foundation.specs.Intervals.{inInterval, inInterval-in, inInterval-true}
 use Rattle.foundation.specs.BitMasks.{bit, bit-zero}
+use Rattle.foundation.specs.BitLaws.{bit-and}
 use Rattle.model.specs.declared.Rule.{Rule}
 use Rattle.model.specs.declared.Operator.{Operator}
 use Rattle.model.specs.declared.Operator.the-variants.{Whenever, AsLongAs, WheneverNot, Unless}
 use Rattle.model.specs.Stratification.{negating}
 use Rattle.questions.specs.OperatorSteps.{lasting, sense}
 use Rattle.words.specs.Ones.{ones, ones-from}
-use Rattle.words.specs.Bits.{bit-and, bit-less, less}
+use Rattle.words.specs.Bits.{bit-less, less}
 use Rattle.derivation.specs.Window.{made}
 use Rattle.derivation.specs.Lasting.{prior, made-plain, made-broken, made-lasting}
 

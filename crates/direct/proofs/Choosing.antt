@@ -3,7 +3,6 @@
 use mathlib.Core.Path.{_≡_, refl, sym, ap, ap₂, _∙_, fun-ext}
 use mathlib.Core.Bool.{Bool, true, false, not, _&&_, _||_, Bool·beq}
 use mathlib.Core.List.{List, [], _∷_, append-nil}
-use mathlib.Core.Logic.{inl, inr}
 use Prim.Native.Nat.{ℕ, _+_, _*_, _≤_, _<_}
 use native.Mathlib.Numerals.{add-one}
 use native.Mathlib.Omega.{arith}
@@ -14,7 +13,7 @@ use Rattle.foundation.specs.Tests.{cases, or-false, true-eq, eq-true, ne-false,
 use Rattle.foundation.specs.Tests.{and-yes}
 use Rattle.foundation.specs.Lists.{anyb, any-append, keepIf}
 use Rattle.foundation.specs.Intervals.{inInterval, maximal}
-use Rattle.foundation.specs.Marks.{Steady, clear-both, next, next-above, next-clear}
+use Rattle.foundation.specs.Marks.{Steady, clear-both, next, next-above, next-le, next-clear}
 use Rattle.foundation.specs.MaximalCount.{maximal-count}
 use Rattle.model.specs.declared.Access.{Access}
 use Rattle.model.specs.declared.Authorization.{Authorization}
@@ -23,7 +22,6 @@ use Rattle.model.specs.SupportMarks.{interval-steady}
 use Rattle.model.specs.HoldsSteady.{marks-length}
 use Rattle.model.specs.Means.{boundaries, marksOf}
 use Rattle.model.specs.Rules.{fits, asked}
-use Rattle.marks.specs.Least.{MarkOrNone, next-is}
 use Rattle.relevance.specs.declared.Chosen.{Chosen}
 use Rattle.relevance.specs.Chosen.{authorizationAt, picked, picked-none, picked-more, marksFor}
 use Rattle.direct.specs.Direct.{heldDirectly}
@@ -116,11 +114,8 @@ module _ (lines which body : List ℕ) (n t m : ℕ)
 
   -- the next mark is behind t, and none is behind 2^32
   pub among-ahead : t < 4294967296 → (t < m) × (m ≤ 4294967296)
-  among-ahead h = (omega (arith, mark, next-above t ms 4294967296 h), bounded (next-is t 4294967296 ms))
-    where
-      bounded : MarkOrNone t 4294967296 ms (next t ms 4294967296) → m ≤ 4294967296
-      bounded (inl q) = omega (arith, mark, q)
-      bounded (inr q) = omega (arith, mark, q .2)
+  among-ahead h =
+      (omega (arith, mark, next-above t ms 4294967296 h), omega (arith, mark, next-le t ms 4294967296))
 
   -- up to it the answer does not change
   pub among-onward : (u : ℕ) → t ≤ u → u < m →

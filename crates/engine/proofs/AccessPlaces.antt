@@ -2,22 +2,21 @@
 -- a pair leads back to its object and its subject (`pair-at`, `pair-back`).
 use mathlib.Core.Path.{_≡_, refl, sym, ap, _∙_}
 use mathlib.Core.Logic.{⊎-elim}
-use mathlib.Core.Bool.{true, false, true≢false}
+use mathlib.Core.Bool.{true, false}
 use mathlib.Core.List.{List}
-use Prim.Native.Nat.{ℕ, suc, _+_, _*_, _/_, _%_, _^_, _≤_, _<_}
-use native.Mathlib.Nat.{mod-lt, div-add-mod', div-lt-iff-lt-mul, zero-div, mul-le-mul, mul-le-mul-right}
+use Prim.Native.Nat.{ℕ, suc, _+_, _*_, _/_, _%_, _≤_, _<_}
+use native.Mathlib.Nat.{mod-lt, div-add-mod', div-lt-iff-lt-mul, mul-le-mul, mul-le-mul-right}
 use native.Mathlib.Omega.{arith}
 use lib.Count.{ones-le}
-use lib.Dec.{eqb}
+use lib.Dec.{eqb, ltb}
 use lib.ListN.{length, getD}
-use Rattle.foundation.specs.Tests.{cases, true-eq, eq-true, false-eq, or-intro-left}
-use Rattle.foundation.specs.BitMasks.{bit}
+use Rattle.foundation.specs.Tests.{cases, true-eq, eq-true, false-eq, true-le, false-le, or-intro-left}
+use Rattle.foundation.specs.Quotients.{parted}
+use Rattle.foundation.specs.BitMasks.{bit, none-set}
 use Rattle.model.specs.declared.Access.{Access}
 use Rattle.model.specs.Base.{Base}
-use Rattle.reach.specs.Net.{has}
-use Rattle.places.specs.ReachedNumbers.{used, usedBefore, usedBefore-le, usedBefore-below, usedBefore-same}
-use Rattle.places.specs.ReachedNumbers.{usedBefore-onto}
-use Rattle.places.specs.ReachedNumbers.{codeOf, parted}
+use Rattle.places.specs.ReachedNumbers.{used, usedBefore, usedBefore-le, usedBefore-apart, usedBefore-onto}
+use Rattle.places.specs.ReachedNumbers.{codeOf}
 use Rattle.places.specs.Regions.{Within}
 use Rattle.tables.specs.TableLayout.{SmallGrid}
 use Rattle.masks.specs.RuleMasks.{PairCode}
@@ -29,6 +28,22 @@ use Rattle.outlines.proofs.NeededFacts.{needed-known, needed-bit}
 use Rattle.grounding.specs.RuleTurns.{Prepared}
 use Rattle.grounding.specs.Meaning.{Mapping, placeOf, Placed}
 use Rattle.engine.specs.Drawn.{Onto, Drawn, mappingOf}
+
+-- ---- numbers of pairs
+
+-- the number of a used pair is below their count
+usedBefore-below : (l : List ℕ) (i : ℕ) → i < length l → used (getD l i 0) ≡ true →
+    usedBefore l i < usedBefore l (length l)
+usedBefore-below l i h e = usedBefore-apart l i (length l) h (omega arith) e
+
+-- different ones have different numbers
+usedBefore-same : (l : List ℕ) (i j : ℕ) → i < length l → j < length l → used (getD l i 0) ≡ true →
+    used (getD l j 0) ≡ true → usedBefore l i ≡ usedBefore l j → i ≡ j
+usedBefore-same l i j h k e f q = cases (ltb i j)
+    (λ y. absurd (omega (arith, usedBefore-apart l i j (true-le (suc i) j y) (omega arith) e)))
+    (λ y. cases (ltb j i)
+    (λ z. absurd (omega (arith, usedBefore-apart l j i (true-le (suc j) i z) (omega arith) f)))
+    (λ z. omega (arith, false-le (suc i) j y, false-le (suc j) i z)))
 
 -- ---- accesses and coordinates
 
@@ -45,9 +60,7 @@ coordinate-onto U size own c onto free h = cases (eqb c 0)
 -- something is needed where a bit is
 pub bit-used : (k x : ℕ) → bit k x ≡ true → used x ≡ true
 bit-used k x e = cases (eqb x 0)
-    (λ y. let o : bit k 0 ≡ false = ap (λ (i : ℕ). eqb (i % 2) 1) (zero-div (2 ^ k)) in
-    let z : bit k x ≡ false = ap (bit k) (true-eq x 0 y) ∙ o in
-    absurd (true≢false (sym e ∙ z)))
+    (λ y. absurd (none-set k (ap (bit k) (sym (true-eq x 0 y)) ∙ e)))
     (λ y. rw y)
 
 -- the coordinate of a number that has one is its entry in the table

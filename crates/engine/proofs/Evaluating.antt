@@ -11,9 +11,9 @@ use lib.Pow.{pow-pos, pow-mono}
 use Rattle.foundation.specs.Intervals.{inInterval}
 use Rattle.foundation.specs.Tests.{le-false}
 use Rattle.foundation.specs.BitMasks.{bit}
+use Rattle.foundation.specs.BitLaws.{below-power}
 use Rattle.model.specs.declared.Authorization.{Authorization}
 use Rattle.encoding.specs.Format.{ruleAt}
-use Rattle.words.specs.Bits.{below-power}
 use Rattle.words.specs.Fields.{fieldOf}
 use Rattle.windows.specs.Windows.{inside}
 use Rattle.masks.specs.RuleMasks.{clear-fields}

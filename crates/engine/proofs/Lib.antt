@@ -7,7 +7,9 @@ pub mod TurnReads
 pub mod Sides
 pub mod LinesGiven
 pub mod NarrowedBase
--- `Right` has one window of a question, `NothingFound` a walk that has nothing to find.
+-- `LeftOut` has authorizations that are passed over or forgotten, `Right` one window of a question,
+-- `NothingFound` a walk that has nothing to find.
+pub mod LeftOut
 pub mod Right
 pub mod NothingFound
 -- What the proofs of the functions use.

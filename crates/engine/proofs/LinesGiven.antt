@@ -46,10 +46,10 @@ own-fits p h e = rw (
 )
 
 module _ (z : Mapping) (body : List ℕ)
-    (rules : (c : ℕ) → bit c (z .frame .choosy) ≡ true → z .rule c ≡ ruleAt body c) where
+    (rules : (c : ℕ) → bit c (z .frame .tables) ≡ true → z .rule c ≡ ruleAt body c) where
   -- those tables whose pattern it fits
   takes-fits : (h : Head) (T : ℕ) → Kept z T (accessOf h) →
-      takenBy body (z .frame .choosy) h T ≡ fits (pat (z .rule) T (accessOf h)) h
+      takenBy body (z .frame .tables) h T ≡ fits (pat (z .rule) T (accessOf h)) h
   takes-fits h zero k = positive (h .negative) ∙ sym (own-fits (pat (z .rule) 0 (accessOf h)) h refl)
     where
       positive : (b : Bool) → eqb 0 (asBit b) ≡ Bool·beq b false && true && true
@@ -61,7 +61,7 @@ module _ (z : Mapping) (body : List ℕ)
       negative true = refl
       negative false = refl
   takes-fits h (suc (suc c)) k =
-      let t : bit c (z .frame .choosy) ≡ true = k .1 .table in
+      let t : bit c (z .frame .tables) ≡ true = k .1 .table in
       ap (λ (b : Bool). b && fitsRule body h c) t ∙ ap (fitsKind h) (sym (rules c t))
       ∙ sym (own-fits (pat (z .rule) (suc (suc c)) (accessOf h)) h refl)
 
@@ -78,7 +78,7 @@ pub record LineAt (z : Mapping) (e : Setting) (a : Authorization) : Type 0 where
   pub point : placeIn e (a .head) .point ≡ z .point (accessOf (a .head))
 
 module _ (z : Mapping) (placed : Placed z) (body : List ℕ) (asked : Access) (subjects objects marks : List ℕ)
-    (count : ℕ) (rules : (c : ℕ) → bit c (z .frame .choosy) ≡ true → z .rule c ≡ ruleAt body c) where
+    (count : ℕ) (rules : (c : ℕ) → bit c (z .frame .tables) ≡ true → z .rule c ≡ ruleAt body c) where
   abbrev by : Setting
   by = settingOf z body asked subjects objects marks count
 
@@ -103,10 +103,10 @@ module _ (z : Mapping) (placed : Placed z) (body : List ℕ) (asked : Access) (s
     taken T = fits (patterns T access) (a .head)
 
     line-joined : Joined (Kept z) (wordsIn z old) (wordsIn z new) taken access (step .value)
-    line-joined = given-joined z placed access (at .matters) (takenBy body (z .frame .choosy) (a .head))
+    line-joined = given-joined z placed access (at .matters) (takenBy body (z .frame .tables) (a .head))
         (step .value) old new taken (takes-fits z body rules (a .head))
         (subst (λ (p : Point). TablesGiven (tablesOf (z .frame) (z .right) (z .first)) (z .frame .width)
-        (getD (z .number) (pairIn (z .frame .grid) p) 0) p (takenBy body (z .frame .choosy) (a .head))
+        (getD (z .number) (pairIn (z .frame .grid) p) 0) p (takenBy body (z .frame .tables) (a .head))
         (step .value) old new) (at .point) (step .given))
 
     line-instants : (i : ℕ) → i < count → bit i (step .value) ≡ inInterval (a .interval) (instant i)

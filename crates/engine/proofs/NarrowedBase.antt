@@ -4,12 +4,13 @@ use mathlib.Core.Path.{_≡_, refl, sym, ap, _∙_, subst}
 use mathlib.Core.Logic.{_↔_}
 use mathlib.Core.Bool.{Bool, true, false, not, _&&_, _||_, Bool·beq, true≢false}
 use mathlib.Core.List.{List, [], _∷_}
-use Prim.Native.Nat.{ℕ, suc, _+_, _*_, _-_, _<_}
+use Prim.Native.Nat.{ℕ, zero, suc, _+_, _*_, _-_, _<_}
 use native.Mathlib.Omega.{arith}
 use lib.Dec.{eqb, leb, ltb}
-use lib.ListN.{length, getD}
+use lib.ListN.{length, drop, getD}
+use lib.Seq.{drop-nil}
 use Rattle.foundation.specs.Tests.{cases, ne-false, le-true, true-le, not-true, and-true, and-intro}
-use Rattle.foundation.specs.Tests.{or-none, beq-self}
+use Rattle.foundation.specs.Tests.{pick, or-none, beq-self}
 use Rattle.foundation.specs.Lists.{keepIf, Mem, keepIf-mem, kept}
 use Rattle.foundation.specs.BitMasks.{asBit, bit}
 use Rattle.foundation.specs.ByteRecords.{length-records}
@@ -26,7 +27,7 @@ use Rattle.encoding.specs.Format.{rulesIn, ruleAt, authorizationsIn}
 use Rattle.laws.specs.Narrowing.{accessOf, narrowed, needed-may}
 use Rattle.questions.specs.RuleNumbers.{Numbering}
 use Rattle.relevance.specs.declared.choice.Cell.{Cell}
-use Rattle.relevance.specs.Chosen.{picked, selected, selected-numbers}
+use Rattle.relevance.specs.Chosen.{picked, selectedFrom, selected}
 use Rattle.relevance.specs.Needed.{cellOf, Choice}
 use Rattle.reach.specs.Net.{standing}
 use Rattle.places.specs.ReachedNumbers.{usedBefore}
@@ -49,6 +50,43 @@ keep-both {A} p q (x ∷ xs) =
     cases (q x)
     (λ e. cases (p x) (λ f. rw (e, f) (ap (λ (l : List A). x ∷ l) i)) (λ f. rw (e, f) i))
     (λ e. cases (p x) (λ f. rw (e, f) i) (λ f. rw (e, f) i))
+
+-- ---- rules by the bits of their numbers
+
+module _ {A : Type 0} (m : ℕ) where
+  selected-by : (test : A → Bool) (i : ℕ) (xs : List A) →
+      ((j : ℕ) (x : A) (rest : List A) → drop j xs ≡ x ∷ rest → test x ≡ bit (i + j) m) →
+      selectedFrom m i xs ≡ keepIf test xs
+  selected-by test i [] h = refl
+  selected-by test i (x ∷ xs) h =
+      let z : i + 0 ≡ i = omega arith in
+      let e : test x ≡ bit i m = h 0 x xs refl ∙ ap (λ (k : ℕ). bit k m) z in
+      let r = selected-by test (suc i) xs (λ j y rest d. h (suc j) y rest d
+      ∙ ap (λ (k : ℕ). bit k m) (omega arith)) in
+      ap (λ (l : List A). pick (bit i m) (x ∷ l) l) r
+      ∙ ap (λ (b : Bool). pick b (x ∷ keepIf test xs) (keepIf test xs)) (sym e)
+
+  -- where each has the number of its place, those with the bit of their number
+  selected-numbers : (xs : List A) (number : A → ℕ) (nth : ℕ → A) →
+      ((i : ℕ) → i < length xs → number (nth i) ≡ i) →
+      ((i : ℕ) → i < length xs → drop i xs ≡ nth i ∷ drop (suc i) xs) →
+      selected m xs ≡ keepIf (λ x. bit (number x) m) xs
+  selected-numbers xs number nth ruled at = selected-by (λ x. bit (number x) m) 0 xs go
+    where
+      shorter : (j : ℕ) (ys : List A) (x : A) (rest : List A) → drop j ys ≡ x ∷ rest → j < length ys
+      shorter j [] x rest d =
+          let n : _≡_ {A = List A} [] (x ∷ rest) = sym (drop-nil j) ∙ d in
+          let z : _≡_ {A = ℕ} 0 1 = cc in
+          absurd (omega arith)
+      shorter zero (y ∷ ys) x rest d = omega arith
+      shorter (suc j) (y ∷ ys) x rest d = omega (arith, shorter j ys x rest d)
+
+      go : (j : ℕ) (x : A) (rest : List A) → drop j xs ≡ x ∷ rest → bit (number x) m ≡ bit (0 + j) m
+      go j x rest d =
+          let h = shorter j xs x rest d in
+          let p : x ∷ rest ≡ nth j ∷ drop (suc j) xs = sym d ∙ at j h in
+          let q : x ≡ nth j = cc in
+          ap (λ (y : A). bit (number y) m) q ∙ ap (λ (k : ℕ). bit k m) (ruled j h ∙ omega arith)
 
 -- ---- authorizations by coordinates
 

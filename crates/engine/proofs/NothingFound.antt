@@ -20,13 +20,14 @@ use Rattle.encoding.specs.Format.{ruleAt}
 use Rattle.laws.specs.NothingHeld.{nothing-may}
 use Rattle.relevance.specs.declared.Chosen.{Chosen}
 use Rattle.relevance.specs.Chosen.{picked, picked-none}
-use Rattle.relevance.specs.Forgotten.{during, none-during}
+use Rattle.relevance.specs.Forgotten.{during}
 use Rattle.selection.proofs.Selected.{selected-rule}
 use Rattle.scan.specs.Filled.{filled}
 use Rattle.outlines.specs.Coordinates.{Chart}
 use Rattle.grounding.specs.RuleTurns.{Prepared}
 use Rattle.engine.specs.declared.Query.{Query}
 use Rattle.engine.specs.Posed.{Walks, nothing, Finds}
+use Rattle.engine.proofs.LeftOut.{none-during}
 
 module _ {lines which : List ℕ} {c : Chosen} {lasting : ℕ} {q : Query} {C : Chart} {p : Prepared}
     {words bits : List ℕ} {base : Base} {x : Access}

@@ -30,8 +30,7 @@ use Rattle.relevance.specs.declared.Chosen.{Chosen}
 use Rattle.relevance.specs.declared.filling.Filled.{Filled}
 use Rattle.relevance.specs.Chosen.{picked, selected, marksFor}
 use Rattle.relevance.specs.Filling.{Fills}
-use Rattle.relevance.specs.Forgotten.{endsFrom, during, Forgets, forgets-picks, Ordered, ordered-kept}
-use Rattle.relevance.specs.Forgotten.{none-during, clear-during, clear-left}
+use Rattle.relevance.specs.Forgotten.{endsFrom, during, Forgets}
 use Rattle.scan.specs.declared.Track.{Track}
 use Rattle.scan.specs.Filled.{filled}
 use Rattle.scan.specs.Runs.{ScannedTo, Answered, instantAt, counted}
@@ -47,6 +46,8 @@ use Rattle.engine.specs.Evaluation.{Low, Evaluation}
 use Rattle.engine.proofs.AccessPlaces.{place-within}
 use Rattle.engine.proofs.StandingPlaces.{rule-low}
 use Rattle.engine.specs.Posed.{Posed, CarriedAt, Walks, Finds}
+use Rattle.engine.proofs.LeftOut.{forgets-picks, Ordered, ordered-kept, none-during}
+use Rattle.engine.proofs.LeftOut.{clear-during, clear-left}
 use Rattle.engine.proofs.Right.{settingFor, Views, able, ready, answers, carried-next}
 use Rattle.engine.specs.Going.{cappedAt, Start, Going}
 

@@ -31,7 +31,6 @@ use Rattle.relevance.specs.Chosen.{authorizationAt, picked, Picks}
 use Rattle.derivation.specs.Window.{Window}
 use Rattle.facts.specs.Facts.{Setting, setting, placeIn, HasPlace, LinesReady}
 use Rattle.outlines.specs.Coordinates.{Chart, coordinate}
-use Rattle.outlines.specs.Feed.{isChoosy}
 use Rattle.outlines.specs.NeededAccesses as outlines
 use Rattle.outlines.proofs.NeededFacts.{needed-known}
 use Rattle.grounding.specs.Meaning.{placeOf, wordsIn}
@@ -45,7 +44,7 @@ use Rattle.engine.specs.Evaluation.{Low, Evaluation}
 use Rattle.engine.proofs.LinesGiven.{LineAt, lines-sound, lines-in, blank-sound}
 use Rattle.engine.proofs.AccessPlaces.{size-few, pair-below, mapping-placed, place-within}
 use Rattle.engine.specs.Posed.{Posed, CarriedAt}
-use Rattle.engine.proofs.TurnReads.{rule-able}
+use Rattle.engine.proofs.TurnReads.{tables-in, rule-able}
 use Rattle.selection.proofs.Selected.{selected-few, rule-selected, selected-rule, picked-mem}
 use Rattle.engine.proofs.Sides.{in-whole, feed-has, turn-of}
 use Rattle.engine.proofs.StandingPlaces.{rule-low, stands-for, stands-at, left-in}
@@ -109,10 +108,7 @@ module _ {n : ℕ} {C : Chart} {own : Access} {p : Prepared} {needed words bits�
         picks = picks;
         usable = record {
           ready = d .laid;
-          rules = λ c e.
-              let h = rule-few c (and-true (bit c needed) (isChoosy (ruleAt (p .body) c))
-              (sym (d .choosy c) ∙ e) .0) in
-              (omega (arith, h .0, h .1), omega (arith, h .0, d .well-formed .there));
+          rules = tables-in d;
           few = omega (arith, d .numbers .0, d .size, size-few d);
           short = views .few;
           rising = views .rising;

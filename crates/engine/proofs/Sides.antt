@@ -3,7 +3,7 @@
 use mathlib.Core.Path.{_≡_, refl, sym, ap, ap₂, _∙_, subst}
 use mathlib.Core.Bool.{Bool, true, false, not, _&&_, Bool·beq, true≢false}
 use mathlib.Core.List.{List}
-use Prim.Native.Nat.{ℕ, zero, suc, _+_, _*_, _-_, _/_, _%_, _<_}
+use Prim.Native.Nat.{ℕ, zero, suc, _+_, _*_, _/_, _%_, _<_}
 use native.Mathlib.Omega.{arith}
 use lib.Bits.{bitAnd}
 use lib.Dec.{eqb, ltb}
@@ -13,14 +13,14 @@ use Rattle.foundation.specs.Tests.{and-intro, and-yes}
 use Rattle.foundation.specs.Lists.{Mem}
 use Rattle.foundation.specs.Intervals.{inInterval}
 use Rattle.foundation.specs.BitMasks.{asBit, bit, bit-le, bit-true}
-use Rattle.words.specs.Bits.{bit-and}
+use Rattle.foundation.specs.BitLaws.{bit-and}
 use Rattle.windows.specs.Windows.{inside}
 use Rattle.reach.specs.Net.{turned}
 use Rattle.places.specs.declared.Region.{Region}
 use Rattle.places.specs.declared.Point.{Point}
 use Rattle.places.specs.Regions.{sizeOf, In}
 use Rattle.tables.specs.TableLayout.{regionAt, wholeRegion, isThere, offsetOf, regionOf}
-use Rattle.tables.specs.TableGiving.{tableTakes}
+use Rattle.tables.specs.TableGiving.{whole-at, shapesOf, tableTakes}
 use Rattle.model.specs.declared.OptionTerm.{OptionTerm}
 use Rattle.model.specs.declared.OptionTerm.the-variants.{With, Without, Either}
 use Rattle.model.specs.declared.Rule.{Rule}
@@ -30,7 +30,7 @@ use Rattle.model.specs.Base.{Base}
 use Rattle.model.specs.Stratification.{isStar, feeds, precedes}
 use Rattle.model.specs.Rules.{standsFor, derivesFor, rightOf}
 use Rattle.model.specs.Rules as rules
-use Rattle.model.specs.SideFacts.{derives-is, right-eq, fit-feeds, feeds-fit}
+use Rattle.model.specs.SideFacts.{derives-eq, derives-is, right-eq, fit-feeds, feeds-fit}
 use Rattle.encoding.specs.Format.{ruleAt}
 use Rattle.outlines.specs.Coordinates.{Chart, subjectOf, objectOf, known, modeOf}
 use Rattle.outlines.proofs.CoordinateFacts.{known-one}
@@ -39,20 +39,22 @@ use Rattle.outlines.specs.NeededAccesses.{needed}
 use Rattle.outlines.proofs.NeededFacts.{needed-known}
 use Rattle.outlines.proofs.StandingRules.{rule-bit}
 use Rattle.outlines.specs.Feed.{isEither, isChoosy}
+use Rattle.facts.specs.Facts.{takersIn, takers-bit}
+use Rattle.facts.specs.Sharing.{SameKind}
 use Rattle.grounding.specs.RuleSteps.{turnedPoint}
 use Rattle.grounding.specs.Meaning.{pat, Kept, TurnOf}
-use Rattle.grounding.specs.RuleTurns.{Prepared, lookedBy, turnIn}
+use Rattle.grounding.specs.RuleTurns.{Prepared, derivedHead, takersFor, turnIn}
 use Rattle.engine.specs.Drawn.{SamePowers, Drawn, mappingOf}
 use Rattle.engine.proofs.AccessPlaces.{place-within}
 use Rattle.engine.proofs.StandingPlaces.{rule-low}
-use Rattle.engine.proofs.TurnReads.{point-right, right-needed}
+use Rattle.engine.proofs.TurnReads.{tables-in, point-right, right-needed}
 
 -- ---- small laws
 
 -- the tables of the signs have all places
-sign-there : (choosy : ℕ) (g : Bool) → isThere choosy (asBit g) ≡ true
-sign-there choosy true = refl
-sign-there choosy false = refl
+sign-there : (tables : ℕ) (g : Bool) → isThere tables (asBit g) ≡ true
+sign-there tables true = refl
+sign-there tables false = refl
 
 pub in-whole : (x : Point) → In wholeRegion x
 in-whole x = record {
@@ -91,6 +93,16 @@ sign-pattern rule false x = refl
 own-pattern : (rule : ℕ → Rule) (c : ℕ) (x : Access) →
     pat rule (suc (suc c)) (rightOf (rule c) x .access) ≡ rightOf (rule c) x
 own-pattern rule c x = rw (right-eq (rule c) x)
+
+-- the same fits those of rules of one kind
+kind-pattern : (rule : ℕ → Rule) (c q : ℕ) → SameKind (rule c) (rule q) → (x : Access) →
+    pat rule (suc (suc q)) x ≡ pat rule (suc (suc c)) x
+kind-pattern rule c q k x = λ i. record {
+  access = x;
+  negative = sym (k .sign) i;
+  grantor = sym (k .grantor) i;
+  option = sym (k .option) i;
+}
 
 any-pattern : (r : Rule) (x : Access) → isChoosy r ≡ false →
     rules.asked (rightOf r x .access) (r .right .negative) ≡ rightOf r x
@@ -134,6 +146,13 @@ module _ {holder : Base} {n : ℕ} {C : Chart} {asked : Access} {p : Prepared} {
       (aim-known (d .well-formed) C (d .charted) (p .right) (d .rights) asked r h x k) k
       (ap (λ (s : Point). s .object) e) (ap (λ (s : Point). s .subject) e) (ap (λ (s : Point). s .mode) e)
 
+  -- the table of a rule has its right side
+  in-shape : (r : ℕ) → r < 64 → (y : Point) → In (regionAt (p .right) r) y →
+      In (regionAt (shapesOf (p .frame) (p .right)) r) y
+  in-shape r h y i = cases (p .frame .wide)
+      (λ w. rw (w, whole-at r h) (in-whole y))
+      (λ w. rw w i)
+
   -- ---- signs, and which rule precedes which
 
   left-sign : (r : ℕ) → r < n → getD (p .sides) (4 * r + 3) 0 % 2 ≡ asBit (ruleAt (p .body) r .left .negative)
@@ -159,73 +178,68 @@ module _ {holder : Base} {n : ℕ} {C : Chart} {asked : Access} {p : Prepared} {
     abbrev one : Rule
     one = ruleAt (p .body) r
 
-    -- the table that it looks at
-    abbrev table : ℕ
-    table = lookedBy (p .frame) (p .sides) r
+    right-denied : turnIn p active r .denied ≡ one .right .negative
+    right-denied = ap (λ (m : ℕ). eqb m 1) (right-sign r (rule-low d r e)) ∙ bit-true (one .right .negative)
 
-    own-table : bit r (p .frame .choosy) ≡ true → table ≡ suc (suc r)
-    own-table c = rw c
+    -- ---- the table that it looks at
 
-    sign-table : bit r (p .frame .choosy) ≡ false → table ≡ asBit (one .right .negative)
-    sign-table c = rw c (right-sign r (rule-low d r e))
+    -- table T is that one: it is there, has the rule's right side, and what fits that
+    record LooksIn (T : ℕ) : Type 0 where
+      there : isThere (p .frame .tables) T ≡ true
+      offset : turnIn p active r .first ≡ offsetOf (p .frame .grid) (p .first) T
+      region : turnIn p active r .table ≡ regionOf (shapesOf (p .frame) (p .right)) T
+      inside : (x : Access) →
+          In (regionOf (shapesOf (p .frame) (p .right)) T) (pointOf (rightOf one x .access))
+      pattern : (x : Access) → pat (ruleAt (p .body)) T (rightOf one x .access) ≡ rightOf one x
 
-    table-there : isThere (p .frame .choosy) table ≡ true
-    table-there = cases (bit r (p .frame .choosy))
-        (λ c. ap (isThere (p .frame .choosy)) (own-table c) ∙ c)
-        (λ c. ap (isThere (p .frame .choosy)) (sign-table c)
-        ∙ sign-there (p .frame .choosy) (one .right .negative))
+    -- that of the rule it shares a table with
+    in-shared : (c : bit r (p .frame .choosy) ≡ true) → LooksIn (suc (suc (d .shared r c .0)))
+    in-shared c =
+        let q = d .shared r c .0 in
+        let w = d .shared r c .1 in record {
+          there = w .there;
+          offset = rw c (w .start);
+          region = rw c (w .shares .region);
+          inside = λ x. let y = pointOf (rightOf one x .access) in
+              subst (λ (b : Region). In b y) (w .shares .region)
+              (in-shape r few y
+              (turned-in (regionAt (p .right) r) (pointOf x) y (sym (point-right d base r e x))));
+          pattern = λ x. kind-pattern (ruleAt (p .body)) r q (w .shares .kind) (rightOf one x .access)
+              ∙ own-pattern (ruleAt (p .body)) r x;
+        }
+      where
+        few : r < 64
+        few = omega (arith, rule-low d r e, d .well-formed .few)
 
-    table-region : turnIn p active r .table ≡ regionOf (p .right) table
-    table-region = cases (bit r (p .frame .choosy))
-        (λ c. rw c)
-        (λ c. rw c (sym (ap (regionOf (p .right)) (right-sign r (rule-low d r e))
-        ∙ sign-region (p .right) (one .right .negative))))
-
-    table-offset : turnIn p active r .first ≡ offsetOf (p .frame .grid) (p .first) table
-    table-offset = cases (bit r (p .frame .choosy))
-        (λ c. rw c)
-        (λ c. rw (c, right-sign r (rule-low d r e)) (start (one .right .negative)))
+    -- or that of its sign
+    in-signed : bit r (p .frame .choosy) ≡ false → LooksIn (asBit (one .right .negative))
+    in-signed c =
+        let g = one .right .negative in record {
+          there = sign-there (p .frame .tables) g;
+          offset = rw (c, right-sign r (rule-low d r e)) (start g);
+          region = rw c (sym (sign-region (shapesOf (p .frame) (p .right)) g));
+          inside = λ x. let y = pointOf (rightOf one x .access) in
+              subst (λ (b : Region). In b y) (sym (sign-region (shapesOf (p .frame) (p .right)) g))
+              (in-whole y);
+          pattern = λ x. sign-pattern (ruleAt (p .body)) g (rightOf one x .access) ∙ any-pattern one x plain;
+        }
       where
         start : (g : Bool) → pick (eqb (asBit g) 1) (sizeOf (p .frame .grid) wholeRegion) 0
             ≡ offsetOf (p .frame .grid) (p .first) (asBit g)
         start true = refl
         start false = refl
 
-    right-denied : turnIn p active r .denied ≡ one .right .negative
-    right-denied = ap (λ (m : ℕ). eqb m 1) (right-sign r (rule-low d r e)) ∙ bit-true (one .right .negative)
-
-    -- it has the rule's right side
-    right-in : (x : Access) → In (regionOf (p .right) table) (pointOf (rightOf one x .access))
-    right-in x =
-        let y = pointOf (rightOf one x .access) in
-        cases (bit r (p .frame .choosy))
-        (λ c. subst (λ (T : ℕ). In (regionOf (p .right) T) y) (sym (own-table c))
-        (turned-in (regionAt (p .right) r) (pointOf x) y (sym (point-right d base r e x))))
-        (λ c. subst (λ (b : Region). In b y)
-        (sym (ap (regionOf (p .right)) (sign-table c) ∙ sign-region (p .right) (one .right .negative)))
-        (in-whole y))
-
-    right-kept : (x : Access) → needed C asked (p .need) x ≡ true → standsFor base one x ≡ true →
-        Kept (mappingOf base C asked p) table (rightOf one x .access)
-    right-kept x m s =
-        let y = rightOf one x .access in
-        let w = right-needed d base r e powers x m s in
-        (w, record { table = table-there; within = place-within d base y w; inside = right-in x })
-
-    -- and what fits that
-    right-pattern : (x : Access) → pat (ruleAt (p .body)) table (rightOf one x .access) ≡ rightOf one x
-    right-pattern x =
-        let y = rightOf one x .access in
-        cases (bit r (p .frame .choosy))
-        (λ c. ap (λ (T : ℕ). pat (ruleAt (p .body)) T y) (own-table c)
-        ∙ own-pattern (ruleAt (p .body)) r x)
-        (λ c. ap (λ (T : ℕ). pat (ruleAt (p .body)) T y) (sign-table c)
-        ∙ sign-pattern (ruleAt (p .body)) (one .right .negative) y ∙ any-pattern one x (plain c))
-      where
-        plain : bit r (p .frame .choosy) ≡ false → isChoosy one ≡ false
-        plain c = cases (isChoosy one)
+        plain : isChoosy one ≡ false
+        plain = cases (isChoosy one)
             (λ y. absurd (true≢false (sym (d .choosy r ∙ and-intro (bit r matter) (isChoosy one) e y) ∙ c)))
             (λ y. y)
+
+    right-kept : (T : ℕ) → LooksIn T → (x : Access) → needed C asked (p .need) x ≡ true →
+        standsFor base one x ≡ true → Kept (mappingOf base C asked p) T (rightOf one x .access)
+    right-kept T l x m s =
+        let y = rightOf one x .access in
+        let w = right-needed d base r e powers x m s in
+        (w, record { table = l .there; within = place-within d base y w; inside = l .inside x })
 
     -- ---- what it gives
 
@@ -239,18 +253,18 @@ module _ {holder : Base} {n : ℕ} {C : Chart} {asked : Access} {p : Prepared} {
         (λ y. derives-is base (rules.asked x g) one .1 (s, y, refl, refl))
         (λ y. derives-is base (rules.asked x g) one .0 y .1)
 
-    -- the table of a choosy rule c
-    rule-given : (x : Access) → needed C asked (p .need) x ≡ true → standsFor base one x ≡ true → (c : ℕ) →
-        bit c (p .frame .choosy) ≡ true → In (regionAt (p .right) c) (pointOf x) →
-        bit c (bitAnd (getD (p .feed) (64 + r) 0) (p .frame .choosy))
+    -- the table of the places of the right side of a rule c that has one
+    fed-given : (x : Access) → needed C asked (p .need) x ≡ true → standsFor base one x ≡ true → (c : ℕ) →
+        bit c (p .frame .tables) ≡ true → In (regionAt (p .right) c) (pointOf x) →
+        bit c (bitAnd (getD (p .feed) (64 + r) 0) (p .frame .tables))
         ≡ derivesFor base (pat (ruleAt (p .body)) (suc (suc c)) x) one
-    rule-given x m s c t i =
+    fed-given x m s c t i =
         let q = ruleAt (p .body) c in
-        let w = and-true (bit c matter) (isChoosy q) (sym (d .choosy c) ∙ t) in
+        let w = and-true (bit c matter) (isChoosy q) (sym (d .choosy c) ∙ d .tabled c t) in
         let h = rule-low d c (w .0) in
         let k = rule-low d r e in
-        let f : bit c (bitAnd (getD (p .feed) (64 + r) 0) (p .frame .choosy)) ≡ feeds one q =
-        bit-and (getD (p .feed) (64 + r) 0) (p .frame .choosy) c
+        let f : bit c (bitAnd (getD (p .feed) (64 + r) 0) (p .frame .tables)) ≡ feeds one q =
+        bit-and (getD (p .feed) (64 + r) 0) (p .frame .tables) c
         ∙ ap₂ (λ (a b : Bool). a && b)
         (d .feed .1 .onward r c k h ∙ ap (λ (a : Bool). a && feeds one q) (d .feed .2 c h ∙ w .1)) t
         ∙ and-yes (feeds one q) in
@@ -263,32 +277,54 @@ module _ {holder : Base} {n : ℕ} {C : Chart} {asked : Access} {p : Prepared} {
         (λ y. fit-feeds base one q x y)
         ∙ ap (λ (z : Pattern). derivesFor base z one) (sym g)
 
+    -- that of all places
+    kind-given : (x : Access) → standsFor base one x ≡ true → (c : ℕ) → bit c (p .frame .tables) ≡ true →
+        bit c (takersIn (p .body) (p .frame .tables) (derivedHead one))
+        ≡ derivesFor base (pat (ruleAt (p .body)) (suc (suc c)) x) one
+    kind-given x s c t =
+        takers-bit (p .body) (p .frame .tables) (derivedHead one) c (tables-in d c t .0)
+        ∙ rw (t, derives-eq base (pat (ruleAt (p .body)) (suc (suc c)) x) one, s)
+
+    rule-given : (x : Access) → needed C asked (p .need) x ≡ true → standsFor base one x ≡ true → (c : ℕ) →
+        bit c (p .frame .tables) ≡ true → In (regionAt (shapesOf (p .frame) (p .right)) c) (pointOf x) →
+        bit c (takersFor (p .frame) (p .body) one (getD (p .feed) (64 + r) 0))
+        ≡ derivesFor base (pat (ruleAt (p .body)) (suc (suc c)) x) one
+    rule-given x m s c t i = cases (p .frame .wide)
+        (λ w. rw w (kind-given x s c t))
+        (λ w. rw w (fed-given x m s c t (rw w at i)))
+
     turn-gives : (x : Access) → needed C asked (p .need) x ≡ true → standsFor base one x ≡ true → (T : ℕ) →
         Kept (mappingOf base C asked p) T x →
-        tableTakes (getD (p .sides) (4 * r + 3) 0 % 2) (bitAnd (getD (p .feed) (64 + r) 0) (p .frame .choosy))
-        T
+        tableTakes (getD (p .sides) (4 * r + 3) 0 % 2)
+        (takersFor (p .frame) (p .body) one (getD (p .feed) (64 + r) 0)) T
         ≡ derivesFor base (pat (ruleAt (p .body)) T x) one
     turn-gives x m s zero k = sign-given x s false
     turn-gives x m s (suc zero) k = sign-given x s true
     turn-gives x m s (suc (suc c)) k = rule-given x m s c (k .1 .table) (k .1 .inside)
 
-    -- `active` has the instants of a window that the rule's interval has
-    pub turn-of : Mem one (base .rules) → (count : ℕ) (marks : List ℕ) →
-        ((j : ℕ) → bit j (getD active r 0) ≡ inside count marks (one .interval) j) →
-        TurnOf (mappingOf base C asked p) count (λ i. getD marks i 0) one (turnIn p active r)
-    turn-of mem count marks masks = record {
-      mem = mem;
-      operator = refl;
-      acts = λ i h. masks i
-          ∙ ap (λ (b : Bool). b && inInterval (one .interval) (getD marks i 0)) (le-true (suc i) count h);
-      inside = λ i b. true-le (suc i) count
-          (and-true (ltb i count) (inInterval (one .interval) (getD marks i 0)) (sym (masks i) ∙ b) .0);
-      denied = right-denied;
-      looked = table;
-      offset = table-offset;
-      region = table-region;
-      side = right-kept;
-      point = λ x m s. sym (point-right d base r e x);
-      pattern = right-pattern;
-      gives = turn-gives;
-    }
+    module _ (mem : Mem one (base .rules)) (count : ℕ) (marks : List ℕ)
+        (masks : (j : ℕ) → bit j (getD active r 0) ≡ inside count marks (one .interval) j) where
+      turn-in : (T : ℕ) → LooksIn T →
+          TurnOf (mappingOf base C asked p) count (λ i. getD marks i 0) one (turnIn p active r)
+      turn-in T l = record {
+        mem = mem;
+        operator = refl;
+        acts = λ i h. masks i
+            ∙ ap (λ (b : Bool). b && inInterval (one .interval) (getD marks i 0)) (le-true (suc i) count h);
+        inside = λ i b. true-le (suc i) count
+            (and-true (ltb i count) (inInterval (one .interval) (getD marks i 0)) (sym (masks i) ∙ b) .0);
+        denied = right-denied;
+        looked = T;
+        offset = l .offset;
+        region = l .region;
+        side = right-kept T l;
+        point = λ x m s. sym (point-right d base r e x);
+        pattern = l .pattern;
+        gives = turn-gives;
+      }
+
+      -- `active` has the instants of a window that the rule's interval has
+      pub turn-of : TurnOf (mappingOf base C asked p) count (λ i. getD marks i 0) one (turnIn p active r)
+      turn-of = cases (bit r (p .frame .choosy))
+          (λ c. turn-in (suc (suc (d .shared r c .0))) (in-shared c))
+          (λ c. turn-in (asBit (one .right .negative)) (in-signed c))

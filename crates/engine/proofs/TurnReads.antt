@@ -1,5 +1,5 @@
 -- What the turn of a rule reads is there (`rule-able`): each rule that matters can have its turn.
-use mathlib.Core.Path.{_≡_, refl, sym, _∙_, subst}
+use mathlib.Core.Path.{_≡_, refl, sym, ap, _∙_, subst}
 use mathlib.Core.Bool.{true}
 use mathlib.Core.List.{List}
 use Prim.Native.Nat.{ℕ, suc, _+_, _*_, _/_, _^_, _≤_, _<_}
@@ -9,8 +9,9 @@ use lib.Dec.{eqb}
 use lib.ListN.{length, getD}
 use Rattle.foundation.specs.Tests.{cases, and-true, and-intro}
 use Rattle.foundation.specs.BitMasks.{bit, bit-le}
-use Rattle.words.specs.Bits.{bit-and}
+use Rattle.foundation.specs.BitLaws.{bit-and}
 use Rattle.model.specs.declared.Access.{Access}
+use Rattle.model.specs.declared.Rule.{Rule}
 use Rattle.model.specs.Base.{Base}
 use Rattle.model.specs.Rules.{standsFor, rightOf}
 use Rattle.encoding.specs.Format.{ruleAt}
@@ -19,16 +20,20 @@ use Rattle.places.specs.declared.Point.{Point}
 use Rattle.places.specs.ReachedNumbers.{usedBefore-le}
 use Rattle.places.specs.Regions.{sizeOf, Within}
 use Rattle.tables.specs.declared.Place.{Place}
-use Rattle.tables.specs.TableLayout.{regionAt, wholeRegion, size-small}
-use Rattle.tables.specs.TableGiving.{reaches}
+use Rattle.tables.specs.TableLayout.{regionAt, wholeRegion}
+use Rattle.tables.proofs.TableSizes.{size-small}
+use Rattle.tables.specs.TableGiving.{shapesOf, reaches}
+use Rattle.masks.specs.RuleMasks.{RulesIn}
 use Rattle.outlines.specs.Coordinates.{Chart}
 use Rattle.outlines.proofs.CoordinateFacts.{known-is}
 use Rattle.outlines.proofs.RuleAims.{aim-object, aim-subject, aim-mode}
 use Rattle.outlines.proofs.StandingRules.{stands, stands-alike}
+use Rattle.outlines.specs.Feed.{isChoosy}
 use Rattle.outlines.specs.NeededAccesses.{needed}
 use Rattle.outlines.proofs.NeededFacts.{needed-known, needed-right}
+use Rattle.facts.specs.Facts.{takers-some}
 use Rattle.grounding.specs.RuleSteps.{turnedPoint, pairIn, rightPlace, Ordinary, StepReads}
-use Rattle.grounding.specs.RuleTurns.{Prepared, turnIn, Able}
+use Rattle.grounding.specs.RuleTurns.{Prepared, derivedHead, takersFor, turnIn, Able}
 use Rattle.grounding.specs.Meaning.{placeOf}
 use Rattle.engine.specs.Drawn.{SamePowers, Drawn, mappingOf}
 use Rattle.engine.proofs.AccessPlaces.{size-few, pair-below, pair-code, place-within, grid-small}
@@ -46,6 +51,33 @@ module _ {holder : Base} {n : ℕ} {C : Chart} {asked : Access} {p : Prepared} {
       let w = d .starts h .high r b in
       let v = d .room h in
       (omega arith, omega arith)
+
+  -- the table that a rule shares has room
+  shared-room : (r : ℕ) → bit r (p .frame .choosy) ≡ true →
+      getD (p .first) r 0 + sizeOf (p .frame .grid) (regionAt (shapesOf (p .frame) (p .right)) r)
+      ≤ p .frame .fields
+  shared-room r own =
+      let w = d .shared r own .1 in
+      let high = d .laid .laid .high (suc (suc (d .shared r own .0))) (w .there) in
+      omega (arith, high, w .start, ap (sizeOf (p .frame .grid)) (w .shares .region))
+
+  -- a rule with a table is a rule
+  table-rule : (c : ℕ) → bit c (p .frame .tables) ≡ true → c < n
+  table-rule c t = rule-low d c
+      (and-true (bit c rules) (isChoosy (ruleAt (p .body) c)) (sym (d .choosy c) ∙ d .tabled c t) .0)
+
+  pub tables-in : RulesIn (p .frame .tables) (p .body)
+  tables-in c t =
+      let h = table-rule c t in
+      (omega (arith, d .well-formed .few), omega (arith, d .well-formed .there))
+
+  -- what takes what a rule derives has a table
+  takers-tabled : (q : Rule) (fed c : ℕ) → bit c (takersFor (p .frame) (p .body) q fed) ≡ true →
+      bit c (p .frame .tables) ≡ true
+  takers-tabled q fed c b = cases (p .frame .wide)
+      (λ w. takers-some (p .body) (p .frame .tables) (derivedHead q) c (rw w at b))
+      (λ w. and-true (bit c fed) (bit c (p .frame .tables))
+      (sym (bit-and fed (p .frame .tables) c) ∙ (rw w at b)) .1)
 
   module _ (base : Base) (r : ℕ) (e : bit r rules ≡ true) where
     -- the place on its right is that of the access on its right
@@ -77,7 +109,7 @@ module _ {holder : Base} {n : ℕ} {C : Chart} {asked : Access} {p : Prepared} {
       table-room =
           let laid = d .laid .laid in
           cases (bit r (p .frame .choosy))
-          (λ own. rw own (laid .high (suc (suc r)) own))
+          (λ own. rw own (shared-room r own))
           (λ own. cases (eqb (getD (p .sides) (4 * r + 3) 0 / 2) 1)
           (λ y. rw (own, y) (laid .high 1 refl))
           (λ y. rw (own, y) (laid .high 0 refl)))
@@ -112,8 +144,7 @@ module _ {holder : Base} {n : ℕ} {C : Chart} {asked : Access} {p : Prepared} {
             sign = mod-lt (getD (p .sides) (4 * r + 3) 0) (omega arith);
             active = low;
             fits = fits;
-            takers = λ c b. and-true (bit c (getD (p .feed) (64 + r) 0)) (bit c (p .frame .choosy))
-                (sym (bit-and (getD (p .feed) (64 + r) 0) (p .frame .choosy) c) ∙ b) .1;
+            takers = takers-tabled (ruleAt (p .body) r) (getD (p .feed) (64 + r) 0);
             pair = subst (λ (z : Point). pairIn g z < length (p .number)) (sym q)
                 (rw (d .grid .0)
                 (omega (arith, pair-below d y (needed-known C asked (p .need) y k), d .numbers .0)));
@@ -143,6 +174,8 @@ module _ {holder : Base} {n : ℕ} {C : Chart} {asked : Access} {p : Prepared} {
             );
             size = omega (arith, size-small (p .frame .grid) (grid-small d) wholeRegion);
             ready = d .laid;
+            rules = tables-in;
+            start = λ own. omega (arith, shared-room r own, d .fields);
             pairs = record {
               rule = omega arith;
               sign = mod-lt (getD (p .sides) (4 * r + 3) 0) (omega arith);

@@ -12,13 +12,14 @@ use Rattle.questions.specs.OperatorSteps.{lasting}
 use Rattle.reach.specs.Net.{ClosedNet}
 use Rattle.places.specs.ReachedNumbers.{used, usedBefore, codeOf}
 use Rattle.tables.specs.TableLayout.{TablesLaid, ruleTables}
-use Rattle.tables.specs.TableGiving.{TablesReady}
+use Rattle.tables.specs.TableGiving.{shapesOf, TablesReady}
 use Rattle.masks.specs.RuleMasks.{Needed}
 use Rattle.outlines.specs.Coordinates.{WellFormed, Chart, Charted, subjectOf, objectOf, modeOf}
 use Rattle.outlines.specs.Outline.{RightSides, LeftSides}
 use Rattle.outlines.specs.LeftMasks.{Masked, Owned}
 use Rattle.outlines.specs.Feed.{isChoosy, FeedTable}
 use Rattle.outlines.specs.NeededAccesses.{needed}
+use Rattle.facts.specs.Sharing.{TablesShared}
 use Rattle.grounding.specs.RuleTurns.{Prepared}
 use Rattle.grounding.specs.Meaning.{Mapping}
 
@@ -67,6 +68,9 @@ pub record Drawn (holder : Base) (n : ℕ) (C : Chart) (asked : Access) (p : Pre
     pub needs : Needed (p .left) (p .need) (p .codes) (C .width) (p .frame .grid .pairs) rules
     -- the tables of fields and of broken bits
     pub choosy : (c : ℕ) → bit c (p .frame .choosy) ≡ bit c rules && isChoosy (ruleAt (p .body) c)
+    pub tabled : (c : ℕ) → bit c (p .frame .tables) ≡ true → bit c (p .frame .choosy) ≡ true
+    pub shared : TablesShared (p .body) (shapesOf (p .frame) (p .right)) (p .first) (p .frame .choosy)
+        (p .frame .tables)
     pub laid : TablesReady (p .frame) (p .right) (p .first) words
     pub fields : p .frame .fields < 4294967296
     pub lasts : ℕ

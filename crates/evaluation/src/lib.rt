@@ -15,7 +15,7 @@ pub fn is_lasting(o: Operator) -> bool
         Operator::Whenever => false,
         Operator::AsLongAs => true,
         Operator::WheneverNot => false,
-        Operator::Unless => true,
+        Operator::Unless => true, // what it gave once and no longer gives it never gives again
     }
 }
 

@@ -1,6 +1,6 @@
 -- What an authorization gives: its instants as a word fit a field; and the tables that take it, by a mask.
 use mathlib.Core.Path.{_≡_, sym, ap, _∙_, subst}
-use mathlib.Core.Bool.{Bool, _&&_}
+use mathlib.Core.Bool.{Bool, true, false, _&&_, true≢false}
 use mathlib.Core.List.{List, [], _∷_, _++_}
 use Prim.Native.Nat.{ℕ, zero, suc, _+_, _^_, _≤_, _<_}
 use native.Mathlib.Nat.{lt-of-lt-of-le}
@@ -10,15 +10,18 @@ use lib.ListN.{length, getD}
 use lib.Pow.{pow-mono}
 use Rattle.foundation.specs.declared.Interval.{Interval}
 use Rattle.foundation.specs.Intervals.{inInterval}
-use Rattle.foundation.specs.Tests.{le-false}
+use Rattle.foundation.specs.Tests.{cases, le-false}
 use Rattle.foundation.specs.BitMasks.{asBit, bit}
+use Rattle.foundation.specs.BitLaws.{below-power}
 use Rattle.model.specs.declared.Authorization.{Authorization}
 use Rattle.model.specs.declared.Head.{Head}
-use Rattle.words.specs.Bits.{below-power}
 use Rattle.windows.specs.Windows.{inside}
 use Rattle.relevance.specs.Chosen.{authorizationAt, picked, picked-none, picked-more}
 use Rattle.tables.specs.TableGiving.{tableTakes}
-use Rattle.facts.specs.Facts.{Setting, fitsRule, takenBy, LineStep, LineSteps, none, then}
+use Rattle.masks.specs.RuleMasks.{RulesIn}
+use Rattle.masks.proofs.BitWalk.{same-bits}
+use Rattle.facts.specs.Facts.{fitsRule, takersIn, takers-bit, takers-some, takenBy}
+use Rattle.facts.specs.Facts.{Setting, LineStep, LineSteps, none, then}
 
 -- ---- the instants
 
@@ -39,6 +42,16 @@ takes-mask body choosy h sign takers s e i d = go d i
     go zero = rw s
     go (suc zero) = rw s
     go (suc (suc c)) = e c
+
+-- the mask, by its bits
+pub takers-same : (body : List ℕ) (rules : ℕ) (h : Head) (m : ℕ) → RulesIn rules body →
+    ((c : ℕ) → bit c m ≡ bit c rules && fitsRule body h c) → m ≡ takersIn body rules h
+takers-same body rules h m held e = same-bits m (takersIn body rules h) (λ c. cases (bit c rules)
+    (λ y. e c ∙ sym (takers-bit body rules h c (held c y .0)))
+    (λ y. e c ∙ ap (λ (b : Bool). b && fitsRule body h c) y
+    ∙ sym (cases (bit c (takersIn body rules h))
+    (λ t. absurd (true≢false (sym (takers-some body rules h c t) ∙ y)))
+    (λ t. t))))
 
 -- ---- rows of steps
 

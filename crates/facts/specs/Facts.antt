@@ -1,19 +1,23 @@
 -- The authorizations given to the tables over a window: each at its place, in the tables of its sign and of
 -- the rules that take it (`LineStep`), one behind the other (`LineSteps`). What that means is no matter here.
-use mathlib.Core.Path.{_≡_}
-use mathlib.Core.Bool.{Bool, _&&_, Bool·beq}
+use mathlib.Core.Path.{_≡_, sym, ap, _∙_}
+use mathlib.Core.Bool.{Bool, true, _&&_, Bool·beq}
 use mathlib.Core.List.{List, [], _∷_}
 use Prim.Native.Nat.{ℕ, zero, suc, _+_, _*_, _-_, _^_, _≤_, _<_}
+use lib.Bits.{bitAnd}
 use lib.Dec.{eqb}
 use lib.ListN.{length, getD}
-use Rattle.foundation.specs.BitMasks.{asBit, bit}
+use Rattle.foundation.specs.Tests.{and-true}
+use Rattle.foundation.specs.BitMasks.{asBit, bit, maskOf, mask-at}
+use Rattle.foundation.specs.BitLaws.{bit-and}
 use Rattle.model.specs.declared.Access.{Access}
 use Rattle.model.specs.declared.Authorization.{Authorization}
 use Rattle.model.specs.declared.Head.{Head}
 use Rattle.model.specs.declared.Rule.{Rule}
+use Rattle.model.specs.Encoding.{ruleOf}
 use Rattle.model.specs.Stratification.{fitsOption}
 use Rattle.model.specs.Rules.{fitsGrantor}
-use Rattle.encoding.specs.Format.{ruleAt}
+use Rattle.encoding.specs.Format.{rulesIn, ruleAt}
 use Rattle.windows.specs.Windows.{Rising, inside}
 use Rattle.places.specs.declared.Grid.{Grid}
 use Rattle.places.specs.Regions.{Within}
@@ -38,6 +42,23 @@ fitsKind h r =
 -- of the rule with that number
 abbrev pub fitsRule : List ℕ → Head → ℕ → Bool
 fitsRule body h c = fitsKind h (ruleAt body c)
+
+-- those of a mask, as a mask
+unfoldable pub takersIn : List ℕ → ℕ → Head → ℕ
+takersIn body rules h = bitAnd rules (maskOf (fitsKind h) (rulesIn 64 body))
+
+pub takers-bit : (body : List ℕ) (rules : ℕ) (h : Head) (c : ℕ) → c < 64 →
+    bit c (takersIn body rules h) ≡ bit c rules && fitsRule body h c
+unfolding takersIn
+takers-bit body rules h c l = bit-and rules (maskOf (fitsKind h) (rulesIn 64 body)) c
+    ∙ ap (λ (b : Bool). bit c rules && b) (mask-at 28 ruleOf (fitsKind h) 64 body c l)
+
+pub takers-some : (body : List ℕ) (rules : ℕ) (h : Head) (c : ℕ) → bit c (takersIn body rules h) ≡ true →
+    bit c rules ≡ true
+unfolding takersIn
+takers-some body rules h c e =
+    let m = maskOf (fitsKind h) (rulesIn 64 body) in
+    and-true (bit c rules) (bit c m) (sym (bit-and rules m c) ∙ e) .0
 
 -- the table of its sign takes it, and those of the rules of a mask that it fits
 abbrev pub takenBy : List ℕ → ℕ → Head → ℕ → Bool
@@ -104,7 +125,7 @@ module _ (e : Setting) where
   -- the tables and the window can be used; `words` is the length of the tables
   pub record Usable (words : ℕ) : Type 0 where
     pub ready : TablesReady (e .frame) (e .right) (e .first) words
-    pub rules : RulesIn (e .frame .choosy) (e .body)
+    pub rules : RulesIn (e .frame .tables) (e .body)
     pub few : length (e .number) ≤ 4225
     pub short : e .count ≤ 63
     pub rising : Rising (e .count) (e .marks)
@@ -130,7 +151,7 @@ module _ (e : Setting) where
     pub instants : (j : ℕ) → bit j value ≡ inside (e .count) (e .marks) (a .interval) j
     pub given : TablesGiven (tablesOf (e .frame) (e .right) (e .first)) (e .frame .width)
         (placeIn (a .head) .pair)
-        (placeIn (a .head) .point) (takenBy (e .body) (e .frame .choosy) (a .head)) value old new
+        (placeIn (a .head) .point) (takenBy (e .body) (e .frame .tables) (a .head)) value old new
 
   -- those of a list, one after the other
   pub data LineSteps : List Authorization → List ℕ → List ℕ → Type 0 where

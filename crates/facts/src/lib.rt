@@ -1,5 +1,7 @@
 // Facts: the authorizations that matter, given to the tables over a window. Each is given at its place, to
 // the table of its sign and to those of the rules whose right side it fits.
+mod sharing;
+
 ghost use mathlib.Core.Path.{_≡_};
 ghost use mathlib.Core.Bool.{_&&_};
 ghost use Prim.Native.Nat.{ℕ, _≤_, _<_};
@@ -9,7 +11,8 @@ ghost use Rattle.sections.specs.Sections.{subjectsOf, objectsOf};
 ghost use Rattle.masks.specs.RuleMasks.{RulesIn};
 ghost use Rattle.relevance.specs.Chosen.{picked};
 ghost use Rattle.relevance.specs.Needed.{HeadInRange};
-ghost use Rattle.facts.specs.Facts.{fitsKind, fitsRule, settingIn, pairFor, placeFor};
+ghost use Rattle.facts.specs.Facts.{fitsKind, fitsRule, takersIn, settingIn};
+ghost use Rattle.facts.specs.Facts.{pairFor, placeFor};
 ghost use Rattle.facts.specs.Facts.{Usable, HasPlace, LinesReady, LineStep, LineSteps};
 use encoding::authorization_at;
 use encoding::rule_at;
@@ -31,6 +34,7 @@ use sections::FIRST;
 use sections::RIGHT;
 use sections::STARTS;
 use sections::SUBJECTS;
+pub use sharing::lay_tables;
 use tables::Frame;
 use tables::Place;
 use tables::give;
@@ -47,6 +51,13 @@ pub struct WindowTask {
     pub frame: Frame,
 }
 
+// The rules that have tables, whether these have all places, and how many fields all tables have.
+pub struct TablePlan {
+    pub tables: u64,
+    pub wide: bool,
+    pub fields: u32,
+}
+
 // Whether sign, grantor and option of a rule's right side fit an authorization.
 fn fits_kind(h: Head, r: Rule) -> bool
     ensures { λ x. ⌜ x ≡ fitsKind h r ⌝ }
@@ -59,9 +70,10 @@ fn fits_kind(h: Head, r: Rule) -> bool
 }
 
 // Those of a mask of rules whose right side an authorization fits.
-fn takers_of(h: Head, body: &[u8], choosy: u64) -> u64
+pub fn takers_of(h: Head, body: &[u8], choosy: u64) -> u64
     requires { ⌜ RulesIn choosy (now body) ⌝ }
-    ensures { λ r. ⌜ ((c : ℕ) → bit c r ≡ bit c choosy && fitsRule (now (body .entry)) h c) ⌝ }
+    ensures { λ r. ⌜ (r ≡ takersIn (now (body .entry)) choosy h)
+        × ((c : ℕ) → bit c r ≡ bit c choosy && fitsRule (now (body .entry)) h c) ⌝ }
 {
     let mut m = 0;
     let mut c = next_bit(choosy, 0);
@@ -118,7 +130,7 @@ fn give_line(
         return;
     }
     let p = place_for(h, w.own, coordinates, number, f.grid);
-    let takers = takers_of(h, body, f.choosy);
+    let takers = takers_of(h, body, f.tables);
     give(
         words,
         &coordinates[RIGHT..SUBJECTS],

@@ -71,6 +71,13 @@ pub power-above : (n : ℕ) → n < 2 ^ n
 power-above zero = omega arith
 power-above (suc n) = rw (pow-succ' 2 n) (omega (arith, power-above n))
 
+-- a number has no bit behind its last
+pub bit-inside : (n x i : ℕ) → x < 2 ^ n → bit i x ≡ true → i < n
+bit-inside n x i h e = cases (ltb i n) (λ y. true-le (suc i) n y) (λ y.
+    let g : n ≤ i = omega (arith, false-le (suc i) n y) in
+    let z : x / 2 ^ i ≡ 0 = div-eq-of-lt (lt-of-lt-of-le h (pow-le-pow-right {n = 2} (omega arith) g)) in
+    absurd (omega (arith, true-eq (x / 2 ^ i % 2) 1 e)))
+
 -- the mask of one bit keeps that bit
 and-bit : (k f : ℕ) → bitAnd f (2 ^ k) ≡ (f / 2 ^ k % 2) * 2 ^ k
 and-bit k f =
@@ -164,11 +171,7 @@ mask-nth p l i x r e = ap (λ (n : ℕ). eqb n 1) (mask-digit p l i x r e) ∙ b
 
 -- and no other bit is set
 pub mask-inside : {A : Type 0} (p : A → Bool) (l : List A) (i : ℕ) → bit i (maskOf p l) ≡ true → i < length l
-mask-inside p l i e = cases (ltb i (length l)) (λ k. true-le (suc i) (length l) k) (λ k.
-    let g : length l ≤ i = omega (arith, false-le (suc i) (length l) k) in
-    let z : maskOf p l / 2 ^ i ≡ 0 =
-    div-eq-of-lt (lt-of-lt-of-le (mask-lt p l) (pow-le-pow-right {n = 2} (omega arith) g)) in
-    absurd (omega (arith, true-eq (maskOf p l / 2 ^ i % 2) 1 e)))
+mask-inside p l i e = bit-inside (length l) (maskOf p l) i (mask-lt p l) e
 
 -- ---- the mask of records
 

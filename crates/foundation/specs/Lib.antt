@@ -1,6 +1,7 @@
 pub mod Tests
 pub mod Lists
 pub mod Totals
+pub mod Quotients
 pub mod Closure
 pub mod Graph
 pub mod GraphFacts
@@ -12,5 +13,6 @@ pub mod ByteRecords
 pub mod RecordLoops
 pub mod BytesFacts
 pub mod BitMasks
+pub mod BitLaws
 pub mod CoordinateTables
 pub mod MaximalRuns

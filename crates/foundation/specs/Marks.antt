@@ -5,7 +5,7 @@ use Prim.Native.Nat.{ℕ, zero, suc, _-_, _≤_, _<_}
 use native.Mathlib.Omega.{arith}
 use mathlib.Core.Bool.{Bool, true, false, not, _&&_, _||_, false≢true}
 use mathlib.Core.List.{List, [], _∷_, _++_}
-use mathlib.Core.Logic.{inl, inr}
+use mathlib.Core.Logic.{_⊎_, inl, inr, _↔_}
 use lib.Dec.{leb, ltb}
 use Rattle.foundation.specs.declared.Interval.{Interval}
 use Rattle.foundation.specs.Tests.{pick, cases, agree, must-fail, not-true, le-true, le-false, true-le}
@@ -50,7 +50,7 @@ next-above a (m ∷ ms) d h = cases (ltb a m && ltb m (next a ms d))
     (λ e. rw e (true-le (suc a) m (and-true (ltb a m) (ltb m (next a ms d)) e .0)))
     (λ e. rw e (next-above a ms d h))
 
-next-le : (a : ℕ) (ms : List ℕ) (d : ℕ) → next a ms d ≤ d
+pub next-le : (a : ℕ) (ms : List ℕ) (d : ℕ) → next a ms d ≤ d
 unfolding next
 next-le a [] d = omega arith
 next-le a (m ∷ ms) d = cases (ltb a m && ltb m (next a ms d))
@@ -70,6 +70,56 @@ next-clear a (m ∷ ms) d t h = cases (ltb a m && ltb m (next a ms d))
     (λ p. let q : ltb m (next a ms d) ≡ false = sym (rw p) ∙ e in let l = false-le (suc m) (next a ms d) q in
     rw (p, le-false m t (omega arith)))
     (λ p. rw p)))
+
+-- what next finds: t is the given instant, and d is the answer for none
+module _ (t d : ℕ) where
+  -- what is found: none, or a mark above t
+  abbrev pub MarkOrNone : List ℕ → ℕ → Type 0
+  MarkOrNone ms m = (m ≡ d) ⊎ (Mem m ms × (t < m) × (m < d))
+
+  -- no mark above t is less
+  pub next-least : (ms : List ℕ) (m : ℕ) → Mem m ms → t < m → m < d → next t ms d ≤ m
+  unfolding next
+  next-least [] m k h l = absurd (k .lower)
+  next-least (x ∷ ms) m k h l = cases (ltb t x && ltb x (next t ms d))
+      (λ e. let w = true-le (suc x) (next t ms d) (and-true (ltb t x) (ltb x (next t ms d)) e .1) in
+      rw e (took w k (λ n. next-least ms m n h l)))
+      (λ e. rw e (left e k (λ n. next-least ms m n h l)))
+    where
+      took : x < next t ms d → Mem m (x ∷ ms) → (Mem m ms → next t ms d ≤ m) → x ≤ m
+      took w (inl p) i = omega arith
+      took w (inr n) i = omega (arith, i n)
+
+      left : ltb t x && ltb x (next t ms d) ≡ false → Mem m (x ∷ ms) → (Mem m ms → next t ms d ≤ m) →
+          next t ms d ≤ m
+      left e (inl p) i =
+          let f : ltb x (next t ms d) ≡ false = sym (rw (le-true (suc t) x (omega arith))) ∙ e in
+          omega (arith, false-le (suc x) (next t ms d) f)
+      left e (inr n) i = i n
+
+  pub next-is : (ms : List ℕ) → MarkOrNone ms (next t ms d)
+  unfolding next
+  next-is [] = inl refl
+  next-is (x ∷ ms) = cases (ltb t x && ltb x (next t ms d))
+      (λ e. let w = and-true (ltb t x) (ltb x (next t ms d)) e in
+      rw e (took (true-le (suc t) x (w .0)) (true-le (suc x) (next t ms d) (w .1)) (next-is ms)))
+      (λ e. rw e (left (next-is ms)))
+    where
+      took : t < x → x < next t ms d → MarkOrNone ms (next t ms d) → MarkOrNone (x ∷ ms) x
+      took h l (inl e) = inr (inl refl, h, omega arith)
+      took h l (inr w) = inr (inl refl, h, omega (arith, w .2))
+
+      left : MarkOrNone ms (next t ms d) → MarkOrNone (x ∷ ms) (next t ms d)
+      left (inl e) = inl e
+      left (inr w) = inr (inr (w .0), w .1, w .2)
+
+  -- none is found exactly if there is none
+  pub next-none : (ms : List ℕ) → (next t ms d ≡ d) ↔ ((m : ℕ) → Mem m ms → t < m → m < d → ⊥)
+  next-none ms = ((λ e m k h l. omega (arith, next-least ms m k h l)), (λ f. go f (next-is ms)))
+    where
+      go : ((m : ℕ) → Mem m ms → t < m → m < d → ⊥) → MarkOrNone ms (next t ms d) → next t ms d ≡ d
+      go f (inl e) = e
+      go f (inr w) = absurd (f (next t ms d) (w .0) (w .1) (w .2))
 
 -- walk's equations
 pub walk-end : (f : ℕ → Bool) (ms : List ℕ) (e k a : ℕ) → leb a e ≡ false → walk f ms e (suc k) a ≡ []

@@ -11,7 +11,8 @@ use lib.ListN.{getD}
 use Rattle.foundation.specs.Tests.{pick, cases, and-true, and-three, true-eq, eq-true}
 use Rattle.foundation.specs.Lists.{Mem}
 use Rattle.foundation.specs.BitMasks.{bit}
-use Rattle.words.specs.Bits.{less, bit-or, bit-less}
+use Rattle.foundation.specs.BitLaws.{bit-or}
+use Rattle.words.specs.Bits.{less, bit-less}
 use Rattle.words.specs.Fields.{fieldOf}
 use Rattle.places.specs.declared.Region.{Region}
 use Rattle.places.specs.declared.Point.{Point}

@@ -8,8 +8,7 @@ use lib.Dec.{eqb, ltb}
 use lib.Pow.{shr-shr}
 use Rattle.foundation.specs.Tests.{cases, eq-true, ne-false, le-true, true-le, eqb-sym}
 use Rattle.foundation.specs.BitMasks.{bit, bit-zero}
-use Rattle.words.specs.Ones.{span-bit}
-use Rattle.words.specs.Bits.{bit-and}
+use Rattle.foundation.specs.BitLaws.{bit-and, span-bit}
 use Rattle.masks.proofs.SingleBits.{one-bit}
 use Rattle.grounding.specs.declared.RuleTurn.{RuleTurn}
 use Rattle.grounding.specs.RuleSteps.{modesAt}

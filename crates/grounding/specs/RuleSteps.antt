@@ -81,7 +81,7 @@ pub record StepReads (t : RuleTurn) (f : Frame) (number : List ℕ) (words bits 
   pub sign : t .sign < 2
   pub active : t .active < 9223372036854775808
   pub fits : t .active < 2 ^ (2 ^ f .width)
-  pub takers : (c : ℕ) → bit c (t .takers) ≡ true → bit c (f .choosy) ≡ true
+  pub takers : (c : ℕ) → bit c (t .takers) ≡ true → bit c (f .tables) ≡ true
   pub pair : pairIn (f .grid) (turnedPoint (t .right) (p .point)) < length number
   pub few : length number ≤ 4225
   pub looked : Reaches f (t .first) (t .table) (rightPlace t (f .grid) number (p .point)) words

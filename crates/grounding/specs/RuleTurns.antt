@@ -10,6 +10,7 @@ use lib.Dec.{eqb, ltb}
 use lib.ListN.{length, getD}
 use Rattle.foundation.specs.Tests.{pick}
 use Rattle.foundation.specs.BitMasks.{bit}
+use Rattle.model.specs.declared.Head.{Head}
 use Rattle.model.specs.declared.Rule.{Rule}
 use Rattle.encoding.specs.Format.{ruleAt}
 use Rattle.words.specs.Sums.{SumGrown}
@@ -20,7 +21,9 @@ use Rattle.places.specs.declared.Region.{Region}
 use Rattle.places.specs.Regions.{free, sizeOf}
 use Rattle.tables.specs.declared.Frame.{Frame}
 use Rattle.tables.specs.TableLayout.{regionAt, wholeRegion}
-use Rattle.tables.specs.TableGiving.{tablesOf, TablesReady}
+use Rattle.tables.specs.TableGiving.{shapesOf, TablesReady}
+use Rattle.masks.specs.RuleMasks.{RulesIn}
+use Rattle.facts.specs.Facts.{takersIn}
 use Rattle.grounding.specs.declared.RuleTurn.{RuleTurn}
 use Rattle.grounding.specs.declared.Range.{Range}
 use Rattle.grounding.specs.RuleSteps.{Step, Mark, PairsReady, PairsRan}
@@ -45,13 +48,26 @@ rangeOf b g number =
       to = pairNumberAt number (row + b .subject + 1) (g .pairs);
     }))
 
--- the table that rule r looks at: its own, or that of what is held or denied
-abbrev pub lookedBy : Frame → List ℕ → ℕ → ℕ
-lookedBy f sides r = pick (bit r (f .choosy)) (suc (suc r)) (getD sides (4 * r + 3) 0 / 2)
-
 -- how many words hold fields of 2^k bits
 abbrev pub wordsFor : ℕ → ℕ → ℕ
 wordsFor fields k = (fields * 2 ^ k + 63) / 64
+
+-- what a rule derives, as an authorization: its author gives it, without the option
+abbrev pub derivedHead : Rule → Head
+derivedHead q = record {
+  label = 0;
+  grantor = q .author;
+  subject = 0;
+  object = 0;
+  mode = 0;
+  negative = q .left .negative;
+  option = false;
+  granted = 0;
+}
+
+-- the rules whose tables take what rule q derives, `fed` being those that it feeds
+abbrev pub takersFor : Frame → List ℕ → Rule → ℕ → ℕ
+takersFor f body q fed = pick (f .wide) (takersIn body (f .tables) (derivedHead q)) (bitAnd fed (f .tables))
 
 -- the turn of rule r, `active` having the instants of each rule's interval
 abbrev pub turnFrom : Frame → List ℕ → List ℕ → List ℕ → List ℕ → List ℕ → List ℕ → List ℕ → ℕ → RuleTurn
@@ -65,11 +81,11 @@ turnFrom f body feed sides right first starts active r =
       right = regionAt right r;
       denied = denied;
       first = pick own (getD first r 0) (pick denied (sizeOf (f .grid) wholeRegion) 0);
-      table = pick own (regionAt right r) wholeRegion;
+      table = pick own (regionAt (shapesOf f right) r) wholeRegion;
       left = regionAt sides r;
       sign = getD sides (4 * r + 3) 0 % 2;
       bits = getD starts r 0;
-      takers = bitAnd (getD feed (64 + r) 0) (f .choosy);
+      takers = takersFor f body (ruleAt body r) (getD feed (64 + r) 0);
       words = wordsFor (f .fields) (f .width);
     }
 
@@ -141,6 +157,8 @@ module _ (p : Prepared) where
       pub signs : getD (p .sides) (4 * r + 3) 0 < 4
       pub size : sizeOf (p .frame .grid) wholeRegion < 4294967296
       pub ready : TablesReady (p .frame) (p .right) (p .first) words
+      pub rules : RulesIn (p .frame .tables) (p .body)
+      pub start : bit r (p .frame .choosy) ≡ true → getD (p .first) r 0 < 4294967296
       pub pairs : PairsReady (turnIn r) (p .frame) (p .left) (p .need) (p .codes) (p .number) words bits
           (rangeFor r .from) (rangeFor r .to)
 

@@ -10,11 +10,13 @@ ghost use Rattle.foundation.specs.Tests.{pick};
 ghost use mathlib.Core.Logic.{_⊎_};
 ghost use Rattle.places.specs.Regions.{sizeOf};
 ghost use Rattle.tables.specs.TableLayout.{regionAt, wholeRegion};
+ghost use Rattle.tables.specs.TableGiving.{shapesOf};
+ghost use Rattle.masks.specs.RuleMasks.{RulesIn};
 ghost use Rattle.encoding.specs.Format.{ruleAt};
 ghost use Rattle.questions.specs.OperatorSteps.{lasting};
 ghost use Rattle.sections.specs.Sections.{feedOf, firstOf, startsOf, activeOf, sidesOf, rightsOf};
-ghost use Rattle.grounding.specs.RuleTurns.{rangeOf, pairNumberAt, turnFrom, preparedIn, fieldsIn};
-ghost use Rattle.grounding.specs.RuleTurns.{bitsIn};
+ghost use Rattle.grounding.specs.RuleTurns.{rangeOf, pairNumberAt, takersFor, turnFrom, preparedIn};
+ghost use Rattle.grounding.specs.RuleTurns.{fieldsIn, bitsIn};
 ghost use Rattle.grounding.specs.RuleTurns.{SlicedIn, Able, RuleRan, Turns, Rounds, RuleMarked, Marked};
 use crate::Ending;
 use crate::Range;
@@ -22,6 +24,7 @@ use crate::RuleTurn;
 use crate::pairs::derive_pairs;
 use crate::pairs::mark_pairs;
 use encoding::rule_at;
+use facts::takers_of;
 use masks::Next;
 use masks::has_bit;
 use masks::next_dirty;
@@ -29,7 +32,9 @@ use masks::next_ready;
 use masks::transpose;
 use masks::without_rule;
 use masks::words_for;
+use model::Head;
 use model::RULE_BYTES;
+use model::Rule;
 use places::Grid;
 use places::Region;
 use sections::ACTIVE;
@@ -43,6 +48,7 @@ use sections::SUBJECTS;
 use tables::Frame;
 use tables::all_places;
 use tables::region_at;
+use tables::shape_at;
 use words::next_bit;
 
 // The number of the pair with a code; behind the last one how many there are.
@@ -98,20 +104,43 @@ fn table_start(f: Frame, first: &[u64], i: usize, own: bool, denied: bool) -> u3
 }
 
 // The region of that table.
-fn table_region(right: &[u8], i: usize, own: bool) -> Region
+fn table_region(f: Frame, right: &[u8], i: usize, own: bool) -> Region
     requires { ⌜ (i < 64) × (256 ≤ length (now right)) ⌝ }
-    ensures { λ r. ⌜ r ≡ pick own (regionAt (now (right .entry)) i) wholeRegion ⌝ }
+    ensures { λ r. ⌜ r ≡ pick own (regionAt (shapesOf f (now (right .entry))) i) wholeRegion ⌝ }
 {
     if own {
-        return region_at(right, i);
+        return shape_at(f, right, i);
     }
     all_places()
+}
+
+// The rules whose tables take what rule q derives, `fed` being those that it feeds: of tables of right sides
+// these, of tables of all places those that look for what it is.
+fn given_to(body: &[u8], q: Rule, f: Frame, fed: u64) -> u64
+    requires { ⌜ RulesIn (f .tables) (now body) ⌝ }
+    ensures { λ r. ⌜ r ≡ takersFor f (now (body .entry)) q fed ⌝ }
+{
+    if f.wide {
+        let h = Head {
+            label: 0,
+            grantor: q.author,
+            subject: 0,
+            object: 0,
+            mode: 0,
+            negative: q.left.negative,
+            option: false,
+            granted: 0,
+        };
+        return takers_of(h, body, f.tables);
+    }
+    fed & f.tables
 }
 
 // The turn of rule r.
 fn turn_of(body: &[u8], r: u32, f: Frame, outline: &[u64], coordinates: &[u8]) -> RuleTurn
     requires { ⌜ (r < 64)
         × (28 * r + 28 ≤ length (now body))
+        × RulesIn (f .tables) (now body)
         × (getD (sidesOf (now coordinates)) (4 * r + 3) 0 < 4)
         × (sizeOf (f .grid) wholeRegion < 4294967296)
         × (bit r (f .choosy) ≡ true → getD (firstOf (now outline)) r 0 < 4294967296)
@@ -137,11 +166,11 @@ fn turn_of(body: &[u8], r: u32, f: Frame, outline: &[u64], coordinates: &[u8]) -
         right: region_at(right, i),
         denied: denied,
         first: table_start(f, &outline[FIRST..STARTS], i, own, denied),
-        table: table_region(right, i, own),
+        table: table_region(f, right, i, own),
         left: region_at(&coordinates[SIDES..RIGHT], i),
         sign: (signs % 2) as u32,
         bits: outline[STARTS + i],
-        takers: outline[FEED + 64 + i] & f.choosy,
+        takers: given_to(body, q, f, outline[FEED + 64 + i]),
         words: words_for(f.fields, f.width),
     }
 }

@@ -1,7 +1,7 @@
 -- Rules of which none negates and none has a denial on its left: no step counts, and all are in stratum 0
 -- (`stratum-none`).
 use mathlib.Core.Path.{_≡_, sym, ap, _∙_}
-use mathlib.Core.Bool.{false, true≢false}
+use mathlib.Core.Bool.{true, false, true≢false}
 use mathlib.Core.List.{List}
 use Prim.Native.Nat.{ℕ}
 use native.Mathlib.Omega.{arith}
@@ -10,7 +10,7 @@ use Rattle.foundation.specs.Lists.{Mem}
 use Rattle.foundation.specs.BitMasks.{asBit}
 use Rattle.foundation.specs.Graph.{alone, then}
 use Rattle.model.specs.declared.Rule.{Rule}
-use Rattle.model.specs.Stratification.{negates, links, stratum, weight-is}
+use Rattle.model.specs.Stratification.{negates, links, stratum}
 use Rattle.model.specs.StratificationFacts.{FeedingWalk, stratum-walk}
 use Rattle.model.specs.SideFacts.{links-is}
 
@@ -30,7 +30,6 @@ module _ (rules : List Rule) (plain : (r : Rule) → Mem r rules → Plain r) wh
   walk-none (then {n} {q} {r} w k e) m = omega (
     arith,
     walk-none w k,
-    weight-is q r,
     ap asBit (plain r m .0),
     ap asBit (no-link q r (plain q k .1)),
   )

@@ -1,28 +1,28 @@
 -- Requests over lent bytes: an accepted one leaves the encoding of its effect, a refused one the bytes as
 -- they were.
 use mathlib.Core.Path.{_≡_, refl, sym, ap, _∙_, subst}
-use mathlib.Core.Logic.{_≢_, inl, inr}
+use mathlib.Core.Logic.{_≢_}
 use Prim.Native.Nat.{ℕ}
 use native.Mathlib.Omega.{arith}
 use mathlib.Core.Bool.{Bool, true, false, not, false≢true}
-use mathlib.Core.List.{List, [], _∷_}
+use mathlib.Core.List.{List}
 use lib.Dec.{eqb}
-use Rattle.foundation.specs.Tests.{cases, true-eq, false-eq, eq-true, not-true, not-false}
-use Rattle.foundation.specs.Lists.{Mem, allb, keepIf}
+use Rattle.foundation.specs.Tests.{cases, true-eq, false-eq, eq-true, not-false}
+use Rattle.foundation.specs.Lists.{allb, keepIf}
 use Rattle.model.specs.declared.Request.{Request}
 use Rattle.model.specs.declared.Reply.the-variants.{Done, Refused, Unsupported}
 use Rattle.model.specs.Base.{Base}
 use Rattle.model.specs.Means.{plainly}
-use Rattle.model.specs.Step.{Row, row, firstNumber, accepting, refusal, effect, outOfRange, behindClock}
-use Rattle.model.specs.Step.{badInterval, noObject, noLabel, notPermitted, barred, notSupported, earliestGap}
+use Rattle.model.specs.Step.{Row, firstNumber, accepting, refusal, effect, barred, notSupported, earliestGap}
 use Rattle.model.specs.Step.{refusalReply}
-use Rattle.model.specs.StepFacts.{answered, turned-away, by-rows, first-all, first-none, numbered}
+use Rattle.model.specs.StepFacts.{answered, turned-away, by-rows, first-all, numbered}
 use Rattle.model.specs.Encoding.{encode, decode}
 use Rattle.model.specs.EncodingFacts.{decode-encode, encode-sound}
 use Rattle.model.specs.Soundness.{sound, soundBytes}
 use Rattle.model.specs.SoundnessFacts.{sound-bytes, decoded-sound}
 use Rattle.model.specs.GrantFacts.{Barred, barred-instant}
 use Rattle.model.specs.Answers.{Answer, answering, requestTable, request, refusalNumber}
+use Rattle.laws.specs.EarlyRows.{rowsUntil, rowGiven, none-given, none-until}
 use Rattle.laws.specs.Preservation.{effect-sound}
 
 -- ---- the reply that refuses
@@ -140,54 +140,23 @@ module _ (s : List ℕ) (q : Request) where
 
   -- ---- 14
 
-  -- where 14 is given, the condition of row 14 holds, and the span is a good one
+  -- where 14 is given, the condition of row 14 holds, and that of no row before it
   fourteen-applies : refusalNumber (request s q .reply) ≡ 14 → barred (decode s) q ≡ true
   fourteen-applies = must-hold 14 (barred (decode s) q) (rowsBut s q 14) (λ f. rw f) refl refl
 
-  fourteen-span : refusalNumber (request s q .reply) ≡ 14 → badInterval q ≡ false
-  fourteen-span n =
-      let b = decode s in
-      let front =
-      row 2 (not (soundBytes s)) ∷ row 3 (outOfRange q) ∷ row 4 (behindClock b q) ∷ row 5 true ∷ [] in
-      not-true (badInterval q) (must-hold 14 (not (badInterval q)) front
-      (λ f. let g = not-false (badInterval q) f in rw g) refl refl n)
+  fourteen-first : refusalNumber (request s q .reply) ≡ 14 → (n : ℕ) →
+      rowGiven n (rowsUntil 14 (requestTable s q)) ≡ false
+  fourteen-first e =
+      let rows = requestTable s q in
+      none-given (rowsUntil 14 rows) (numbered (rowsUntil 14 rows) refl)
+      (none-until 14 rows (sym (request-number s q) ∙ e))
 
-  -- 02, CR 4: so a requester that is told 14 is barred,
+  -- 02, CR 4: so a requester that is told 14 is barred (and one that is barred is told 14:
+  -- `barred-fourteen` in Refusals)
   pub fourteen-barred : refusalNumber (request s q .reply) ≡ 14 → Barred (decode s) q
-  fourteen-barred n = cases (soundBytes s)
-      (λ e. barred-instant (decode s) q (decoded-sound s e) (fourteen-span n) .0
-      (fourteen-applies n))
-      (λ e. absurd (omega (
-        arith,
-        sym n ∙ ap (λ (a : Answer). refusalNumber (a .reply)) (request-unsound s q e),
-      )))
-
-  -- the rows before row 14
-  abbrev pub rowsBefore : List Row
-  rowsBefore =
-      row 3 (outOfRange q) ∷ row 4 (behindClock (decode s) q) ∷ row 5 (badInterval q)
-      ∷ row 6 (noObject (decode s) q) ∷ row 7 (noLabel (decode s) q) ∷ row 8 (notPermitted (decode s) q) ∷ []
-
-  -- and one that is barred is told 14, where nothing before it applies
-  pub barred-fourteen : soundBytes s ≡ true → firstNumber rowsBefore ≡ 0 → Barred (decode s) q →
-      request s q ≡ answering (Refused 14) s
-  unfolding request
-  barred-fourteen e z w =
-      let f : (r : Row) → Mem r rowsBefore → r .given ≡ false =
-      first-none rowsBefore (numbered rowsBefore refl) z in
-      let i = f _ (inr (inr (inl refl))) in
-      let given = barred-instant (decode s) q (decoded-sound s e) i .1 w in
-      let n : firstNumber (requestTable s q) ≡ 14 = rw (
-        e,
-        f _ (inl refl),
-        f _ (inr (inl refl)),
-        i,
-        f _ (inr (inr (inr (inl refl)))),
-        f _ (inr (inr (inr (inr (inl refl))))),
-        f _ (inr (inr (inr (inr (inr (inl refl)))))),
-        given,
-      ) in
-      turned-away (requestTable s q) (refusedWith s q) _ (λ y. omega (arith, n)) ∙ ap (refusedWith s q) n
+  fourteen-barred e =
+      let sound? = not-false (soundBytes s) (fourteen-first e 2) in
+      barred-instant (decode s) q (decoded-sound s sound?) (fourteen-first e 5) .0 (fourteen-applies e)
 
 -- ---- THEOREM 7 (that a refused request leaves the bytes: `request-refuses` in Refusals)
 

@@ -1,13 +1,13 @@
 -- A session through the library's answers over lent bytes is the session: `session-bytes`. The bytes always
 -- encode the base that the session has, which is sound.
 use mathlib.Core.Path.{_≡_, refl, sym, ap, ap₂, _∙_, subst₂}
-use Prim.Native.Nat.{ℕ, suc, _*_, _/_, _≤_}
+use Prim.Native.Nat.{ℕ, _*_, _/_, _≤_}
 use native.Mathlib.Omega.{arith}
-use mathlib.Core.Bool.{true, false}
+use mathlib.Core.Bool.{true}
 use mathlib.Core.List.{List, [], _∷_, _++_}
-use lib.Dec.{ltb, eqb}
+use lib.Dec.{eqb}
 use lib.ListN.{length, drop, length-replicate}
-use Rattle.foundation.specs.Tests.{cases, le-false, true-eq, false-eq}
+use Rattle.foundation.specs.Tests.{cases, true-eq, false-eq}
 use Rattle.foundation.specs.declared.Interval.{Interval}
 use Rattle.model.specs.declared.Request.{Request}
 use Rattle.model.specs.declared.Access.{Access}
@@ -131,14 +131,10 @@ pub session-bytes : (input : List ℕ) → byteSession input ≡ session input
 unfolding byteSession session
 session-bytes input = same-transcript (lines input) emptyBase empty-sound
 
--- ---- "a list of 1,100 pairs, which always suffices" (theorem 5)
+-- ---- "a list of 1,100 pairs, which always suffices" (theorem 5; `list-suffices` in Refusals)
 
 -- at most 1,089 runs: as many as there can be authorizations and rules, and one
 pub when-most : (b : Base) → sound b ≡ true → (x : Access) → length (when b x) ≤ 1089
 when-most b s x =
     let c = counts-fit b (sound-tests b s .counts) in
     omega (arith, when-count b x, c .authorizations, c .rules)
-
--- so that a session's WHEN is never refused with 13
-pub list-suffices : (b : Base) → sound b ≡ true → (x : Access) → ltb pairs (length (when b x)) ≡ false
-list-suffices b s x = le-false (suc pairs) (length (when b x)) (let h = when-most b s x in omega arith)

@@ -7,11 +7,11 @@ ghost use Rattle.model.specs.Encoding.{decode};
 ghost use Rattle.model.specs.Rules.{standsOn, standsFor};
 ghost use Rattle.model.specs.Soundness.{soundBytes};
 ghost use Rattle.lookup.specs.NarrowedNumbers.{hasLabel, ofOther, labelled, ofOtherAuthor};
+use crate::bodies::among_objects;
 use crate::bodies::any_labelled;
 use crate::bodies::any_of_other;
 use crate::bodies::any_of_other_author;
 use crate::bodies::has_label;
-use crate::bodies::has_object;
 use crate::bodies::is_listed;
 use crate::bodies::narrow;
 use model::Access;
@@ -23,7 +23,7 @@ pub fn exists(s: &[u8], o: u32) -> bool
     ensures { λ r. ⌜ r ≡ base.exists (decode (now (s .entry))) o ⌝ }
 {
     let c = encoding::counts_of(s);
-    has_object(&s[32..], c.objects as usize, narrow(o))
+    among_objects(&s[32..], c.objects as usize, narrow(o))
 }
 
 // The subject owns the object.

@@ -107,6 +107,20 @@ pub fn has_object(s: &[u8], n: usize, object: u16) -> bool
     false
 }
 
+// The same, of all objects: for one question, where the processor cannot foresee at which a search ends.
+pub fn among_objects(s: &[u8], n: usize, object: u16) -> bool
+    requires { ⌜ n * 4 ≤ length (now s) ⌝ }
+    ensures { λ r. ⌜ r ≡ existsIn (privilegesIn n (now (s .entry))) object ⌝ }
+{
+    let mut found = false;
+    let mut i = 0;
+    while i < n {
+        found = found | is_of_object(privilege_at(s, i * PRIVILEGE_BYTES), object);
+        i += 1;
+    }
+    found
+}
+
 // One of the n rules of a body has a label.
 pub fn has_label(s: &[u8], n: usize, label: u16) -> bool
     requires { ⌜ n * 28 ≤ length (now s) ⌝ }

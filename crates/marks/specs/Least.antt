@@ -1,76 +1,23 @@
 -- The next mark is the least instant above the given one at which an authorization or a rule starts, or
 -- directly after the end of one, and there is none exactly if no such instant is left (`NextMark`,
--- `next-mark`). `next-least`, `next-is` and `next-none` say the same of any marks.
-use mathlib.Core.Path.{_≡_, refl, sym, ap, _∙_}
+-- `next-mark`).
+use mathlib.Core.Path.{_≡_, refl, ap}
 use mathlib.Core.Logic.{_⊎_, inl, inr, _↔_}
 use Prim.Native.Nat.{ℕ, suc, _≤_, _<_}
 use native.Mathlib.Omega.{arith}
-use mathlib.Core.Bool.{true, false, _&&_}
+use mathlib.Core.Bool.{true}
 use mathlib.Core.List.{List, [], _∷_, _++_}
 use lib.Dec.{ltb}
-use Rattle.foundation.specs.Tests.{cases, and-true, true-le, false-le, le-true}
+use Rattle.foundation.specs.Tests.{cases, true-le, false-le}
 use Rattle.foundation.specs.Lists.{Mem, mem-left, mem-right, append-mem, each, mem-each, each-mem}
 use Rattle.foundation.specs.declared.Interval.{Interval}
-use Rattle.foundation.specs.Marks.{next}
+use Rattle.foundation.specs.Marks.{next, MarkOrNone, next-least, next-is, next-none}
 use Rattle.model.specs.declared.Authorization.{Authorization}
 use Rattle.model.specs.declared.Rule.{Rule}
 use Rattle.model.specs.Base.{Base}
 use Rattle.model.specs.Soundness.{sound}
 use Rattle.model.specs.FitsFacts.{IntervalFits, base-fits}
 use Rattle.model.specs.Means.{boundaries, marksOf, ruleMarks, marks}
-
--- ---- any marks: t is the given instant, and d is the answer for none
-
-module _ (t d : ℕ) where
-  -- what is found: none, or a mark above t
-  abbrev pub MarkOrNone : List ℕ → ℕ → Type 0
-  MarkOrNone ms m = (m ≡ d) ⊎ (Mem m ms × (t < m) × (m < d))
-
-  -- no mark above t is less
-  pub next-least : (ms : List ℕ) (m : ℕ) → Mem m ms → t < m → m < d → next t ms d ≤ m
-  unfolding next
-  next-least [] m k h l = absurd (k .lower)
-  next-least (x ∷ ms) m k h l = cases (ltb t x && ltb x (next t ms d))
-      (λ e. let w = true-le (suc x) (next t ms d) (and-true (ltb t x) (ltb x (next t ms d)) e .1) in
-      rw e (took w k (λ n. next-least ms m n h l)))
-      (λ e. rw e (left e k (λ n. next-least ms m n h l)))
-    where
-      took : x < next t ms d → Mem m (x ∷ ms) → (Mem m ms → next t ms d ≤ m) → x ≤ m
-      took w (inl p) i = omega arith
-      took w (inr n) i = omega (arith, i n)
-
-      left : ltb t x && ltb x (next t ms d) ≡ false → Mem m (x ∷ ms) → (Mem m ms → next t ms d ≤ m) →
-          next t ms d ≤ m
-      left e (inl p) i =
-          let f : ltb x (next t ms d) ≡ false = sym (rw (le-true (suc t) x (omega arith))) ∙ e in
-          omega (arith, false-le (suc x) (next t ms d) f)
-      left e (inr n) i = i n
-
-  pub next-is : (ms : List ℕ) → MarkOrNone ms (next t ms d)
-  unfolding next
-  next-is [] = inl refl
-  next-is (x ∷ ms) = cases (ltb t x && ltb x (next t ms d))
-      (λ e. let w = and-true (ltb t x) (ltb x (next t ms d)) e in
-      rw e (took (true-le (suc t) x (w .0)) (true-le (suc x) (next t ms d) (w .1)) (next-is ms)))
-      (λ e. rw e (left (next-is ms)))
-    where
-      took : t < x → x < next t ms d → MarkOrNone ms (next t ms d) → MarkOrNone (x ∷ ms) x
-      took h l (inl e) = inr (inl refl, h, omega arith)
-      took h l (inr w) = inr (inl refl, h, omega (arith, w .2))
-
-      left : MarkOrNone ms (next t ms d) → MarkOrNone (x ∷ ms) (next t ms d)
-      left (inl e) = inl e
-      left (inr w) = inr (inr (w .0), w .1, w .2)
-
-  -- none is found exactly if there is none
-  pub next-none : (ms : List ℕ) → (next t ms d ≡ d) ↔ ((m : ℕ) → Mem m ms → t < m → m < d → ⊥)
-  next-none ms = ((λ e m k h l. omega (arith, next-least ms m k h l)), (λ f. go f (next-is ms)))
-    where
-      go : ((m : ℕ) → Mem m ms → t < m → m < d → ⊥) → MarkOrNone ms (next t ms d) → next t ms d ≡ d
-      go f (inl e) = e
-      go f (inr w) = absurd (f (next t ms d) (w .0) (w .1) (w .2))
-
--- ---- the marks of authorizations and rules
 
 -- m is the start of the interval, or the instant directly after its end
 abbrev pub IsEdge : Interval → ℕ → Type 0

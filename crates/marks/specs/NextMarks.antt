@@ -1,23 +1,9 @@
 -- The next mark, mark by mark.
-use mathlib.Core.Path.{_≡_, refl, ap}
 use Prim.Native.Nat.{ℕ}
 use mathlib.Core.Bool.{_&&_}
-use mathlib.Core.List.{List, [], _∷_, _++_}
 use lib.Dec.{ltb}
 use Rattle.foundation.specs.Tests.{pick}
-use Rattle.foundation.specs.Marks.{next}
 
 -- m, if it is above t and below r; else r
 abbrev pub sooner : ℕ → ℕ → ℕ → ℕ
 sooner t m r = pick (ltb t m && ltb m r) m r
-
--- marks in front of others
-pub next-append : (t : ℕ) (xs ys : List ℕ) (d : ℕ) → next t (xs ++ ys) d ≡ next t xs (next t ys d)
-unfolding next
-next-append t [] ys d = refl
-next-append t (x ∷ xs) ys d = ap (sooner t x) (next-append t xs ys d)
-
--- no marks
-pub next-nil : (t d : ℕ) → next t [] d ≡ d
-unfolding next
-next-nil t d = refl

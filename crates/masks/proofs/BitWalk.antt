@@ -10,9 +10,8 @@ use lib.Bits.{bitAnd, and-le-r}
 use lib.Dec.{eqb, ltb}
 use Rattle.foundation.specs.Tests.{cases, agree, true-eq, false-eq, le-true, le-false, true-le, false-le}
 use Rattle.foundation.specs.Tests.{or-false}
-use Rattle.foundation.specs.BitMasks.{bit, power-above}
-use Rattle.words.specs.Ones.{bit-half}
-use Rattle.words.specs.Bits.{bit-inside}
+use Rattle.foundation.specs.BitMasks.{bit, power-above, bit-inside}
+use Rattle.foundation.specs.BitLaws.{bit-half}
 use Rattle.masks.proofs.SingleBits.{in-both, both-in}
 
 -- nothing is passed before the first
@@ -47,17 +46,6 @@ pass-end x q j h k = cases (ltb j q)
     rw e (cases (bit j x) (λ y. absurd (omega (arith, bit-inside 64 x j h y))) (λ y. sym y)))
 
 -- ---- what is gathered
-
--- one that passes a test, and one that does not
-pub take-one : (a e t : Bool) → (e ≡ true → t ≡ true) → (a && t) || e ≡ (a || e) && t
-take-one true true t f = rw (f refl)
-take-one a false t f = or-false (a && t) ∙ ap (λ (x : Bool). x && t) (sym (or-false a))
-take-one false true t f = sym (f refl)
-
-pub leave-one : (a e t : Bool) → (e ≡ true → t ≡ false) → a && t ≡ (a || e) && t
-leave-one true e t f = refl
-leave-one false true t f = sym (f refl)
-leave-one false false t f = refl
 
 -- one with what it brings
 pub bring-one : (a e t u : Bool) → (e ≡ true → u ≡ t) → (a && t) || (e && u) ≡ (a || e) && t

@@ -8,8 +8,8 @@ use lib.Dec.{eqb}
 use lib.ListN.{length, getD, set}
 use Rattle.foundation.specs.Tests.{cases, true-eq, or-false}
 use Rattle.foundation.specs.BitMasks.{bit}
+use Rattle.foundation.specs.BitLaws.{bit-or}
 use Rattle.foundation.specs.BytesFacts.{set-word}
-use Rattle.words.specs.Bits.{bit-or}
 use Rattle.words.proofs.FieldLaws.{bit-shifted}
 use Rattle.masks.proofs.SingleBits.{one-bit}
 

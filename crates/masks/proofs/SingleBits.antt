@@ -12,9 +12,7 @@ use lib.Pow.{pow-pos, high}
 use Rattle.foundation.specs.Tests.{cases, agree, eq-true, true-eq, true-le, false-le, and-true}
 use Rattle.foundation.specs.Tests.{and-intro}
 use Rattle.foundation.specs.BitMasks.{bit, bit-zero}
-use Rattle.words.specs.Ones.{bit-shl}
-use Rattle.words.specs.Bits.{power-only, bit-and, no-bits}
-use Rattle.words.specs.Bits.{bit-rest}
+use Rattle.foundation.specs.BitLaws.{bit-and, bit-rest, bit-shl, power-only, no-bits}
 
 -- a power of two has its own bit and no other
 pub one-bit : (r i : ℕ) → bit i (2 ^ r) ≡ eqb i r

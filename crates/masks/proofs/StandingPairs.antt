@@ -10,7 +10,7 @@ use lib.ListN.{getD}
 use Rattle.foundation.specs.Tests.{cases, or-cases, or-intro-left, or-true-right}
 use Rattle.foundation.specs.Tests.{true-eq, false-eq}
 use Rattle.foundation.specs.BitMasks.{bit, bit-zero}
-use Rattle.words.specs.Bits.{bit-or}
+use Rattle.foundation.specs.BitLaws.{bit-or}
 use Rattle.reach.specs.Net.{standing}
 use Rattle.masks.specs.RuleMasks.{StandsOnNeed, needAt, Needed}
 use Rattle.masks.proofs.SingleBits.{in-both, both-in}

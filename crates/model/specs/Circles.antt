@@ -1,7 +1,7 @@
 -- Circles of feeding of any sort (02, change request 6), a WHENEVERNOT or UNLESS on them or not, beside the
 -- forbidden ones of Stratification; 02: "For CR 6 such links count as feeding". `circular-path`: the test
 -- finds exactly the circles.
-use mathlib.Core.Path.{_≡_, sym}
+use mathlib.Core.Path.{_≡_, sym, subst}
 use mathlib.Core.Logic.{_↔_}
 use mathlib.Core.Bool.{Bool, true, and-true}
 use mathlib.Core.List.{List}
@@ -9,7 +9,7 @@ use Rattle.foundation.specs.Lists.{anyb, Mem, any-mem, mem-any}
 use Rattle.foundation.specs.Graph.{reaches, cyclic, reaches-path}
 use Rattle.model.specs.declared.Rule.{Rule}
 use Rattle.model.specs.Stratification.{precedes}
-use Rattle.model.specs.StratificationFacts.{FeedingPath}
+use Rattle.model.specs.StratificationFacts.{FeedingPath, path-feeds}
 
 -- 02: "some feeding circle exists": feeding, links counting as feeding, leads from some rule back to it
 unfoldable pub circular : List Rule → Bool
@@ -25,9 +25,10 @@ module _ (rules : List Rule) where
   unfolding circular
   circular-path = (
     (λ e. let w = any-mem back rules e in
-        (w .0, w .1, reaches-path precedes precedes rules (w .0) (w .0) (w .1) .0 (w .2))),
-    (λ c. mem-any back rules (c .0) (c .1)
-        (reaches-path precedes precedes rules (c .0) (c .0) (c .1) .1 (c .2))),
+        let p = reaches-path precedes precedes rules (w .0) (w .0) (w .1) .0 (w .2) in
+        (w .0, w .1, subst (λ (T : Type 0). T) (path-feeds rules (w .0) (w .0)) p)),
+    (λ c. let p = subst (λ (T : Type 0). T) (sym (path-feeds rules (c .0) (c .0))) (c .2) in
+        mem-any back rules (c .0) (c .1) (reaches-path precedes precedes rules (c .0) (c .0) (c .1) .1 p)),
   )
     where
       back : Rule → Bool

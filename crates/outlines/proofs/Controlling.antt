@@ -11,7 +11,7 @@ use lib.ListN.{length, getD, List·getD-eq-default}
 use Rattle.foundation.specs.Tests.{pick, cases, agree, true-eq, eq-true, ne-false, true-le, false-le, le-true}
 use Rattle.foundation.specs.Tests.{le-false, or-false, or-assoc}
 use Rattle.foundation.specs.BitMasks.{bit, bit-zero}
-use Rattle.words.specs.Bits.{bit-or}
+use Rattle.foundation.specs.BitLaws.{bit-or}
 use Rattle.outlines.specs.Coordinates.{Apart}
 use Rattle.outlines.specs.LeftMasks.{controlledBy, Controlled}
 use Rattle.outlines.proofs.MaskWords.{gather-turn}

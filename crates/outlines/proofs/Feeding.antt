@@ -13,7 +13,7 @@ use Rattle.foundation.specs.Tests.{pick, cases, false-eq, ne-false, true-le, or
 use Rattle.foundation.specs.Tests.{or-false, must-fail}
 use Rattle.foundation.specs.Tests.{and-true, and-false, and-intro}
 use Rattle.foundation.specs.BitMasks.{asBit, bit, bit-le, bit-zero}
-use Rattle.words.specs.Bits.{bit-and, bit-or}
+use Rattle.foundation.specs.BitLaws.{bit-or, bit-and}
 use Rattle.model.specs.declared.Rule.{Rule}
 use Rattle.model.specs.Stratification.{isStar, meets, feeds, links, precedes, fitsOption}
 use Rattle.model.specs.Stratification.{precedes-either}

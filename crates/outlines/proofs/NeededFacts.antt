@@ -1,13 +1,13 @@
 -- What a question can rest on, as accesses: with an access those on the right of the rules that stand for it
 -- (`needed-right`).
-use mathlib.Core.Path.{_≡_, sym, ap, _∙_}
+use mathlib.Core.Path.{_≡_, sym, _∙_}
 use mathlib.Core.Bool.{Bool, true, _&&_, Bool·beq}
 use mathlib.Core.List.{List}
-use Prim.Native.Nat.{ℕ, suc, _+_, _*_, _/_, _%_, _<_}
-use native.Mathlib.Nat.{mul-add-div-right, mul-add-mod-self-right, div-eq-of-lt, mod-eq-of-lt}
+use Prim.Native.Nat.{ℕ, suc, _+_, _*_, _%_, _<_}
 use native.Mathlib.Omega.{arith}
 use lib.Dec.{ltb}
 use Rattle.foundation.specs.Tests.{cases, le-true, and-intro, and-three, beq-self}
+use Rattle.foundation.specs.Quotients.{quotient-back, rest-back}
 use Rattle.foundation.specs.BitMasks.{asBit, bit, bit-le}
 use Rattle.model.specs.declared.Access.{Access}
 use Rattle.model.specs.Base.{Base}
@@ -44,14 +44,6 @@ module _ (C : Chart) (asked : Access) (need : List ℕ) where
   needed-both x k p q = and-three (known C asked x) (has need (pairOf C asked x) (modeOf x))
       (has need (pairOf C asked x) (8 + modeOf x)) .1 (k, p, q)
 
--- a pair leads back to its object and its subject
-pair-object : (o w s : ℕ) → s < w → (o * w + s) / w ≡ o
-pair-object o w s h =
-    mul-add-div-right (omega arith) o s ∙ ap (λ (n : ℕ). o + n) (div-eq-of-lt h) ∙ omega arith
-
-pair-subject : (o w s : ℕ) → s < w → (o * w + s) % w ≡ s
-pair-subject o w s h = mul-add-mod-self-right o w s ∙ mod-eq-of-lt h
-
 module _ {n : ℕ} {body : List ℕ} (g : WellFormed n body) (C : Chart) (t : Charted n body C) (left right : List
     ℕ)
     (codes : RightSides (C .subjects) (C .objects) n body right) (asked : Access) (b : Base)
@@ -66,8 +58,8 @@ module _ {n : ℕ} {body : List ℕ} (g : WellFormed n body) (C : Chart) (t : Ch
       let q : ℕ = modeOf x + 8 * asBit sign in
       let y = rightOf (ruleAt body r) x .access in
       let f : q % 8 ≡ modeOf x = omega (arith, bit-le sign) in
-      let o = pair-object (objectOf C asked x) (C .width) (subjectOf C asked x) (p .1) in
-      let u = pair-subject (objectOf C asked x) (C .width) (subjectOf C asked x) (p .1) in
+      let o = quotient-back (objectOf C asked x) (C .width) (subjectOf C asked x) (p .1) in
+      let u = rest-back (objectOf C asked x) (C .width) (subjectOf C asked x) (p .1) in
       let there = stands x k r (omega (arith, g .few)) sign
       ∙ and-intro (ltb r n) (standsFor b (ruleAt body r) x && Bool·beq sign sign) (le-true (suc r) n h)
       (and-intro (standsFor b (ruleAt body r) x) (Bool·beq sign sign) s (beq-self sign)) in

@@ -10,7 +10,7 @@ use Rattle.foundation.specs.Tests.{cases, false-eq, eq-true, true-le, le-true}
 use Rattle.foundation.specs.Tests.{false-le}
 use Rattle.foundation.specs.Tests.{and-intro}
 use Rattle.foundation.specs.BitMasks.{bit}
-use Rattle.words.specs.Ones.{bit-shl}
+use Rattle.foundation.specs.BitLaws.{bit-shl}
 use Rattle.model.specs.declared.Rule.{Rule}
 use Rattle.model.specs.declared.Access.{Access}
 use Rattle.model.specs.declared.Pattern.{Pattern}

@@ -12,8 +12,8 @@ use lib.ListN.{getD}
 use Rattle.foundation.specs.Tests.{cases, agree, true-eq, false-eq, eq-true, ne-false}
 use Rattle.foundation.specs.Tests.{true-le, false-le, or-false, and-true}
 use Rattle.foundation.specs.BitMasks.{asBit, bit, bit-le, maskOf, mask-at, mask-inside}
+use Rattle.foundation.specs.BitLaws.{bit-and}
 use Rattle.foundation.specs.ByteRecords.{length-records}
-use Rattle.words.specs.Bits.{bit-and}
 use Rattle.model.specs.declared.Rule.{Rule}
 use Rattle.model.specs.declared.Access.{Access}
 use Rattle.model.specs.Base.{Base, controls}

@@ -12,6 +12,7 @@ use crate::left::put_word;
 use crate::left::usize_of;
 use encoding::rule_at;
 use lookup::controls;
+use masks::with_if;
 use model::RULE_BYTES;
 use words::next_bit;
 
@@ -26,9 +27,7 @@ fn by_control(s: &[u8], body: &[u8], n: usize, f: u64, o: u32) -> u64
     let mut q = next_bit(f, 0);
     while q < 64 {
         let r = rule_at(body, (q as usize) * RULE_BYTES);
-        if controls(s, o, r.author as u32) {
-            m = m | (1 << q);
-        }
+        m = with_if(m, q, controls(s, o, r.author as u32));
         q = next_bit(f, q + 1);
     }
     m

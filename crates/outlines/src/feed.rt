@@ -19,6 +19,7 @@ use crate::left::put_word;
 use crate::left::usize_of;
 use encoding::rule_at;
 use masks::hand_on;
+use masks::with_if;
 use model::OptionTerm;
 use model::RULE_BYTES;
 use model::Rule;
@@ -65,9 +66,7 @@ fn by_author(body: &[u8], n: usize, f: u64, author: u16) -> u64
     let mut q = next_bit(f, 0);
     while q < 64 {
         let r = rule_at(body, (q as usize) * RULE_BYTES);
-        if author == r.author {
-            m = m | (1 << q);
-        }
+        m = with_if(m, q, author == r.author);
         q = next_bit(f, q + 1);
     }
     m

@@ -1,11 +1,11 @@
 -- Numbers for what is reached: the pairs at which something is needed, in the order of their codes, and the
 -- modes, in theirs. Different ones have different numbers (`usedBefore-apart`, `modesBelow-apart`), below
--- their count (`usedBefore-below`, `modesBelow-fewer`).
+-- their count, and every number below it is that of one (`usedBefore-onto`).
 use mathlib.Core.Path.{_≡_, refl, sym, ap, _∙_}
 use mathlib.Core.Bool.{Bool, true, false, not}
 use mathlib.Core.List.{List, [], _∷_}
 use Prim.Native.Nat.{ℕ, zero, suc, _+_, _*_, _-_, _/_, _%_, _^_, _≤_, _<_}
-use native.Mathlib.Nat.{mod-lt, mul-add-div-right, mul-add-mod-self-right, div-eq-of-lt, mod-eq-of-lt}
+use native.Mathlib.Nat.{mod-lt}
 use native.Mathlib.Omega.{arith}
 use lib.Count.{ones, ones-step, ones-cat}
 use lib.Dec.{eqb, ltb}
@@ -13,7 +13,7 @@ use lib.ListN.{length, getD}
 use lib.Pow.{pow-pos, split, mod-mod-pow}
 use Rattle.foundation.specs.Tests.{cases, true-eq, true-le, false-le}
 use Rattle.foundation.specs.BitMasks.{asBit, bit}
-use Rattle.words.specs.Bits.{bit-rest}
+use Rattle.foundation.specs.BitLaws.{bit-rest}
 
 -- ---- pairs
 
@@ -68,19 +68,6 @@ usedBefore-apart l i j h k e =
     let f : usedBefore l (suc i + (j - suc i)) ≡ usedBefore l j = ap (usedBefore l) d in
     omega arith
 
-pub usedBefore-below : (l : List ℕ) (i : ℕ) → i < length l → used (getD l i 0) ≡ true →
-    usedBefore l i < usedBefore l (length l)
-usedBefore-below l i h e = usedBefore-apart l i (length l) h (omega arith) e
-
--- so different ones have different numbers
-pub usedBefore-same : (l : List ℕ) (i j : ℕ) → i < length l → j < length l → used (getD l i 0) ≡ true →
-    used (getD l j 0) ≡ true → usedBefore l i ≡ usedBefore l j → i ≡ j
-usedBefore-same l i j h k e f q = cases (ltb i j)
-    (λ y. absurd (omega (arith, usedBefore-apart l i j (true-le (suc i) j y) (omega arith) e)))
-    (λ y. cases (ltb j i)
-    (λ z. absurd (omega (arith, usedBefore-apart l j i (true-le (suc j) i z) (omega arith) f)))
-    (λ z. omega (arith, false-le (suc i) j y, false-le (suc j) i z)))
-
 -- m is the number of one
 pub record NumberOf (l : List ℕ) (m : ℕ) : Type 0 where
   pub at : ℕ
@@ -88,7 +75,7 @@ pub record NumberOf (l : List ℕ) (m : ℕ) : Type 0 where
   pub needed : used (getD l at 0) ≡ true
   pub number : usedBefore l at ≡ m
 
--- and every number below their count is that of one
+-- every number below their count is that of one
 pub usedBefore-onto : (l : List ℕ) (m : ℕ) → m < usedBefore l (length l) → NumberOf l m
 unfolding usedBefore
 usedBefore-onto [] m h = absurd (omega arith)
@@ -153,15 +140,3 @@ modesBelow-same modes m n e f q = cases (ltb m n)
 -- the object and the subject of pair j, as one number: pairs lie object by object, `subjects` each
 unfoldable pub codeOf : ℕ → ℕ → ℕ
 codeOf subjects j = 256 * (j / subjects) + j % subjects
-
--- a number with a rest below q has one quotient and one rest
-pub parted : (a c q r t : ℕ) → r < q → t < q → a * q + r ≡ c * q + t → (a ≡ c) × (r ≡ t)
-parted a c q r t h l e =
-    let p : 0 < q = omega arith in
-    let u : (a * q + r) / q ≡ a = mul-add-div-right p a r ∙ ap (λ (n : ℕ). a + n) (div-eq-of-lt h)
-    ∙ omega arith in
-    let v : (c * q + t) / q ≡ c = mul-add-div-right p c t ∙ ap (λ (n : ℕ). c + n) (div-eq-of-lt l)
-    ∙ omega arith in
-    let x : (a * q + r) % q ≡ r = mul-add-mod-self-right a q r ∙ mod-eq-of-lt h in
-    let y : (c * q + t) % q ≡ t = mul-add-mod-self-right c q t ∙ mod-eq-of-lt l in
-    (sym u ∙ ap (λ (n : ℕ). n / q) e ∙ v, sym x ∙ ap (λ (n : ℕ). n % q) e ∙ y)

@@ -2,19 +2,20 @@
 -- those of a region that leaves subject and object free by the numbers of their pairs, others by the
 -- coordinate that is free, and each of these by mode where the mode is free. Different places of a region
 -- have different numbers (`index-apart`).
-use mathlib.Core.Path.{_≡_, refl, sym, ap, ap₂, _∙_}
-use mathlib.Core.Bool.{Bool, true, false, true≢false}
-use Prim.Native.Nat.{ℕ, suc, _+_, _*_, _/_, _%_, _≤_, _<_}
+use mathlib.Core.Path.{_≡_, sym, _∙_}
+use mathlib.Core.Bool.{Bool, true, false}
+use Prim.Native.Nat.{ℕ, suc, _+_, _*_, _≤_, _<_}
 use native.Mathlib.Nat.{mul-le-mul-right}
 use native.Mathlib.Omega.{arith}
 use lib.Count.{ones}
 use lib.Dec.{eqb}
-use Rattle.foundation.specs.Tests.{pick, cases, eq-true, true-eq, false-eq}
+use Rattle.foundation.specs.Tests.{pick, cases}
+use Rattle.foundation.specs.Quotients.{parted}
 use Rattle.foundation.specs.BitMasks.{bit}
 use Rattle.places.specs.declared.Grid.{Grid}
 use Rattle.places.specs.declared.Region.{Region}
 use Rattle.places.specs.declared.Point.{Point}
-use Rattle.places.specs.ReachedNumbers.{modesBelow, modesBelow-fewer, modesBelow-same, parted}
+use Rattle.places.specs.ReachedNumbers.{modesBelow, modesBelow-fewer, modesBelow-same}
 
 -- a code that names nothing
 abbrev pub free : ℕ → Bool

@@ -14,12 +14,12 @@ use lib.ListN.{length, getD}
 use Rattle.foundation.specs.Tests.{cases, true-eq, eq-true, false-eq, le-true, true-le, and-true}
 use Rattle.foundation.specs.Tests.{and-false, and-yes}
 use Rattle.foundation.specs.BitMasks.{bit}
+use Rattle.foundation.specs.BitLaws.{bit-and}
 use Rattle.model.specs.declared.Access.{Access}
 use Rattle.model.specs.Base.{Base}
 use Rattle.model.specs.Rules.{standsOn}
 use Rattle.encoding.specs.Format.{ruleAt}
 use Rattle.questions.specs.OperatorSteps.{lasting}
-use Rattle.words.specs.Bits.{bit-and}
 use Rattle.reach.specs.Net.{Formed, Only, standing}
 use Rattle.places.specs.declared.Grid.{Grid}
 use Rattle.places.specs.ReachedNumbers.{usedBefore-le, usedBefore-onto, codeOf}
@@ -250,7 +250,7 @@ module _ {holder : Base} {n : ℕ} {C : Chart} {x : Access} {body left feed side
   pub fields-small : f .fields ≤ 131328
   fields-small = omega (
     arith,
-    a .count,
+    a .arranged .few,
     fields-few C (o .rules .well-formed) (o .rules .charted) (map-gridded o m) (f .choosy)
         (λ r e. needed-low o m needs r (and-true (bit r rules) (isChoosy (ruleAt body r))
         (sym (choosy-bits r) ∙ e) .0)) right (o .rules .rights),
@@ -297,7 +297,15 @@ module _ {holder : Base} {n : ℕ} {C : Chart} {x : Access} {body left feed side
     modes = m .modes;
     needs = needs;
     choosy = choosy-bits;
-    laid = record { laid = a .laid; narrow = narrow; fits = fits; rights = rights; firsts = firsts };
+    tabled = a .arranged .some;
+    shared = a .arranged .shared;
+    laid = record {
+      laid = a .arranged .laid;
+      narrow = narrow;
+      fits = fits;
+      rights = rights;
+      firsts = firsts;
+    };
     fields = omega (arith, fields-small);
     lasts = lasts;
     lasts-is = a .lasts-is;

@@ -2,7 +2,7 @@
 -- that names an object only keeps the subject, and one that names both leads to one pair. So the pairs that
 -- are reached are among `candidates` (`carried`), and those are few (`candidates-few`, `pairs-within`).
 use mathlib.Core.Path.{_≡_, refl, sym, ap, ap₂, _∙_, subst}
-use mathlib.Core.Logic.{_⊎_, inl, inr, ⊎-elim}
+use mathlib.Core.Logic.{inl, inr, ⊎-elim}
 use mathlib.Core.Bool.{Bool, true, false, not, _&&_, true≢false}
 use mathlib.Core.List.{List, [], _∷_, _++_, map}
 use Prim.Native.Nat.{ℕ, zero, suc, _+_, _*_, _/_, _%_, _≤_, _<_}
@@ -14,11 +14,12 @@ use Rattle.foundation.specs.Tests.{cases, true-eq, eq-true, true-le, false-le, 
 use Rattle.foundation.specs.Tests.{le-false, and-true, not-true, must-fail}
 use Rattle.foundation.specs.Lists.{Mem, anyb, keepIf, each, any-mem, mem-any, mem-left, mem-right, append-mem}
 use Rattle.foundation.specs.Lists.{mem-map, map-mem, mem-each, each-mem, length-each, keepIf-mem, kept}
+use Rattle.foundation.specs.Quotients.{parted}
 use Rattle.foundation.specs.Closure.{setSize, setSize-le, setSize-mono, setSize-less}
 use Rattle.foundation.specs.BitMasks.{asBit, bit, power-above}
-use Rattle.words.specs.Bits.{no-bits}
+use Rattle.foundation.specs.BitLaws.{no-bits}
 use Rattle.reach.specs.Net.{Net, standing, turned, aimPair, ClosedUnderRules, Only}
-use Rattle.places.specs.ReachedNumbers.{used, usedBefore, usedBefore-step, usedBefore-none, parted}
+use Rattle.places.specs.ReachedNumbers.{used, usedBefore, usedBefore-step, usedBefore-none}
 
 -- ---- counting
 

@@ -16,13 +16,13 @@ use Rattle.questions.specs.OperatorSteps.{lasting}
 use Rattle.reach.specs.Net.{ClosedNet, Only}
 use Rattle.places.specs.declared.Grid.{Grid}
 use Rattle.places.specs.ReachedNumbers.{used, usedBefore, codeOf}
-use Rattle.places.specs.Regions.{sizeOf}
 use Rattle.tables.specs.declared.Frame.{Frame}
-use Rattle.tables.specs.TableLayout.{TablesLaid, ruleTables, allTables, roomOf, wholeRegion}
+use Rattle.tables.specs.TableLayout.{TablesLaid, ruleTables, roomOf}
 use Rattle.outlines.specs.Coordinates.{WellFormed, Chart, Charted}
 use Rattle.outlines.specs.Outline.{RightSides, LeftSides}
 use Rattle.outlines.specs.LeftMasks.{Masked, Owned}
 use Rattle.outlines.specs.Feed.{isChoosy, FeedTable}
+use Rattle.facts.specs.Sharing.{TablesArranged}
 use Rattle.queries.specs.declared.Extent.{Extent}
 
 -- ---- the asked access
@@ -99,12 +99,20 @@ pub record Arranged (n : ℕ) (body sides right first starts : List ℕ) (choosy
     Frame) :
     Type 0 where
   pub chosen : f .choosy ≡ bitAnd choosy rules
-  pub count : f .fields ≡ 2 * sizeOf (f .grid) wholeRegion + roomOf (f .grid) right (f .choosy) 64
-  pub laid : TablesLaid (allTables (f .grid) right (f .choosy) first) 0 (f .fields)
+  pub arranged : TablesArranged body right (f .choosy) (f .grid) first
+      (record { tables = f .tables; wide = f .wide; fields = f .fields })
   pub lasts-is : (r : ℕ) → bit r lasts ≡ bit r rules && lasting (ruleAt body r .operator)
   pub total-is : total ≡ roomOf (f .grid) sides lasts 64
   pub starts-laid : TablesLaid (ruleTables (f .grid) sides lasts starts) 0 total
 
 -- the frame with fields of another width
 abbrev pub sized : Frame → ℕ → Frame
-sized f k = record { grid = f .grid; width = k; fields = f .fields; choosy = f .choosy }
+sized f k =
+    record {
+      grid = f .grid;
+      width = k;
+      fields = f .fields;
+      choosy = f .choosy;
+      tables = f .tables;
+      wide = f .wide;
+    }

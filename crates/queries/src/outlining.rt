@@ -27,6 +27,7 @@ use crate::sizes::with_lines;
 use engine::Found;
 use engine::Query;
 use engine::WindowWalk;
+use facts::lay_tables;
 use masks::needed_rules;
 use model::AUTHORIZATION_BYTES;
 use model::Access;
@@ -56,7 +57,6 @@ use selection::history_start;
 use selection::lasting_of;
 use tables::Frame;
 use tables::Place;
-use tables::lay_all;
 use tables::lay_out;
 
 // A mode, with both signs.
@@ -185,9 +185,11 @@ fn with_pairs(
         e.subjects as usize,
     );
     let lasting = lasting_of(body, needed);
-    let fields = lay_all(
+    let choosy = e.choosy & needed;
+    let t = lay_tables(
+        body,
         &coordinates[RIGHT..SUBJECTS],
-        e.choosy & needed,
+        choosy,
         g,
         &mut outline[FIRST..STARTS],
     );
@@ -201,8 +203,10 @@ fn with_pairs(
     let f = Frame {
         grid: g,
         width: 0,
-        fields: fields,
-        choosy: e.choosy & needed,
+        fields: t.fields,
+        choosy: choosy,
+        tables: t.tables,
+        wide: t.wide,
     };
     let point = Point {
         subject: k.subject,

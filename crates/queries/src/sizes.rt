@@ -40,6 +40,8 @@ fn sized(f: Frame, one: bool, words: usize) -> Frame
         width: width_of(one, f.fields, words),
         fields: f.fields,
         choosy: f.choosy,
+        tables: f.tables,
+        wide: f.wide,
     }
 }
 

@@ -12,7 +12,8 @@ use lib.Dec.{eqb, ltb}
 use lib.ListN.{getD}
 use Rattle.foundation.specs.Tests.{pick, cases, and-true, and-intro, false-eq, true-le, false-le}
 use Rattle.foundation.specs.BitMasks.{bit}
-use Rattle.words.specs.Bits.{less, bit-less, power-only, no-bits}
+use Rattle.foundation.specs.BitLaws.{power-only, no-bits}
+use Rattle.words.specs.Bits.{less, bit-less}
 use Rattle.reach.specs.Net.{turned, aimPair, aimBits, CodedRight, Formed, Led}
 
 -- a code that is no star is below the count, and so is where it leads

@@ -13,8 +13,9 @@ use lib.ListN.{length, getD, set, length-set}
 use Rattle.foundation.specs.Tests.{pick, cases, true-eq, false-eq, or-cases, or-intro-left, or-true-right}
 use Rattle.foundation.specs.Tests.{and-intro, and-true, eq-true, true-le, false-le}
 use Rattle.foundation.specs.BitMasks.{bit, none-set}
-use Rattle.words.specs.Bits.{bit-or, bit-less, less}
-use Rattle.words.specs.Sums.{sum-set}
+use Rattle.foundation.specs.BitLaws.{bit-or}
+use Rattle.words.specs.Bits.{bit-less, less}
+use Rattle.words.proofs.SumFacts.{sum-set}
 use Rattle.reach.specs.Net.{Net, has, standing, aimPair, aimBits, Followed, ClosedBut, ClosedNet}
 use Rattle.reach.specs.Net.{OnlyWhere, ClosedUnderRules}
 use Rattle.reach.specs.Reach.{remaining, Grown, KeepsWithin, ReachStep}

@@ -1,6 +1,5 @@
 -- Where the bodies of a sound base stand, and what is in them. Assumes nothing.
-use mathlib.Core.Path.{_≡_, refl, sym, ap, _∙_}
-use mathlib.Core.Bool.{true}
+use mathlib.Core.Path.{_≡_, refl, ap, _∙_}
 use mathlib.Core.List.{List, [], _∷_, map}
 use Prim.Native.Nat.{ℕ, _+_, _*_, _≤_}
 use native.Mathlib.Nat.{mul-add, mul-le-mul-left}
@@ -9,14 +8,11 @@ use lib.ListN.{length, drop}
 use Rattle.foundation.specs.Bytes.{le, records}
 use Rattle.foundation.specs.ByteRecords.{length-records}
 use Rattle.model.specs.Encoding.{decode, privilegeOf, authorizationOf, ruleOf}
-use Rattle.model.specs.Soundness.{soundBytes}
-use Rattle.model.specs.SoundnessFacts.{decoded-sound}
 use Rattle.encoding.specs.declared.Counts.{Counts}
 use Rattle.encoding.specs.Format.{countsOf, administratorsAt, referrersAt, authorizationsAt, rulesAt}
 use Rattle.encoding.proofs.FormatFacts.{decoded-objects, decoded-administrators, decoded-referrers}
 use Rattle.encoding.proofs.FormatFacts.{decoded-authorizations, decoded-rules, decoded-lengths}
-use Rattle.encoding.proofs.FormatFacts.{decoded-counts}
-use Rattle.encoding.proofs.Contents.{CountsWithin, fit-within}
+use Rattle.encoding.proofs.Contents.{CountsWithin}
 use Rattle.records.specs.declared.Body.{Body}
 use Rattle.records.specs.declared.Body.the-variants.{Heading, Objects, Administrators, Referrers}
 use Rattle.records.specs.declared.Body.the-variants.{Authorizations, Rules}
@@ -33,10 +29,6 @@ width-is Administrators s = refl
 width-is Referrers s = refl
 width-is Authorizations s = refl
 width-is Rules s = refl
-
-pub counts-within : (s : List ℕ) → soundBytes s ≡ true → CountsWithin (countsOf s)
-counts-within s e =
-    fit-within (countsOf s) (sym (decoded-counts s) ∙ decoded-sound s e .counts)
 
 module _ (c : Counts) (h : CountsWithin c) where
   pub count-most : (b : Body) → recordCount c b ≤ 1024

@@ -2,15 +2,13 @@
 use mathlib.Core.Path.{_≡_, refl, sym, ap, _∙_}
 use mathlib.Core.Bool.{true, false, _&&_}
 use mathlib.Core.List.{List}
-use mathlib.Core.Logic.{inl, inr}
 use Prim.Native.Nat.{ℕ, zero, suc, _+_, _-_, _≤_, _<_}
 use native.Mathlib.Omega.{arith}
 use lib.Dec.{leb, ltb}
 use lib.ListN.{length, getD, set, length-set}
 use lib.Seq.{getD-set-same, getD-set-other}
 use Rattle.foundation.specs.Tests.{cases, le-true, true-le, false-le, and-intro}
-use Rattle.foundation.specs.Marks.{next, next-above, next-clear}
-use Rattle.marks.specs.Least.{MarkOrNone, next-is}
+use Rattle.foundation.specs.Marks.{next, next-above, next-le, next-clear}
 use Rattle.windows.specs.Windows.{Rising}
 use Rattle.relevance.specs.Filling.{Fills}
 
@@ -19,11 +17,7 @@ abbrev after : List ℕ → ℕ → ℕ
 after ms m = next m ms 4294967296
 
 after-le : (ms : List ℕ) (m : ℕ) → after ms m ≤ 4294967296
-after-le ms m = go (next-is m 4294967296 ms)
-  where
-    go : {n : ℕ} → MarkOrNone m 4294967296 ms n → n ≤ 4294967296
-    go (inl e) = omega arith
-    go (inr w) = omega (arith, w .2)
+after-le ms m = next-le m ms 4294967296
 
 module _ (ms : List ℕ) (from to width : ℕ) where
   -- `count` instants, and the one that comes next

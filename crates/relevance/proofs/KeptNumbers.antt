@@ -2,7 +2,7 @@
 use mathlib.Core.Path.{_≡_, refl, sym, ap, ap₂, _∙_, subst}
 use mathlib.Core.Bool.{Bool, true, false, _&&_}
 use mathlib.Core.List.{List, [], _∷_, _++_, map, append-nil}
-use Prim.Native.Nat.{ℕ, suc, _+_, _*_, _-_, _/_, _%_, _^_, _≤_, _<_}
+use Prim.Native.Nat.{ℕ, suc, _+_, _*_, _/_, _%_, _^_, _≤_, _<_}
 use native.Mathlib.Nat.{mul-le-mul, div-one, add-mul}
 use native.Mathlib.Numerals.{add-one}
 use native.Mathlib.Omega.{arith}
@@ -27,6 +27,10 @@ use Rattle.relevance.specs.Chosen.{authorizationAt, picked, picked-none,
 use Rattle.relevance.specs.Needed.{cellOf, neededIn, isNeeded, isChosen}
 use Rattle.relevance.specs.Needed.{HeadInRange, CellInTable, ChoiceReady, Choice}
 use Rattle.relevance.specs.Forgotten.{during, endsFrom, Forgets}
+
+-- the number of one of `total` lies in their bytes
+pub number-inside : (i total : ℕ) (s : List ℕ) → i < total → total * 24 ≤ length s → i * 24 + 24 ≤ length s
+number-inside i total s h l = omega arith
 
 -- ---- a number put behind n others
 

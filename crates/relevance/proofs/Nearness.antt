@@ -1,11 +1,9 @@
 -- The least distance is that of the next mark; marks can be looked at in any order, and kind by kind; and the
 -- next mark of a kind stands as long as it is not reached.
 use mathlib.Core.Path.{_≡_, refl, sym, ap, _∙_, subst}
-use mathlib.Core.Bool.{Bool, true, false, _&&_, false≢true}
-use mathlib.Core.Logic.{inl, inr}
+use mathlib.Core.Bool.{Bool, true, false, _&&_}
 use mathlib.Core.List.{List, [], _∷_, _++_}
-use Prim.Native.Nat.{ℕ, zero, suc, _+_, _*_, _-_, _^_, _≤_, _<_, min}
-use native.Mathlib.Nat.{zero-div}
+use Prim.Native.Nat.{ℕ, zero, suc, _+_, _*_, _-_, _≤_, _<_, min}
 use native.Mathlib.Omega.{arith}
 use lib.Dec.{leb, ltb}
 use native.Mathlib.Numerals.{add-one}
@@ -13,10 +11,11 @@ use lib.ListN.{length, drop, getD, drop-of-length-le}
 use lib.Seq.{drop-drop}
 use Rattle.foundation.specs.Tests.{cases, le-true, le-false, true-le, false-le}
 use Rattle.foundation.specs.Tests.{and-false, and-true}
-use Rattle.foundation.specs.Marks.{next, next-above}
-use Rattle.foundation.specs.BitMasks.{bit}
-use Rattle.marks.specs.Least.{MarkOrNone, next-is, NextMark, next-mark}
-use Rattle.marks.specs.NextMarks.{sooner, next-append, next-nil}
+use Rattle.foundation.specs.Marks.{next, next-above, next-le}
+use Rattle.foundation.specs.BitMasks.{bit, none-set}
+use Rattle.marks.specs.Least.{NextMark, next-mark}
+use Rattle.marks.specs.NextMarks.{sooner}
+use Rattle.marks.proofs.NextFacts.{next-append, next-nil}
 use Rattle.model.specs.declared.Authorization.{Authorization}
 use Rattle.model.specs.declared.Rule.{Rule}
 use Rattle.model.specs.Encoding.{ruleOf}
@@ -121,9 +120,7 @@ pub record Rest (needed rest r : ℕ) : Type 0 where
   pub same : (j : ℕ) → r ≤ j → bit j rest ≡ bit j needed
 
 some-bit : (i m : ℕ) → bit i m ≡ true → 1 ≤ m
-some-bit i zero e =
-    let z : bit i 0 ≡ false = rw (zero-div (2 ^ i)) in
-    absurd (false≢true (sym z ∙ e))
+some-bit i zero e = absurd (none-set i e)
 some-bit i (suc m) e = omega arith
 
 pub rest-some : (needed rest r : ℕ) → Rest needed rest r → r < 64 → 1 ≤ rest
@@ -345,13 +342,6 @@ next-least-of t [] d h = sym (min-right 4294967296 d h)
 next-least-of t (m ∷ ms) d h =
     ap (sooner t m) (next-least-of t ms d h) ∙ sooner-least t m (next t ms 4294967296) d
 
-next-bounded : (t : ℕ) (ms : List ℕ) → next t ms 4294967296 ≤ 4294967296
-next-bounded t ms = go (next-is t 4294967296 ms)
-  where
-    go : {n : ℕ} → MarkOrNone t 4294967296 ms n → n ≤ 4294967296
-    go (inl e) = omega arith
-    go (inr w) = omega (arith, w .2)
-
 -- the next mark is still the next at an instant before it
 next-stands : (t m : ℕ) (ms : List ℕ) → t ≤ m → m < next t ms 4294967296 →
     next t ms 4294967296 ≡ next m ms 4294967296
@@ -388,9 +378,9 @@ module _ (xs : List Authorization) (rs : List Rule) (t : ℕ) (n : Near) (w : Ne
       let b : ℕ = next t (ruleEdges false rs) a in
       let c : ℕ = next t (lineEdges true xs) b in
       let p : b ≡ least-rule =
-      next-least-of t (ruleEdges false rs) a (next-bounded t (ruleEdges true rs))
+      next-least-of t (ruleEdges false rs) a (next-le t (ruleEdges true rs) 4294967296)
       ∙ ap (λ (k : ℕ). min k a) (sym (w .rule-starts)) ∙ ap (min (n .rules .starts)) (sym (w .rule-ends)) in
-      let u : a ≤ 4294967296 = next-bounded t (ruleEdges true rs) in
+      let u : a ≤ 4294967296 = next-le t (ruleEdges true rs) 4294967296 in
       let q : c ≡ least-end =
       next-least-of t (lineEdges true xs) b
       (omega (arith, w .rule-ends))

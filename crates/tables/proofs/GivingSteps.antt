@@ -12,8 +12,7 @@ use lib.Pow.{pow-pos}
 use Rattle.foundation.specs.Tests.{pick, cases, agree, eq-true, true-eq, ne-false, false-eq, le-true, true-le}
 use Rattle.foundation.specs.Tests.{false-le, and-true, and-intro, and-false, or-cases, or-false}
 use Rattle.foundation.specs.Tests.{or-intro-left, or-true-right}
-use Rattle.foundation.specs.BitMasks.{bit}
-use Rattle.words.specs.Bits.{bit-inside}
+use Rattle.foundation.specs.BitMasks.{bit, bit-inside}
 use Rattle.words.specs.Fields.{starts, fieldOf, joined}
 use Rattle.places.specs.declared.Point.{Point}
 use Rattle.places.specs.Regions.{sizeOf, indexIn, Within, In}

@@ -1,2 +1,3 @@
 pub mod GivingSteps
 pub mod Rooms
+pub mod TableSizes

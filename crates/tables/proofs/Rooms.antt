@@ -1,16 +1,17 @@
--- The tables of the rules of a mask, laid out in order: each starts where those before it end.
+-- The tables of the rules of a mask, laid out in order: each starts where those before it end (`rules-laid`);
+-- and all tables (`all-laid`), which stay where they are (`laid-as`).
 use mathlib.Core.Path.{_≡_, refl, sym, ap, _∙_}
 use mathlib.Core.Bool.{true, false}
 use mathlib.Core.List.{List}
-use Prim.Native.Nat.{ℕ, zero, suc, _+_, _-_, _^_, _≤_, _<_}
+use Prim.Native.Nat.{ℕ, zero, suc, _+_, _*_, _-_, _^_, _≤_, _<_}
 use native.Mathlib.Omega.{arith}
 use lib.ListN.{getD}
 use Rattle.foundation.specs.Tests.{cases}
-use Rattle.foundation.specs.BitMasks.{bit}
-use Rattle.words.specs.Bits.{bit-inside}
+use Rattle.foundation.specs.BitMasks.{bit, bit-inside}
 use Rattle.places.specs.declared.Grid.{Grid}
 use Rattle.places.specs.Regions.{sizeOf}
-use Rattle.tables.specs.TableLayout.{TablesLaid, regionAt, ruleTables, roomOf}
+use Rattle.tables.specs.TableLayout.{Tables, sizeIn, TablesLaid, regionAt, ruleTables, roomOf}
+use Rattle.tables.specs.TableLayout.{wholeRegion, isThere, offsetOf, allTables}
 
 module _ (g : Grid) (codes : List ℕ) (rules : ℕ) where
   pub room-none : roomOf g codes rules 0 ≡ 0
@@ -77,3 +78,48 @@ module _ (g : Grid) (codes : List ℕ) (rules : ℕ) where
       high = λ c e. omega (arith, starts c (inside c e) e, room-taken c e, room-mono (suc c) 64 (inside c e));
       behind = behind;
     }
+
+-- ---- all tables
+
+-- all lie one behind the other if those of the rules do, behind the first two
+pub all-laid : (g : Grid) (right : List ℕ) (choosy : ℕ) (first : List ℕ) (to : ℕ) →
+    TablesLaid (ruleTables g right choosy first) (2 * sizeOf g wholeRegion) to →
+    TablesLaid (allTables g right choosy first) 0 to
+all-laid g right choosy first to l =
+    record { room = omega arith; low = λ c e. omega arith; high = high; behind = behind }
+  where
+    t : Tables
+    t = allTables g right choosy first
+
+    high : (c : ℕ) → t .there c ≡ true → t .offset c + sizeIn t c ≤ to
+    high zero e = omega (arith, l .room)
+    high (suc zero) e = omega (arith, l .room)
+    high (suc (suc c)) e = l .high c e
+
+    behind : (c d : ℕ) → t .there c ≡ true → t .there d ≡ true → c < d →
+        t .offset c + sizeIn t c ≤ t .offset d
+    behind zero zero e f h = absurd (omega arith)
+    behind zero (suc zero) e f h = omega arith
+    behind zero (suc (suc d)) e f h = omega (arith, l .low d f)
+    behind (suc zero) zero e f h = absurd (omega arith)
+    behind (suc zero) (suc zero) e f h = absurd (omega arith)
+    behind (suc zero) (suc (suc d)) e f h = omega (arith, l .low d f)
+    behind (suc (suc c)) zero e f h = absurd (omega arith)
+    behind (suc (suc c)) (suc zero) e f h = absurd (omega arith)
+    behind (suc (suc c)) (suc (suc d)) e f h = l .behind c d e f (omega arith)
+
+-- tables stay where they are, whatever is written where rules without one look
+pub laid-as : {g : Grid} {right : List ℕ} {tables : ℕ} {first first′ : List ℕ} {to : ℕ} →
+    ((c : ℕ) → bit c tables ≡ true → getD first′ c 0 ≡ getD first c 0) →
+    TablesLaid (allTables g right tables first) 0 to → TablesLaid (allTables g right tables first′) 0 to
+laid-as {g} {right} {tables} {first} {first′} {to} same l = record {
+  room = l .room;
+  low = λ c t. omega arith;
+  high = λ c t. omega (arith, l .high c t, at c t);
+  behind = λ c d t u h. omega (arith, l .behind c d t u h, at c t, at d u);
+}
+  where
+    at : (c : ℕ) → isThere tables c ≡ true → offsetOf g first′ c ≡ offsetOf g first c
+    at zero t = refl
+    at (suc zero) t = refl
+    at (suc (suc c)) t = same c t

@@ -3,10 +3,11 @@
 use mathlib.Core.Path.{_≡_, refl, sym, ap, _∙_}
 use mathlib.Core.Bool.{Bool, true, false, _&&_, true≢false}
 use mathlib.Core.List.{List}
-use Prim.Native.Nat.{ℕ, zero, suc, _+_, _*_, _≤_}
+use Prim.Native.Nat.{ℕ, zero, suc, _+_, _*_, _≤_, _<_}
+use native.Mathlib.Omega.{arith}
 use lib.Bits.{bitOr}
 use lib.Dec.{eqb}
-use lib.ListN.{length}
+use lib.ListN.{length, getD, replicate, length-replicate, getD-replicate}
 use Rattle.foundation.specs.Tests.{pick, cases, eq-true, true-eq, ne-false, and-three, and-true, and-intro}
 use Rattle.foundation.specs.BitMasks.{bit}
 use Rattle.words.specs.Fields.{starts, fieldOf, joined}
@@ -16,13 +17,39 @@ use Rattle.places.specs.Regions.{sizeOf, Within}
 use Rattle.tables.specs.declared.Frame.{Frame}
 use Rattle.tables.specs.declared.Place.{Place}
 use Rattle.tables.specs.TableLayout.{Tables, fieldIn, TablesLaid, Paired, Has, isThere, offsetOf}
-use Rattle.tables.specs.TableLayout.{regionOf}
-use Rattle.tables.specs.TableLayout.{allTables, field-apart}
+use Rattle.tables.specs.TableLayout.{regionAt, regionOf, wholeRegion, allTables, field-apart}
 
 -- ---- the tables of a frame
 
+-- the codes of all places, for each rule
+unfoldable pub wholeCodes : List ℕ
+wholeCodes = replicate 256 255
+
+pub whole-codes : wholeCodes ≡ replicate 256 255
+unfolding wholeCodes
+whole-codes = refl
+
+pub whole-length : length wholeCodes ≡ 256
+whole-length = ap length whole-codes ∙ length-replicate {A = ℕ} 256 255
+
+pub whole-at : (c : ℕ) → c < 64 → regionAt wholeCodes c ≡ wholeRegion
+whole-at c h =
+    let code : (i : ℕ) → i < 256 → getD wholeCodes i 0 ≡ 255 =
+    λ i l. ap (λ (u : List ℕ). getD u i 0) whole-codes ∙ getD-replicate 256 i 255 0 l in
+    let s = code (4 * c + 1) (omega arith) in
+    let m = code (4 * c + 2) (omega arith) in
+    let o = code (4 * c) (omega arith) in
+    λ i. record { subject = s i; mode = m i; object = o i }
+
+-- the regions of the tables of rules: all places, or those of the right sides
+abbrev pub shapesBy : Bool → List ℕ → List ℕ
+shapesBy wide right = pick wide wholeCodes right
+
+abbrev pub shapesOf : Frame → List ℕ → List ℕ
+shapesOf f = shapesBy (f .wide)
+
 abbrev pub tablesOf : Frame → List ℕ → List ℕ → Tables
-tablesOf f right first = allTables (f .grid) right (f .choosy) first
+tablesOf f right first = allTables (f .grid) (shapesOf f right) (f .tables) first
 
 -- they are laid out, and words of a length have room for all of their fields
 pub record TablesReady (f : Frame) (right first : List ℕ) (size : ℕ) : Type 0 where
@@ -42,8 +69,8 @@ pub record Reaches (f : Frame) (from : ℕ) (b : Region) (p : Place) (size : ℕ
 module _ (f : Frame) (right first : List ℕ) (size : ℕ) (p : Place) (ready : TablesReady f right first size)
     (within : Within (f .grid) (p .pair) (p .point)) where
   -- so do the tables that are there
-  pub reaches : (c : ℕ) → isThere (f .choosy) c ≡ true →
-      Reaches f (offsetOf (f .grid) first c) (regionOf right c) p size
+  pub reaches : (c : ℕ) → isThere (f .tables) c ≡ true →
+      Reaches f (offsetOf (f .grid) first c) (regionOf (shapesOf f right) c) p size
   reaches c e =
       record { narrow = ready .narrow; fits = ready .fits; high = ready .laid .high c e; within = within }
 

@@ -6,7 +6,6 @@ use mathlib.Core.Bool.{Bool, true}
 use mathlib.Core.List.{List}
 use mathlib.Core.Logic.{_↔_}
 use Prim.Native.Nat.{ℕ, zero, suc, _+_, _*_, _≤_, _<_}
-use native.Mathlib.Nat.{mul-le-mul}
 use native.Mathlib.Omega.{arith}
 use lib.Count.{ones}
 use lib.Dec.{ltb}
@@ -16,7 +15,7 @@ use Rattle.foundation.specs.BitMasks.{bit}
 use Rattle.places.specs.declared.Grid.{Grid}
 use Rattle.places.specs.declared.Region.{Region}
 use Rattle.places.specs.declared.Point.{Point}
-use Rattle.places.specs.Regions.{free, outerSize, modeSize, sizeOf, indexIn, Within, In}
+use Rattle.places.specs.Regions.{sizeOf, indexIn, Within, In}
 use Rattle.places.specs.Regions.{index-below, index-apart}
 
 -- ---- tables
@@ -119,30 +118,6 @@ pub record SmallGrid (g : Grid) : Type 0 where
   pub pairs : g .pairs ≤ 4225
   pub modes : ones (g .modes) ≤ 8
 
-module _ (g : Grid) (small : SmallGrid g) where
-  outer-small : (b : Region) → outerSize g b ≤ 4225
-  outer-small b = cases (free (b .subject))
-      (λ s. cases (free (b .object))
-      (λ o. rw (s, o) (small .pairs))
-      (λ o. rw (s, o) (omega (arith, small .subjects))))
-      (λ s. cases (free (b .object))
-      (λ o. rw (s, o) (omega (arith, small .objects)))
-      (λ o. rw (s, o) (omega arith)))
-
-  mode-small : (b : Region) → modeSize g b ≤ 8
-  mode-small b = cases (free (b .mode)) (λ m. rw m (small .modes)) (λ m. rw m (omega arith))
-
-  pub size-small : (b : Region) → sizeOf g b ≤ 33800
-  unfolding sizeOf
-  size-small b = mul-le-mul (outer-small b) (mode-small b)
-
-  pub room-small : (codes : List ℕ) (rules c : ℕ) → roomOf g codes rules c ≤ c * 33800
-  unfolding roomOf
-  room-small codes rules zero = omega arith
-  room-small codes rules (suc c) = cases (bit c rules)
-      (λ e. rw e (omega (arith, room-small codes rules c, size-small (regionAt codes c))))
-      (λ e. rw e (omega (arith, room-small codes rules c)))
-
 -- ---- all tables
 
 -- the region of all places
@@ -168,30 +143,3 @@ regionOf right (suc (suc c)) = regionAt right c
 abbrev pub allTables : Grid → List ℕ → ℕ → List ℕ → Tables
 allTables g right choosy first =
     record { grid = g; there = isThere choosy; offset = offsetOf g first; region = regionOf right }
-
--- they lie one behind the other if those of the rules do, behind the first two
-pub all-laid : (g : Grid) (right : List ℕ) (choosy : ℕ) (first : List ℕ) (to : ℕ) →
-    TablesLaid (ruleTables g right choosy first) (2 * sizeOf g wholeRegion) to →
-    TablesLaid (allTables g right choosy first) 0 to
-all-laid g right choosy first to l =
-    record { room = omega arith; low = λ c e. omega arith; high = high; behind = behind }
-  where
-    t : Tables
-    t = allTables g right choosy first
-
-    high : (c : ℕ) → t .there c ≡ true → t .offset c + sizeIn t c ≤ to
-    high zero e = omega (arith, l .room)
-    high (suc zero) e = omega (arith, l .room)
-    high (suc (suc c)) e = l .high c e
-
-    behind : (c d : ℕ) → t .there c ≡ true → t .there d ≡ true → c < d →
-        t .offset c + sizeIn t c ≤ t .offset d
-    behind zero zero e f h = absurd (omega arith)
-    behind zero (suc zero) e f h = omega arith
-    behind zero (suc (suc d)) e f h = omega (arith, l .low d f)
-    behind (suc zero) zero e f h = absurd (omega arith)
-    behind (suc zero) (suc zero) e f h = absurd (omega arith)
-    behind (suc zero) (suc (suc d)) e f h = omega (arith, l .low d f)
-    behind (suc (suc c)) zero e f h = absurd (omega arith)
-    behind (suc (suc c)) (suc zero) e f h = absurd (omega arith)
-    behind (suc (suc c)) (suc (suc d)) e f h = l .behind c d e f (omega arith)

@@ -1,5 +1,6 @@
 // Tables of fields: where they lie, and what is given to them. Table 0 is that of what is held, table 1 that
-// of what is denied, each of all places; table 2 + c is that of rule c, of the places of its right side.
+// of what is denied, each of all places; table 2 + c is that of rule c, of the places of its right side or of
+// all, which rules that look for the same share.
 ghost use mathlib.Core.Path.{_≡_};
 ghost use mathlib.Core.Bool.{true, _||_};
 ghost use mathlib.Core.Logic.{_↔_};
@@ -12,7 +13,8 @@ ghost use Rattle.words.specs.Sums.{SumGrown};
 ghost use Rattle.places.specs.Regions.{free, sizeOf, indexIn, Within, In};
 ghost use Rattle.tables.specs.TableLayout.{regionAt, wholeRegion, ruleTables, allTables, roomOf};
 ghost use Rattle.tables.specs.TableLayout.{SmallGrid, TablesLaid};
-ghost use Rattle.tables.specs.TableGiving.{tablesOf, TablesReady, Reaches, TablesGiven, ruleTable};
+ghost use Rattle.tables.specs.TableGiving.{shapesOf, tablesOf, TablesReady, Reaches, TablesGiven};
+ghost use Rattle.tables.specs.TableGiving.{ruleTable};
 ghost use Rattle.tables.specs.TableGiving.{tableTakes};
 use places::Grid;
 use places::Point;
@@ -21,12 +23,15 @@ use words::field_at;
 use words::join_at;
 use words::next_bit;
 
-// The grid, the width of fields (2^width bits), how many fields there are, and the rules that have a table.
+// The grid, the width of fields (2^width bits), how many fields there are, the rules that look at the table
+// of a rule, those that have a table, and whether these tables have all places.
 pub struct Frame {
     pub grid: Grid,
     pub width: u32,
     pub fields: u32,
     pub choosy: u64,
+    pub tables: u64,
+    pub wide: bool,
 }
 
 // A place, with the number of its pair.
@@ -58,6 +63,17 @@ pub fn region_at(codes: &[u8], i: usize) -> Region
     }
 }
 
+// The region of the table of rule i: all places, or those of its right side.
+pub fn shape_at(f: Frame, right: &[u8], i: usize) -> Region
+    requires { ⌜ (i < 64) × (256 ≤ length (now right)) ⌝ }
+    ensures { λ r. ⌜ r ≡ regionAt (shapesOf f (now (right .entry))) i ⌝ }
+{
+    if f.wide {
+        return all_places();
+    }
+    region_at(right, i)
+}
+
 // Whether a code names v, or is free.
 fn names(code: u8, v: u32) -> bool
     ensures { λ r. ⌜ r ≡ free code || eqb code v ⌝ }
@@ -77,7 +93,8 @@ pub fn lay_out(codes: &[u8], rules: u64, g: Grid, from: u32, first: &mut [u64]) 
     requires { ⌜ (from + roomOf g (now codes) rules 64 < 4294967296) × (256 ≤ length (now codes))
         × (64 ≤ length (now first)) ⌝ }
     ensures { λ r. ⌜ (r ≡ from + roomOf g (now (codes .entry)) rules 64)
-        × TablesLaid (ruleTables g (now (codes .entry)) rules (now (first .exit))) from r ⌝ }
+        × TablesLaid (ruleTables g (now (codes .entry)) rules (now (first .exit))) from r
+        × (length (now (first .exit)) ≡ length (now (first .entry))) ⌝ }
 {
     let mut n = from;
     let mut r = next_bit(rules, 0);
@@ -94,7 +111,8 @@ pub fn lay_out(codes: &[u8], rules: u64, g: Grid, from: u32, first: &mut [u64]) 
 pub fn lay_all(right: &[u8], choosy: u64, g: Grid, first: &mut [u64]) -> u32
     requires { ⌜ SmallGrid g × (256 ≤ length (now right)) × (64 ≤ length (now first)) ⌝ }
     ensures { λ r. ⌜ (r ≡ 2 * sizeOf g wholeRegion + roomOf g (now (right .entry)) choosy 64)
-        × TablesLaid (allTables g (now (right .entry)) choosy (now (first .exit))) 0 r ⌝ }
+        × TablesLaid (allTables g (now (right .entry)) choosy (now (first .exit))) 0 r
+        × (length (now (first .exit)) ≡ length (now (first .entry))) ⌝ }
 {
     let b = all_places();
     lay_out(right, choosy, g, 2 * places::size_of(g, b), first)
@@ -142,13 +160,13 @@ fn give_rule(
 ) -> bool
     requires { ⌜ TablesReady f (now right) (now first) (length (now words)) × Within (f .grid) (p .pair)
         (p .point)
-        × (c < 64) × (bit c (f .choosy) ≡ true) × (v < 2 ^ (2 ^ f .width)) ⌝ }
+        × (c < 64) × (bit c (f .tables) ≡ true) × (v < 2 ^ (2 ^ f .width)) ⌝ }
     ensures { λ r. ⌜ TablesGiven (tablesOf f (now (right .entry)) (now (first .entry))) (f .width) (p .pair)
         (p .point) (ruleTable c) v (now (words .entry)) (now (words .exit))
         × SumGrown r (now (words .entry)) (now (words .exit)) ⌝ }
 {
     let i = c as usize;
-    let b = region_at(right, i);
+    let b = shape_at(f, right, i);
     let x = p.point;
     if is_in(b, x) {
         return join_in(words, f, first[i] as u32, b, p, v);
@@ -170,7 +188,7 @@ pub fn give(
 ) -> bool
     requires { ⌜ TablesReady f (now right) (now first) (length (now words)) × Within (f .grid) (p .pair)
         (p .point)
-        × (sign < 2) × ((c : ℕ) → bit c takers ≡ true → bit c (f .choosy) ≡ true)
+        × (sign < 2) × ((c : ℕ) → bit c takers ≡ true → bit c (f .tables) ≡ true)
         × (v < 2 ^ (2 ^ f .width)) ⌝ }
     ensures { λ r. ⌜ TablesGiven (tablesOf f (now (right .entry)) (now (first .entry))) (f .width) (p .pair)
         (p .point) (tableTakes sign takers) v (now (words .entry)) (now (words .exit))

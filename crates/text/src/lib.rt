@@ -1,9 +1,11 @@
 // One line of text over a lent base, its reply as text in a lent buffer: what a database, a queue or a script
 // calls.
 ghost use mathlib.Core.Path.{_≡_};
+ghost use mathlib.Core.Bool.{true};
 ghost use mathlib.Core.List.{[]};
 ghost use Prim.Native.Nat.{_≤_, _<_};
 ghost use lib.ListN.{length};
+ghost use Rattle.model.specs.Soundness.{soundBytes};
 ghost use Rattle.model.specs.Text.{order, asksMay, asksWhen, printReply};
 ghost use Rattle.model.specs.Session.{runsOf, shortestBuffer, textAnswer};
 ghost use Rattle.printing.specs.Print.{RunsFit};
@@ -45,32 +47,33 @@ fn put_short(out: &mut [u8], r: Reply) -> TextReply
     put_line(out, r, &none)
 }
 
-// Carries out a request.
+// Carries out a request on a sound base.
 fn text_order(base: &mut [u8], q: Request, out: &mut [u8]) -> TextReply
-    requires { ⌜ shortestBuffer ≤ length (now out) ⌝ }
+    requires { ⌜ (shortestBuffer ≤ length (now out)) × (soundBytes (now base) ≡ true) ⌝ }
     ensures { λ w. ⌜ written w (now (base .exit)) (now (out .exit))
         ≡ answerTo (now (base .entry)) (order q) (now (out .entry)) ⌝ }
 {
-    put_short(out, requests::request(base, q))
+    put_short(out, requests::step(base, q))
 }
 
-// Answers MAY.
+// Answers MAY over a sound base.
 fn text_may(base: &[u8], q: Question, out: &mut [u8]) -> TextReply
-    requires { ⌜ shortestBuffer ≤ length (now out) ⌝ }
+    requires { ⌜ (shortestBuffer ≤ length (now out)) × (soundBytes (now base) ≡ true) ⌝ }
     ensures { λ w. ⌜ written w (now (base .entry)) (now (out .exit))
         ≡ answerTo (now (base .entry)) (asksMay q) (now (out .entry)) ⌝ }
 {
-    put_short(out, answers::may(base, q))
+    put_short(out, answers::may_sound(base, q))
 }
 
-// Answers WHEN, with a list of 1,100 pairs. Its text is counted before any of it is written.
+// Answers WHEN over a sound base, with a list of 1,100 pairs. Its text is counted before any of it is
+// written.
 fn text_when(base: &[u8], x: Access, out: &mut [u8]) -> TextReply
-    requires { ⌜ shortestBuffer ≤ length (now out) ⌝ }
+    requires { ⌜ (shortestBuffer ≤ length (now out)) × (soundBytes (now base) ≡ true) ⌝ }
     ensures { λ w. ⌜ written w (now (base .entry)) (now (out .exit))
         ≡ answerTo (now (base .entry)) (asksWhen x) (now (out .entry)) ⌝ }
 {
     let mut list = [0u32; 2200];
-    let r = answers::when(base, x, &mut list);
+    let r = answers::when_sound(base, x, &mut list);
     if out.len() <= printing::reply_length(r, &list) {
         return TextReply {
             refusal: 13,
@@ -96,6 +99,9 @@ pub fn text(base: &mut [u8], line: &[u8], out: &mut [u8]) -> TextReply
     let Parsed::Line(a) = reading::read_line(line) else {
         return put_short(out, Reply::Refused(1));
     };
+    if !soundness::is_sound(base) {
+        return put_short(out, Reply::Refused(2));
+    }
     match a {
         Asked::Order(q) => text_order(base, q, out),
         Asked::May(q) => text_may(base, q, out),

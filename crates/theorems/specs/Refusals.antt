@@ -8,7 +8,7 @@ use mathlib.Core.Bool.{true, false, not}
 use mathlib.Core.List.{List, [], _∷_, _++_, map}
 use lib.Dec.{ltb, eqb}
 use lib.ListN.{length, drop}
-use Rattle.foundation.specs.Tests.{cases, true-eq, false-eq, and-true, le-false}
+use Rattle.foundation.specs.Tests.{cases, true-eq, false-eq, and-true, le-false, not-false}
 use Rattle.foundation.specs.Lists.{Mem, anyb, allb, any-mem, mem-map, keepIf}
 use Rattle.model.specs.declared.Request.{Request}
 use Rattle.model.specs.declared.Access.{Access}
@@ -16,15 +16,15 @@ use Rattle.model.specs.declared.Question.{Question}
 use Rattle.model.specs.declared.Reply.{Reply}
 use Rattle.model.specs.declared.Reply.the-variants.{Done, Refused, Unsupported, Runs}
 use Rattle.model.specs.Ranges.{isObject}
-use Rattle.model.specs.Base.{emptyBase, exists}
+use Rattle.model.specs.Base.{Base, emptyBase, exists}
 use Rattle.model.specs.Rules.{may, when}
 use Rattle.model.specs.Means.{plainly}
 use Rattle.model.specs.Step.{Row, row, firstNumber, refusedOr, accepting, effect, earliestGap}
-use Rattle.model.specs.StepFacts.{first-given, answered, turned-away, rising?}
+use Rattle.model.specs.StepFacts.{first-given, answered, turned-away, rising?, numbered}
 use Rattle.model.specs.StepFacts.{IsEarliest, earliest-gap, earliest-one}
 use Rattle.model.specs.Encoding.{size, encode, decode}
-use Rattle.model.specs.Soundness.{soundBytes}
-use Rattle.model.specs.SoundnessFacts.{sound-bytes}
+use Rattle.model.specs.Soundness.{sound, soundBytes}
+use Rattle.model.specs.SoundnessFacts.{sound-bytes, decoded-sound}
 use Rattle.model.specs.Answers.{Answer, answering, refusing, refusalNumber, create, requestTable}
 use Rattle.model.specs.Answers.{request}
 use Rattle.model.specs.Answers.{mayTable, whenTable, words, mayReply, mayAnswer, whenAnswer}
@@ -35,8 +35,10 @@ use Rattle.model.specs.Counting.{Counting, counting, declining, countedRefusal}
 use Rattle.model.specs.Report.{isOn, reportOf, reportTable, reportAnswer}
 use Rattle.model.specs.ReportFacts.{report-length}
 use Rattle.model.specs.Text.{Line, order, asksMay, asksWhen, unreadable}
-use Rattle.model.specs.Session.{whenList, byteTurn}
-use Rattle.model.specs.GrantFacts.{Barred}
+use Rattle.model.specs.Session.{pairs, whenList, byteTurn}
+use Rattle.model.specs.GrantFacts.{Barred, barred-instant}
+use Rattle.laws.specs.EarlyRows.{rowsUntil, none-given, given-behind}
+use Rattle.laws.specs.SessionFacts.{when-most}
 use Rattle.laws.specs.RequestFacts.{reply-refusal, refusedWith, uncovered-reply, nine-applies}
 use Rattle.laws.specs.RequestFacts.{fourteen-barred}
 
@@ -122,6 +124,10 @@ when-refuses s x list n =
     (λ k. refl) refl n in
     (w .0, kept (whenAnswer s x list) list (firstNumber rows) (w .1))
 
+-- theorem 5: a session's WHEN, whose list has 1,100 pairs, is never refused with 13
+pub list-suffices : (b : Base) → sound b ≡ true → (x : Access) → ltb pairs (length (when b x)) ≡ false
+list-suffices b s x = le-false (suc pairs) (length (when b x)) (let h = when-most b s x in omega arith)
+
 -- the sheet, and its page
 pub report-refuses : (s : List ℕ) (o : ℕ) (page : List ℕ) →
     countedRefusal (reportAnswer s o page .reply) ≢ 0 →
@@ -189,6 +195,19 @@ pub answered-fourteen : (s : List ℕ) (q : Request) (r : Reply) (s′ : List �
     answering r s′ ≡ request s q → refusalNumber r ≡ 14 → Barred (decode s) q
 answered-fourteen s q r s′ a n =
     fourteen-barred s q (ap (λ (x : Answer). refusalNumber (x .reply)) (sym a) ∙ n)
+
+-- and one that it names is told 14, where no row before it applies
+pub barred-fourteen : (s : List ℕ) (q : Request) → firstNumber (rowsUntil 14 (requestTable s q)) ≡ 0 →
+    Barred (decode s) q → request s q ≡ answering (Refused 14) s
+unfolding request
+barred-fourteen s q z w =
+    let rows = requestTable s q in
+    let up = numbered (rowsUntil 14 rows) refl in
+    let passed = none-given (rowsUntil 14 rows) up z in
+    let sound? = not-false (soundBytes s) (passed 2) in
+    let given = barred-instant (decode s) q (decoded-sound s sound?) (passed 5) .1 w in
+    let n : firstNumber rows ≡ 14 = given-behind 14 rows up z given in
+    turned-away rows (refusedWith s q) _ (λ y. omega (arith, n)) ∙ ap (refusedWith s q) n
 
 -- ---- a line of text
 

@@ -17,7 +17,7 @@ use lib.ListN.{length, getD, set}
 use lib.Seq.{getD-set-same, getD-set-other}
 use Rattle.foundation.specs.Tests.{pick, cases, true-eq, false-eq, eq-true}
 use Rattle.foundation.specs.BitMasks.{bit}
-use Rattle.words.specs.Ones.{bit-half}
+use Rattle.foundation.specs.BitLaws.{bit-half}
 use Rattle.words.specs.Fields.{starts, fieldOf, joined}
 
 -- the lowest w bits of a word of ones

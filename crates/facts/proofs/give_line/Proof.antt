@@ -33,7 +33,7 @@ returns c =
       value = s .span .result;
       instants = s .span .ensures;
       given = given-zero (tablesOf f (e .right) (e .first)) (f .width) (placeIn e h .pair)
-          (placeIn e h .point) (takenBy (now (a .body)) (f .choosy) h) (s .span .result) (now (a .words))
+          (placeIn e h .point) (takenBy (now (a .body)) (f .tables) h) (s .span .result) (now (a .words))
           (c .if1 .taken);
     }
 
@@ -59,8 +59,8 @@ give-requires c κs =
       p .0 .ready,
       rw (q .place-for .ensures) (p .1 .within),
       omega (arith, c .sign-of .ensures, bit-le (a .a .head .negative)),
-      λ d m. and-true (bit d (f .choosy)) (fitsRule (now (a .body)) (a .a .head) d)
-          (sym (k .takers-of .ensures d) ∙ m) .0,
+      λ d m. and-true (bit d (f .tables)) (fitsRule (now (a .body)) (a .a .head) d)
+          (sym (k .takers-of .ensures .1 d) ∙ m) .0,
       span-fits (a .w .count) (f .width) (s .span .result) (now (a .marks)) (a .a .interval)
           (p .0 .fits) (s .span .ensures),
     )
@@ -80,12 +80,12 @@ returns-2 c =
       value = v;
       instants = s .span .ensures;
       given = subst (λ (z : Place). TablesGiven t (f .width) (z .pair) (z .point)
-          (takenBy (now (a .body)) (f .choosy) (a .a .head)) v (now (a .words)) (g .give .last .0))
+          (takenBy (now (a .body)) (f .tables) (a .a .head)) v (now (a .words)) (g .give .last .0))
           (q .place-for .ensures)
           (subst (λ (taken : ℕ → Bool). TablesGiven t (f .width) (q .place-for .result .pair)
           (q .place-for .result .point) taken v (now (a .words)) (g .give .last .0))
-          (takes-mask (now (a .body)) (f .choosy) (a .a .head) (n .sign-of .result) (k .takers-of .result)
-          (n .sign-of .ensures) (k .takers-of .ensures))
+          (takes-mask (now (a .body)) (f .tables) (a .a .head) (n .sign-of .result) (k .takers-of .result)
+          (n .sign-of .ensures) (k .takers-of .ensures .1))
           (g .give .ensures .0));
     }
 

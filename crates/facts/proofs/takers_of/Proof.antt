@@ -3,13 +3,14 @@ use borrow.Author.Needs.{needs}
 use native.Mathlib.Omega.{arith}
 use mathlib.Core.Path.{_≡_, ap, _∙_}
 use mathlib.Core.Bool.{Bool, true, _&&_}
-use Prim.Native.Nat.{suc, _-_, _≤_, _<_}
+use Prim.Native.Nat.{ℕ, suc, _-_, _≤_, _<_}
 use denote.Ref.{now}
 use lib.Dec.{ltb}
 use Rattle.foundation.specs.Tests.{cases, le-true, and-false}
 use Rattle.foundation.specs.BitMasks.{bit}
 use Rattle.masks.proofs.Collecting.{Collected, collect-start, collect-turn}
 use Rattle.facts.specs.Facts.{fitsKind, fitsRule}
+use Rattle.facts.proofs.LineGiving.{takers-same}
 use Rattle.facts.proofs.takers_of.Statement.{statement}
 use Rattle.facts.proofs.takers_of.Tie as tie
 
@@ -56,11 +57,13 @@ returns c =
     let s = c .before .before .before .before in
     let a = s .args in
     let z : l .c ≡ 64 = omega (arith, l .inv .0) in
+    let bits : (i : ℕ) → bit i (l .m) ≡ bit i (a .choosy) && fitsRule (now (a .body)) (a .h) i =
     λ i. l .inv .2 i ∙ cases (bit i (a .choosy))
     (λ e. let h : i < l .c = omega (arith, s .pre i e .0) in
     ap (λ (b : Bool). b && bit i (a .choosy) && fitsRule (now (a .body)) (a .h) i)
     (le-true (suc i) (l .c) h))
-    (λ e. rw (e, and-false (ltb i (l .c))))
+    (λ e. rw (e, and-false (ltb i (l .c)))) in
+    (takers-same (now (a .body)) (a .choosy) (a .h) (l .m) (s .pre) bits, bits)
 
 pub takers-of-spec : {M : Type 1} → statement M
 takers-of-spec =

@@ -9,8 +9,8 @@ use lib.Bits.{bitOr}
 use denote.Ref.{now}
 use lib.ListN.{getD}
 use Rattle.foundation.specs.Tests.{or-intro-left, or-true-right}
-use Rattle.foundation.specs.BitMasks.{bit}
-use Rattle.words.specs.Bits.{bit-or, bit-inside}
+use Rattle.foundation.specs.BitMasks.{bit, bit-inside}
+use Rattle.foundation.specs.BitLaws.{bit-or}
 use Rattle.masks.proofs.BitLoops.{ForBitsBelow, passed-start, passed-turn}
 use Rattle.masks.proofs.on_modes.Statement.{statement}
 use Rattle.masks.proofs.on_modes.Tie as tie

@@ -11,8 +11,8 @@ use lib.Bits.{bitAnd}
 use lib.Dec.{eqb, ltb}
 use lib.ListN.{getD}
 use Rattle.foundation.specs.BitMasks.{bit, bit-zero}
+use Rattle.foundation.specs.BitLaws.{bit-and}
 use Rattle.foundation.specs.Tests.{true-eq}
-use Rattle.words.specs.Bits.{bit-and}
 use Rattle.masks.proofs.BitWalk.{pass-start, pass-turn, pass-end, bring-one}
 use Rattle.masks.proofs.transpose.Statement.{statement}
 use Rattle.masks.proofs.transpose.Tie as tie

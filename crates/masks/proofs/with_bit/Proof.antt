@@ -4,7 +4,7 @@ use mathlib.Core.Path.{ap, _∙_}
 use mathlib.Core.Bool.{Bool, _||_}
 use Prim.Native.Nat.{_^_}
 use Rattle.foundation.specs.BitMasks.{bit}
-use Rattle.words.specs.Bits.{bit-or}
+use Rattle.foundation.specs.BitLaws.{bit-or}
 use Rattle.words.proofs.FieldLaws.{bit-shifted}
 use Rattle.masks.proofs.SingleBits.{one-bit}
 use Rattle.masks.proofs.with_bit.Statement.{statement}

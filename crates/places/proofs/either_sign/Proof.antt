@@ -6,8 +6,7 @@ use mathlib.Core.Bool.{Bool, _||_}
 use Prim.Native.Nat.{ℕ, _/_, _%_}
 use lib.Dec.{eqb}
 use lib.Pow.{shr-shr}
-use Rattle.words.specs.Bits.{bit-or}
-use Rattle.words.specs.Bits.{bit-rest}
+use Rattle.foundation.specs.BitLaws.{bit-or, bit-rest}
 use Rattle.places.proofs.either_sign.Statement.{statement}
 use Rattle.places.proofs.either_sign.Tie as tie
 

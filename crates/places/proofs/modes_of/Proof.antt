@@ -9,7 +9,7 @@ use lib.Dec.{eqb}
 use lib.ListN.{length, getD}
 use Rattle.foundation.specs.Tests.{cases, true-eq, false-eq, or-cases, or-intro-left, or-true-right}
 use Rattle.foundation.specs.BitMasks.{bit}
-use Rattle.words.specs.Bits.{bit-or}
+use Rattle.foundation.specs.BitLaws.{bit-or}
 use Rattle.places.proofs.modes_of.Statement.{statement}
 use Rattle.places.proofs.modes_of.Tie as tie
 

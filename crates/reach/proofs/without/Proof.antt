@@ -4,7 +4,7 @@ use native.Mathlib.Omega.{arith}
 use mathlib.Core.Path.{_≡_, ap}
 use Prim.Native.Nat.{ℕ, _-_}
 use lib.Bits.{bitAnd, and-le-l}
-use Rattle.words.specs.Bits.{cut-less}
+use Rattle.words.proofs.CutBit.{cut-less}
 use Rattle.reach.proofs.Aims.{shifted, cut-in, cut-other}
 use Rattle.reach.proofs.without.Statement.{statement}
 use Rattle.reach.proofs.without.Tie as tie

@@ -8,7 +8,7 @@ use denote.Ref.{now}
 use lib.ListN.{replicate, length-replicate}
 use Rattle.laws.specs.Created.{created, created-sound}
 use Rattle.serving.proofs.PieceFacts.{kept-none}
-use Rattle.session.specs.Input.{served-run}
+use Rattle.session.proofs.InputFacts.{served-run}
 use Rattle.session.proofs.run.Statement.{statement}
 use Rattle.session.proofs.run.Tie as tie
 

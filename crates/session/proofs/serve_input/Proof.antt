@@ -9,11 +9,13 @@ use denote.Ref.{now}
 use lib.ListN.{length}
 use Rattle.model.specs.Soundness.{soundBytes}
 use Rattle.model.specs.EncodingFacts.{sound-length}
-use Rattle.channel.specs.Trace.{arrived, Read, read-none, read-more}
+use Rattle.channel.specs.Trace.{arrived, Read}
+use Rattle.channel.proofs.TraceFacts.{read-none, read-more}
 use Rattle.serving.specs.LineTurns.{LineKept}
 use Rattle.serving.proofs.PieceFacts.{kept-front}
 use Rattle.session.specs.declared.InputState.{InputState}
-use Rattle.session.specs.Input.{FrontAnswered, answered-none, answered-then, served-ended, served-cut}
+use Rattle.session.specs.Input.{FrontAnswered}
+use Rattle.session.proofs.InputFacts.{answered-none, answered-then, served-ended, served-cut}
 use Rattle.session.proofs.serve_input.Statement.{statement}
 use Rattle.session.proofs.serve_input.Tie as tie
 

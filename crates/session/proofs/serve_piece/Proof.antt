@@ -11,11 +11,13 @@ use lib.Seq.{length-take-le, drop-length}
 use Rattle.foundation.specs.Tests.{not-true}
 use Rattle.model.specs.Soundness.{soundBytes}
 use Rattle.model.specs.EncodingFacts.{sound-length}
-use Rattle.channel.specs.Trace.{Unread, unread-none, unread-then}
+use Rattle.channel.specs.Trace.{Unread}
+use Rattle.channel.proofs.TraceFacts.{unread-none, unread-then}
 use Rattle.serving.specs.LineTurns.{LineKept}
 use Rattle.serving.proofs.PieceFacts.{kept-front}
 use Rattle.session.specs.declared.InputState.{InputState}
-use Rattle.session.specs.Input.{AnsweredUpTo, answers-none, answers-step}
+use Rattle.session.specs.Input.{AnsweredUpTo}
+use Rattle.session.proofs.InputFacts.{answers-none, answers-step}
 use Rattle.session.proofs.serve_piece.Statement.{statement}
 use Rattle.session.proofs.serve_piece.Tie as tie
 

@@ -4,7 +4,8 @@ use mathlib.Core.Path.{_≡_, sym, ap, _∙_}
 use Prim.Native.Nat.{ℕ}
 use lib.IntN.{ℤ}
 use lib.ListN.{take}
-use Rattle.channel.specs.Trace.{arrived, fetched-then}
+use Rattle.channel.specs.Trace.{arrived}
+use Rattle.channel.proofs.TraceFacts.{fetched-then}
 use Rattle.session.proofs.serve_some.Statement.{statement}
 use Rattle.session.proofs.serve_some.Tie as tie
 

@@ -11,7 +11,7 @@ use Rattle.words.specs.Sums.{grown-none}
 use Rattle.places.specs.declared.Region.{Region}
 use Rattle.places.specs.Regions.{indexIn, In}
 use Rattle.tables.specs.TableLayout.{regionAt}
-use Rattle.tables.specs.TableGiving.{tablesOf, reaches, given-one}
+use Rattle.tables.specs.TableGiving.{shapesOf, tablesOf, reaches, given-one}
 use Rattle.tables.proofs.GivingSteps.{given-none}
 use Rattle.tables.proofs.give_rule.Statement.{statement}
 use Rattle.tables.proofs.give_rule.Tie as tie
@@ -27,7 +27,7 @@ join-in-requires c κs =
     let s = c .before .before .before .before .before .before .before .before .before in
     let a = s .args in
     let p = s .pre in (
-      rw (c .before .before .before .before .before .region-at .ensures)
+      rw (c .before .before .before .before .before .shape-at .ensures)
           (reaches (a .f) (now (a .right)) (now (a .first)) _ (a .p) (p .0) (p .1) (suc (suc (a .c))) (p .3)),
       p .4,
     )
@@ -39,10 +39,10 @@ returns c =
     let a = s .args in
     let p = s .pre in
     let e = c .before .before .join-in .ensures in
-    let b = c .before .before .before .before .before .before .before .before .region-at .ensures in
+    let b = c .before .before .before .before .before .before .before .before .shape-at .ensures in
     let t = tablesOf (a .f) (now (a .right)) (now (a .first)) in
     let x = a .p .point in
-    let i : In (regionAt (now (a .right)) (a .c)) x =
+    let i : In (regionAt (shapesOf (a .f) (now (a .right))) (a .c)) x =
     rw b at (c .before .before .before .before .before .before .is-in .ensures .0
     (c .before .before .before .before .before .if1 .taken)) in (
       given-one t (a .f .width) (a .p .pair) x (a .v) 0 (a .f .fields) (p .0 .laid) (suc (suc (a .c)))
@@ -58,7 +58,7 @@ returns-2 : tie.Need-returns-2
 returns-2 c =
     let s = c .before .before .before .before .before .before .before in
     let a = s .args in
-    let b = c .before .before .before .region-at .ensures in
+    let b = c .before .before .before .shape-at .ensures in
     let t = tablesOf (a .f) (now (a .right)) (now (a .first)) in (
       given-none t (a .f .width) (a .p .pair) (a .p .point) (a .v) (suc (suc (a .c))) (now (a .words))
           (λ i. true≢false (sym (c .before .is-in .ensures .1 (rw b i)) ∙ c .if1 .left)),

@@ -5,7 +5,9 @@ use mathlib.Core.Path.{_≡_, ap, _∙_}
 use Prim.Native.Nat.{ℕ, _+_, _*_}
 use denote.Ref.{now}
 use Rattle.places.specs.Regions.{sizeOf}
-use Rattle.tables.specs.TableLayout.{wholeRegion, roomOf, size-small, room-small, all-laid}
+use Rattle.tables.specs.TableLayout.{wholeRegion, roomOf}
+use Rattle.tables.proofs.Rooms.{all-laid}
+use Rattle.tables.proofs.TableSizes.{size-small, room-small}
 use Rattle.tables.proofs.lay_all.Statement.{statement}
 use Rattle.tables.proofs.lay_all.Tie as tie
 
@@ -44,6 +46,7 @@ returns c =
     let e = c .before .before .lay-out .ensures in (
       e .0 ∙ ap (λ (n : ℕ). n + roomOf (a .g) (now (a .right)) (a .choosy) 64) z,
       all-laid (a .g) (now (a .right)) (a .choosy) _ (c .before .before .lay-out .result) (rw z at (e .1)),
+      e .2,
     )
 
 pub lay-all-spec : {M : Type 1} → statement M

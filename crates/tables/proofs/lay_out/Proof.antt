@@ -116,6 +116,7 @@ returns c =
       r,
       rw r (rules-laid (a .g) codes (a .rules) (l .first) (a .from) (omega arith)
           (λ i h t. l .inv .4 i (omega arith) t)),
+      l .inv .2,
     )
 
 pub lay-out-spec : {M : Type 1} → statement M

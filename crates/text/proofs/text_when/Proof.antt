@@ -14,18 +14,18 @@ use Rattle.text.proofs.WritingFacts.{wrote-as, all-written}
 use Rattle.text.proofs.text_when.Statement.{statement}
 use Rattle.text.proofs.text_when.Tie as tie
 
-fits : (c : tie.After-when) → RunsFit (c .when .result) (c .when .last .1 .1 .0)
+fits : (c : tie.After-when-sound) → RunsFit (c .when-sound .result) (c .when-sound .last .1 .1 .0)
 fits c =
     let a = c .before .before .before .before .args in
-    subst (λ (a : Answer). RunsFit (a .reply) (a .lent)) (sym (c .when .ensures))
+    subst (λ (a : Answer). RunsFit (a .reply) (a .lent)) (sym (c .when-sound .ensures))
     (when-fits (now (a .base)) (a .x) _)
 
 -- the text that is counted is the definition's
-said : (c : tie.After-when) → (let a = c .before .before .before .before .args in
-    printReply (c .when .result) (runsOf (c .when .result) (c .when .last .1 .1 .0))
+said : (c : tie.After-when-sound) → (let a = c .before .before .before .before .args in
+    printReply (c .when-sound .result) (runsOf (c .when-sound .result) (c .when-sound .last .1 .1 .0))
     ≡ turnText (now (a .base)) (asksWhen (a .x)))
 unfolding whenList
-said c = ap (λ (a : Answer). printReply (a .reply) (runsOf (a .reply) (a .lent))) (c .when .ensures)
+said c = ap (λ (a : Answer). printReply (a .reply) (runsOf (a .reply) (a .lent))) (c .when-sound .ensures)
 
 reply-length-requires : tie.Need-reply-length-requires
 reply-length-requires c κs = fits (c .before .before)
@@ -50,7 +50,7 @@ returns-2 c =
     let e = p .before .before .before in
     let w = e .before .before .before .before in
     let d = w .before .before .before .before in
-    all-written (now (d .args .base)) (asksWhen (d .args .x)) (now (d .args .out)) (d .pre)
+    all-written (now (d .args .base)) (asksWhen (d .args .x)) (now (d .args .out)) (d .pre .0)
     (omega (arith, ap length (said w), e .before .reply-length .ensures, e .if1 .left))
     (wrote-as (said w) (p .put-line .ensures))
     refl

@@ -7,7 +7,7 @@ use denote.Ref.{now}
 use lib.Bits.{bitOr}
 use lib.ListN.{getD, set, length-set}
 use Rattle.words.specs.Fields.{fieldOf}
-use Rattle.words.specs.Sums.{join-grown}
+use Rattle.words.proofs.SumFacts.{join-grown}
 use Rattle.words.proofs.FieldLaws.{join-law}
 use Rattle.words.proofs.join_at.Statement.{statement}
 use Rattle.words.proofs.join_at.Tie as tie

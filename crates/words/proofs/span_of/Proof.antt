@@ -4,7 +4,7 @@ use mathlib.Core.Path.{_≡_, ap₂, _∙_}
 use Prim.Native.Nat.{ℕ, _-_}
 use lib.Pow.{pow-mono}
 use Rattle.foundation.specs.BitMasks.{bit}
-use Rattle.words.specs.Ones.{span-bit}
+use Rattle.foundation.specs.BitLaws.{span-bit}
 use Rattle.words.proofs.FieldLaws.{bit-shifted}
 use Rattle.words.proofs.span_of.Statement.{statement}
 use Rattle.words.proofs.span_of.Tie as tie

@@ -1,6 +1,6 @@
 -- By `bit-lower`.
 use borrow.Author.Needs.{needs}
-use Rattle.words.specs.Bits.{bit-lower}
+use Rattle.words.proofs.LowestBit.{bit-lower}
 use Rattle.words.proofs.without_lowest.Statement.{statement}
 use Rattle.words.proofs.without_lowest.Tie as tie
 

@@ -3,8 +3,7 @@ use borrow.Author.Needs.{needs}
 use native.Mathlib.Omega.{arith}
 use Prim.Native.Nat.{_-_}
 use denote.Ref.{now}
-use Rattle.relevance.specs.Chosen.{number-inside}
-use Rattle.relevance.proofs.KeptNumbers.{Chose, chose-start, chose-turn, chose-end}
+use Rattle.relevance.proofs.KeptNumbers.{number-inside, Chose, chose-start, chose-turn, chose-end}
 use Rattle.direct.specs.Among.{isFor}
 use Rattle.direct.proofs.intervals.choose_for.Statement.{statement}
 use Rattle.direct.proofs.intervals.choose_for.Tie as tie

@@ -6,7 +6,7 @@ use denote.Ref.{now}
 use lib.ListN.{getD}
 use Rattle.foundation.specs.Tests.{and-true, and-intro}
 use Rattle.foundation.specs.BitMasks.{bit}
-use Rattle.words.specs.Bits.{bit-and}
+use Rattle.foundation.specs.BitLaws.{bit-and}
 use Rattle.grounding.proofs.pairs.stands_at_pair.Statement.{statement}
 use Rattle.grounding.proofs.pairs.stands_at_pair.Tie as tie
 

@@ -11,8 +11,8 @@ use lib.ListN.{length, getD, getD-replicate}
 use Rattle.foundation.specs.Tests.{and-true, and-intro, or-intro-left, or-true-right, or-cases}
 use Rattle.foundation.specs.BitMasks.{bit}
 use Rattle.sections.specs.Sections.{feedOf, activeOf}
-use Rattle.words.specs.Bits.{bit-or}
 use Rattle.foundation.specs.BitMasks.{none-set}
+use Rattle.foundation.specs.BitLaws.{bit-or}
 use Rattle.masks.proofs.BitWalk.{bits-le}
 use Rattle.grounding.specs.RuleTurns.{preparedIn, wordsFor, fieldsIn, bitsIn, SlicedIn}
 use Rattle.grounding.specs.RuleTurns.{RuleRan, Rounds, none, then}

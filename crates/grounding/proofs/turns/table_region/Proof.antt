@@ -4,7 +4,7 @@ use Rattle.grounding.proofs.turns.table_region.Statement.{statement}
 use Rattle.grounding.proofs.turns.table_region.Tie as tie
 
 returns : tie.Need-returns
-returns c = rw (c .before .if1 .taken) (c .region-at .ensures)
+returns c = rw (c .before .if1 .taken) (c .shape-at .ensures)
 
 pub table-region-spec : {M : Type 1} → statement M
 table-region-spec =

@@ -8,46 +8,52 @@ use lib.Dec.{eqb}
 use lib.ListN.{getD}
 use lib.Seq.{getD-take, length-take-le}
 use Prim.Native.Nat.{ℕ, _+_, _*_, _/_, _%_, _<_}
-use lib.Bits.{bitAnd}
 use Rattle.foundation.specs.Tests.{pick}
 use Rattle.model.specs.declared.Rule.{Rule}
 use Rattle.sections.specs.Sections.{feedOf, firstOf, sidesOf, rightsOf}
 use Rattle.places.specs.Regions.{sizeOf}
 use Rattle.tables.specs.TableLayout.{regionAt, wholeRegion}
+use Rattle.tables.specs.TableGiving.{shapesOf}
 use Rattle.sections.proofs.SectionWrites.{in-part, part-long}
+use Rattle.grounding.specs.RuleTurns.{takersFor}
 use Rattle.grounding.proofs.turns.turn_of.Statement.{statement}
 use Rattle.grounding.proofs.turns.turn_of.Tie as tie
 
 region-at-requires : tie.Need-region-at-requires
 region-at-requires c κs =
     let s = c .before .before .before .before .before .before .before .before in
-    (s .pre .0, omega (arith, part-long 256 256 (now (s .args .coordinates)) (omega (arith, s .pre .7))))
+    (s .pre .0, omega (arith, part-long 256 256 (now (s .args .coordinates)) (omega (arith, s .pre .8))))
 
 table-start-requires : tie.Need-table-start-requires
 table-start-requires c κs =
     let b = c .before .before .before in
     let s = b .before .before .before .before .before .before .before in (
       s .pre .0,
-      s .pre .3,
-      omega (arith, part-long 280 64 (now (s .args .outline)) (omega (arith, s .pre .6))),
-      λ e. s .pre .4 (sym (b .has-bit .ensures) ∙ e),
+      s .pre .4,
+      omega (arith, part-long 280 64 (now (s .args .outline)) (omega (arith, s .pre .7))),
+      λ e. s .pre .5 (sym (b .has-bit .ensures) ∙ e),
     )
 
 table-region-requires : tie.Need-table-region-requires
 table-region-requires c κs =
     let s = c .before .before .before .before .before .before .before .before .before .before .before in
-    (s .pre .0, omega (arith, part-long 256 256 (now (s .args .coordinates)) (omega (arith, s .pre .7))))
+    (s .pre .0, omega (arith, part-long 256 256 (now (s .args .coordinates)) (omega (arith, s .pre .8))))
 
 region-at-requires-2 : tie.Need-region-at-requires-2
 region-at-requires-2 c κs =
     let early = c .before .before .before .before .before .before in
     let s = early .before .before .before .before .before .before .before in
-    (s .pre .0, omega (arith, length-take-le 256 (now (s .args .coordinates)) (omega (arith, s .pre .7))))
+    (s .pre .0, omega (arith, length-take-le 256 (now (s .args .coordinates)) (omega (arith, s .pre .8))))
+
+given-to-requires : tie.Need-given-to-requires
+given-to-requires c κs =
+    let early = c .before .before .before .before .before .before .before .before in
+    early .before .before .before .before .before .before .before .before .pre .2
 
 words-for-requires : tie.Need-words-for-requires
 words-for-requires c κs =
     let early = c .before .before .before .before .before .before .before .before .before in
-    early .before .before .before .before .before .before .before .before .pre .5
+    early .before .before .before .before .before .before .before .before .pre .6
 
 returns : tie.Need-returns
 returns c =
@@ -73,12 +79,14 @@ returns c =
           ∙ ap₂ (λ (x : Bool) (n : ℕ). pick x (getD (firstOf outline) (a .r) 0)
           (pick (eqb (n / 2) 1) (sizeOf (a .f .grid) wholeRegion) 0)) (b .has-bit .ensures) z) k;
       table = (d .before .before .table-region .ensures
-          ∙ ap (λ (x : Bool). pick x (regionAt (rightsOf coordinates) (a .r)) wholeRegion)
+          ∙ ap (λ (x : Bool). pick x (regionAt (shapesOf (a .f) (rightsOf coordinates)) (a .r)) wholeRegion)
           (b .has-bit .ensures)) k;
       left = d .region-at2 .ensures k;
       sign = z k % 2;
       bits = sym (in-part 344 64 outline (a .r) (s .pre .0)) k;
-      takers = bitAnd (fed k) (a .f .choosy);
+      takers = (c .before .given-to .ensures
+          ∙ ap₂ (λ (q : Rule) (n : ℕ). takersFor (a .f) (now (a .body)) q n)
+          (b .before .before .before .rule-at .ensures) fed) k;
       words = c .words-for .ensures k;
     }
 
@@ -91,4 +99,4 @@ turn-of-spec =
     (λ c. search needs) (λ c. search needs) table-start-requires table-region-requires (λ c. search needs)
     (λ c. search needs) (λ c. search needs) region-at-requires-2 (λ c. search needs) (λ c. search needs)
     (λ c. search needs) (λ c. search needs) (λ c. search needs) (λ c. search needs) (λ c. search needs)
-    (λ c. search needs) words-for-requires returns)
+    (λ c. search needs) given-to-requires words-for-requires returns)

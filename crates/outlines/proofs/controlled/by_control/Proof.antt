@@ -1,28 +1,22 @@
 use borrow.Author.Needs.{needs}
 use native.Mathlib.Omega.{arith}
-use mathlib.Core.Path.{_≡_, sym, ap, ap₂, _∙_}
-use mathlib.Core.Logic.{⊎-elim}
-use mathlib.Core.Bool.{Bool, true, _&&_, _||_}
-use Prim.Native.Nat.{ℕ, _*_, _%_, _^_, _≤_, _<_, _-_}
+use mathlib.Core.Path.{_≡_, ap, _∙_}
+use mathlib.Core.Bool.{Bool, true, _&&_}
+use Prim.Native.Nat.{_≤_, _<_, _-_}
 use denote.Ref.{now}
-use lib.Dec.{eqb, ltb}
-use Rattle.foundation.specs.BitMasks.{bit, bit-zero}
-use Rattle.foundation.specs.Tests.{true-eq}
-use Rattle.words.specs.Bits.{bit-or}
+use Rattle.foundation.specs.BitMasks.{bit}
 use Rattle.model.specs.declared.Rule.{Rule}
 use Rattle.model.specs.Base.{controls}
 use Rattle.model.specs.Encoding.{decode}
 use Rattle.outlines.specs.LeftMasks.{controlledBy}
-use Rattle.words.proofs.FieldLaws.{bit-shifted}
-use Rattle.masks.proofs.SingleBits.{one-bit}
-use Rattle.masks.proofs.BitWalk.{pass-start, pass-turn, pass-end, take-one, leave-one}
+use Rattle.masks.proofs.BitWalk.{pass-end}
+use Rattle.masks.proofs.Collecting.{Collected, collect-start, collect-turn}
 use Rattle.outlines.proofs.controlled.by_control.Statement.{statement}
 use Rattle.outlines.proofs.controlled.by_control.Tie as tie
 
 abbrev Inv-loop : tie.InvT-loop
 Inv-loop s body n f o m₀ q₀ m q =
-    (q ≤ 64) × (q < 64 → bit q f ≡ true)
-    × ((j : ℕ) → bit j m ≡ (ltb j q && bit j f) && controlledBy s body o j)
+    (q ≤ 64) × (q < 64 → bit q f ≡ true) × Collected (controlledBy s body o) f q m
 
 abbrev μ-loop : tie.MeasureT-loop
 μ-loop s body n f o m₀ q₀ m q = 64 - q
@@ -30,12 +24,9 @@ abbrev μ-loop : tie.MeasureT-loop
 loop-holds : tie.Need-loop-holds Inv-loop μ-loop
 loop-holds c =
     let a = c .before .before .before .args in
-    let e = c .next-bit .ensures in (
-      e .1,
-      e .3,
-      λ j. bit-zero j ∙ sym (ap (λ (b : Bool). b && controlledBy (now (a .s)) (now (a .body)) (a .o) j)
-          (pass-start (λ i. bit i (a .f)) (c .next-bit .result) j (e .2))),
-    )
+    let e = c .next-bit .ensures in
+    let t = controlledBy (now (a .s)) (now (a .body)) (a .o) in
+    (e .1, e .3, collect-start t (a .f) (c .next-bit .result) (e .2))
 
 mul-rule-at : tie.Need-mul-rule-at Inv-loop μ-loop
 mul-rule-at c = omega arith
@@ -52,34 +43,20 @@ controls-requires c κs = c .before .before .before .before .before .before .bef
 
 loop-again : tie.Need-loop-again Inv-loop μ-loop
 loop-again c =
-    let a = c .before .before .before .before .before .before .before .before .before .before .args in
-    let l = c .before .before .before .before .before .before .loop in
+    let w = c .before in
+    let k = w .before in
+    let r = k .before .before in
+    let l = r .before .before .loop in
+    let a = r .before .before .before .before .before .before .args in
     let e = c .next-bit2 .ensures in
-    let t : ℕ → Bool = λ j. controlledBy (now (a .s)) (now (a .body)) (a .o) j in
-    let q = l .q in
-    let p : bit q (a .f) ≡ true = l .inv .1 (omega arith) in
-    let k = c .before .before .controls in
-    let own : k .result ≡ t q = k .ensures
-    ∙ ap (λ (r : Rule). controls (decode (now (a .s))) (a .o) (r .author))
-    (c .before .before .before .before .rule-at .ensures) in
-    let turn : (j : ℕ) → (ltb j (c .next-bit2 .result) && bit j (a .f)) && t j
-    ≡ ((ltb j q && bit j (a .f)) || eqb j q) && t j =
-    λ j. ap (λ (b : Bool). b && t j)
-    (pass-turn (λ i. bit i (a .f)) q (c .next-bit2 .result) j (omega arith) p (e .2)) in (
+    let t = controlledBy (now (a .s)) (now (a .body)) (a .o) in (
       e .1,
       e .3,
-      λ j. ⊎-elim
-          (λ w. ap (bit j) (w .1) ∙ bit-or (l .m) (1 * 2 ^ q % 18446744073709551616) j
-          ∙ ap₂ (λ (x y : Bool). x || y) (l .inv .2 j)
-          (ap (bit j) (bit-shifted q (omega arith)) ∙ one-bit q j)
-          ∙ take-one (ltb j q && bit j (a .f)) (eqb j q) (t j)
-          (λ y. ap t (true-eq j q y) ∙ sym own ∙ w .0 .taken)
-          ∙ sym (turn j))
-          (λ w. ap (bit j) (w .1) ∙ l .inv .2 j
-          ∙ leave-one (ltb j q && bit j (a .f)) (eqb j q) (t j)
-          (λ y. ap t (true-eq j q y) ∙ sym own ∙ w .0 .left)
-          ∙ sym (turn j))
-          (c .before .if1 .came),
+      collect-turn t (a .f) (l .q) (c .next-bit2 .result) (l .m) (w .with-if .result)
+          (k .controls .result) (l .inv .2) (l .inv .1 (omega arith))
+          (k .controls .ensures
+          ∙ ap (λ (x : Rule). controls (decode (now (a .s))) (a .o) (x .author)) (r .rule-at .ensures))
+          (w .with-if .ensures) (omega arith) (e .2),
     )
 
 returns : tie.Need-returns Inv-loop μ-loop
@@ -93,5 +70,5 @@ pub by-control-spec : {M : Type 1} → statement M
 by-control-spec =
     tie.close
     (tie.spec Inv-loop μ-loop (λ c κs. search needs) loop-holds (λ c. search needs) mul-rule-at
-    rule-at-requires (λ c. search needs) controls-requires (λ c. search needs)
-    (λ c. search needs) (λ c. search needs) (λ c κs. search needs) (λ c. search needs) loop-again returns)
+    rule-at-requires (λ c. search needs) controls-requires (λ c κs. search needs) (λ c. search needs)
+    (λ c κs. search needs) (λ c. search needs) loop-again returns)

@@ -1,29 +1,21 @@
 use borrow.Author.Needs.{needs}
 use native.Mathlib.Omega.{arith}
-use mathlib.Core.Path.{_≡_, sym, ap, ap₂, _∙_}
-use mathlib.Core.Logic.{⊎-elim}
-use mathlib.Core.Bool.{Bool, true, _&&_, _||_}
-use Prim.Native.Nat.{ℕ, _*_, _%_, _^_, _≤_, _<_, _-_}
+use mathlib.Core.Path.{_≡_, ap, _∙_}
+use mathlib.Core.Bool.{Bool, true, _&&_}
+use Prim.Native.Nat.{ℕ, _≤_, _<_, _-_}
 use denote.Ref.{now}
-use lib.Dec.{eqb, ltb}
-use Rattle.foundation.specs.BitMasks.{bit, bit-zero}
+use lib.Dec.{eqb}
+use Rattle.foundation.specs.BitMasks.{bit}
 use Rattle.encoding.specs.Format.{ruleAt}
-use Rattle.words.specs.Bits.{bit-or}
-use Rattle.foundation.specs.Tests.{true-eq, eq-true, ne-false}
-use Rattle.words.proofs.FieldLaws.{bit-shifted}
-use Rattle.masks.proofs.SingleBits.{one-bit}
-use Rattle.masks.proofs.BitWalk.{pass-start, pass-turn, pass-end, take-one, leave-one}
+use Rattle.masks.proofs.BitWalk.{pass-end}
+use Rattle.masks.proofs.Collecting.{Collected, collect-start, collect-turn}
 use Rattle.model.specs.declared.Rule.{Rule}
 use Rattle.outlines.proofs.feed.by_author.Statement.{statement}
 use Rattle.outlines.proofs.feed.by_author.Tie as tie
 
-abbrev authorOf : Rule → ℕ
-authorOf r = r .author
-
 abbrev Inv-loop : tie.InvT-loop
 Inv-loop body n f author m₀ q₀ m q =
-    (q ≤ 64) × (q < 64 → bit q f ≡ true)
-    × ((j : ℕ) → bit j m ≡ (ltb j q && bit j f) && eqb author (ruleAt body j .author))
+    (q ≤ 64) × (q < 64 → bit q f ≡ true) × Collected (λ j. eqb author (ruleAt body j .author)) f q m
 
 abbrev μ-loop : tie.MeasureT-loop
 μ-loop body n f author m₀ q₀ m q = 64 - q
@@ -31,12 +23,9 @@ abbrev μ-loop : tie.MeasureT-loop
 loop-holds : tie.Need-loop-holds Inv-loop μ-loop
 loop-holds c =
     let a = c .before .before .args in
-    let e = c .next-bit .ensures in (
-      e .1,
-      e .3,
-      λ j. bit-zero j ∙ sym (ap (λ (b : Bool). b && eqb (a .author) (ruleAt (now (a .body)) j .author))
-          (pass-start (λ i. bit i (a .f)) (c .next-bit .result) j (e .2))),
-    )
+    let e = c .next-bit .ensures in
+    let t : ℕ → Bool = λ j. eqb (a .author) (ruleAt (now (a .body)) j .author) in
+    (e .1, e .3, collect-start t (a .f) (c .next-bit .result) (e .2))
 
 mul-rule-at : tie.Need-mul-rule-at Inv-loop μ-loop
 mul-rule-at c = omega arith
@@ -50,32 +39,18 @@ rule-at-requires c κs =
 
 loop-again : tie.Need-loop-again Inv-loop μ-loop
 loop-again c =
-    let a = c .before .before .before .before .before .before .before .before .args in
-    let l = c .before .before .before .before .before .loop in
+    let w = c .before in
+    let r = w .before .before in
+    let l = r .before .before .loop in
+    let a = r .before .before .before .before .before .args in
     let e = c .next-bit2 .ensures in
-    let t : ℕ → Bool = λ j. eqb (a .author) (ruleAt (now (a .body)) j .author) in
-    let q = l .q in
-    let p : bit q (a .f) ≡ true = l .inv .1 (omega arith) in
-    let turn : (j : ℕ) → (ltb j (c .next-bit2 .result) && bit j (a .f)) && t j
-    ≡ ((ltb j q && bit j (a .f)) || eqb j q) && t j =
-    λ j. ap (λ (b : Bool). b && t j)
-    (pass-turn (λ i. bit i (a .f)) q (c .next-bit2 .result) j (omega arith) p (e .2)) in (
+    let t : ℕ → Bool = λ j. eqb (a .author) (ruleAt (now (a .body)) j .author) in (
       e .1,
       e .3,
-      λ j. ⊎-elim
-          (λ w. ap (bit j) (w .1) ∙ bit-or (l .m) (1 * 2 ^ q % 18446744073709551616) j
-          ∙ ap₂ (λ (x y : Bool). x || y) (l .inv .2 j)
-          (ap (bit j) (bit-shifted q (omega arith)) ∙ one-bit q j)
-          ∙ take-one (ltb j q && bit j (a .f)) (eqb j q) (t j)
-          (λ y. ap t (true-eq j q y) ∙ eq-true (a .author) (ruleAt (now (a .body)) q .author)
-          (w .0 .taken ∙ ap authorOf (c .before .before .before .rule-at .ensures)))
-          ∙ sym (turn j))
-          (λ w. ap (bit j) (w .1) ∙ l .inv .2 j
-          ∙ leave-one (ltb j q && bit j (a .f)) (eqb j q) (t j)
-          (λ y. ap t (true-eq j q y) ∙ ne-false (a .author) (ruleAt (now (a .body)) q .author)
-          (λ z. w .0 .left (z ∙ sym (ap authorOf (c .before .before .before .rule-at .ensures)))))
-          ∙ sym (turn j))
-          (c .before .if1 .came),
+      collect-turn t (a .f) (l .q) (c .next-bit2 .result) (l .m) (w .with-if .result)
+          (eqb (a .author) (r .rule-at .result .author)) (l .inv .2) (l .inv .1 (omega arith))
+          (ap (λ (x : Rule). eqb (a .author) (x .author)) (r .rule-at .ensures)) (w .with-if .ensures)
+          (omega arith) (e .2),
     )
 
 returns : tie.Need-returns Inv-loop μ-loop
@@ -89,5 +64,5 @@ pub by-author-spec : {M : Type 1} → statement M
 by-author-spec =
     tie.close
     (tie.spec Inv-loop μ-loop (λ c κs. search needs) loop-holds (λ c. search needs) mul-rule-at
-    rule-at-requires (λ c. search needs)
-    (λ c. search needs) (λ c. search needs) (λ c κs. search needs) (λ c. search needs) loop-again returns)
+    rule-at-requires (λ c κs. search needs) (λ c. search needs) (λ c κs. search needs) (λ c. search needs)
+    loop-again returns)

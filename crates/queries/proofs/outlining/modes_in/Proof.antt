@@ -2,7 +2,7 @@
 use borrow.Author.Needs.{needs}
 use native.Mathlib.Omega.{arith}
 use mathlib.Core.Path.{_∙_}
-use Rattle.words.specs.Bits.{bit-rest}
+use Rattle.foundation.specs.BitLaws.{bit-rest}
 use Rattle.queries.proofs.outlining.modes_in.Statement.{statement}
 use Rattle.queries.proofs.outlining.modes_in.Tie as tie
 

@@ -9,7 +9,9 @@ use denote.Ref.{now}
 use lib.Bits.{bitAnd}
 use lib.ListN.{length, getD, take, drop, length-drop}
 use lib.Seq.{getD-take}
+use Rattle.foundation.specs.Tests.{and-true}
 use Rattle.foundation.specs.BitMasks.{bit}
+use Rattle.foundation.specs.BitLaws.{bit-and}
 use Rattle.model.specs.Base.{Base}
 use Rattle.encoding.specs.Format.{ruleAt}
 use Rattle.questions.specs.OperatorSteps.{lasting}
@@ -19,6 +21,7 @@ use Rattle.foundation.specs.Lists.{lent-rest}
 use Rattle.sections.proofs.SectionWrites.{putBack, back-length, part-long}
 use Rattle.places.specs.ReachedNumbers.{usedBefore-le}
 use Rattle.masks.specs.RuleMasks.{Needed, PairCode, RulesIn}
+use Rattle.facts.specs.Sharing.{TablesArranged}
 use Rattle.engine.specs.declared.WindowWalk.{WindowWalk}
 use Rattle.queries.specs.Drawing.{Mapped, chartFor}
 use Rattle.queries.specs.Starting.{GroundIn}
@@ -40,11 +43,17 @@ abbrev pairs-at : (c : tie.After-needed-rules) → tie.After-map-pairs
 pairs-at c = c .before .before .before .before .before .before .before .before .before .before .before
     .before
 
-abbrev rules-at : (c : tie.After-lay-out) → tie.After-needed-rules
-rules-at c = c .before .before .before .before .before .before .before .before .before .before
+abbrev lasts-at : (c : tie.After-lay-tables) → tie.After-lasting-of
+lasts-at c = c .before .before .before .before
+
+abbrev tables-at : (c : tie.After-lay-out) → tie.After-lay-tables
+tables-at c = c .before .before .before .before .before
 
 abbrev laid-at : (c : tie.After-last-asked) → tie.After-lay-out
-laid-at c = c .before .before .before .before .before .before .before
+laid-at c = c .before .before .before .before .before .before
+
+abbrev rules-at : (c : tie.After-lay-out) → tie.After-needed-rules
+rules-at c = lasts-at (tables-at c) .before
 
 mul-from : tie.Need-mul-from
 mul-from c =
@@ -228,62 +237,98 @@ lasts c r =
     ∙ ap (λ (b : List ℕ). bit r (n .needed-rules .result) && lasting (ruleAt b r .operator))
     (body-is s)
 
-part-lay-all-end : tie.Need-part-lay-all-end
-part-lay-all-end c =
-    let s = start (pairs-at (c .before)) in
+-- the choosy rules among the needed ones
+abbrev choosy : (c : tie.After-lasting-of) → ℕ
+choosy c =
+    let n = c .before in
+    let s = start (pairs-at n) in
+    bitAnd (s .args .k .extent .choosy) (n .needed-rules .result)
+
+choosy-in : (c : tie.After-lasting-of) →
+    (let s = start (pairs-at (c .before)) in
+    RulesIn (choosy c) (drop (s .args .k .totals .authorizations * 24) (now (s .args .records))))
+choosy-in c r e =
+    let n = c .before in
+    let y = pairs-at n in
+    let s = start y in
+    let all : ℕ = s .args .k .extent .choosy in
+    let rules : ℕ = n .needed-rules .result in
+    needed-in (s .pre .4 .1 .sketch .outline) (mapped y) (rules-needed n) r
+    (and-true (bit r all) (bit r rules) (sym (bit-and all rules r) ∙ e) .1)
+
+part-lay-tables-end : tie.Need-part-lay-tables-end
+part-lay-tables-end c =
+    let s = start (pairs-at (c .before .before)) in
     omega (arith, s .pre .0 .placed)
 
-part-lay-all-end-2 : tie.Need-part-lay-all-end-2
-part-lay-all-end-2 c =
+part-lay-tables-end-2 : tie.Need-part-lay-tables-end-2
+part-lay-tables-end-2 c =
     let s = start (pairs-at (c .before .before .before)) in
     omega (arith, s .pre .0 .outlined)
 
 first-whole : (c : tie.Start) → length (take 64 (drop 280 (now (c .args .outline)))) ≡ 64
 first-whole c = part-long 280 64 (now (c .args .outline)) (omega (arith, c .pre .0 .outlined))
 
-lay-all-requires : tie.Need-lay-all-requires
-lay-all-requires c κs =
-    let y = pairs-at (c .before .before .before .before) in
+lay-tables-requires : tie.Need-lay-tables-requires
+lay-tables-requires c κs =
+    let l = c .before .before .before in
+    let y = pairs-at (l .before) in
     let s = start y in (
-      map-small (s .pre .4 .1 .sketch .outline) (mapped y),
+      subst (λ (b : List ℕ). RulesIn (choosy l) b) (sym (body-is s)) (choosy-in l),
       omega (arith, rights-whole s),
       omega (arith, first-whole s),
+      map-small (s .pre .4 .1 .sketch .outline) (mapped y),
     )
 
--- the outline with where the fields start
-abbrev half : (c : tie.After-lay-all) → List ℕ
+-- where the fields start, and the outline with it
+abbrev first : (c : tie.After-lay-tables) → List ℕ
+first c = c .lay-tables .last .1 .1 .1 .1 .0
+
+abbrev half : (c : tie.After-lay-tables) → List ℕ
 half c =
-    let s = start (pairs-at (c .before .before .before .before .before)) in
-    putBack (now (s .args .outline)) 280 64 (c .lay-all .last .1 .1 .1 .0)
+    let s = start (pairs-at (lasts-at c .before)) in
+    putBack (now (s .args .outline)) 280 64 (first c)
 
-first-long : (c : tie.After-lay-all) → length (c .lay-all .last .1 .1 .1 .0) ≡ 64
+first-long : (c : tie.After-lay-tables) → length (first c) ≡ 64
 first-long c =
-    let s = start (pairs-at (c .before .before .before .before .before)) in
-    c .lay-all .kept .1 .1 .1 .0 ∙ first-whole s
+    let s = start (pairs-at (lasts-at c .before)) in
+    c .lay-tables .kept .1 .1 .1 .1 .0 ∙ first-whole s
 
-half-long : (c : tie.After-lay-all) → length (half c) ≡ 472
+half-long : (c : tie.After-lay-tables) → length (half c) ≡ 472
 half-long c =
-    let s = start (pairs-at (c .before .before .before .before .before)) in
-    back-length (now (s .args .outline)) 280 64 (c .lay-all .last .1 .1 .1 .0)
-    (omega (arith, s .pre .0 .outlined)) (first-long c) ∙ s .pre .0 .outlined
+    let s = start (pairs-at (lasts-at c .before)) in
+    back-length (now (s .args .outline)) 280 64 (first c) (omega (arith, s .pre .0 .outlined)) (first-long c)
+    ∙ s .pre .0 .outlined
+
+arranged : (c : tie.After-lay-tables) →
+    (let l = lasts-at c in
+    let y = pairs-at (l .before) in
+    let s = start y in
+    TablesArranged (drop (s .args .k .totals .authorizations * 24) (now (s .args .records)))
+    (rightsOf (now (s .args .coordinates))) (choosy l) (y .map-pairs .result) (first c)
+    (c .lay-tables .result))
+arranged c =
+    let l = lasts-at c in
+    let y = pairs-at (l .before) in
+    let s = start y in
+    subst (λ (b : List ℕ). TablesArranged b (rightsOf (now (s .args .coordinates))) (choosy l)
+    (y .map-pairs .result) (first c) (c .lay-tables .result)) (body-is s) (c .lay-tables .ensures .0)
 
 part-lay-out-end : tie.Need-part-lay-out-end
 part-lay-out-end c =
-    let s = start (pairs-at (c .before .before .before .before .before .before .before)) in
+    let s = start (pairs-at (lasts-at (c .before .before) .before)) in
     omega (arith, s .pre .0 .placed)
 
 part-lay-out-end-2 : tie.Need-part-lay-out-end-2
-part-lay-out-end-2 c =
-    let u = c .before .before .before in
-    omega (arith, half-long u)
+part-lay-out-end-2 c = omega (arith, half-long (c .before .before .before))
 
-starts-whole : (c : tie.After-lay-all) → length (take 64 (drop 344 (half c))) ≡ 64
+starts-whole : (c : tie.After-lay-tables) → length (take 64 (drop 344 (half c))) ≡ 64
 starts-whole c = part-long 344 64 (half c) (omega (arith, half-long c))
 
 lay-out-requires : tie.Need-lay-out-requires
 lay-out-requires c κs =
     let u = c .before .before .before .before in
-    let f = u .before .before .before .before in
+    let f = lasts-at u in
     let n = f .before in
     let y = pairs-at n in
     let s = start y in
@@ -300,48 +345,45 @@ lay-out-requires c κs =
       omega (arith, starts-whole u),
     )
 
-starts-long : (c : tie.After-lay-out) → length (c .lay-out .last .1 .1 .1 .1 .0) ≡ 64
-starts-long c =
-    let u = c .before .before .before .before .before in
-    c .lay-out .kept .1 .1 .1 .1 .0 ∙ starts-whole u
+-- where the broken bits start, and the outline with it
+abbrev starts : (c : tie.After-lay-out) → List ℕ
+starts c = c .lay-out .last .1 .1 .1 .1 .0
 
--- and with where the broken bits do
+starts-long : (c : tie.After-lay-out) → length (starts c) ≡ 64
+starts-long c = c .lay-out .kept .1 .1 .1 .1 .0 ∙ starts-whole (tables-at c)
+
 abbrev full : (c : tie.After-lay-out) → List ℕ
-full c =
-    let u = c .before .before .before .before .before in
-    putBack (half u) 344 64 (c .lay-out .last .1 .1 .1 .1 .0)
+full c = putBack (half (tables-at c)) 344 64 (starts c)
 
 full-long : (c : tie.After-lay-out) → length (full c) ≡ 472
 full-long c =
-    let u = c .before .before .before .before .before in
-    let s = start (pairs-at (u .before .before .before .before .before)) in
-    laid-long (now (s .args .outline)) (u .lay-all .last .1 .1 .1 .0)
-    (c .lay-out .last .1 .1 .1 .1 .0) (s .pre .0 .outlined) (first-long u) (starts-long c)
+    let u = tables-at c in
+    let s = start (pairs-at (rules-at c)) in
+    laid-long (now (s .args .outline)) (first u) (starts c) (s .pre .0 .outlined) (first-long u)
+    (starts-long c)
 
 full-front : (c : tie.After-lay-out) →
     (let s = start (pairs-at (rules-at c)) in
     take 280 (full c) ≡ take 280 (now (s .args .outline)))
 full-front c =
-    let u = c .before .before .before .before .before in
-    let s = start (pairs-at (u .before .before .before .before .before)) in
-    laid-front (now (s .args .outline)) (u .lay-all .last .1 .1 .1 .0)
-    (c .lay-out .last .1 .1 .1 .1 .0) (s .pre .0 .outlined) (first-long u) (starts-long c)
+    let u = tables-at c in
+    let s = start (pairs-at (rules-at c)) in
+    laid-front (now (s .args .outline)) (first u) (starts c) (s .pre .0 .outlined) (first-long u)
+    (starts-long c)
 
-full-first : (c : tie.After-lay-out) →
-    (let u = c .before .before .before .before .before in
-    firstOf (full c) ≡ u .lay-all .last .1 .1 .1 .0)
+full-first : (c : tie.After-lay-out) → firstOf (full c) ≡ first (tables-at c)
 full-first c =
-    let u = c .before .before .before .before .before in
-    let s = start (pairs-at (u .before .before .before .before .before)) in
-    laid-first (now (s .args .outline)) (u .lay-all .last .1 .1 .1 .0)
-    (c .lay-out .last .1 .1 .1 .1 .0) (s .pre .0 .outlined) (first-long u) (starts-long c)
+    let u = tables-at c in
+    let s = start (pairs-at (rules-at c)) in
+    laid-first (now (s .args .outline)) (first u) (starts c) (s .pre .0 .outlined) (first-long u)
+    (starts-long c)
 
-full-starts : (c : tie.After-lay-out) → startsOf (full c) ≡ c .lay-out .last .1 .1 .1 .1 .0
+full-starts : (c : tie.After-lay-out) → startsOf (full c) ≡ starts c
 full-starts c =
-    let u = c .before .before .before .before .before in
-    let s = start (pairs-at (u .before .before .before .before .before)) in
-    laid-starts (now (s .args .outline)) (u .lay-all .last .1 .1 .1 .0)
-    (c .lay-out .last .1 .1 .1 .1 .0) (s .pre .0 .outlined) (first-long u) (starts-long c)
+    let u = tables-at c in
+    let s = start (pairs-at (rules-at c)) in
+    laid-starts (now (s .args .outline)) (first u) (starts c) (s .pre .0 .outlined) (first-long u)
+    (starts-long c)
 
 -- the asked pair
 pair-there : (c : tie.After-map-pairs) →
@@ -351,20 +393,20 @@ pair-there c =
     let s = start c in
     pair-in (s .pre .4 .1 .sketch) (needed c) (mapped c .size)
 
-mul-t54 : tie.Need-mul-t54
-mul-t54 c =
-    let s = start (pairs-at (rules-at (c .before .before .before))) in
+mul-t30 : tie.Need-mul-t30
+mul-t30 c =
+    let s = start (pairs-at (rules-at (c .before .before))) in
     omega (arith, pair-few (s .pre .4 .1 .sketch))
 
 slice-read-t69 : tie.Need-slice-read-t69
 slice-read-t69 c =
-    let y = pairs-at (rules-at (c .before .before .before .before)) in
+    let y = pairs-at (rules-at (c .before .before .before)) in
     let s = start y in
     omega (arith, pair-there y, needed-long y, numbered-long y, s .pre .3)
 
-cast-t32 : tie.Need-cast-t32
-cast-t32 c =
-    let y = pairs-at (rules-at (c .before .before .before .before)) in
+cast-t33 : tie.Need-cast-t33
+cast-t33 c =
+    let y = pairs-at (rules-at (c .before .before .before)) in
     let s = start y in
     let at : ℕ = s .args .k .object * s .args .k .extent .subjects + s .args .k .subject in
     omega (
@@ -377,8 +419,7 @@ cast-t32 c =
 
 walk-start-requires : tie.Need-walk-start-requires
 walk-start-requires c κs =
-    let f = c .before .before .before .before .before .before .before .before .before .before .before
-    .before .before .before in
+    let f = lasts-at (tables-at (c .before .before .before .before)) in
     let n = f .before in
     let y = pairs-at n in
     let s = start y in
@@ -388,15 +429,13 @@ walk-start-requires c κs =
     (lasts f))
 
 looks : (c : tie.After-walk-start) →
-    (let f = c .before .before .before .before .before .before .before .before .before .before .before
-    .before .before .before .before in
+    (let f = lasts-at (tables-at (c .before .before .before .before .before)) in
     let s = start (pairs-at (f .before)) in
     WalkStart (s .args .k .asked .one) (s .args .k .asked .instant)
     (drop (s .args .k .totals .authorizations * 24) (now (s .args .records)))
     (f .lasting-of .result) (c .walk-start .result))
 looks c =
-    let f = c .before .before .before .before .before .before .before .before .before .before .before
-    .before .before .before .before in
+    let f = lasts-at (tables-at (c .before .before .before .before .before)) in
     let s = start (pairs-at (f .before)) in
     subst (λ (b : List ℕ). WalkStart (s .args .k .asked .one) (s .args .k .asked .instant) b
     (f .lasting-of .result) (c .walk-start .result)) (body-is s) (c .walk-start .ensures)
@@ -405,9 +444,9 @@ looks c =
 abbrev going : (c : tie.After-last-asked) → WindowWalk
 going c =
     let v = c .before in
-    let h = v .before .before .before .before .before .before in
-    let u = h .before .before .before .before .before in
-    let f = u .before .before .before .before in
+    let h = laid-at c in
+    let u = tables-at h in
+    let f = lasts-at u in
     let n = f .before in
     let y = pairs-at n in
     let s = start y in
@@ -436,8 +475,10 @@ going c =
       frame = record {
         grid = y .map-pairs .result;
         width = 0;
-        fields = u .lay-all .result;
+        fields = u .lay-tables .result .fields;
         choosy = bitAnd (k .extent .choosy) rules;
+        tables = u .lay-tables .result .tables;
+        wide = u .lay-tables .result .wide;
       };
     }
 
@@ -451,9 +492,9 @@ ground : (c : tie.After-last-asked) →
     (needed y) (numbered y) (going c) base (s .args .k .asked .access))
 ground c base b =
     let v = c .before in
-    let h = v .before .before .before .before .before .before in
-    let u = h .before .before .before .before .before in
-    let l = u .before .before .before .before in
+    let h = laid-at c in
+    let u = tables-at h in
+    let l = lasts-at u in
     let n = l .before in
     let y = pairs-at n in
     let s = start y in
@@ -468,8 +509,7 @@ ground c base b =
           (h .lay-out .result) (going c .query) (k .asked .one) (k .asked .instant)
           (y .map-pairs .ensures .1) (record {
             chosen = refl;
-            count = u .lay-all .ensures .0;
-            laid = u .lay-all .ensures .1;
+            arranged = arranged u;
             lasts-is = lasts l;
             total-is = omega (arith, h .lay-out .ensures .0);
             starts-laid = h .lay-out .ensures .1;
@@ -521,7 +561,7 @@ returns c =
     let t = c .before .before .before .before .before .before in
     let z = t .before .before .before .before .before .before in
     let v = z .before in
-    let h = v .before .before .before .before .before .before in
+    let h = laid-at z in
     let s = start (pairs-at (rules-at h)) in
     let k = s .args .k in
     let w = t .with-lines in (
@@ -540,8 +580,8 @@ with-pairs-spec =
     (λ c. search needs) part-map-pairs-end-2 map-pairs-requires (λ c. search needs) (λ c. search needs)
     part-needed-rules-end mul-needed-rules sub-needed-rules-2 part-needed-rules-start-2
     (λ c. search needs) (λ c. search needs) (λ c. search needs) needed-rules-requires
-    lasting-of-requires (λ c. search needs) (λ c. search needs) part-lay-all-end (λ c. search needs)
-    (λ c. search needs) part-lay-all-end-2 lay-all-requires (λ c. search needs) (λ c. search needs)
-    part-lay-out-end (λ c. search needs) (λ c. search needs) part-lay-out-end-2 lay-out-requires mul-t54
-    slice-read-t69 cast-t32 walk-start-requires (λ c κs. search needs) with-lines-requires same-length
+    lasting-of-requires (λ c. search needs) (λ c. search needs) part-lay-tables-end (λ c. search needs)
+    (λ c. search needs) part-lay-tables-end-2 lay-tables-requires (λ c. search needs) (λ c. search needs)
+    part-lay-out-end (λ c. search needs) (λ c. search needs) part-lay-out-end-2 lay-out-requires mul-t30
+    slice-read-t69 cast-t33 walk-start-requires (λ c κs. search needs) with-lines-requires same-length
     same-length-2 same-length-3 (λ c. search needs) returns)

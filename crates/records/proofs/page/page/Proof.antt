@@ -2,7 +2,7 @@
 use borrow.Author.Needs.{needs}
 use native.Mathlib.Omega.{arith}
 use native.Mathlib.Nat.{mul-le-mul-left, mul-div-le}
-use mathlib.Core.Path.{_≡_, sym, ap, _∙_}
+use mathlib.Core.Path.{_≡_, refl, sym, ap, _∙_}
 use Prim.Native.Nat.{ℕ, _+_, _*_, _/_, _-_, _≤_, min}
 use lib.ListN.{length}
 use denote.Ref.{now}
@@ -11,11 +11,12 @@ use Rattle.model.specs.EncodingFacts.{sound-length}
 use Rattle.model.specs.Answers.{answering}
 use Rattle.encoding.specs.declared.Counts.{Counts}
 use Rattle.encoding.specs.Format.{countsOf}
+use Rattle.encoding.proofs.SoundBodies.{fitting}
 use Rattle.records.specs.declared.Layout.{Layout}
 use Rattle.records.specs.Records.{widthOf}
 use Rattle.records.specs.Pages.{recordBytes, recordCount, layoutOf}
 use Rattle.records.specs.RecordsFacts.{width-least}
-use Rattle.records.proofs.StoredRows.{counts-within, count-most, page-fits}
+use Rattle.records.proofs.StoredRows.{count-most, page-fits}
 use Rattle.records.proofs.Paged.{beyond, short, written}
 use Rattle.records.proofs.page.page.Statement.{statement}
 use Rattle.records.proofs.page.page.Tie as tie
@@ -50,7 +51,7 @@ within-bytes c k h =
     let s = now (a .s) in
     let e = placed d in
     let n = counted d in
-    let w = counts-within s (d .before .before .before .before .pre) in
+    let w = fitting s (d .before .before .before .before .pre) (countsOf s) refl .counts in
     let f = page-fits (countsOf s) w (a .source) (a .first) k (omega arith) in
     omega (arith, ap (λ (p : Layout). p .at) e, ap (λ (p : Layout). p .bytes * a .first) e)
 
@@ -118,7 +119,7 @@ cast-t17 c =
     let s = now (a .s) in
     let r = page-room u .0 in
     let n = counted d in
-    let w = counts-within s (d .before .before .before .before .pre) in
+    let w = fitting s (d .before .before .before .before .pre) (countsOf s) refl .counts in
     omega (arith, count-most (countsOf s) w (a .source))
 
 returns-3 : tie.Need-returns-3

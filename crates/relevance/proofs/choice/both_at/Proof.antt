@@ -7,7 +7,7 @@ use lib.Bits.{bitAnd}
 use lib.Dec.{eqb}
 use lib.Pow.{shr-shr}
 use Rattle.foundation.specs.BitMasks.{bit}
-use Rattle.words.specs.Bits.{bit-and}
+use Rattle.foundation.specs.BitLaws.{bit-and}
 use Rattle.relevance.proofs.KeptNumbers.{shifted-bit}
 use Rattle.relevance.proofs.choice.both_at.Statement.{statement}
 use Rattle.relevance.proofs.choice.both_at.Tie as tie

@@ -1,7 +1,7 @@
 -- The loop's invariant is `Chose`.
 use borrow.Author.Needs.{needs}
 use native.Mathlib.Omega.{arith}
-use mathlib.Core.Path.{_≡_, sym, ap, _∙_, subst}
+use mathlib.Core.Path.{sym, ap, _∙_, subst}
 use mathlib.Core.Logic.{⊎-elim}
 use mathlib.Core.Bool.{Bool, _&&_}
 use mathlib.Core.List.{List}
@@ -9,9 +9,8 @@ use Prim.Native.Nat.{ℕ, _+_, _-_}
 use denote.Ref.{now}
 use Rattle.model.specs.declared.Authorization.{Authorization}
 use Rattle.sections.specs.Sections.{subjectsOf, objectsOf}
-use Rattle.relevance.specs.Chosen.{number-inside}
 use Rattle.relevance.specs.Needed.{isNeeded, isChosen}
-use Rattle.relevance.proofs.KeptNumbers.{Chose, chose-start, chose-skip, chose-end}
+use Rattle.relevance.proofs.KeptNumbers.{number-inside, Chose, chose-start, chose-skip, chose-end}
 use Rattle.relevance.proofs.KeptNumbers.{charted, placed-at, chose-during}
 use Rattle.relevance.proofs.choice.choose_during.Statement.{statement}
 use Rattle.relevance.proofs.choice.choose_during.Tie as tie

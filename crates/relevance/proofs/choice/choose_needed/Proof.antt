@@ -2,13 +2,11 @@
 use borrow.Author.Needs.{needs}
 use native.Mathlib.Omega.{arith}
 use Prim.Native.Nat.{_-_}
-use denote.Ref.{now}
 use Rattle.foundation.specs.declared.Interval.{Interval}
 use Rattle.foundation.specs.Intervals.{interval}
 use Rattle.sections.specs.Sections.{subjectsOf, objectsOf}
-use Rattle.relevance.specs.Chosen.{number-inside}
 use Rattle.relevance.specs.Needed.{isChosen}
-use Rattle.relevance.proofs.KeptNumbers.{Chose, chose-start, chose-end}
+use Rattle.relevance.proofs.KeptNumbers.{number-inside, Chose, chose-start, chose-end}
 use Rattle.relevance.proofs.KeptNumbers.{charted, placed-at, chose-during, during-all}
 use Rattle.relevance.proofs.choice.choose_needed.Statement.{statement}
 use Rattle.relevance.proofs.choice.choose_needed.Tie as tie
