@@ -1,9 +1,3 @@
-pub mod Window
-pub mod Lasting
 pub mod Words
 pub mod Derive
 pub mod Carried
-pub mod Exact
-pub mod Joined
-pub mod Turn
-pub mod Fixpoint

@@ -16,7 +16,7 @@ use Rattle.model.specs.declared.Authorization.{Authorization}
 use Rattle.encoding.specs.Format.{ruleAt}
 use Rattle.words.specs.Fields.{fieldOf}
 use Rattle.windows.specs.Windows.{inside}
-use Rattle.masks.specs.RuleMasks.{clear-fields}
+use Rattle.masks.proofs.ClearFields.{clear-fields}
 use Rattle.sections.specs.Sections.{activeOf, numberedOf}
 use Rattle.facts.specs.Facts.{Setting, settingIn, LinesReady, LineSteps}
 use Rattle.facts.specs.declared.WindowTask.{WindowTask}

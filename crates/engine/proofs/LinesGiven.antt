@@ -22,12 +22,13 @@ use Rattle.laws.specs.Narrowing.{accessOf}
 use Rattle.encoding.specs.Format.{ruleAt}
 use Rattle.words.specs.Fields.{fieldOf}
 use Rattle.places.specs.declared.Point.{Point}
-use Rattle.tables.specs.TableLayout.{fieldIn, TablesLaid, field-below}
+use Rattle.tables.specs.TableLayout.{fieldIn, TablesLaid}
+use Rattle.tables.proofs.FieldsApart.{field-below}
 use Rattle.tables.specs.TableGiving.{tablesOf, TablesGiven}
 use Rattle.facts.specs.Facts.{fitsKind, fitsRule, takenBy, Setting, setting, placeIn}
 use Rattle.facts.specs.Facts.{LineStep, LineSteps, none, then}
-use Rattle.derivation.specs.Exact.{Valued, SoundWords, LineIn, none-sound}
-use Rattle.derivation.specs.Joined.{Joined, line-stays, line-sound, line-in}
+use Rattle.derivation.proofs.Exact.{Valued, SoundWords, LineIn, none-sound}
+use Rattle.derivation.proofs.Joined.{Joined, line-stays, line-sound, line-in}
 use Rattle.grounding.specs.RuleSteps.{pairIn}
 use Rattle.grounding.specs.Meaning.{pat, Mapping, placeOf, Kept, wordsIn, Placed}
 use Rattle.grounding.proofs.MeaningFacts.{pat-on, given-joined}

@@ -22,8 +22,8 @@ use Rattle.model.specs.Means.{marks, allMarks, ruleMarks}
 use Rattle.model.specs.HoldsMarks.{may-steady}
 use Rattle.model.specs.Rules.{may}
 use Rattle.model.specs.Stratification.{stratified}
+use Rattle.model.specs.Stratification as model
 use Rattle.encoding.specs.Format.{rulesIn, ruleAt}
-use Rattle.questions.specs.OperatorSteps as operators
 use Rattle.places.specs.Regions.{Within}
 use Rattle.facts.specs.Facts.{LinesReady}
 use Rattle.relevance.specs.declared.Chosen.{Chosen}
@@ -33,7 +33,8 @@ use Rattle.relevance.specs.Filling.{Fills}
 use Rattle.relevance.specs.Forgotten.{endsFrom, during, Forgets}
 use Rattle.scan.specs.declared.Track.{Track}
 use Rattle.scan.specs.Filled.{filled}
-use Rattle.scan.specs.Runs.{ScannedTo, Answered, instantAt, counted}
+use Rattle.scan.specs.Runs.{ScannedTo, Answered, instantAt}
+use Rattle.scan.proofs.RunFacts.{counted}
 use Rattle.words.specs.Fields.{fieldOf}
 use Rattle.tables.specs.declared.Place.{Place}
 use Rattle.tables.specs.TableLayout.{fieldIn}
@@ -190,8 +191,8 @@ module _ {lines : List ℕ} {c : Chosen} {lasting : ℕ} {q : Query} {C : Chart}
 
   -- the rules that look back are among those that matter
   pub among-lasting : (r : ℕ) → bit r lasting ≡ true →
-      (bit r (c .needed) ≡ true) × (operators.lasting (ruleAt (p .body) r .operator) ≡ true)
-  among-lasting r e = and-true (bit r (c .needed)) (operators.lasting (ruleAt (p .body) r .operator))
+      (bit r (c .needed) ≡ true) × (model.lasting (ruleAt (p .body) r .operator) ≡ true)
+  among-lasting r e = and-true (bit r (c .needed)) (model.lasting (ruleAt (p .body) r .operator))
       (sym (posed .drawn .lasts-is r) ∙ sym (g .walks .lasts r) ∙ e)
 
   -- the answers can be read

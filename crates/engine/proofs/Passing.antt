@@ -46,9 +46,9 @@ module _ (R U C N M W : List ℕ) (w : WindowWalk) where
   at = 2 * length N
 
   pub fills-as : (c : Chosen) {from to width : ℕ} {ms : List ℕ} {r : Filled} →
-      Fills (marksFor R (lent M at) (lent R (w .body)) c) from to width ms r →
-      Fills (marksFor R (whichOf (length N) M) (drop (w .body) R) c) from to width ms r
-  fills-as c x = rw (lent-rest at M, lent-rest (w .body) R) at x
+      Fills (marksFor R (lent M at) (lent R (w .offset)) c) from to width ms r →
+      Fills (marksFor R (whichOf (length N) M) (drop (w .offset) R) c) from to width ms r
+  fills-as c x = rw (lent-rest at M, lent-rest (w .offset) R) at x
 
   pub picks-as : {n : ℕ} → Picks R (whichOf (length N) M) n → Picks R (lent M at) n
   picks-as x = rw (lent-rest at M) x
@@ -60,12 +60,12 @@ module _ (R U C N M W : List ℕ) (w : WindowWalk) where
       (rw (lent-rest at M) at x)
 
   module _ {L : List ℕ} {o : Start} {s : Progress} (g : GoingIn R U C N M W w L o s) where
-    pub matters : Matters R (lent M at) (lent R (w .body)) (here g)
+    pub matters : Matters R (lent M at) (lent R (w .offset)) (here g)
     matters =
         let d = g .walks .posed .drawn .well-formed in
         record {
           picks = picks-as (g .picks);
-          bodies = subst (λ (b : List ℕ). w .chosen .rules * 28 ≤ length b) (sym (lent-rest (w .body) R)) (d
+          bodies = subst (λ (b : List ℕ). w .chosen .rules * 28 ≤ length b) (sym (lent-rest (w .offset) R)) (d
               .there);
           few = d .few;
         }
@@ -106,19 +106,19 @@ module _ (R U C N M W : List ℕ) (w : WindowWalk) where
     -- the rules that look back can be marked
     pub able-in : {L : List ℕ} {o : Start} {s : Progress} → GoingIn R U C N M W w L o s → (active : List ℕ) →
         Low active (w .chosen .needed) (f .width) → (r : ℕ) → bit r (w .lasting) ≡ true →
-        Able (preparedIn (lent R (w .body)) U′ C N M f) active (length (fieldsIn f W′)) (length (bitsIn f
+        Able (preparedIn (lent R (w .offset)) U′ C N M f) active (length (fieldsIn f W′)) (length (bitsIn f
         W′)) r
     able-in g active low r b =
-        able-as (prepared-same U′ U front (lent R (w .body)) (drop (w .body) R) C N M M f (lent-rest (w .body)
-        R)
+        able-as (prepared-same U′ U front (lent R (w .offset)) (drop (w .offset) R) C N M M f
+        (lent-rest (w .offset) R)
         refl) refl refl (turns-able g fields-size bits-size active low r (among-lasting g r b .0))
 
     pub marked-as : {active words : List ℕ} {last mark : ℕ} {old old′ new : List ℕ} → old′ ≡ old →
-        Marked (preparedIn (lent R (w .body)) U′ C N M f) active words last mark (w .lasting) 0 old′ new →
+        Marked (preparedIn (lent R (w .offset)) U′ C N M f) active words last mark (w .lasting) 0 old′ new →
         Marked (preparedFor R U C N M w) active words last mark (w .lasting) 0 old new
     marked-as e x = rw (
-      prepared-same U′ U front (lent R (w .body)) (drop (w .body) R) C N M M f
-          (lent-rest (w .body) R) refl,
+      prepared-same U′ U front (lent R (w .offset)) (drop (w .offset) R) C N M M f
+          (lent-rest (w .offset) R) refl,
       e,
     ) at x
 
@@ -131,7 +131,7 @@ module _ (R U C N M W : List ℕ) (w : WindowWalk) where
         Going R (w .chosen) (w .lasting) (w .query) (chartIn C f) (preparedFor R U′ C N M′ w) o which words′
         bits′ L s
     going-as M′ e d b x = rw (
-      prepared-same U′ U front (drop (w .body) R) (drop (w .body) R) C N M′ M f refl e,
+      prepared-same U′ U front (drop (w .offset) R) (drop (w .offset) R) C N M′ M f refl e,
       d,
       b,
     ) x

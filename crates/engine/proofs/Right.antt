@@ -22,13 +22,13 @@ use Rattle.model.specs.declared.Rule.{Rule}
 use Rattle.model.specs.Base.{Base}
 use Rattle.model.specs.Means.{allMarks}
 use Rattle.model.specs.Stratification.{stratum}
+use Rattle.model.specs.Stratification as model
 use Rattle.model.specs.Rules.{may}
 use Rattle.laws.specs.Narrowing.{accessOf}
 use Rattle.encoding.specs.Format.{ruleAt}
 use Rattle.windows.specs.Windows.{Rising}
-use Rattle.questions.specs.OperatorSteps as operators
 use Rattle.relevance.specs.Chosen.{authorizationAt, picked, Picks}
-use Rattle.derivation.specs.Window.{Window}
+use Rattle.derivation.proofs.Window.{Window}
 use Rattle.facts.specs.Facts.{Setting, setting, placeIn, HasPlace, LinesReady}
 use Rattle.outlines.specs.Coordinates.{Chart, coordinate}
 use Rattle.outlines.specs.NeededAccesses as outlines
@@ -225,8 +225,8 @@ module _ {n : ℕ} {C : Chart} {own : Access} {p : Prepared} {needed words bits�
     carried-next u h c lasting same marked kept active′ =
         let d = posed .drawn in
         let looks : (r : ℕ) → bit r lasting ≡ true →
-        (bit r needed ≡ true) × (operators.lasting (ruleAt (p .body) r .operator) ≡ true) = λ r e.
-        and-true (bit r needed) (operators.lasting (ruleAt (p .body) r .operator))
+        (bit r needed ≡ true) × (model.lasting (ruleAt (p .body) r .operator) ≡ true) = λ r e.
+        and-true (bit r needed) (model.lasting (ruleAt (p .body) r .operator))
         (sym (d .lasts-is r) ∙ sym (same r) ∙ e) in
         let laid : (to : ℕ) × TablesLaid (brokenTables stage lasting) 0 to = ⊎-elim
         (λ f. (
@@ -255,5 +255,5 @@ module _ {n : ℕ} {C : Chart} {own : Access} {p : Prepared} {needed words bits�
           inside = left-in d r (rule-few r (looks r e .0) .0) base (posed .powers) active y m s;
         }) marked kept
         (λ r e l. same r ∙ d .lasts-is r
-        ∙ and-intro (bit r needed) (operators.lasting (ruleAt (p .body) r .operator)) e l)
+        ∙ and-intro (bit r needed) (model.lasting (ruleAt (p .body) r .operator)) e l)
         u h c active′

@@ -184,7 +184,7 @@ module _ {holder : Base} {n : ℕ} {C : Chart} {asked : Access} {p : Prepared} {
     -- ---- the table that it looks at
 
     -- table T is that one: it is there, has the rule's right side, and what fits that
-    record LooksIn (T : ℕ) : Type 0 where
+    record TurnTable (T : ℕ) : Type 0 where
       there : isThere (p .frame .tables) T ≡ true
       offset : turnIn p active r .first ≡ offsetOf (p .frame .grid) (p .first) T
       region : turnIn p active r .table ≡ regionOf (shapesOf (p .frame) (p .right)) T
@@ -193,7 +193,7 @@ module _ {holder : Base} {n : ℕ} {C : Chart} {asked : Access} {p : Prepared} {
       pattern : (x : Access) → pat (ruleAt (p .body)) T (rightOf one x .access) ≡ rightOf one x
 
     -- that of the rule it shares a table with
-    in-shared : (c : bit r (p .frame .choosy) ≡ true) → LooksIn (suc (suc (d .shared r c .0)))
+    in-shared : (c : bit r (p .frame .choosy) ≡ true) → TurnTable (suc (suc (d .shared r c .0)))
     in-shared c =
         let q = d .shared r c .0 in
         let w = d .shared r c .1 in record {
@@ -212,7 +212,7 @@ module _ {holder : Base} {n : ℕ} {C : Chart} {asked : Access} {p : Prepared} {
         few = omega (arith, rule-low d r e, d .well-formed .few)
 
     -- or that of its sign
-    in-signed : bit r (p .frame .choosy) ≡ false → LooksIn (asBit (one .right .negative))
+    in-signed : bit r (p .frame .choosy) ≡ false → TurnTable (asBit (one .right .negative))
     in-signed c =
         let g = one .right .negative in record {
           there = sign-there (p .frame .tables) g;
@@ -234,7 +234,7 @@ module _ {holder : Base} {n : ℕ} {C : Chart} {asked : Access} {p : Prepared} {
             (λ y. absurd (true≢false (sym (d .choosy r ∙ and-intro (bit r matter) (isChoosy one) e y) ∙ c)))
             (λ y. y)
 
-    right-kept : (T : ℕ) → LooksIn T → (x : Access) → needed C asked (p .need) x ≡ true →
+    right-kept : (T : ℕ) → TurnTable T → (x : Access) → needed C asked (p .need) x ≡ true →
         standsFor base one x ≡ true → Kept (mappingOf base C asked p) T (rightOf one x .access)
     right-kept T l x m s =
         let y = rightOf one x .access in
@@ -304,7 +304,7 @@ module _ {holder : Base} {n : ℕ} {C : Chart} {asked : Access} {p : Prepared} {
 
     module _ (mem : Mem one (base .rules)) (count : ℕ) (marks : List ℕ)
         (masks : (j : ℕ) → bit j (getD active r 0) ≡ inside count marks (one .interval) j) where
-      turn-in : (T : ℕ) → LooksIn T →
+      turn-in : (T : ℕ) → TurnTable T →
           TurnOf (mappingOf base C asked p) count (λ i. getD marks i 0) one (turnIn p active r)
       turn-in T l = record {
         mem = mem;

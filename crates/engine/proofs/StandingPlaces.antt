@@ -121,12 +121,12 @@ module _ {holder : Base} {n : ℕ} {C : Chart} {asked : Access} {p : Prepared} {
         ap (λ (k : ℕ). eqb k 255 || eqb k (modeOf x)) (d .lefts r h .mode)
         ∙ mode-is (ruleAt (p .body) r .left .mode) (x .mode) (d .well-formed .left r h .mode) a b
 
-    pub stands-is : (base : Base) → SamePowers base holder → (x : Access) → known C asked x ≡ true →
+    pub stands-there : (base : Base) → SamePowers base holder → (x : Access) → known C asked x ≡ true →
         standsFor base (ruleAt (p .body) r) x
         ≡ bit r (getD (p .left) (65 + subjectOf C asked x) 0)
         && (free (getD (p .sides) (4 * r + 2) 0) || eqb (getD (p .sides) (4 * r + 2) 0) (modeOf x))
         && bit r (getD (p .left) (objectOf C asked x) 0)
-    stands-is base powers x k =
+    stands-there base powers x k =
         let w = known-is C asked x .0 k in
         stands-same base holder (ruleAt (p .body) r) x (powers (x .object) (ruleAt (p .body) r .author))
         ∙ stands-eq holder (ruleAt (p .body) r) x
@@ -171,7 +171,7 @@ module _ {holder : Base} {n : ℕ} {C : Chart} {asked : Access} {p : Prepared} {
             access = x;
             matters = needed-both C asked (p .need) x k (rw (mode, sym here) (v .0))
                 (rw (mode, sym here) (v .1));
-            stands = stands-is base powers x k
+            stands = stands-there base powers x k
                 ∙ and-three (bit r (getD (p .left) (65 + subjectOf C asked x) 0))
                 (free code || eqb code (modeOf x)) (bit r (getD (p .left) (objectOf C asked x) 0)) .1
                 (rw (y .subject) (s .subject), rw mode (w .2), rw (y .object) (s .object));
@@ -233,7 +233,7 @@ module _ {holder : Base} {n : ℕ} {C : Chart} {asked : Access} {p : Prepared} {
             let code : ℕ = getD (p .sides) (4 * r + 2) 0 in
             let v = and-three (bit r (getD (p .left) (65 + subjectOf C asked x) 0)) (free code || eqb code m)
             (bit r (getD (p .left) (objectOf C asked x) 0)) .0
-            (sym (stands-is base powers x (needed-known C asked (p .need) x e)) ∙ s) in
+            (sym (stands-there base powers x (needed-known C asked (p .need) x e)) ∙ s) in
             record {
               subject = λ f. sym (subject-code f);
               object = λ f. sym (object-code f);
@@ -271,7 +271,7 @@ module _ {holder : Base} {n : ℕ} {C : Chart} {asked : Access} {p : Prepared} {
             let w = known-is C asked x .0 k in
             let code : ℕ = getD (p .sides) (4 * r + 2) 0 in
             let v = and-three (bit r (getD (p .left) (65 + subjectOf C asked x) 0)) (free code || eqb code m)
-            (bit r (getD (p .left) (objectOf C asked x) 0)) .0 (sym (stands-is base powers x k) ∙ s) in
+            (bit r (getD (p .left) (objectOf C asked x) 0)) .0 (sym (stands-there base powers x k) ∙ s) in
             let here : getD (p .need)
             (objectIn (p .codes) i * p .frame .grid .subjects + subjectIn (p .codes) i) 0
             ≡ getD (p .need) (pairOf C asked x) 0 = rw (b .0, b .1, d .grid .0) in

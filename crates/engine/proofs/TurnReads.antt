@@ -15,14 +15,15 @@ use Rattle.model.specs.declared.Rule.{Rule}
 use Rattle.model.specs.Base.{Base}
 use Rattle.model.specs.Rules.{standsFor, rightOf}
 use Rattle.encoding.specs.Format.{ruleAt}
-use Rattle.questions.specs.OperatorSteps.{lasting}
+use Rattle.model.specs.Stratification.{lasting}
 use Rattle.places.specs.declared.Point.{Point}
 use Rattle.places.specs.ReachedNumbers.{usedBefore-le}
 use Rattle.places.specs.Regions.{sizeOf, Within}
 use Rattle.tables.specs.declared.Place.{Place}
 use Rattle.tables.specs.TableLayout.{regionAt, wholeRegion}
 use Rattle.tables.proofs.TableSizes.{size-small}
-use Rattle.tables.specs.TableGiving.{shapesOf, reaches}
+use Rattle.tables.specs.TableGiving.{shapesOf}
+use Rattle.tables.proofs.GivingSteps.{reaches}
 use Rattle.masks.specs.RuleMasks.{RulesIn}
 use Rattle.outlines.specs.Coordinates.{Chart}
 use Rattle.outlines.proofs.CoordinateFacts.{known-is}

@@ -8,7 +8,7 @@ use Rattle.foundation.specs.BitMasks.{bit}
 use Rattle.model.specs.declared.Access.{Access}
 use Rattle.model.specs.Base.{Base, controls}
 use Rattle.encoding.specs.Format.{ruleAt}
-use Rattle.questions.specs.OperatorSteps.{lasting}
+use Rattle.model.specs.Stratification.{lasting}
 use Rattle.reach.specs.Net.{ClosedNet}
 use Rattle.places.specs.ReachedNumbers.{used, usedBefore, codeOf}
 use Rattle.tables.specs.TableLayout.{TablesLaid, ruleTables}

@@ -72,7 +72,7 @@ pub record Going (lines : List ℕ) (c : Chosen) (lasting : ℕ) (q : Query) (C 
 module _ (records outline coordinates need numbers : List ℕ) where
   -- what the slices hold for a walk
   abbrev pub preparedFor : WindowWalk → Prepared
-  preparedFor w = preparedIn (drop (w .body) records) outline coordinates need numbers (w .frame)
+  preparedFor w = preparedIn (drop (w .offset) records) outline coordinates need numbers (w .frame)
 
   module _ (work : List ℕ) (w : WindowWalk) where
     abbrev pub WalksIn : Base → Access → Type 0
@@ -86,5 +86,5 @@ module _ (records outline coordinates need numbers : List ℕ) where
 
     -- they have room for it
     pub record Roomy : Type 0 where
-      pub body : w .body ≤ length records
+      pub body : w .offset ≤ length records
       pub held : SlicedIn outline coordinates need numbers (w .frame) work

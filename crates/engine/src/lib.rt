@@ -29,7 +29,7 @@ pub struct Found {
 // that look back and how many broken bits they have, what is asked, and the frame of the tables.
 pub struct WindowWalk {
     pub chosen: Chosen,
-    pub body: usize,
+    pub offset: usize,
     pub lasting: u64,
     pub bits: u32,
     pub query: Query,

@@ -103,7 +103,7 @@ fn pass_window(
     let s = g.progress;
     let q = w.query;
     let f = w.frame;
-    let from = w.body;
+    let from = w.offset;
     let body = &records[from..];
     let at = 2 * need.len();
     let d = w.chosen;
@@ -127,7 +127,7 @@ fn pass_window(
     let own = q.own;
     let window = WindowTask {
         chosen: c,
-        body: from,
+        offset: from,
         own: own,
         count: count,
         frame: f,

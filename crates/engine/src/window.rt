@@ -114,23 +114,23 @@ pub fn evaluate(
     marks: &[u32; 63],
     work: &mut [u64],
 )
-    requires { ⌜ LinesReady (settingIn (drop (w .body) (now records)) w (now outline) (now coordinates)
+    requires { ⌜ LinesReady (settingIn (drop (w .offset) (now records)) w (now outline) (now coordinates)
         (numberedOf (length (now need)) (now numbers)) (now marks)) (now records)
         (whichOf (length (now need)) (now numbers)) (w .chosen .authorizations)
         (length (fieldsIn (w .frame) (now work))) ⌝ }
     requires { ⌜ ((l : List ℕ) → Low l (w .chosen .needed) (w .frame .width) → (r : ℕ) → bit r
-        (w .chosen .needed) ≡ true → Able (preparedIn (drop (w .body) (now records)) (now outline)
+        (w .chosen .needed) ≡ true → Able (preparedIn (drop (w .offset) (now records)) (now outline)
         (now coordinates) (now need) (now numbers) (w .frame)) l (length (fieldsIn (w .frame) (now work)))
         (length (bitsIn (w .frame) (now work))) r) ⌝ }
     requires { ⌜ ((r : ℕ) → bit r (w .chosen .needed) ≡ true → r < w .chosen .rules)
-        × (w .chosen .rules ≤ 64) × (w .chosen .rules * 28 ≤ length (drop (w .body) (now records)))
+        × (w .chosen .rules ≤ 64) × (w .chosen .rules * 28 ≤ length (drop (w .offset) (now records)))
         × (stratified (selected (w .chosen .needed)
-        (rulesIn (w .chosen .rules) (drop (w .body) (now records)))) ≡ true)
-        × (w .body ≤ length (now records))
+        (rulesIn (w .chosen .rules) (drop (w .offset) (now records)))) ≡ true)
+        × (w .offset ≤ length (now records))
         × SlicedIn (now outline) (now coordinates) (now need) (now numbers) (w .frame) (now work) ⌝ }
-    ensures { λ _. ⌜ Evaluation (settingIn (drop (w .body) (now (records .entry))) w (now (outline .entry))
+    ensures { λ _. ⌜ Evaluation (settingIn (drop (w .offset) (now (records .entry))) w (now (outline .entry))
         (now (coordinates .entry)) (numberedOf (length (now (need .entry))) (now (numbers .entry)))
-        (now (marks .entry))) (preparedIn (drop (w .body) (now (records .entry))) (now (outline .entry))
+        (now (marks .entry))) (preparedIn (drop (w .offset) (now (records .entry))) (now (outline .entry))
         (now (coordinates .entry)) (now (need .entry)) (now (numbers .entry)) (w .frame)) (picked
         (now (records .entry)) (whichOf (length (now (need .entry))) (now (numbers .entry)))
         (w .chosen .authorizations)) (w .chosen .rules) (w .chosen .needed) (activeOf (now (outline .exit)))
@@ -140,7 +140,7 @@ pub fn evaluate(
 {
     let c = w.chosen;
     let f = w.frame;
-    let from = w.body;
+    let from = w.offset;
     let k = words_for(f.fields, f.width);
     let size = need.len();
     let at = 2 * size;

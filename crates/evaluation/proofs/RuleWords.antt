@@ -9,8 +9,7 @@ use Rattle.foundation.specs.Tests.{cases, true-le, false-le, false-eq}
 use Rattle.foundation.specs.BitMasks.{bit, bit-zero}
 use Rattle.foundation.specs.BitLaws.{no-bits}
 use Rattle.model.specs.declared.Operator.{Operator}
-use Rattle.model.specs.Stratification.{negating}
-use Rattle.questions.specs.OperatorSteps.{lasting}
+use Rattle.model.specs.Stratification.{negating, lasting}
 use Rattle.words.specs.Ones.{allFrom, ones-from}
 use Rattle.derivation.specs.Words.{wantedWord}
 use Rattle.derivation.specs.Derive.{FirstBit, Derived}

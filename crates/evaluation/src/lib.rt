@@ -1,8 +1,7 @@
 // The evaluation of one rule at one place, over a window at once.
 ghost use mathlib.Core.Path.{_≡_};
 ghost use Prim.Native.Nat.{_<_};
-ghost use Rattle.model.specs.Stratification.{negating};
-ghost use Rattle.questions.specs.OperatorSteps.{lasting};
+ghost use Rattle.model.specs.Stratification.{negating, lasting};
 ghost use Rattle.derivation.specs.Words.{wantedWord};
 ghost use Rattle.derivation.specs.Derive.{Derived};
 use model::Operator;

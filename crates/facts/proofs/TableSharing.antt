@@ -20,7 +20,7 @@ use Rattle.places.specs.Regions.{sizeOf}
 use Rattle.tables.specs.TableLayout.{TablesLaid, allTables, roomOf, wholeRegion}
 use Rattle.tables.specs.TableGiving.{shapesBy}
 use Rattle.tables.proofs.Rooms.{laid-as}
-use Rattle.facts.specs.Sharing.{SharesTable, LooksAt, TablesShared, TablesArranged}
+use Rattle.facts.specs.Sharing.{SharesTable, UsesTable, TablesShared, TablesArranged}
 
 -- options that fit the same are one
 pub options-same : (o p : OptionTerm) → Bool·beq (fitsOption o true) (fitsOption p true) ≡ true →
@@ -96,16 +96,16 @@ module _ (body right : List ℕ) where
     pub start-still : (i : ℕ) → i ≢ c → getD new i 0 ≡ getD old i 0
     start-still i n = rw moved (getD-set-other old c i (getD old d 0) 0 n)
 
-    pub looks-still : (i e : ℕ) → i ≢ c → LooksAt body right old tables i e →
-        LooksAt body right new tables i e
-    looks-still i e n w = record {
+    pub uses-still : (i e : ℕ) → i ≢ c → UsesTable body right old tables i e →
+        UsesTable body right new tables i e
+    uses-still i e n w = record {
       there = w .there;
       shares = w .shares;
       start = start-still i n ∙ w .start ∙ sym (start-still e (apart e (w .there)));
     }
 
-    pub looks-new : SharesTable body right c d → LooksAt body right new tables c d
-    looks-new s = record {
+    pub uses-new : SharesTable body right c d → UsesTable body right new tables c d
+    uses-new s = record {
       there = there;
       shares = s;
       start = ap (λ (l : List ℕ). getD l c 0) moved ∙ getD-set-same old c (getD old d 0) 0 room

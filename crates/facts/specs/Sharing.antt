@@ -26,7 +26,7 @@ pub record SharesTable (body shapes : List ℕ) (c d : ℕ) : Type 0 where
   pub region : regionAt shapes c ≡ regionAt shapes d
 
 -- rule c looks at the table of rule d, which has one
-pub record LooksAt (body shapes first : List ℕ) (tables c d : ℕ) : Type 0 where
+pub record UsesTable (body shapes first : List ℕ) (tables c d : ℕ) : Type 0 where
   pub there : bit d tables ≡ true
   pub shares : SharesTable body shapes c d
   pub start : getD first c 0 ≡ getD first d 0
@@ -34,7 +34,7 @@ pub record LooksAt (body shapes first : List ℕ) (tables c d : ℕ) : Type 0 wh
 -- each rule of a mask looks at some table
 abbrev pub TablesShared : (body shapes first : List ℕ) → ℕ → ℕ → Type 0
 TablesShared body shapes first rules tables =
-    (c : ℕ) → bit c rules ≡ true → (d : ℕ) × LooksAt body shapes first tables c d
+    (c : ℕ) → bit c rules ≡ true → (d : ℕ) × UsesTable body shapes first tables c d
 
 -- some of a mask have tables, and each of it can share one of these
 pub record TablesEnough (body shapes : List ℕ) (rules tables : ℕ) : Type 0 where

@@ -45,7 +45,7 @@ use words::next_bit;
 // access that coordinate 0 stands for, how many instants there are, and the frame of the tables.
 pub struct WindowTask {
     pub chosen: Chosen,
-    pub body: usize,
+    pub offset: usize,
     pub own: Access,
     pub count: usize,
     pub frame: Frame,
@@ -155,17 +155,17 @@ pub fn give_lines(
     marks: &[u32; 63],
     words: &mut [u64],
 )
-    requires { ⌜ LinesReady (settingIn (drop (w .body) (now records)) w (now outline) (now coordinates)
+    requires { ⌜ LinesReady (settingIn (drop (w .offset) (now records)) w (now outline) (now coordinates)
         (now number) (now marks)) (now records) (now which) (w .chosen .authorizations) (length (now words))
-        × (w .body ≤ length (now records)) × (length (now outline) ≡ 472)
+        × (w .offset ≤ length (now records)) × (length (now outline) ≡ 472)
         × (length (now coordinates) ≡ 1666) ⌝ }
-    ensures { λ _. ⌜ LineSteps (settingIn (drop (w .body) (now (records .entry))) w (now (outline .entry))
+    ensures { λ _. ⌜ LineSteps (settingIn (drop (w .offset) (now (records .entry))) w (now (outline .entry))
         (now (coordinates .entry)) (now (number .entry)) (now (marks .entry)))
         (picked (now (records .entry)) (now (which .entry)) (w .chosen .authorizations))
         (now (words .entry)) (now (words .exit))
         × (length (now (words .exit)) ≡ length (now (words .entry))) ⌝ }
 {
-    let from = w.body;
+    let from = w.offset;
     let c = w.chosen;
     let n = c.authorizations;
     let body = &records[from..];

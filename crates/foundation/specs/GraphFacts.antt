@@ -59,7 +59,7 @@ pub record Ranked {K : Type 0} (edge : K → K → Bool) (weight : K → K → �
   pub few : (r : K) → Mem r nodes → rank edge weight own nodes r ≤ 2 * length nodes
 
 module _ {K : Type 0} (edge : K → K → Bool) (weight : K → K → ℕ) (own : K → Bool) (nodes : List K)
-    (light : (q r : K) → weight q r ≤ 2) where
+    (weight-small : (q r : K) → weight q r ≤ 2) where
   abbrev strict : K → K → Bool
   strict = heavy weight
 
@@ -117,7 +117,7 @@ module _ {K : Type 0} (edge : K → K → Bool) (weight : K → K → ℕ) (own 
   pub rank-rounds : (n : ℕ) (r : K) → rankIn edge weight own n nodes r ≤ 2 * n + 1
   rank-rounds zero r = omega (arith, rank-zero r, bit-le (own r))
   rank-rounds (suc n) r = after-le n (2 * suc n + 1) r (omega (arith, bit-le (own r)))
-      (λ q m e. omega (arith, rank-rounds n q, light q r))
+      (λ q m e. omega (arith, rank-rounds n q, weight-small q r))
 
   -- a bound that every node's own and every edge keep to is kept to by the ranks
   within : (g : K → ℕ) → ((r : K) → Mem r nodes → asBit (own r) ≤ g r) →
@@ -172,7 +172,7 @@ module _ {K : Type 0} (edge : K → K → Bool) (weight : K → K → ℕ) (own 
     above-less q r m n e = cases (strict q r)
         (λ s. omega (
           arith,
-          light q r,
+          weight-small q r,
           setSize-less (above q) (above r) nodes more q m (no-return q m)
               (above-path q r n .1 (direct (and-intro (edge q r) (strict q r) e s))),
         ))

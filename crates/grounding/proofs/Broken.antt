@@ -16,16 +16,18 @@ use Rattle.foundation.specs.Marks.{clear}
 use Rattle.foundation.specs.BitMasks.{asBit, bit}
 use Rattle.words.specs.Fields.{fieldOf}
 use Rattle.tables.specs.declared.Place.{Place}
-use Rattle.tables.specs.TableLayout.{Tables, TablesLaid, Has, ruleTables, field-apart}
+use Rattle.tables.specs.TableLayout.{Tables, TablesLaid, Has, ruleTables}
+use Rattle.tables.proofs.FieldsApart.{field-apart}
 use Rattle.model.specs.declared.Rule.{Rule}
 use Rattle.model.specs.declared.Access.{Access}
 use Rattle.model.specs.Means.{allMarks}
 use Rattle.model.specs.Rules.{standsFor}
-use Rattle.questions.specs.OperatorSteps.{lasting}
+use Rattle.model.specs.Stratification.{lasting}
 use Rattle.questions.specs.Table.{truth}
 use Rattle.derivation.specs.Derive.{Derived}
-use Rattle.derivation.specs.Carried.{Carried, carried-on, carried-first, window-framed}
-use Rattle.derivation.specs.Turn.{turn-right}
+use Rattle.derivation.specs.Carried.{Carried}
+use Rattle.derivation.proofs.CarriedOn.{carried-on, carried-first, window-framed}
+use Rattle.derivation.proofs.Turn.{turn-right}
 use Rattle.grounding.specs.RuleSteps.{forceIn, brokenAt, brokenIn, Mark, Steps, Visited}
 use Rattle.grounding.specs.Meaning.{StandsIn, Kept, placeOf}
 use Rattle.grounding.proofs.MeaningFacts.{pat-on, evaluated-at}

@@ -27,12 +27,12 @@ use Rattle.model.specs.declared.Pattern.{Pattern}
 use Rattle.model.specs.Stratification.{stratified, precedes}
 use Rattle.model.specs.Rules.{standsFor, derivesFor, rightOf}
 use Rattle.questions.specs.Table.{truth}
-use Rattle.derivation.specs.Window.{Window}
+use Rattle.derivation.proofs.Window.{Window}
 use Rattle.derivation.specs.Derive.{Derived}
 use Rattle.derivation.specs.Carried.{Carried}
-use Rattle.derivation.specs.Exact.{Valued, GivenAt, GivenEverywhere}
-use Rattle.derivation.specs.Joined.{Joined, given-stays, rule-valued, rule-given}
-use Rattle.derivation.specs.Turn.{Evaluated, turn-right}
+use Rattle.derivation.proofs.Exact.{Valued, GivenAt, GivenEverywhere}
+use Rattle.derivation.proofs.Joined.{Joined, given-stays, rule-valued, rule-given}
+use Rattle.derivation.proofs.Turn.{Evaluated, turn-right}
 use Rattle.grounding.specs.declared.RuleTurn.{RuleTurn}
 use Rattle.grounding.specs.RuleSteps.{pairIn, forceAt, forceIn, brokenIn, Step, Steps}
 use Rattle.grounding.specs.RuleSteps.{none, then, Visited}
@@ -170,7 +170,7 @@ module _ (z : Mapping) where
         let seen = forceIn t (z .frame) (z .number) u (z .point x) in
         record {
           table = turn .looked;
-          looks = turn .pattern x;
+          fits-right = turn .pattern x;
           kept = turn .side x m s;
           denials = 1;
           denies = λ n. (refl, kept-denials (turn .looked) y (turn .side x m s));

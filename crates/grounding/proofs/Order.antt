@@ -24,10 +24,11 @@ use Rattle.model.specs.Rules.{standsFor, derivesFor, rightOf, operate}
 use Rattle.model.specs.SideFacts.{derives-stands}
 use Rattle.model.specs.HoldsLaws.{holding, derived-law}
 use Rattle.encoding.specs.Format.{ruleAt}
-use Rattle.derivation.specs.Window.{Window}
+use Rattle.derivation.proofs.Window.{Window}
 use Rattle.derivation.specs.Carried.{Carried}
-use Rattle.derivation.specs.Exact.{AccessWords, Valued, GivenEverywhere}
-use Rattle.derivation.specs.Joined.{Joined, joined-more}
+use Rattle.derivation.specs.Words.{AccessWords}
+use Rattle.derivation.proofs.Exact.{Valued, GivenEverywhere}
+use Rattle.derivation.proofs.Joined.{Joined, joined-more}
 use Rattle.grounding.specs.declared.RuleTurn.{RuleTurn}
 use Rattle.grounding.specs.RuleSteps.{brokenIn, Step, Steps, none, then, Visited, AtPair, PairsRan}
 use Rattle.grounding.specs.Meaning.{Mapping, Placed, TurnOf, StandsIn, Kept, placeOf, wordsIn, pat}

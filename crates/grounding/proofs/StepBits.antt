@@ -9,10 +9,10 @@ use lib.Dec.{eqb}
 use Rattle.foundation.specs.Tests.{cases, eq-true, true-eq, ne-false}
 use Rattle.foundation.specs.BitMasks.{asBit, bit}
 use Rattle.places.specs.declared.Grid.{Grid}
-use Rattle.places.specs.Regions.{index-below}
+use Rattle.places.proofs.IndexFacts.{index-below}
 use Rattle.words.specs.Fields.{starts, fieldOf, joined}
 use Rattle.tables.specs.declared.Place.{Place}
-use Rattle.questions.specs.OperatorSteps.{lasting}
+use Rattle.model.specs.Stratification.{lasting}
 use Rattle.grounding.specs.declared.RuleTurn.{RuleTurn}
 use Rattle.grounding.specs.RuleSteps.{brokenAt, Ordinary}
 

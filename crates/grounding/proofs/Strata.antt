@@ -20,9 +20,9 @@ use Rattle.model.specs.Stratification.{precedes, stratum}
 use Rattle.model.specs.StratificationFacts.{stratum-few}
 use Rattle.model.specs.Rules.{standsFor, rightOf}
 use Rattle.laws.specs.Dependence.{Depends, depends-fed}
-use Rattle.derivation.specs.Joined.{rule-valued}
-use Rattle.derivation.specs.Turn.{Evaluated, evaluated-stays}
-use Rattle.derivation.specs.Fixpoint.{NothingNew, shut-stays, sound-stratum, shut-done}
+use Rattle.derivation.proofs.Joined.{rule-valued}
+use Rattle.derivation.proofs.Turn.{Evaluated, evaluated-stays}
+use Rattle.derivation.proofs.Fixpoint.{NothingNew, shut-stays, sound-stratum, shut-done}
 use Rattle.grounding.specs.RuleSteps.{Steps, then}
 use Rattle.grounding.specs.Meaning.{StandsIn, Kept, placeOf}
 use Rattle.grounding.proofs.MeaningFacts.{pat-on, step-joined, step-evaluated}

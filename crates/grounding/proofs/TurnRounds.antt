@@ -1,5 +1,5 @@
 -- Turns of rules: a turn takes its rule out of a mask (`others`, `among`); the turns of a set of rules come
--- to an end, as each adds bits (`lighter`) or takes a rule out (`less-to-do`).
+-- to an end, as each adds bits (`fewer-left`) or takes a rule out (`less-to-do`).
 use mathlib.Core.Path.{_≡_, sym, ap, _∙_}
 use mathlib.Core.Bool.{true, false, not, _&&_, false≢true}
 use mathlib.Core.List.{List}
@@ -11,7 +11,8 @@ use lib.Dec.{eqb, ltb}
 use lib.ListN.{length, getD}
 use Rattle.foundation.specs.Tests.{cases, and-true, and-intro, ne-false, true-le, false-le}
 use Rattle.foundation.specs.BitMasks.{bit}
-use Rattle.words.specs.Sums.{sum, sum-words}
+use Rattle.words.specs.Sums.{sum}
+use Rattle.words.proofs.SumFacts.{sum-words}
 use Rattle.sections.specs.Sections.{fieldsOf, brokenOf}
 use Rattle.tables.specs.declared.Frame.{Frame}
 use Rattle.tables.specs.declared.Place.{Place}
@@ -76,10 +77,10 @@ first-less : (a b k d e : ℕ) → a < b → e < k → a * k + e < b * k + d
 first-less a b k d e h l = omega (arith, mul-le-mul-right {m = suc a} {n = b} k h, suc-mul a k)
 
 -- where words have more bits
-pub lighter : (u v : List ℕ) (d e : ℕ) → length v ≡ length u → sum u < sum v →
+pub fewer-left : (u v : List ℕ) (d e : ℕ) → length v ≡ length u → sum u < sum v →
     ((i : ℕ) → getD v i 0 < 18446744073709551616) → e < 18446744073709551616 → measure v e < measure u d
 unfolding measure
-lighter u v d e n g h l =
+fewer-left u v d e n g h l =
     let m : ℕ = 18446744073709551615 * length u in
     first-less (18446744073709551615 * length v - sum v) (m - sum u) 18446744073709551616 d e
     (rw n (rest-less m (sum u) (sum v) g (rw n at (sum-words v h)))) l

@@ -10,7 +10,7 @@ use Rattle.foundation.specs.BitMasks.{bit}
 use Rattle.model.specs.declared.Rule.{Rule}
 use Rattle.model.specs.declared.Access.{Access}
 use Rattle.model.specs.Rules.{holds, may}
-use Rattle.derivation.specs.Exact.{exact}
+use Rattle.derivation.proofs.Exact.{exact}
 use Rattle.grounding.specs.Meaning.{Kept}
 use Rattle.grounding.proofs.MeaningFacts.{pat-on}
 use Rattle.grounding.proofs.Order.{WindowInputs, windowMapping, windowRule, patternOf, W, RightIn}

@@ -19,7 +19,7 @@ use Rattle.model.specs.declared.Access.{Access}
 use Rattle.model.specs.declared.Pattern.{Pattern}
 use Rattle.model.specs.Base.{Base}
 use Rattle.model.specs.Rules.{standsFor, derivesFor, rightOf, asked}
-use Rattle.derivation.specs.Exact.{AccessWords}
+use Rattle.derivation.specs.Words.{AccessWords}
 use Rattle.grounding.specs.declared.RuleTurn.{RuleTurn}
 use Rattle.grounding.specs.RuleSteps.{turnedPoint, pairIn}
 

@@ -20,7 +20,7 @@ use Rattle.tables.specs.declared.Frame.{Frame}
 use Rattle.tables.specs.declared.Place.{Place}
 use Rattle.tables.specs.TableLayout.{wholeRegion}
 use Rattle.tables.specs.TableGiving.{tablesOf, Reaches, tableTakes, TablesGiven}
-use Rattle.questions.specs.OperatorSteps.{lasting}
+use Rattle.model.specs.Stratification.{lasting}
 use Rattle.derivation.specs.Derive.{Derived}
 use Rattle.grounding.specs.declared.RuleTurn.{RuleTurn}
 

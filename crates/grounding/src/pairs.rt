@@ -4,7 +4,7 @@ ghost use mathlib.Core.Bool.{true};
 ghost use Prim.Native.Nat.{ℕ, _+_, _*_, _≤_, _<_};
 ghost use lib.ListN.{length, getD};
 ghost use Rattle.foundation.specs.BitMasks.{bit};
-ghost use Rattle.questions.specs.OperatorSteps.{lasting};
+ghost use Rattle.model.specs.Stratification.{lasting};
 ghost use Rattle.words.specs.Sums.{SumGrown};
 ghost use Rattle.reach.specs.Net.{turned};
 ghost use Rattle.places.specs.Regions.{sizeOf};

@@ -13,7 +13,7 @@ ghost use Rattle.tables.specs.TableLayout.{regionAt, wholeRegion};
 ghost use Rattle.tables.specs.TableGiving.{shapesOf};
 ghost use Rattle.masks.specs.RuleMasks.{RulesIn};
 ghost use Rattle.encoding.specs.Format.{ruleAt};
-ghost use Rattle.questions.specs.OperatorSteps.{lasting};
+ghost use Rattle.model.specs.Stratification.{lasting};
 ghost use Rattle.sections.specs.Sections.{feedOf, firstOf, startsOf, activeOf, sidesOf, rightsOf};
 ghost use Rattle.grounding.specs.RuleTurns.{rangeOf, pairNumberAt, takersFor, turnFrom, preparedIn};
 ghost use Rattle.grounding.specs.RuleTurns.{fieldsIn, bitsIn};

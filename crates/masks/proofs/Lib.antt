@@ -1,6 +1,6 @@
 -- `SingleBits` has single bits of words; `BitWalk` and `BitLoops` what a loop over the bits of a mask passes
 -- and keeps; `Puts` words of a list with a bit more; `StandingPairs` the rules that stand at places that are
--- needed; `Widths` how many bits fields take.
+-- needed; `Widths` how many bits fields take; `ClearFields` fields in words that are 0.
 pub mod SingleBits
 pub mod Collecting
 pub mod BitWalk
@@ -8,3 +8,4 @@ pub mod BitLoops
 pub mod Puts
 pub mod StandingPairs
 pub mod Widths
+pub mod ClearFields

@@ -1,14 +1,10 @@
--- Masks of rules: words whose bit r stands for rule r. And fields in words that are cleared.
-use mathlib.Core.Path.{_≡_, ap, _∙_}
+-- Masks of rules: words whose bit r stands for rule r.
+use mathlib.Core.Path.{_≡_}
 use mathlib.Core.Bool.{true}
 use mathlib.Core.List.{List}
-use Prim.Native.Nat.{ℕ, _+_, _*_, _/_, _%_, _^_, _≤_, _<_}
-use native.Mathlib.Nat.{zero-div, mod-eq-of-lt}
-use native.Mathlib.Omega.{arith}
+use Prim.Native.Nat.{ℕ, _+_, _*_, _/_, _%_, _≤_, _<_}
 use lib.ListN.{length, getD}
-use lib.Pow.{pow-pos}
 use Rattle.foundation.specs.BitMasks.{bit}
-use Rattle.words.specs.Fields.{starts, fieldOf}
 use Rattle.reach.specs.Net.{standing}
 
 -- the bytes hold each rule of a mask
@@ -48,12 +44,3 @@ pub record Needed (left need codes : List ℕ) (subjects pairs m : ℕ) : Type 0
       bit r (standing left (getD codes n 0 / 256) (getD codes n 0 % 256) k) ≡ true → bit r m ≡ true
   pub only : (r : ℕ) → bit r m ≡ true →
       (n : ℕ) × (n < pairs) × (bit r (getD left (getD codes n 0 / 256) 0) ≡ true)
-
--- fields in words that are 0 are 0
-pub clear-fields : (k n : ℕ) (ws : List ℕ) → ((j : ℕ) → j < n → getD ws j 0 ≡ 0) → (i : ℕ) →
-    starts k i < 64 * n → fieldOf k ws i ≡ 0
-unfolding fieldOf
-clear-fields k n ws z i h =
-    let w : starts k i / 64 < n = omega arith in
-    ap (λ (x : ℕ). x / 2 ^ (starts k i % 64) % 2 ^ (2 ^ k)) (z (starts k i / 64) w)
-    ∙ ap (λ (x : ℕ). x % 2 ^ (2 ^ k)) (zero-div (2 ^ (starts k i % 64))) ∙ mod-eq-of-lt (pow-pos (2 ^ k))

@@ -108,8 +108,8 @@ pub weight-is : (q r : Rule) → weight q r ≡ asBit (negates r) + asBit (links
 unfolding weight
 weight-is q r = refl
 
-pub light : (q r : Rule) → weight q r ≤ 2
-light q r = omega (arith, weight-is q r, bit-le (negates r), bit-le (links q r))
+pub weight-small : (q r : Rule) → weight q r ≤ 2
+weight-small q r = omega (arith, weight-is q r, bit-le (negates r), bit-le (links q r))
 
 -- a step counts exactly if it leads to a rule with WHENEVERNOT or UNLESS, or is a link
 pub heavy-either : (q r : Rule) → heavy weight q r ≡ negates r || links q r

@@ -17,8 +17,8 @@ use Rattle.model.specs.declared.Operator.the-variants.{Whenever, AsLongA
 use Rattle.model.specs.declared.Rule.{Rule}
 use Rattle.model.specs.Stratification.{feeds, links, precedes, negating, negates, weight, stratified}
 use Rattle.model.specs.Stratification.{stratum}
-use Rattle.model.specs.Stratification.{precedes-either, links-precedes, weight-is, heavy-either, light}
-use Rattle.model.specs.Stratification.{negates-heavy, links-heavy}
+use Rattle.model.specs.Stratification.{precedes-either, links-precedes, weight-is, heavy-either}
+use Rattle.model.specs.Stratification.{weight-small, negates-heavy, links-heavy}
 
 -- 01: "a WHENEVERNOT or UNLESS"
 pub negates-is : (r : Rule) → (negates r ≡ true) ↔ ((r .operator ≡ WheneverNot) ⊎ (r .operator ≡ Unless))
@@ -138,7 +138,7 @@ module _ (rules : List Rule) where
   pub stratum-walk : (r : Rule) → FeedingWalk rules (stratum rules r) r
   unfolding stratum
   stratum-walk r = subst (λ (T : Type 0). T) (walk-feeds rules (stratum rules r) r)
-      (rank-walk precedes weight negates rules light r)
+      (rank-walk precedes weight negates rules weight-small r)
 
   module _ (s : stratified rules ≡ true) where
     free : cyclic precedes (heavy weight) rules ≡ false
@@ -148,11 +148,11 @@ module _ (rules : List Rule) where
     -- and none has more
     pub stratum-most : (r : Rule) → Mem r rules → {n : ℕ} → FeedingWalk rules n r → n ≤ stratum rules r
     unfolding stratum
-    stratum-most r m {n} w = rank-most precedes weight negates rules light free r m
+    stratum-most r m {n} w = rank-most precedes weight negates rules weight-small free r m
         (subst (λ (T : Type 0). T) (sym (walk-feeds rules n r)) w)
 
     laws : Ranked precedes weight negates rules
-    laws = ranked precedes weight negates rules light free
+    laws = ranked precedes weight negates rules weight-small free
 
     -- the rank of a rule that r looks at is not above r's,
     pub feeder-not-above : (q r : Rule) → Mem q rules → Mem r rules → precedes q r ≡ true →

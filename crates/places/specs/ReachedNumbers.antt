@@ -1,19 +1,16 @@
 -- Numbers for what is reached: the pairs at which something is needed, in the order of their codes, and the
--- modes, in theirs. Different ones have different numbers (`usedBefore-apart`, `modesBelow-apart`), below
--- their count, and every number below it is that of one (`usedBefore-onto`).
-use mathlib.Core.Path.{_≡_, refl, sym, ap, _∙_}
+-- modes, in theirs. Different pairs have different numbers (`usedBefore-apart`), below their count, and every
+-- number below it is that of one (`usedBefore-onto`).
+use mathlib.Core.Path.{_≡_, refl, ap}
 use mathlib.Core.Bool.{Bool, true, false, not}
 use mathlib.Core.List.{List, [], _∷_}
 use Prim.Native.Nat.{ℕ, zero, suc, _+_, _*_, _-_, _/_, _%_, _^_, _≤_, _<_}
-use native.Mathlib.Nat.{mod-lt}
 use native.Mathlib.Omega.{arith}
-use lib.Count.{ones, ones-step, ones-cat}
-use lib.Dec.{eqb, ltb}
+use lib.Count.{ones}
+use lib.Dec.{eqb}
 use lib.ListN.{length, getD}
-use lib.Pow.{pow-pos, split, mod-mod-pow}
-use Rattle.foundation.specs.Tests.{cases, true-eq, true-le, false-le}
-use Rattle.foundation.specs.BitMasks.{asBit, bit}
-use Rattle.foundation.specs.BitLaws.{bit-rest}
+use Rattle.foundation.specs.Tests.{cases}
+use Rattle.foundation.specs.BitMasks.{asBit}
 
 -- ---- pairs
 
@@ -106,34 +103,6 @@ usedBefore-onto (x ∷ l) m h = cases (used x)
 -- how many modes below m are reached
 abbrev pub modesBelow : ℕ → ℕ → ℕ
 modesBelow modes m = ones (modes % 2 ^ m)
-
-pub modesBelow-fewer : (modes m : ℕ) → bit m modes ≡ true → modesBelow modes m < ones modes
-modesBelow-fewer modes m e =
-    let r : ℕ = modes % 2 ^ m in
-    let q : ℕ = modes / 2 ^ m in
-    let c : ones (q * 2 ^ m + r) ≡ ones q + ones r = ones-cat m q r (mod-lt modes (pow-pos m)) in
-    let w : ones (q * 2 ^ m + r) ≡ ones modes = ap ones (split modes m) in
-    let o : q % 2 ≡ 1 = true-eq (q % 2) 1 e in
-    omega (arith, ones-step q)
-
-pub modesBelow-apart : (modes m n : ℕ) → m < n → bit m modes ≡ true → modesBelow modes m < modesBelow modes n
-modesBelow-apart modes m n h e =
-    let x : ℕ = modes % 2 ^ n in
-    let s : (n - m) + m ≡ n = omega arith in
-    let low : x % 2 ^ m ≡ modes % 2 ^ m =
-    ap (λ (k : ℕ). modes % 2 ^ k % 2 ^ m) (sym s) ∙ mod-mod-pow modes (n - m) m in
-    let f : ones (x % 2 ^ m) ≡ ones (modes % 2 ^ m) = ap ones low in
-    omega (arith, modesBelow-fewer x m (bit-rest modes m n h ∙ e))
-
--- modes of one rank are one mode
-pub modesBelow-same : (modes m n : ℕ) → bit m modes ≡ true → bit n modes ≡ true → modesBelow modes m
-    ≡ modesBelow modes n →
-    m ≡ n
-modesBelow-same modes m n e f q = cases (ltb m n)
-    (λ y. absurd (omega (arith, modesBelow-apart modes m n (true-le (suc m) n y) e)))
-    (λ y. cases (ltb n m)
-    (λ z. absurd (omega (arith, modesBelow-apart modes n m (true-le (suc n) m z) f)))
-    (λ z. omega (arith, false-le (suc m) n y, false-le (suc n) m z)))
 
 -- ---- where a pair lies
 

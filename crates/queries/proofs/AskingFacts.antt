@@ -1,5 +1,6 @@
--- A question by its access and instant: from what is known before places are reached (`sketched`) to the
--- tables as the steps leave them (`sketch-tabled`), and from what is found to the answer (`finds-answers`).
+-- A question by its access and instant: from what is known before places are reached (`asked-outlined`) to
+-- the tables as the steps leave them (`outline-tabled`), and from what is found to the answer
+-- (`finds-answers`).
 use mathlib.Core.Path.{_≡_, refl, sym, ap, ap₂, _∙_, subst}
 use mathlib.Core.Bool.{Bool, true, false, not, _&&_}
 use mathlib.Core.List.{List}
@@ -17,7 +18,7 @@ use Rattle.model.specs.Ranges.{isSubject, isMode, isObject}
 use Rattle.model.specs.Answers.{accessIn}
 use Rattle.model.specs.Rules.{may}
 use Rattle.encoding.specs.Format.{ruleAt}
-use Rattle.questions.specs.OperatorSteps.{lasting}
+use Rattle.model.specs.Stratification.{lasting}
 use Rattle.reach.specs.Net.{Formed, has}
 use Rattle.places.specs.declared.Grid.{Grid}
 use Rattle.tables.specs.declared.Frame.{Frame}
@@ -36,7 +37,7 @@ use Rattle.engine.specs.Posed.{Finds}
 use Rattle.engine.specs.Going.{chartOf}
 use Rattle.queries.specs.Drawing.{RulesDrawn, Blank, ownOf, Mapped, Arranged}
 use Rattle.queries.specs.Starting.{Tabled}
-use Rattle.queries.specs.Asking.{lastAsked, Answers, WalkStart, Sketch}
+use Rattle.queries.specs.Asking.{lastAsked, Answers, WalkStart, AskedOutline}
 use Rattle.queries.proofs.Bounds.{bits-few}
 use Rattle.queries.proofs.DrawingFacts.{chart-small, net-formed, own-known, own-pair, map-gridded}
 use Rattle.queries.proofs.DrawingFacts.{needed-low, needed-in, asked-needed}
@@ -61,38 +62,38 @@ finds-answers one t q base x r old new to from listing f = record {
 -- ---- before places are reached
 
 module _ {holder : Base} {n : ℕ} {C : Chart} {x own : Access} {s o : ℕ} {body left feed sides right : List ℕ}
-    {choosy : ℕ} (k : Sketch holder n C x own s o body left feed sides right choosy) where
-  sketch-pair : pairOf C (ownOf C x) x ≡ o * C .width + s
-  sketch-pair = own-pair (k .outline) ∙ rw (k .subject, k .object)
+    {choosy : ℕ} (k : AskedOutline holder n C x own s o body left feed sides right choosy) where
+  outline-pair : pairOf C (ownOf C x) x ≡ o * C .width + s
+  outline-pair = own-pair (k .outline) ∙ rw (k .subject, k .object)
 
   -- the asked pair is one of the net's
   pub pair-in : (need : List ℕ) → length need ≡ C .height * C .width → o * C .width + s < length need
   pair-in need size = omega (
     arith,
     size,
-    sketch-pair,
+    outline-pair,
     pair-below C (ownOf C x) x (own-known (k .outline) (k .some) (k .few)),
   )
 
   pub pair-few : o * C .width + s < 4225
   pair-few = omega (
     arith,
-    sketch-pair,
+    outline-pair,
     pair-below C (ownOf C x) x (own-known (k .outline) (k .some) (k .few)),
     chart-small C (k .outline .rules .well-formed .few) (k .outline .rules .charted) .3,
   )
 
-  pub sketch-formed : (need : List ℕ) → length need ≡ C .height * C .width →
+  pub outline-formed : (need : List ℕ) → length need ≡ C .height * C .width →
       Formed right (C .width) (length need)
-  sketch-formed need size = rw size (net-formed (k .outline))
+  outline-formed need size = rw size (net-formed (k .outline))
 
   -- what is needed of it is there
   module _ {need number codes : List ℕ} {g : Grid} (m : Mapped C left right need number codes g) where
-    pub sketch-matters :
+    pub outline-matters :
         ((b : ℕ) → bit b (257 * 2 ^ modeOf x) ≡ true → has need (o * C .width + s) b ≡ true) →
         needed C (ownOf C x) need x ≡ true
-    sketch-matters there = asked-needed (k .outline) m (k .some) (k .few)
-        (λ b e. ap (λ (j : ℕ). has need j b) sketch-pair ∙ there b e)
+    outline-matters there = asked-needed (k .outline) m (k .some) (k .few)
+        (λ b e. ap (λ (j : ℕ). has need j b) outline-pair ∙ there b e)
 
     module _ {rules : ℕ} (needs : Needed left need codes (C .width) (g .pairs) rules) (lasts : ℕ)
         (lasts-is : (r : ℕ) → bit r lasts ≡ bit r rules && lasting (ruleAt body r .operator)) where
@@ -130,9 +131,9 @@ module _ {holder : Base} {n : ℕ} {C : Chart} {body left left′ feed sides rig
     (d : RulesDrawn holder n C body left feed sides right choosy) (x own : Access)
     (in-range : accessIn x ≡ true) (own-is : own ≡ ownOf C x)
     (owned : Owned holder n body own left left′) where
-  pub sketched : Sketch holder n C x own (getD (C .subjects) (x .subject) 0)
+  pub asked-outlined : AskedOutline holder n C x own (getD (C .subjects) (x .subject) 0)
       (getD (C .objects) (x .object) 0) body left′ feed sides right choosy
-  sketched = record {
+  asked-outlined = record {
     outline = record {
       outlined = left;
       rules = d;
@@ -162,23 +163,24 @@ part-blank n table b i = cases (ltb i n)
     )))
 
 -- the pairs are few
-pub sketch-few : {holder : Base} {n : ℕ} {C : Chart} {x own : Access} {s o : ℕ}
+pub outline-few : {holder : Base} {n : ℕ} {C : Chart} {x own : Access} {s o : ℕ}
     {body left feed sides right : List ℕ} {choosy : ℕ} →
-    Sketch holder n C x own s o body left feed sides right choosy → C .height * C .width ≤ 4225
-sketch-few {C = C} k = chart-small C (k .outline .rules .well-formed .few) (k .outline .rules .charted) .3
+    AskedOutline holder n C x own s o body left feed sides right choosy → C .height * C .width ≤ 4225
+outline-few {C = C} k = chart-small C (k .outline .rules .well-formed .few) (k .outline .rules .charted) .3
 
 -- ---- the tables
 
 module _ {holder : Base} {n : ℕ} {subjects objects : List ℕ} {width height : ℕ} {x own : Access} {s o : ℕ}
     {body left feed sides right : List ℕ} {choosy : ℕ}
-    (k : Sketch holder n (record { subjects = subjects; objects = objects; width = width; height = height }) x
+    (k : AskedOutline holder n
+    (record { subjects = subjects; objects = objects; width = width; height = height }) x
     own s o body left feed sides right choosy) {need number codes first starts : List ℕ} {f : Frame}
     (m : Mapped (record { subjects = subjects; objects = objects; width = width; height = height }) left
     right need
     number codes (f .grid)) {rules : ℕ} (needs : Needed left need codes width (f .grid .pairs) rules)
     (lasts bits : ℕ) where
   -- they are as the steps leave them
-  pub sketch-tabled : (q : Query) (one : Bool) (t : ℕ) →
+  pub outline-tabled : (q : Query) (one : Bool) (t : ℕ) →
       ((b : ℕ) → bit b (257 * 2 ^ modeOf x) ≡ true → has need (o * width + s) b ≡ true) →
       Arranged n body sides right first starts choosy rules lasts bits f →
       q .own ≡ own →
@@ -189,7 +191,7 @@ module _ {holder : Base} {n : ℕ} {subjects objects : List ℕ} {width height :
       q .to ≡ lastAsked one t → q .listing ≡ not one → WalkStart one t body lasts (q .from) →
       Tabled holder n (chartOf subjects objects f)
       (prepared body left feed sides right need codes number first starts f) rules lasts bits q x
-  sketch-tabled q one t there a own-is place to listing looks =
+  outline-tabled q one t there a own-is place to listing looks =
       let same : _≡_ {A = Chart}
       (record { subjects = subjects; objects = objects; width = width; height = height })
       (chartOf subjects objects f) = λ i. record {
@@ -206,7 +208,7 @@ module _ {holder : Base} {n : ℕ} {subjects objects : List ℕ} {width height :
         mapped = m;
         needs = needs;
         arranged = a;
-        matters = sketch-matters k m there;
+        matters = outline-matters k m there;
         asked = record {
           own = own-is ∙ k .own-is;
           place = place ∙ ap₂ (λ (u v : ℕ). placed u v) (k .subject) (k .object);

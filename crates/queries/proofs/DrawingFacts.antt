@@ -19,7 +19,7 @@ use Rattle.model.specs.declared.Access.{Access}
 use Rattle.model.specs.Base.{Base}
 use Rattle.model.specs.Rules.{standsOn}
 use Rattle.encoding.specs.Format.{ruleAt}
-use Rattle.questions.specs.OperatorSteps.{lasting}
+use Rattle.model.specs.Stratification.{lasting}
 use Rattle.reach.specs.Net.{Formed, Only, standing}
 use Rattle.places.specs.declared.Grid.{Grid}
 use Rattle.places.specs.ReachedNumbers.{usedBefore-le, usedBefore-onto, codeOf}

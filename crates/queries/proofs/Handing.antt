@@ -20,7 +20,7 @@ use Rattle.encoding.specs.declared.Counts.{Counts}
 use Rattle.model.specs.Encoding.{decode}
 use Rattle.model.specs.Soundness.{soundBytes}
 use Rattle.encoding.specs.Format.{countsOf, authorizationsAt, rulesAt}
-use Rattle.encoding.proofs.SoundBodies.{lent, rest-of, fitting}
+use Rattle.encoding.proofs.SoundBodies.{lent, rest-of}
 use Rattle.sections.specs.Sections.{leftOf, feedOf, sidesOf, rightsOf, subjectsOf, objectsOf}
 use Rattle.sections.proofs.SectionWrites.{putBack, back-length, back-own, back-before, same-front}
 use Rattle.outlines.specs.Coordinates.{WellFormed}
@@ -198,9 +198,6 @@ rules-lie s c at e = rest-of s at (authorizationsAt c + c .authorizations * 24) 
 
 module _ (s : List ℕ) (e : soundBytes s ≡ true) (c : Counts) (q : c ≡ countsOf s) (at : ℕ)
     (al : at ≡ rulesAt c) where
-  pub rules-in : at ≤ length s
-  rules-in = omega (arith, al, fitting s e c q)
-
   pub rules-formed : WellFormed (c .rules) (lent s at)
   rules-formed = subst (WellFormed (c .rules))
       (ap (drop (c .authorizations * 24)) (rest-of s (authorizationsAt c) (authorizationsAt c) refl)

@@ -36,13 +36,16 @@ use Rattle.encoding.specs.declared.Counts.{Counts}
 use Rattle.encoding.specs.Format.{countsOf, authorizationsAt, rulesAt, authorizationsIn, rulesIn, ruleAt}
 use Rattle.encoding.proofs.SoundBodies.{lent, base-sound, authorizations-in, rules-in, fitting, there}
 use Rattle.encoding.proofs.SoundBodies.{authorizations-lent, rules-lent, rest-of}
-use Rattle.direct.specs.Direct.{heldDirectly, direct-may, ruleless-when}
+use Rattle.direct.specs.Direct.{heldDirectly}
+use Rattle.direct.proofs.DirectFacts.{direct-may, ruleless-when}
 use Rattle.questions.specs.RuleNumbers.{Numbering}
-use Rattle.relevance.specs.Needed.{placed-in}
+use Rattle.relevance.proofs.ChoiceFacts.{placed-in}
 use Rattle.scan.specs.declared.Track.{Track}
 use Rattle.scan.specs.Filled.{filled, filled-all}
-use Rattle.scan.specs.Runs.{ScannedTo, fewer}
-use Rattle.scan.specs.Listing.{Filling, Listing, listedIfRoom-all, listedIfRoom-short}
+use Rattle.scan.specs.Runs.{ScannedTo}
+use Rattle.scan.proofs.RunFacts.{fewer}
+use Rattle.scan.specs.Listing.{Filling, Listing}
+use Rattle.scan.proofs.FilledFacts.{listedIfRoom-all, listedIfRoom-short}
 use Rattle.outlines.specs.Coordinates.{Ranged}
 use Rattle.queries.specs.declared.Totals.{Totals}
 use Rattle.queries.specs.Starting.{Bodies}

@@ -26,8 +26,8 @@ use Rattle.grounding.specs.RuleTurns.{Prepared, prepared}
 use Rattle.engine.specs.declared.Query.{Query}
 use Rattle.places.specs.declared.Grid.{Grid}
 use Rattle.queries.specs.Drawing.{RulesDrawn, Mapped}
-use Rattle.queries.specs.Asking.{Sketch}
-use Rattle.queries.specs.Starting.{Ground}
+use Rattle.queries.specs.Asking.{AskedOutline}
+use Rattle.queries.specs.Starting.{WalkGiven}
 
 -- ---- numbers: y came back to the front, then z behind it
 
@@ -213,19 +213,19 @@ module _ {holder : Base} {n : ℕ} {C : Chart} {body left left′ feed feed′ s
       subst (λ (u : List ℕ). RulesDrawn holder n C body u feed′ sides right choosy) (sym l)
       (subst (λ (u : List ℕ). RulesDrawn holder n C body left u sides right choosy) (sym f) d)
 
-  pub sketch-moved : {x own : Access} {s o : ℕ} →
-      Sketch holder n C x own s o body left feed sides right choosy →
-      Sketch holder n C x own s o body left′ feed′ sides right choosy
-  sketch-moved {x} {own} {s} {o} k =
-      subst (λ (u : List ℕ). Sketch holder n C x own s o body u feed′ sides right choosy) (sym l)
-      (subst (λ (u : List ℕ). Sketch holder n C x own s o body left u sides right choosy) (sym f) k)
+  pub outline-moved : {x own : Access} {s o : ℕ} →
+      AskedOutline holder n C x own s o body left feed sides right choosy →
+      AskedOutline holder n C x own s o body left′ feed′ sides right choosy
+  outline-moved {x} {own} {s} {o} k =
+      subst (λ (u : List ℕ). AskedOutline holder n C x own s o body u feed′ sides right choosy) (sym l)
+      (subst (λ (u : List ℕ). AskedOutline holder n C x own s o body left u sides right choosy) (sym f) k)
 
 -- the coordinates of what is asked are read elsewhere
-pub sketch-at : {holder : Base} {n : ℕ} {C : Chart} {body left feed sides right : List ℕ} {choosy : ℕ}
+pub outline-at : {holder : Base} {n : ℕ} {C : Chart} {body left feed sides right : List ℕ} {choosy : ℕ}
     {x own : Access} {s s′ o o′ : ℕ} → s′ ≡ s → o′ ≡ o →
-    Sketch holder n C x own s o body left feed sides right choosy →
-    Sketch holder n C x own s′ o′ body left feed sides right choosy
-sketch-at p q k = record {
+    AskedOutline holder n C x own s o body left feed sides right choosy →
+    AskedOutline holder n C x own s′ o′ body left feed sides right choosy
+outline-at p q k = record {
   outline = k .outline;
   own-is = k .own-is;
   subject = p ∙ k .subject;
@@ -237,13 +237,13 @@ sketch-at p q k = record {
 pub ground-moved : {lines : List ℕ} {total n rules lasts bits : ℕ} {q : Query} {C : Chart}
     {body left left′ feed feed′ sides right need codes number first first′ starts starts′ : List ℕ}
     {f : Frame} {base : Base} {x : Access} → left′ ≡ left → feed′ ≡ feed → first′ ≡ first → starts′ ≡ starts →
-    Ground lines total n rules lasts bits q C
+    WalkGiven lines total n rules lasts bits q C
     (prepared body left feed sides right need codes number first starts f) base x →
-    Ground lines total n rules lasts bits q C
+    WalkGiven lines total n rules lasts bits q C
     (prepared body left′ feed′ sides right need codes number first′ starts′ f) base x
 ground-moved {lines} {total} {n} {rules} {lasts} {bits} {q} {C} {body} {left} {left′} {feed} {feed′} {sides}
     {right} {need} {codes} {number} {first} {first′} {starts} {starts′} {f} {base} {x} a b c d g =
     let same : _≡_ {A = Prepared} (prepared body left feed sides right need codes number first starts f)
     (prepared body left′ feed′ sides right need codes number first′ starts′ f) =
     λ i. prepared body (sym a i) (sym b i) sides right need codes number (sym c i) (sym d i) f in
-    subst (λ (p : Prepared). Ground lines total n rules lasts bits q C p base x) same g
+    subst (λ (p : Prepared). WalkGiven lines total n rules lasts bits q C p base x) same g

@@ -20,20 +20,20 @@ use Rattle.model.specs.declared.Access.{Access}
 use Rattle.model.specs.declared.Authorization.{Authorization}
 use Rattle.model.specs.Base.{Base}
 use Rattle.model.specs.Encoding.{authorizationOf, ruleOf}
-use Rattle.model.specs.Stratification.{negates}
+use Rattle.model.specs.Stratification.{negates, lasting}
 use Rattle.model.specs.Rules.{may}
 use Rattle.model.specs.Means.{allMarks}
 use Rattle.model.specs.HoldsMarks.{may-steady, all-marks-length}
 use Rattle.encoding.specs.Format.{ruleAt}
 use Rattle.laws.specs.Narrowing.{narrowed, narrowed-stratified}
-use Rattle.questions.specs.OperatorSteps.{lasting}
 use Rattle.derivation.specs.Carried.{Carried}
 use Rattle.words.specs.Fields.{fieldOf}
-use Rattle.masks.specs.RuleMasks.{clear-fields}
+use Rattle.masks.proofs.ClearFields.{clear-fields}
 use Rattle.relevance.specs.declared.Chosen.{Chosen}
 use Rattle.relevance.specs.Chosen.{authorizationAt}
 use Rattle.relevance.specs.Needed as choice
-use Rattle.relevance.specs.Needed.{Choice, choice-picks, cellOf, isNeeded}
+use Rattle.relevance.specs.Needed.{Choice, cellOf, isNeeded}
+use Rattle.relevance.proofs.ChoiceFacts.{choice-picks}
 use Rattle.relevance.specs.Forgotten.{during}
 use Rattle.tables.specs.declared.Frame.{Frame}
 use Rattle.scan.specs.Runs.{ScannedTo}
@@ -55,8 +55,8 @@ use Rattle.sections.proofs.SectionWrites.{part-long, same-front, same-part, put
 use Rattle.engine.specs.Posed.{Posed, Walks, nothing, Finds}
 use Rattle.engine.proofs.NothingFound.{nothing-found}
 use Rattle.queries.specs.Drawing.{ownOf, Outline, sized}
-use Rattle.queries.specs.Starting.{Bodies, askedPlace, chosenFor, Tabled, Begun, Sized, Ground, BegunIn}
-use Rattle.queries.specs.Starting.{GroundIn, Sectioned, brokenWords}
+use Rattle.queries.specs.Starting.{Bodies, askedPlace, chosenFor, Tabled, Begun, Sized, WalkGiven}
+use Rattle.queries.specs.Starting.{BegunIn, WalkGivenIn, Sectioned, brokenWords}
 use Rattle.queries.proofs.DrawingFacts.{own-coordinate, chart-small, fields-small, total-small, drawn}
 
 -- ---- the bodies of a base
@@ -324,13 +324,13 @@ module _ {lines which : List ℕ} {c : Chosen} {lasts total : ℕ} {q : Query} {
   begun-bits = total-small (b .tabled .outline) (b .tabled .mapped) (b .tabled .needs) (b .tabled .arranged)
 
 -- authorizations are chosen
-pub ground-begun : {lines : List ℕ} {total n rules lasts bits : ℕ} {q : Query} {C : Chart} {p : Prepared}
-    {base : Base} {x : Access} → Ground lines total n rules lasts bits q C p base x → (entry which : List ℕ)
-    (k : ℕ) →
+pub given-begun : {lines : List ℕ} {total n rules lasts bits : ℕ} {q : Query} {C : Chart} {p : Prepared}
+    {base : Base} {x : Access} → WalkGiven lines total n rules lasts bits q C p base x →
+    (entry which : List ℕ) (k : ℕ) →
     total ≤ length entry →
     Choice (chosenFor C (q .own) p q) lines total entry which k →
     Begun lines which (record { authorizations = k; rules = n; needed = rules }) lasts bits q C p base x
-ground-begun {lines} {total} {n} {rules} {lasts} {bits} {q} {C} {p} g entry which k room chosen = record {
+given-begun {lines} {total} {n} {rules} {lasts} {bits} {q} {C} {p} g entry which k room chosen = record {
   holder = g .holder;
   tabled = g .tabled;
   count = total;
@@ -342,7 +342,7 @@ ground-begun {lines} {total} {n} {rules} {lasts} {bits} {q} {C} {p} g entry whic
 }
 
 pub ground-ready : {lines : List ℕ} {total n rules lasts bits : ℕ} {q : Query} {C : Chart} {p : Prepared}
-    {base : Base} {x : Access} → Ground lines total n rules lasts bits q C p base x → (which : List ℕ) →
+    {base : Base} {x : Access} → WalkGiven lines total n rules lasts bits q C p base x → (which : List ℕ) →
     total ≤ length which → choice.ChoiceReady lines total (C .subjects) (C .objects) (C .width) (p .need)
     which
 ground-ready {p = p} g which room =
@@ -354,7 +354,7 @@ ground-ready {p = p} g which room =
 abbrev pub framed : WindowWalk → Frame → WindowWalk
 framed w f = record {
   chosen = w .chosen;
-  body = w .body;
+  offset = w .offset;
   lasting = w .lasting;
   bits = w .bits;
   query = w .query;
@@ -365,7 +365,7 @@ framed w f = record {
 abbrev pub picking : WindowWalk → ℕ → WindowWalk
 picking w k = record {
   chosen = record { authorizations = k; rules = w .chosen .rules; needed = w .chosen .needed };
-  body = w .body;
+  offset = w .offset;
   lasting = w .lasting;
   bits = w .bits;
   query = w .query;
@@ -484,12 +484,12 @@ module _ {records outline coordinates need numbers : List ℕ} {w : WindowWalk}
     }
 
     pub picked-begun : {base : Base} {x : Access} →
-        GroundIn records outline coordinates need numbers w base x →
+        WalkGivenIn records outline coordinates need numbers w base x →
         BegunIn records outline coordinates need after (picking w k) base x
     picked-begun {base} {x} g =
         let tables : preparedFor records outline coordinates need numbers w
         ≡ preparedFor records outline coordinates need after w = λ i. record {
-          body = drop (w .body) records;
+          body = drop (w .offset) records;
           left = leftOf outline;
           feed = feedOf outline;
           sides = sidesOf coordinates;
@@ -505,12 +505,12 @@ module _ {records outline coordinates need numbers : List ℕ} {w : WindowWalk}
         (w .bits) (w .query) (chartIn coordinates (w .frame)) p base x) tables
         (subst (λ (l : List ℕ). Begun records l (picking w k .chosen) (w .lasting) (w .bits) (w .query)
         (chartIn coordinates (w .frame)) (preparedFor records outline coordinates need numbers w) base x)
-        (sym which-own) (ground-begun g entry y k entry-room c))
+        (sym which-own) (given-begun g entry y k entry-room c))
 
   -- where none is chosen and no rule that matters negates, nothing is found
   pub begun-nothing : {base : Base} {x : Access} → BegunIn records outline coordinates need numbers w base x →
       w .chosen .authorizations ≡ 0 →
-      ((r : ℕ) → bit r (w .chosen .needed) ≡ true → negates (ruleAt (drop (w .body) records) r) ≡ false) →
+      ((r : ℕ) → bit r (w .chosen .needed) ≡ true → negates (ruleAt (drop (w .offset) records) r) ≡ false) →
       (old : List ℕ) → Finds (w .query) base x nothing old old
   begun-nothing b none positive old =
       let k = brokenWords (w .bits) in

@@ -1,5 +1,5 @@
--- A question by its access and instant: what is known before places are reached (`Sketch`), and what the
--- answer says (`Answers`).
+-- A question by its access and instant: what is known before places are reached (`AskedOutline`), and what
+-- the answer says (`Answers`).
 use mathlib.Core.Path.{_≡_}
 use mathlib.Core.Logic.{_⊎_}
 use mathlib.Core.Bool.{Bool, true, false}
@@ -43,7 +43,7 @@ pub record WalkStart (one : Bool) (t : ℕ) (body : List ℕ) (lasts from : ℕ)
 
 -- ---- before places are reached
 
-pub record Sketch (holder : Base) (n : ℕ) (C : Chart) (x own : Access) (s o : ℕ)
+pub record AskedOutline (holder : Base) (n : ℕ) (C : Chart) (x own : Access) (s o : ℕ)
     (body left feed sides right : List ℕ) (choosy : ℕ) : Type 0 where
   pub outline : Outline holder n C x body left feed sides right choosy
   pub own-is : own ≡ ownOf C x
@@ -56,7 +56,7 @@ pub record Sketch (holder : Base) (n : ℕ) (C : Chart) (x own : Access) (s o : 
 pub record Task (lines : List ℕ) (total n : ℕ) (C : Chart) (x own : Access) (s o : ℕ)
     (body left feed sides right : List ℕ) (choosy : ℕ) (base : Base) : Type 0 where
   pub holder : Base
-  pub sketch : Sketch holder n C x own s o body left feed sides right choosy
+  pub asked-outline : AskedOutline holder n C x own s o body left feed sides right choosy
   pub bodies : Bodies holder lines total body n base
 
 -- ---- by the slices that hold the tables

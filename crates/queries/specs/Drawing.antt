@@ -12,7 +12,7 @@ use Rattle.foundation.specs.BitMasks.{bit, maskOf}
 use Rattle.model.specs.declared.Access.{Access}
 use Rattle.model.specs.Base.{Base}
 use Rattle.encoding.specs.Format.{rulesIn, ruleAt}
-use Rattle.questions.specs.OperatorSteps.{lasting}
+use Rattle.model.specs.Stratification.{lasting}
 use Rattle.reach.specs.Net.{ClosedNet, Only}
 use Rattle.places.specs.declared.Grid.{Grid}
 use Rattle.places.specs.ReachedNumbers.{used, usedBefore, codeOf}

@@ -1,5 +1,5 @@
 -- What a walk over the tables of a question starts from: the bodies of a base (`Bodies`), the tables and what
--- is asked of them (`Tabled`), without authorizations (`Ground`) and with those that are chosen (`Begun`).
+-- is asked of them (`Tabled`), without authorizations (`WalkGiven`) and with those that are chosen (`Begun`).
 use mathlib.Core.Path.{_≡_}
 use mathlib.Core.Logic.{_⊎_}
 use mathlib.Core.Bool.{Bool, true, false}
@@ -110,7 +110,7 @@ pub record Sized (f : Frame) (words : ℕ) (g : Frame) : Type 0 where
   pub same : g ≡ sized f width
 
 -- the tables and the bodies are there, before authorizations are chosen
-pub record Ground (lines : List ℕ) (total n rules lasts bits : ℕ) (q : Query) (C : Chart) (p : Prepared)
+pub record WalkGiven (lines : List ℕ) (total n rules lasts bits : ℕ) (q : Query) (C : Chart) (p : Prepared)
     (base : Base) (x : Access) : Type 0 where
   pub holder : Base
   pub tabled : Tabled holder n C p rules lasts bits q x
@@ -124,14 +124,14 @@ module _ (records outline coordinates need numbers : List ℕ) (w : WindowWalk) 
       (chartIn coordinates (w .frame)) (preparedFor records outline coordinates need numbers w)
 
   -- of all authorizations none is chosen yet
-  abbrev pub GroundIn : Base → Access → Type 0
-  GroundIn = Ground records (w .chosen .authorizations) (w .chosen .rules) (w .chosen .needed) (w .lasting)
-      (w .bits) (w .query) (chartIn coordinates (w .frame))
+  abbrev pub WalkGivenIn : Base → Access → Type 0
+  WalkGivenIn = WalkGiven records (w .chosen .authorizations) (w .chosen .rules) (w .chosen .needed)
+      (w .lasting) (w .bits) (w .query) (chartIn coordinates (w .frame))
       (preparedFor records outline coordinates need numbers w)
 
   -- the slices have room
   pub record Sectioned : Type 0 where
-    pub bodied : w .body ≤ length records
+    pub bodied : w .offset ≤ length records
     pub outlined : length outline ≡ 472
     pub placed : length coordinates ≡ 1666
     pub numbered : 2 * length need + w .chosen .authorizations ≤ length numbers

@@ -232,7 +232,7 @@ fn with_pairs(
     };
     let w = WindowWalk {
         chosen: c,
-        body: from,
+        offset: from,
         lasting: lasting,
         bits: bits,
         query: q,

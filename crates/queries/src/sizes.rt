@@ -6,7 +6,7 @@ ghost use lib.ListN.{length, getD, take};
 ghost use Rattle.model.specs.Base.{Base};
 ghost use Rattle.model.specs.declared.Access.{Access};
 ghost use Rattle.engine.specs.Posed.{nothing, Finds};
-ghost use Rattle.queries.specs.Starting.{BegunIn, GroundIn, Sectioned, Sized, brokenWords, RoomFor};
+ghost use Rattle.queries.specs.Starting.{BegunIn, WalkGivenIn, Sectioned, Sized, brokenWords, RoomFor};
 use engine::Found;
 use engine::WindowWalk;
 use engine::walk_windows;
@@ -78,7 +78,7 @@ fn walk_narrow(
     let g = sized(f, true, work.len() - broken_words(w.bits));
     let v = WindowWalk {
         chosen: c,
-        body: w.body,
+        offset: w.offset,
         lasting: w.lasting,
         bits: w.bits,
         query: q,
@@ -113,7 +113,7 @@ fn walk_wide(
     let g = sized(f, false, work.len() - broken_words(w.bits));
     let v = WindowWalk {
         chosen: c,
-        body: w.body,
+        offset: w.offset,
         lasting: w.lasting,
         bits: w.bits,
         query: q,
@@ -325,9 +325,9 @@ pub fn with_lines(
     list: &mut [u32],
 ) -> Found
     requires { ⌜ Sectioned (now records) (now outline) (now coordinates) (now need) (now numbers) w
-        × ((base : Base) × (x : Access) × GroundIn (now records) (now outline) (now coordinates) (now need)
+        × ((base : Base) × (x : Access) × WalkGivenIn (now records) (now outline) (now coordinates) (now need)
         (now numbers) w base x) ⌝ }
-    ensures { λ r. ⌜ ((base : Base) (x : Access) → GroundIn (now (records .entry)) (now (outline .entry))
+    ensures { λ r. ⌜ ((base : Base) (x : Access) → WalkGivenIn (now (records .entry)) (now (outline .entry))
         (now (coordinates .entry)) (now (need .entry)) (now (numbers .entry)) w base x →
         Finds (w .query) base x r (now (list .entry)) (now (list .exit)))
         × (take 280 (now (outline .exit)) ≡ take 280 (now (outline .entry))) ⌝ }
@@ -353,7 +353,7 @@ pub fn with_lines(
         &mut numbers[at..],
     );
     if k == 0 {
-        let from = w.body;
+        let from = w.offset;
         if !counts_some(&records[from..], c.needed) {
             return nothing_found();
         }
@@ -365,7 +365,7 @@ pub fn with_lines(
     };
     let v = WindowWalk {
         chosen: d,
-        body: w.body,
+        offset: w.offset,
         lasting: w.lasting,
         bits: w.bits,
         query: q,

@@ -1,4 +1,2 @@
 pub mod RuleNumbers
-pub mod OperatorSteps
 pub mod Table
-pub mod FromMarkToMark

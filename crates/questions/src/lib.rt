@@ -1,2 +1,2 @@
-// The theory that MAY and WHEN rest on, in specs/: what the rules derive at one mark, found from what they
-// derived at the mark before.
+// The theory that MAY and WHEN rest on, in specs/ and proofs/: what the rules derive at one mark, found from
+// what they derived at the mark before.

@@ -73,8 +73,8 @@ module _ (need todo : List ℕ) (p bits : ℕ) (h : p < length need) (g : p < le
       (λ x. inr (ap (λ (i : ℕ). has todo′ i k) q ∙ newly k (rw x at c) x)))
       (λ y. inl (sym (has-set need p (bitOr old bits) j k h ∙ rw y) ∙ e))
 
-  lighter : remaining need′ todo′ ≤ remaining need todo
-  lighter =
+  fewer-left : remaining need′ todo′ ≤ remaining need todo
+  fewer-left =
       let a = or-add-and old bits in
       let b = and-comm old bits in
       let l = and-le-l bits old in
@@ -91,7 +91,7 @@ module _ (need todo : List ℕ) (p bits : ℕ) (h : p < length need) (g : p < le
     more = more;
     kept = kept;
     fresh = fresh;
-    less = lighter;
+    less = fewer-left;
     needs = length-set need p (bitOr old bits);
     todos = length-set todo p (bitOr was (less bits old));
   }

@@ -1,5 +1,7 @@
 -- `Nearness` has marks by their distance, and the order in which marks are looked at; `Growing` a window that
--- is being filled; `KeptNumbers` numbers that are kept by a test.
+-- is being filled; `KeptNumbers` numbers that are kept by a test; `ChoiceFacts` the authorizations that are
+-- chosen.
 pub mod Nearness
 pub mod Growing
 pub mod KeptNumbers
+pub mod ChoiceFacts

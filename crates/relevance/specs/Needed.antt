@@ -1,26 +1,21 @@
 -- Which authorizations are needed: a table says for each place, a subject's and an object's coordinate, which
 -- modes are, with both signs.
-use mathlib.Core.Path.{_≡_, refl}
-use mathlib.Core.Logic.{inl, inr}
-use mathlib.Core.Bool.{Bool, true, false, not, _&&_, _||_}
-use mathlib.Core.List.{List, [], _∷_}
+use mathlib.Core.Path.{_≡_}
+use mathlib.Core.Bool.{Bool, false, not, _&&_, _||_}
+use mathlib.Core.List.{List}
 use Prim.Native.Nat.{ℕ, _+_, _*_, _-_, _≤_, _<_}
-use lib.Dec.{eqb, leb}
+use lib.Dec.{eqb}
 use lib.ListN.{length, getD}
-use Rattle.foundation.specs.Tests.{and-true, true-le}
-use Rattle.foundation.specs.Lists.{keepIf, conjunct}
+use Rattle.foundation.specs.Lists.{keepIf}
 use Rattle.foundation.specs.BitMasks.{bit}
 use Rattle.foundation.specs.CoordinateTables.{coordinate}
 use Rattle.foundation.specs.declared.Interval.{Interval}
 use Rattle.model.specs.declared.Access.{Access}
 use Rattle.model.specs.declared.Authorization.{Authorization}
 use Rattle.model.specs.declared.Head.{Head}
-use Rattle.model.specs.Ranges.{isSubject, isObject, isMode, isLabel, isInstant}
-use Rattle.model.specs.Soundness.{authorizationIn, intervalIn}
 use Rattle.encoding.specs.Format.{authorizationsIn}
 use Rattle.relevance.specs.declared.choice.Cell.{Cell}
-use native.Mathlib.Omega.{arith}
-use Rattle.relevance.specs.Chosen.{authorizationAt, picked, Picks}
+use Rattle.relevance.specs.Chosen.{authorizationAt, picked}
 use Rattle.relevance.specs.Forgotten.{during}
 
 abbrev pub cellOf : List ℕ → List ℕ → Access → Head → Cell
@@ -55,22 +50,6 @@ pub record HeadInRange (h : Head) : Type 0 where
   pub some : 1 ≤ h .mode
   pub mode : h .mode ≤ 8
 
-pub placed-in : (a : Authorization) → authorizationIn a ≡ true → HeadInRange (a .head)
-placed-in a e =
-    let h = a .head in
-    let t = conjunct (isLabel (h .label) ∷ isSubject (h .grantor) ∷ isSubject (h .subject)
-    ∷ isObject (h .object)
-    ∷ isMode (h .mode) ∷ isInstant (h .granted) ∷ intervalIn (a .interval) ∷ []) e in
-    let s = and-true (leb 1 (h .subject)) (leb (h .subject) 1023) (t _ (inr (inr (inl refl)))) in
-    let o = and-true (leb 1 (h .object)) (leb (h .object) 128) (t _ (inr (inr (inr (inl refl))))) in
-    let m = and-true (leb 1 (h .mode)) (leb (h .mode) 8) (t _ (inr (inr (inr (inr (inl refl)))))) in
-    record {
-      subject = omega (arith, true-le (h .subject) 1023 (s .1));
-      object = omega (arith, true-le (h .object) 128 (o .1));
-      some = true-le 1 (h .mode) (m .0);
-      mode = true-le (h .mode) 8 (m .1);
-    }
-
 -- coordinates that are both there have their place in the table
 pub record CellInTable (c : Cell) (stride : ℕ) (need : List ℕ) : Type 0 where
   pub narrow : stride ≤ 256
@@ -98,11 +77,3 @@ pub record Choice (test : Authorization → Bool) (s : List ℕ) (total : ℕ) (
   pub few : n ≤ total
   pub below : (j : ℕ) → j < n → getD exit j 0 < total
   pub same-length : length exit ≡ length entry
-
--- so they lie in the bytes
-pub choice-picks : (test : Authorization → Bool) (s : List ℕ) (total : ℕ) (entry exit : List ℕ) (n : ℕ) →
-    total * 24 ≤ length s → total ≤ length entry → Choice test s total entry exit n → Picks s exit n
-choice-picks test s total entry exit n h l c = record {
-  room = omega (arith, c .few, c .same-length);
-  inside = λ j k. omega (arith, c .below j k);
-}

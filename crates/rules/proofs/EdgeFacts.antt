@@ -15,7 +15,7 @@ use Rattle.foundation.specs.GraphFacts.{most-le, le-most}
 use Rattle.foundation.specs.BitMasks.{asBit}
 use Rattle.model.specs.declared.Rule.{Rule}
 use Rattle.model.specs.Encoding.{ruleOf}
-use Rattle.model.specs.Stratification.{precedes, light}
+use Rattle.model.specs.Stratification.{precedes, weight-small}
 use Rattle.rules.specs.RankTables.{RuleTable, countOf, ownCount, raised}
 use Rattle.encoding.specs.Format.{rulesIn, ruleAt}
 use Rattle.rules.specs.Edges.{stepOf, edgeAt, EdgeRow, bestOf}
@@ -23,13 +23,13 @@ use Rattle.foundation.specs.ByteRecords.{record-mem, mem-record}
 
 -- ---- steps
 
-pub count-light : (every : Bool) (q r : Rule) → countOf every q r ≤ 2
-count-light true q r = omega arith
-count-light false q r = light q r
+pub count-small : (every : Bool) (q r : Rule) → countOf every q r ≤ 2
+count-small true q r = omega arith
+count-small false q r = weight-small q r
 
 pub step-small : (every : Bool) (q r : Rule) → stepOf every q r ≤ 3
 step-small every q r =
-    cases (precedes q r) (λ e. rw e (omega (arith, count-light every q r))) (λ e. rw e (omega arith))
+    cases (precedes q r) (λ e. rw e (omega (arith, count-small every q r))) (λ e. rw e (omega arith))
 
 step-is : (every : Bool) (q r : Rule) → precedes q r ≡ true → stepOf every q r ≡ suc (countOf every q r)
 step-is every q r e = rw e

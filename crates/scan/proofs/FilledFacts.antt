@@ -1,11 +1,16 @@
--- Intervals at the front of a lent list: one more behind others. Assumes nothing.
+-- Intervals at the front of a lent list: one more behind others; all of them, if there is room. Assumes
+-- nothing.
 use mathlib.Core.Path.{_≡_, refl, ap, _∙_}
-use Prim.Native.Nat.{ℕ, zero, suc, _+_, _*_, _≤_, _<_}
+use Prim.Native.Nat.{ℕ, zero, suc, _+_, _*_, _/_, _≤_, _<_}
 use native.Mathlib.Omega.{arith}
+use mathlib.Core.Bool.{Bool}
 use mathlib.Core.List.{List, [], _∷_, _++_}
-use lib.ListN.{length, set}
+use lib.ListN.{length, set, drop}
+use Rattle.foundation.specs.Tests.{pick, le-true, le-false}
 use Rattle.foundation.specs.declared.Interval.{Interval}
+use Rattle.model.specs.Answers.{words}
 use Rattle.scan.specs.Filled.{withPair, filled}
+use Rattle.scan.specs.Listing.{listedIfRoom}
 
 -- one interval more
 pub filled-more : (done : List Interval) (i : Interval) (l : List ℕ) →
@@ -39,3 +44,16 @@ pair-left c a b (x ∷ []) h = refl
 pair-left zero a b (x ∷ y ∷ l) h = absurd (omega arith)
 pair-left (suc c) a b (x ∷ y ∷ l) h =
     ap (λ (k : List ℕ). x ∷ y ∷ k) (pair-left c a b l (omega arith))
+
+-- the list is too short, or not
+pub listedIfRoom-short : (xs : List Interval) (list : List ℕ) → length list / 2 < length xs → listedIfRoom xs
+    list ≡ list
+listedIfRoom-short xs list h =
+    ap (λ (g : Bool). pick g list (words xs ++ drop (2 * length xs) list))
+    (le-true (suc (length list / 2)) (length xs) h)
+
+pub listedIfRoom-all : (xs : List Interval) (list : List ℕ) → length xs ≤ length list / 2 →
+    listedIfRoom xs list ≡ words xs ++ drop (2 * length xs) list
+listedIfRoom-all xs list h =
+    ap (λ (g : Bool). pick g list (words xs ++ drop (2 * length xs) list))
+    (le-false (suc (length list / 2)) (length xs) (omega arith))

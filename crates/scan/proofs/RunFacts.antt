@@ -1,22 +1,23 @@
--- What is counted and in the list (`ScannedTo`, `AskedAt`) from instant to instant: at the start (`start`),
--- where the test is asked (`same`, `opens`, `closed-run`), on to the next (`onward`, `next-reached`), and
--- behind the end (`complete-open`, `complete-none`). Assumes nothing.
+-- What is counted and in the list (`ScannedTo`, `AskedAt`): never more than all (`counted`, `fewer`). From
+-- instant to instant: at the start (`start`), where the test is asked (`same`, `opens`, `closed-run`), on to
+-- the next (`onward`, `next-reached`), and behind the end (`complete-open`, `complete-none`). Assumes
+-- nothing.
 use mathlib.Core.Path.{_≡_, refl, sym, ap, _∙_, subst}
 use Prim.Native.Nat.{ℕ, suc, _+_, _-_, _≤_, _<_}
 use native.Mathlib.Omega.{arith}
 use native.Mathlib.Numerals.{add-one}
 use mathlib.Core.Bool.{Bool, true, false, false≢true}
-use mathlib.Core.List.{List, [], _∷_, _++_, append-nil}
+use mathlib.Core.List.{List, [], _∷_, _++_, append-nil, append-assoc}
 use lib.Dec.{ltb}
 use lib.ListN.{length, getD, length-append}
 use Rattle.foundation.specs.Tests.{pick, cases, true-le, false-le, le-true, le-false}
 use Rattle.foundation.specs.declared.Interval.{Interval}
 use Rattle.foundation.specs.Intervals.{interval, maximal}
-use Rattle.foundation.specs.MaximalRuns.{maximal-past, maximal-skip}
+use Rattle.foundation.specs.MaximalRuns.{maximal-past, maximal-skip, maximal-run}
 use Rattle.windows.specs.Windows.{Rising}
 use Rattle.scan.specs.declared.Track.{Track}
 use Rattle.scan.specs.Filled.{filled, withPair}
-use Rattle.scan.specs.Runs.{instantAt, Answered, Listed, Holding, ScannedTo, AskedAt, ended}
+use Rattle.scan.specs.Runs.{instantAt, Answered, Listed, Holding, ScannedTo, AskedAt}
 use Rattle.scan.proofs.FilledFacts.{filled-more}
 
 pub instant-there : (n : ℕ) (ms : List ℕ) (m i : ℕ) → i < n → instantAt n ms m i ≡ getD ms i 0
@@ -25,7 +26,49 @@ instant-there n ms m i h = ap (λ (b : Bool). pick b (getD ms i 0) m) (le-true (
 pub instant-behind : (n : ℕ) (ms : List ℕ) (m i : ℕ) → n ≤ i → instantAt n ms m i ≡ m
 instant-behind n ms m i h = ap (λ (b : Bool). pick b (getD ms i 0) m) (le-false (suc i) n (omega arith))
 
--- `lent` is the list as it was lent
+-- how many are done; `lent` is the list as it was lent
+module _ (f : ℕ → Bool) (e : ℕ) (lent : List ℕ) where
+  -- no more are done than there are
+  pub counted : (t : ℕ) (w : Track) (list : List ℕ) → ScannedTo f e lent t w list →
+      w .count ≤ length (maximal 0 e f)
+  counted t w list r =
+      let l = r .listed in
+      let others = maximal (pick (w .inside) (w .from) t) e f in
+      omega (
+        arith,
+        l .count-is,
+        ap (λ (x : List Interval). length x) (l .all),
+        length-append (l .done) others,
+      )
+
+  module _ (t : ℕ) (w : Track) (list : List ℕ) (r : ScannedTo f e lent t w list) where
+    -- the interval that ends before m, which is t where f fails, or behind the end
+    pub ended : (m : ℕ) → w .inside ≡ true → m ≡ t → m ≤ suc e → (m ≤ e → f m ≡ false) →
+        maximal 0 e f ≡ (r .listed .done ++ (interval (w .from) (m - 1) ∷ [])) ++ maximal m e f
+    ended m o q h stop =
+        let l = r .listed in
+        let z = r .held o in
+        let p : pick (w .inside) (w .from) t ≡ w .from = ap (λ (b : Bool). pick b (w .from) t) o in
+        l .all ∙ ap (λ (k : ℕ). l .done ++ maximal k e f) p
+        ∙ ap (λ (rest : List Interval). l .done ++ rest)
+        (maximal-run (w .from) m e f (omega (arith, z .0)) h (λ u x y. z .1 u x (omega arith)) stop)
+        ∙ sym (append-assoc (l .done) (interval (w .from) (m - 1) ∷ []) (maximal m e f))
+
+    -- there are never more than all
+    pub fewer : w .inside ≡ true → t ≤ suc e → (t ≤ e → f t ≡ false) → suc (w .count) ≤ length (maximal 0 e f)
+    fewer o h stop =
+        let l = r .listed in
+        let run = interval (w .from) (t - 1) ∷ [] in
+        let n = ap (λ (x : List Interval). length x) (ended t o refl h stop) in
+        omega (
+          arith,
+          n,
+          l .count-is,
+          length-append (l .done ++ run) (maximal t e f),
+          length-append (l .done) run,
+        )
+
+-- from instant to instant
 module _ (f : ℕ → Bool) (e : ℕ) (lent : List ℕ) where
   -- at the start there is nothing
   pub start : (from : ℕ) → ScannedTo f e lent 0 (record { count = 0; inside = false; from = from }) lent

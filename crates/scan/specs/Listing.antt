@@ -1,12 +1,10 @@
 -- WHEN's intervals in a lent list: as many as there is room for (`Filling`), or all or none (`Listing`).
-use mathlib.Core.Path.{_≡_, ap}
-use Prim.Native.Nat.{ℕ, suc, _*_, _/_, _≤_, _<_}
-use native.Mathlib.Omega.{arith}
-use mathlib.Core.Bool.{Bool}
+use mathlib.Core.Path.{_≡_}
+use Prim.Native.Nat.{ℕ, _*_, _/_, _≤_}
 use mathlib.Core.List.{List, _++_}
 use lib.Dec.{ltb}
 use lib.ListN.{length, drop}
-use Rattle.foundation.specs.Tests.{pick, le-true, le-false}
+use Rattle.foundation.specs.Tests.{pick}
 use Rattle.foundation.specs.declared.Interval.{Interval}
 use Rattle.model.specs.Answers.{words}
 use Rattle.scan.specs.Filled.{filled}
@@ -25,16 +23,3 @@ pub record Listing (intervals : List Interval) (n : ℕ) (list list′ : List �
   pub count : n ≡ length intervals
   pub few : n ≤ 1089
   pub lent : list′ ≡ listedIfRoom intervals list
-
--- the list is too short, or not
-pub listedIfRoom-short : (xs : List Interval) (list : List ℕ) → length list / 2 < length xs → listedIfRoom xs
-    list ≡ list
-listedIfRoom-short xs list h =
-    ap (λ (g : Bool). pick g list (words xs ++ drop (2 * length xs) list))
-    (le-true (suc (length list / 2)) (length xs) h)
-
-pub listedIfRoom-all : (xs : List Interval) (list : List ℕ) → length xs ≤ length list / 2 →
-    listedIfRoom xs list ≡ words xs ++ drop (2 * length xs) list
-listedIfRoom-all xs list h =
-    ap (λ (g : Bool). pick g list (words xs ++ drop (2 * length xs) list))
-    (le-false (suc (length list / 2)) (length xs) (omega arith))

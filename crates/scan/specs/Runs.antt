@@ -1,18 +1,15 @@
 -- The maximal intervals where a test holds, written down from left to right: what is counted, and in the
--- list, when an instant is reached (`ScannedTo`), and when it has been asked there (`AskedAt`). There
--- are never more than all (`counted`, `fewer`).
-use mathlib.Core.Path.{_≡_, refl, sym, ap, _∙_}
+-- list, when an instant is reached (`ScannedTo`), and when it has been asked there (`AskedAt`).
+use mathlib.Core.Path.{_≡_}
 use Prim.Native.Nat.{ℕ, suc, _-_, _≤_, _<_}
-use native.Mathlib.Omega.{arith}
-use mathlib.Core.Bool.{Bool, true, false}
-use mathlib.Core.List.{List, [], _∷_, _++_, append-assoc}
+use mathlib.Core.Bool.{Bool, true}
+use mathlib.Core.List.{List, _++_}
 use lib.Dec.{ltb}
-use lib.ListN.{length, getD, length-append}
+use lib.ListN.{length, getD}
 use Rattle.foundation.specs.Tests.{pick}
 use Rattle.foundation.specs.BitMasks.{bit}
 use Rattle.foundation.specs.declared.Interval.{Interval}
-use Rattle.foundation.specs.Intervals.{interval, maximal}
-use Rattle.foundation.specs.MaximalRuns.{maximal-run}
+use Rattle.foundation.specs.Intervals.{maximal}
 use Rattle.scan.specs.declared.Track.{Track}
 use Rattle.scan.specs.Filled.{filled}
 
@@ -53,43 +50,3 @@ module _ (f : ℕ → Bool) (e : ℕ) (lent : List ℕ) where
     pub listed : Listed (w .count) (pick (w .inside) (w .from) t) list
     pub held : w .inside ≡ true → (w .from ≤ t) × Holding (w .from) t
     pub answer : w .inside ≡ f t
-
-  -- no more are done than there are
-  pub counted : (t : ℕ) (w : Track) (list : List ℕ) → ScannedTo t w list →
-      w .count ≤ length (maximal 0 e f)
-  counted t w list r =
-      let l = r .listed in
-      let others = maximal (pick (w .inside) (w .from) t) e f in
-      omega (
-        arith,
-        l .count-is,
-        ap (λ (x : List Interval). length x) (l .all),
-        length-append (l .done) others,
-      )
-
-  module _ (t : ℕ) (w : Track) (list : List ℕ) (r : ScannedTo t w list) where
-    -- the interval that ends before m, which is t where f fails, or behind the end
-    pub ended : (m : ℕ) → w .inside ≡ true → m ≡ t → m ≤ suc e → (m ≤ e → f m ≡ false) →
-        maximal 0 e f ≡ (r .listed .done ++ (interval (w .from) (m - 1) ∷ [])) ++ maximal m e f
-    ended m o q h stop =
-        let l = r .listed in
-        let z = r .held o in
-        let p : pick (w .inside) (w .from) t ≡ w .from = ap (λ (b : Bool). pick b (w .from) t) o in
-        l .all ∙ ap (λ (k : ℕ). l .done ++ maximal k e f) p
-        ∙ ap (λ (rest : List Interval). l .done ++ rest)
-        (maximal-run (w .from) m e f (omega (arith, z .0)) h (λ u x y. z .1 u x (omega arith)) stop)
-        ∙ sym (append-assoc (l .done) (interval (w .from) (m - 1) ∷ []) (maximal m e f))
-
-    -- there are never more than all
-    pub fewer : w .inside ≡ true → t ≤ suc e → (t ≤ e → f t ≡ false) → suc (w .count) ≤ length (maximal 0 e f)
-    fewer o h stop =
-        let l = r .listed in
-        let run = interval (w .from) (t - 1) ∷ [] in
-        let n = ap (λ (x : List Interval). length x) (ended t o refl h stop) in
-        omega (
-          arith,
-          n,
-          l .count-is,
-          length-append (l .done ++ run) (maximal t e f),
-          length-append (l .done) run,
-        )

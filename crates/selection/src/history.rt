@@ -6,7 +6,7 @@ ghost use Prim.Native.Nat.{ℕ, _+_, _*_, _≤_, _<_};
 ghost use Rattle.foundation.specs.BitMasks.{bit};
 ghost use Rattle.foundation.specs.Intervals.{inInterval};
 ghost use Rattle.masks.specs.RuleMasks.{RulesIn};
-ghost use Rattle.questions.specs.OperatorSteps.{lasting};
+ghost use Rattle.model.specs.Stratification.{lasting};
 ghost use Rattle.encoding.specs.Format.{ruleAt};
 use encoding::rule_at;
 use evaluation::is_lasting;

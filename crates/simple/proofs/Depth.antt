@@ -52,8 +52,8 @@ module _ (b : Base) where
   reach-rule p r m = le-most (depthFor p) (b .rules) r m
 
   module _ (e : circular (b .rules) ≡ false) where
-    light : (q r : Rule) → 1 ≤ 2
-    light q r = omega arith
+    weight-small : (q r : Rule) → 1 ≤ 2
+    weight-small q r = omega arith
 
     free : cyclic precedes (λ q r. true) (b .rules) ≡ false
     free = sym (circular-cyclic (b .rules)) ∙ e
@@ -61,13 +61,14 @@ module _ (b : Base) where
     -- a path has a rule at least
     depth-one : (r : Rule) → Mem r (b .rules) → 1 ≤ depth r
     unfolding depth
-    depth-one r m = rank-most precedes (λ q r. 1) (λ r. true) (b .rules) light free r m alone
+    depth-one r m = rank-most precedes (λ q r. 1) (λ r. true) (b .rules) weight-small free r m alone
 
     -- and one less if it ends in a rule that the rule looks at
     depth-less : (q r : Rule) → Mem q (b .rules) → Mem r (b .rules) → precedes q r ≡ true →
         depth q < depth r
     unfolding depth
-    depth-less q r n m f = ranked precedes (λ q r. 1) (λ r. true) (b .rules) light free .less q r n m f refl
+    depth-less q r n m f =
+        ranked precedes (λ q r. 1) (λ r. true) (b .rules) weight-small free .less q r n m f refl
 
     -- what is derived only by rules that r looks at
     reach-fed : (p : Pattern) (r : Rule) → Mem r (b .rules) → PrecededOnly b r p → reach p < depth r

@@ -1,4 +1,5 @@
--- Steps of giving: nothing, to no table, to one behind the other, to the table of a sign.
+-- Steps of giving: to one field (`given-one`), nothing, to no table, to one behind the other, to the table of
+-- a sign. And the tables that are there have the place (`reaches`).
 use mathlib.Core.Path.{_≡_, refl, sym, ap, _∙_}
 use mathlib.Core.Bool.{Bool, true, false, _&&_, _||_, true≢false, false≢true}
 use mathlib.Core.List.{List}
@@ -11,21 +12,79 @@ use lib.ListN.{length}
 use lib.Pow.{pow-pos}
 use Rattle.foundation.specs.Tests.{pick, cases, agree, eq-true, true-eq, ne-false, false-eq, le-true, true-le}
 use Rattle.foundation.specs.Tests.{false-le, and-true, and-intro, and-false, or-cases, or-false}
-use Rattle.foundation.specs.Tests.{or-intro-left, or-true-right}
+use Rattle.foundation.specs.Tests.{or-intro-left, or-true-right, and-three}
 use Rattle.foundation.specs.BitMasks.{bit, bit-inside}
 use Rattle.words.specs.Fields.{starts, fieldOf, joined}
 use Rattle.places.specs.declared.Point.{Point}
 use Rattle.places.specs.Regions.{sizeOf, indexIn, Within, In}
 use Rattle.tables.specs.declared.Frame.{Frame}
-use Rattle.tables.specs.TableLayout.{Tables, fieldIn, TablesLaid, wholeRegion}
-use Rattle.tables.specs.TableGiving.{tablesOf, ruleTable, tableTakes, samePlace, same-eq, TablesGiven}
-use Rattle.tables.specs.TableGiving.{given-one}
+use Rattle.tables.specs.declared.Place.{Place}
+use Rattle.tables.specs.TableLayout.{Tables, fieldIn, TablesLaid, wholeRegion, Paired, Has, isThere}
+use Rattle.tables.specs.TableLayout.{offsetOf, regionOf}
+use Rattle.tables.proofs.FieldsApart.{field-apart}
+use Rattle.tables.specs.TableGiving.{tablesOf, ruleTable, tableTakes, samePlace, TablesGiven}
+use Rattle.tables.specs.TableGiving.{TablesReady, Reaches, shapesOf}
 
 -- a field below the end starts below the end
 pub start-below : (k i n m : ℕ) → i < n → starts k n ≤ m → starts k i < m
 start-below k i n m h l = omega (arith, mul-lt-mul-of-pos-right h (pow-pos k))
 
+module _ (f : Frame) (right first : List ℕ) (size : ℕ) (p : Place) (ready : TablesReady f right first size)
+    (within : Within (f .grid) (p .pair) (p .point)) where
+  -- the tables that are there have the place
+  pub reaches : (c : ℕ) → isThere (f .tables) c ≡ true →
+      Reaches f (offsetOf (f .grid) first c) (regionOf (shapesOf f right) c) p size
+  reaches c e =
+      record { narrow = ready .narrow; fits = ready .fits; high = ready .laid .high c e; within = within }
+
+-- places that are tested the same are one
+pub same-eq : (x y : Point) → samePlace x y ≡ true → x ≡ y
+same-eq x y e =
+    let w = and-three (eqb (x .subject) (y .subject)) (eqb (x .object) (y .object)) (eqb (x .mode) (y .mode))
+    .0 e in
+    let s = true-eq (x .subject) (y .subject) (w .0) in
+    let o = true-eq (x .object) (y .object) (w .1) in
+    let m = true-eq (x .mode) (y .mode) (w .2) in
+    λ i. record { subject = s i; mode = m i; object = o i }
+
 module _ (t : Tables) (k n : ℕ) (x : Point) (v : ℕ) where
+  -- v is joined to the field of one table
+  module _ (from to : ℕ) (laid : TablesLaid t from to) (c : ℕ) (here : Has t c n x) (old new : List ℕ)
+      (join : (j : ℕ) → fieldOf k new j ≡ joined k old (fieldIn t c n x) v j)
+      (lengths : length new ≡ length old) where
+    own : (d m : ℕ) (y : Point) → Paired m y n x → d ≡ c → y ≡ x →
+        fieldOf k new (fieldIn t d m y) ≡ bitOr (fieldOf k old (fieldIn t d m y)) v
+    own d m y p e f =
+        let i : m ≡ n = p .1 (ap (λ (s : Point). s .subject) f, ap (λ (s : Point). s .object) f) in
+        let q : fieldIn t d m y ≡ fieldIn t c n x = rw (e, i, f) in
+        rw q (join (fieldIn t c n x)
+        ∙ ap (λ (b : Bool). pick b (bitOr (fieldOf k old (fieldIn t c n x)) v)
+        (fieldOf k old (fieldIn t c n x)))
+        (eq-true (fieldIn t c n x) (fieldIn t c n x) refl))
+
+    other : (d m : ℕ) (y : Point) → Has t d m y → Paired m y n x → eqb d c && samePlace y x ≡ false →
+        fieldOf k new (fieldIn t d m y) ≡ fieldOf k old (fieldIn t d m y)
+    other d m y h p e = join (fieldIn t d m y)
+        ∙ ap (λ (b : Bool). pick b (bitOr (fieldOf k old (fieldIn t c n x)) v)
+        (fieldOf k old (fieldIn t d m y)))
+        (ne-false (fieldIn t d m y) (fieldIn t c n x) (λ q.
+        let w = field-apart t from to laid d c m n y x h here (p .0) q in
+        true≢false (sym (and-intro (eqb d c) (samePlace y x) (eq-true d c (w .0)) (and-three
+        (eqb (y .subject) (x .subject)) (eqb (y .object) (x .object)) (eqb (y .mode) (x .mode)) .1 (
+          eq-true (y .subject) (x .subject) (w .1),
+          eq-true (y .object) (x .object) (w .2),
+          eq-true (y .mode) (x .mode) (w .3),
+        ))) ∙ e)))
+
+    pub given-one : TablesGiven t k n x (λ d. eqb d c) v old new
+    given-one = record {
+      lengths = lengths;
+      fields = λ d m y h p. cases (eqb d c && samePlace y x)
+          (λ e. let w = and-true (eqb d c) (samePlace y x) e in
+          rw e (own d m y p (true-eq d c (w .0)) (same-eq y x (w .1))))
+          (λ e. rw e (other d m y h p e));
+    }
+
   -- a table that does not have the place gets nothing
   pub given-none : (c : ℕ) (l : List ℕ) → (In (t .region c) x → ⊥) → TablesGiven t k n x (λ d. eqb d c) v l l
   given-none c l out = record {

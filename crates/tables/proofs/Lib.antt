@@ -1,3 +1,4 @@
+pub mod FieldsApart
 pub mod GivingSteps
 pub mod Rooms
 pub mod TableSizes

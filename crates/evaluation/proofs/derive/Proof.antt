@@ -7,7 +7,7 @@ use Prim.Native.Nat.{ℕ, _≤_, _<_}
 use lib.Dec.{eqb}
 use Rattle.foundation.specs.Tests.{or-cases, true-eq, not-true, not-false}
 use Rattle.foundation.specs.BitMasks.{bit}
-use Rattle.questions.specs.OperatorSteps.{lasting}
+use Rattle.model.specs.Stratification.{lasting}
 use Rattle.words.specs.Ones.{allFrom}
 use Rattle.derivation.specs.Words.{wantedWord}
 use Rattle.derivation.specs.Derive.{FirstBit, Derived}

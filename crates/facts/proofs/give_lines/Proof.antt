@@ -52,7 +52,7 @@ give-line-requires c κs =
     let b = c .before .before .before .before in
     let l = b .loop in
     let s = b .before .before .before .before .before .before .before .before .before in
-    let q = lent-rest (s .args .w .body) (now (s .args .records)) in (
+    let q = lent-rest (s .args .w .offset) (now (s .args .records)) in (
       rw (l .inv .2, q) (s .pre .0 .usable),
       rw (r .ensures, q) (s .pre .0 .places (l .i) (omega arith)),
       s .pre .2,
@@ -87,11 +87,11 @@ returns c =
     let w = a .w in
     let records = now (a .records) in
     let z : l .i ≡ w .chosen .authorizations = omega (arith, l .inv .0) in
-    let r : LineSteps (settingIn (take (length records - w .body) (drop (w .body) records)) w
+    let r : LineSteps (settingIn (take (length records - w .offset) (drop (w .offset) records)) w
     (now (a .outline)) (now (a .coordinates)) (now (a .number)) (now (a .marks)))
     (picked records (now (a .which)) (w .chosen .authorizations)) (now (a .words)) (l .words) =
     rw (← z) (l .inv .1) in
-    (rw (lent-rest (w .body) records) at r, l .inv .2)
+    (rw (lent-rest (w .offset) records) at r, l .inv .2)
 
 pub give-lines-spec : {M : Type 1} → statement M
 give-lines-spec =

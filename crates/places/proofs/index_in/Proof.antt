@@ -4,7 +4,8 @@ use native.Mathlib.Omega.{arith}
 use mathlib.Core.Path.{_≡_, ap, ap₂, _∙_}
 use Prim.Native.Nat.{ℕ, _+_, _*_, _<_}
 use Rattle.foundation.specs.Tests.{pick}
-use Rattle.places.specs.Regions.{free, indexIn, index-below}
+use Rattle.places.specs.Regions.{free, indexIn}
+use Rattle.places.proofs.IndexFacts.{index-below}
 use Rattle.places.proofs.index_in.Statement.{statement}
 use Rattle.places.proofs.index_in.Tie as tie
 

@@ -9,7 +9,8 @@ use denote.Ref.{now}
 use lib.ListN.{length}
 use Rattle.foundation.specs.BitMasks.{bit}
 use Rattle.words.specs.Fields.{joined}
-use Rattle.words.specs.Sums.{SumGrown, grown-both}
+use Rattle.words.specs.Sums.{SumGrown}
+use Rattle.words.proofs.SumFacts.{grown-both}
 use Rattle.places.specs.declared.Region.{Region}
 use Rattle.places.specs.Regions.{sizeOf, indexIn}
 use Rattle.tables.specs.TableGiving.{tablesOf, TablesGiven, tableTakes}

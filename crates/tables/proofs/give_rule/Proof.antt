@@ -7,12 +7,12 @@ use Prim.Native.Nat.{suc, _+_}
 use denote.Ref.{now}
 use lib.ListN.{getD}
 use Rattle.words.specs.Fields.{joined}
-use Rattle.words.specs.Sums.{grown-none}
+use Rattle.words.proofs.SumFacts.{grown-none}
 use Rattle.places.specs.declared.Region.{Region}
 use Rattle.places.specs.Regions.{indexIn, In}
 use Rattle.tables.specs.TableLayout.{regionAt}
-use Rattle.tables.specs.TableGiving.{shapesOf, tablesOf, reaches, given-one}
-use Rattle.tables.proofs.GivingSteps.{given-none}
+use Rattle.tables.specs.TableGiving.{shapesOf, tablesOf}
+use Rattle.tables.proofs.GivingSteps.{reaches, given-one, given-none}
 use Rattle.tables.proofs.give_rule.Statement.{statement}
 use Rattle.tables.proofs.give_rule.Tie as tie
 

@@ -2,7 +2,7 @@
 use native.Mathlib.Omega.{arith}
 use mathlib.Core.Path.{ap}
 use Prim.Native.Nat.{ℕ, _+_}
-use Rattle.places.specs.Regions.{index-below}
+use Rattle.places.proofs.IndexFacts.{index-below}
 use Rattle.foundation.specs.BitMasks.{bit-inside}
 use Rattle.tables.proofs.number_in.Statement.{statement}
 use Rattle.tables.proofs.number_in.Tie as tie

@@ -10,7 +10,7 @@ use Rattle.model.specs.Step.{firstNumber}
 use Rattle.model.specs.declared.Reply.the-variants.{Refused, Runs}
 use Rattle.model.specs.Rules.{when}
 use Rattle.model.specs.Answers.{answering, refusing}
-use Rattle.scan.specs.Listing.{listedIfRoom-short, listedIfRoom-all}
+use Rattle.scan.proofs.FilledFacts.{listedIfRoom-short, listedIfRoom-all}
 use Rattle.answers.specs.AskingRows.{accessRows}
 use Rattle.answers.proofs.AnswersByRows.{asked-in, when-refused, when-short, when-listed}
 use Rattle.answers.proofs.asking.when_sound.Statement.{statement}

@@ -16,8 +16,8 @@ use Rattle.marks.specs.Least.{NextMark}
 use Rattle.relevance.specs.Chosen.{picked, selected, marksFor, marks-for}
 use Rattle.relevance.specs.Ahead.{NearAt, Standing}
 use Rattle.relevance.specs.declared.ahead.Near.{Near}
-use Rattle.scan.specs.Runs.{ScannedTo, fewer}
-use Rattle.scan.proofs.RunFacts.{start, onward}
+use Rattle.scan.specs.Runs.{ScannedTo}
+use Rattle.scan.proofs.RunFacts.{fewer, start, onward}
 use Rattle.direct.specs.Among.{heldAmong}
 use Rattle.direct.proofs.Choosing.{few, among-ahead, among-onward, among-few}
 use Rattle.direct.proofs.intervals.walk_among.Statement.{statement}

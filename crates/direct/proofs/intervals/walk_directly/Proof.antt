@@ -6,7 +6,7 @@ use mathlib.Core.Bool.{Bool}
 use Prim.Native.Nat.{ℕ}
 use denote.Ref.{now}
 use Rattle.encoding.specs.Format.{authorizationsIn}
-use Rattle.relevance.specs.Needed.{choice-picks}
+use Rattle.relevance.proofs.ChoiceFacts.{choice-picks}
 use Rattle.scan.specs.Runs.{ScannedTo}
 use Rattle.direct.specs.Among.{isFor}
 use Rattle.direct.proofs.Choosing.{chosen-held}

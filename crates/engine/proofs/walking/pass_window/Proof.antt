@@ -13,7 +13,7 @@ use lib.Seq.{length-take-le}
 use Rattle.foundation.specs.BitMasks.{bit}
 use Rattle.model.specs.Rules.{may}
 use Rattle.encoding.specs.Format.{ruleAt}
-use Rattle.questions.specs.OperatorSteps.{lasting}
+use Rattle.model.specs.Stratification.{lasting}
 use Rattle.grounding.specs.RuleTurns.{wordsFor}
 use Rattle.foundation.specs.Lists.{lent-rest}
 use Rattle.grounding.proofs.Parts.{bitsBack, bits-rest}
@@ -186,7 +186,7 @@ mark-broken-requires c κs =
           (sym (rest-alike n (W′ h) (W h) (long h)))
           (keeps g (s h .pre .1) (i .1) (i .2) m (c .before .before .before .if1 .taken)),
       λ r b. subst (λ (l : List ℕ). lasting (ruleAt l r .operator) ≡ true)
-          (sym (lent-rest (w h .body) (R h))) (among-lasting g r b .1),
+          (sym (lent-rest (w h .offset) (R h))) (among-lasting g r b .1),
     )
 
 numbers-room : (h : tie.After-words-for) → 2 * length (N h) ≤ length (M h)

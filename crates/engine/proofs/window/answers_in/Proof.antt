@@ -12,7 +12,7 @@ use Rattle.words.specs.Bits.{bit-less}
 use Rattle.words.specs.Fields.{fieldOf}
 use Rattle.places.specs.declared.Region.{Region}
 use Rattle.places.specs.Regions.{sizeOf, indexIn}
-use Rattle.tables.specs.TableGiving.{reaches}
+use Rattle.tables.proofs.GivingSteps.{reaches}
 use Rattle.engine.proofs.window.answers_in.Statement.{statement}
 use Rattle.engine.proofs.window.answers_in.Tie as tie
 

@@ -34,7 +34,7 @@ spans-requires c κs =
     let u = s .pre .0 .usable in
     let p = s .pre .1 .1 in (
       p .0,
-      subst (λ (l : List ℕ). w .chosen .rules * 28 ≤ length l) (sym (lent-rest (w .body) r)) (p .2),
+      subst (λ (l : List ℕ). w .chosen .rules * 28 ≤ length l) (sym (lent-rest (w .offset) r)) (p .2),
       p .1,
       u .short,
       u .rising,
@@ -51,10 +51,10 @@ module _ (a : tie.After-spans) where
   w = s .args .w
 
   abbrev body : List ℕ
-  body = drop (w .body) (now (s .args .records))
+  body = drop (w .offset) (now (s .args .records))
 
-  abbrev body-is : lent (now (s .args .records)) (w .body) ≡ body
-  body-is = lent-rest (w .body) (now (s .args .records))
+  abbrev body-is : lent (now (s .args .records)) (w .offset) ≡ body
+  body-is = lent-rest (w .offset) (now (s .args .records))
 
   abbrev k : ℕ
   k = a .before .before .before .words-for .result
@@ -208,8 +208,9 @@ derive-all-requires c κs =
     let low = low-in (w a) (body a) (now (x .coordinates)) (now (x .need)) (now (x .numbers)) (now (x .marks))
     (old a) (new a) (active a) (same a) (own a) (u .short) (u .fits) (acts a) in (
       (
-        (λ r e. able-as (prepared-same (new a) (old a) (same a) (lent (now (x .records)) (w a .body)) (body a)
-            (now (x .coordinates)) (now (x .need)) (now (x .numbers)) (now (x .numbers)) f (body-is a) refl)
+        (λ r e. able-as (prepared-same (new a) (old a) (same a) (lent (now (x .records)) (w a .offset))
+            (body a) (now (x .coordinates)) (now (x .need)) (now (x .numbers)) (now (x .numbers)) f
+            (body-is a) refl)
             (part-alike (n a) (work2 l) (work (cleared l)) (work2-long l)) (ap length (work2-rest l))
             (s a .pre .1 .0 (activeOf (new a)) low r e)),
         record {

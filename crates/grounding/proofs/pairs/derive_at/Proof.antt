@@ -3,7 +3,7 @@ use borrow.Author.Needs.{needs}
 use mathlib.Core.Path.{refl, sym}
 use denote.Ref.{now}
 use lib.Seq.{length-front, length-take-le}
-use Rattle.words.specs.Sums.{grown-none}
+use Rattle.words.proofs.SumFacts.{grown-none}
 use Rattle.sections.specs.Sections.{fieldsOf}
 use Rattle.tables.specs.TableGiving.{tablesOf, tableTakes}
 use Rattle.tables.proofs.GivingSteps.{given-zero}

@@ -7,7 +7,8 @@ use Prim.Native.Nat.{_-_, _≤_, _<_}
 use denote.Ref.{now}
 use lib.ListN.{length}
 use Rattle.foundation.specs.BitMasks.{bit}
-use Rattle.words.specs.Sums.{SumGrown, grown-none, grown-both}
+use Rattle.words.specs.Sums.{SumGrown}
+use Rattle.words.proofs.SumFacts.{grown-none, grown-both}
 use Rattle.sections.specs.Sections.{fieldsOf, brokenOf}
 use Rattle.grounding.specs.RuleSteps.{Step}
 use Rattle.grounding.proofs.Parts.{both-length}

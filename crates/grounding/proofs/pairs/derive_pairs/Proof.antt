@@ -6,7 +6,8 @@ use Prim.Native.Nat.{_-_, _≤_}
 use denote.Ref.{now}
 use lib.ListN.{length}
 use lib.Seq.{length-take-le}
-use Rattle.words.specs.Sums.{SumGrown, grown-none, grown-both}
+use Rattle.words.specs.Sums.{SumGrown}
+use Rattle.words.proofs.SumFacts.{grown-none, grown-both}
 use Rattle.sections.specs.Sections.{leftOf, firstOf, rightsOf, numberedOf, fieldsOf, brokenOf}
 use Rattle.grounding.specs.RuleSteps.{Step, PairsReady, PairsRan}
 use Rattle.grounding.proofs.Parts.{lentOf, lent-all, lent-length, both-length}

@@ -9,7 +9,7 @@ use lib.Dec.{eqb}
 use lib.ListN.{length}
 use Rattle.foundation.specs.Tests.{or-none, not-false, false-eq}
 use Rattle.words.specs.Fields.{fieldOf}
-use Rattle.questions.specs.OperatorSteps.{lasting}
+use Rattle.model.specs.Stratification.{lasting}
 use Rattle.grounding.specs.RuleSteps.{brokenAt}
 use Rattle.grounding.proofs.StepBits.{unbroken, by-bit, bit-number, bit-room}
 use Rattle.grounding.proofs.pairs.is_broken.Statement.{statement}

@@ -10,7 +10,7 @@ use lib.Dec.{eqb}
 use lib.ListN.{length, take, drop}
 use lib.Seq.{length-take-le}
 use Rattle.foundation.specs.Tests.{and-true}
-use Rattle.questions.specs.OperatorSteps.{lasting}
+use Rattle.model.specs.Stratification.{lasting}
 use Rattle.words.specs.Fields.{fieldOf}
 use Rattle.sections.specs.Sections.{fieldsOf, brokenOf}
 use Rattle.tables.specs.declared.Place.{Place}

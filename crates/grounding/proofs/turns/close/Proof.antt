@@ -18,7 +18,7 @@ use Rattle.grounding.specs.RuleTurns.{preparedIn, wordsFor, fieldsIn, bi
 use Rattle.grounding.specs.RuleTurns.{RuleRan, Rounds, none, then}
 use Rattle.sections.proofs.SectionWrites.{part-long}
 use Rattle.grounding.proofs.Parts.{front-below, both-length}
-use Rattle.grounding.proofs.TurnRounds.{ran-length, others, among, measure, lighter, less-to-do}
+use Rattle.grounding.proofs.TurnRounds.{ran-length, others, among, measure, fewer-left, less-to-do}
 use Rattle.grounding.proofs.turns.close.Statement.{statement}
 use Rattle.grounding.proofs.turns.close.Tie as tie
 
@@ -95,7 +95,7 @@ loop-less c =
     let m = bits-le _ rules (λ q y. and-true (bit q rules)
     (bit r (getD (feedOf (now (a .outline))) q 0) && bit r rules)
     (sym (l .inv .4 r q (n .ensures .0)) ∙ y) .0) in
-    lighter (fieldsIn (a .f) (l .work)) (fieldsIn (a .f) new) (l .dirty) _
+    fewer-left (fieldsIn (a .f) (l .work)) (fieldsIn (a .f) new) (l .dirty) _
     (ran-length p (activeOf (now (a .outline))) (bitsIn (a .f) (l .work)) r (e .0))
     (e .1 .more (c .if1 .taken))
     (front-below (wordsFor (a .f .fields) (a .f .width)) new 18446744073709551616 (omega arith)

@@ -6,7 +6,7 @@ use mathlib.Core.Logic.{inl, inr}
 use denote.Ref.{now}
 use lib.ListN.{length}
 use lib.Seq.{length-take-le}
-use Rattle.words.specs.Sums.{grown-none}
+use Rattle.words.proofs.SumFacts.{grown-none}
 use Rattle.sections.specs.Sections.{leftOf, firstOf, rightsOf, numberedOf, listedOf, fieldsOf, brokenOf}
 use Rattle.grounding.specs.declared.RuleTurn.{RuleTurn}
 use Rattle.grounding.specs.RuleSteps.{Step}

@@ -9,7 +9,7 @@ use lib.ListN.{length}
 use lib.Seq.{length-take-le}
 use Rattle.model.specs.declared.Rule.{Rule}
 use Rattle.encoding.specs.Format.{ruleAt}
-use Rattle.questions.specs.OperatorSteps.{lasting}
+use Rattle.model.specs.Stratification.{lasting}
 use Rattle.sections.specs.Sections.{leftOf, numberedOf, listedOf, fieldsOf, brokenOf}
 use Rattle.grounding.specs.declared.RuleTurn.{RuleTurn}
 use Rattle.grounding.specs.RuleSteps.{Mark}

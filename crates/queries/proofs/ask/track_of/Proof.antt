@@ -13,7 +13,8 @@ use Rattle.model.specs.declared.Authorization.{Authorization}
 use Rattle.model.specs.Base.{Base}
 use Rattle.model.specs.Rules.{may, standsFor}
 use Rattle.encoding.specs.Format.{authorizationsIn, rulesIn}
-use Rattle.direct.specs.Direct.{heldDirectly, direct-may}
+use Rattle.direct.specs.Direct.{heldDirectly}
+use Rattle.direct.proofs.DirectFacts.{direct-may}
 use Rattle.scan.specs.Runs.{ScannedTo}
 use native.Mathlib.Omega.{arith}
 use Rattle.queries.specs.Starting.{Bodies}

@@ -1,4 +1,4 @@
--- The masks of the asked access are put in, and all is sketched.
+-- The masks of the asked access are put in, and all is asked-outlined.
 use borrow.Author.Needs.{needs}
 use native.Mathlib.Omega.{arith}
 use mathlib.Core.Path.{_≡_, sym, ap, _∙_, subst}
@@ -19,9 +19,9 @@ use Rattle.queries.specs.declared.Inquiry.{Inquiry}
 use Rattle.queries.specs.Drawing.{chartFor, ownOf}
 use Rattle.queries.specs.Asking.{TaskIn, BodiesIn}
 use Rattle.queries.proofs.DrawingFacts.{still-drawn}
-use Rattle.queries.proofs.AskingFacts.{access-ranges, sketched}
+use Rattle.queries.proofs.AskingFacts.{access-ranges, asked-outlined}
 use Rattle.queries.proofs.Sectioning.{left-long, left-back, left-feed, front-left, front-feed}
-use Rattle.queries.proofs.Sectioning.{drawn-moved, sketch-moved, sketch-at}
+use Rattle.queries.proofs.Sectioning.{drawn-moved, outline-moved, outline-at}
 use Rattle.queries.proofs.outlining.with_drawn.Statement.{statement}
 use Rattle.queries.proofs.outlining.with_drawn.Tie as tie
 
@@ -163,10 +163,10 @@ task c base b =
     let o : List ℕ = now (s .args .outline) in
     record {
       holder = decode (now (s .args .bytes));
-      sketch = sketch-at (sym (subject-at s)) (sym (object-at s))
-          (sketch-moved (left-back o (left c) (s .pre .0 .outlined) (left-is c))
+      asked-outline = outline-at (sym (subject-at s)) (sym (object-at s))
+          (outline-moved (left-back o (left c) (s .pre .0 .outlined) (left-is c))
           (left-feed o (left c) (s .pre .0 .outlined) (left-is c))
-          (sketched (s .pre .1) (s .args .a .access) (own g) (s .pre .2) (own-is g)
+          (asked-outlined (s .pre .1) (s .args .a .access) (own g) (s .pre .2) (own-is g)
           (owned c)));
       bodies = b;
     }

@@ -14,7 +14,7 @@ use Rattle.foundation.specs.BitMasks.{bit}
 use Rattle.foundation.specs.BitLaws.{bit-and}
 use Rattle.model.specs.Base.{Base}
 use Rattle.encoding.specs.Format.{ruleAt}
-use Rattle.questions.specs.OperatorSteps.{lasting}
+use Rattle.model.specs.Stratification.{lasting}
 use Rattle.sections.specs.Sections.{leftOf, firstOf, startsOf, rightsOf, subjectsOf, objectsOf}
 use Rattle.sections.specs.Sections.{numberedOf, listedOf}
 use Rattle.foundation.specs.Lists.{lent-rest}
@@ -24,11 +24,11 @@ use Rattle.masks.specs.RuleMasks.{Needed, PairCode, RulesIn}
 use Rattle.facts.specs.Sharing.{TablesArranged}
 use Rattle.engine.specs.declared.WindowWalk.{WindowWalk}
 use Rattle.queries.specs.Drawing.{Mapped, chartFor}
-use Rattle.queries.specs.Starting.{GroundIn}
+use Rattle.queries.specs.Starting.{WalkGivenIn}
 use Rattle.queries.specs.Asking.{TaskIn, WalkStart}
 use Rattle.queries.proofs.DrawingFacts.{chart-small, map-small, code-pair, needed-in}
-use Rattle.queries.proofs.AskingFacts.{pair-in, pair-few, sketch-formed, lasts-in, lasts-room}
-use Rattle.queries.proofs.AskingFacts.{sketch-tabled, finds-answers, part-blank, sketch-few}
+use Rattle.queries.proofs.AskingFacts.{pair-in, pair-few, outline-formed, lasts-in, lasts-room}
+use Rattle.queries.proofs.AskingFacts.{outline-tabled, finds-answers, part-blank, outline-few}
 use Rattle.queries.proofs.Sectioning.{listed-at, needed-listed, laid-long, laid-front, laid-first}
 use Rattle.queries.proofs.Sectioning.{laid-starts, front-left, front-feed, ground-moved}
 use Rattle.queries.proofs.outlining.with_pairs.Statement.{statement}
@@ -69,25 +69,25 @@ mul-pair : tie.Need-mul-pair
 mul-pair c =
     let s = c .before .before .before .before .before .before .before .before .before .before .before
     .before .before in
-    omega (arith, pair-few (s .pre .4 .1 .sketch))
+    omega (arith, pair-few (s .pre .4 .1 .asked-outline))
 
 add-pair : tie.Need-add-pair
 add-pair c =
     let s = c .before .before .before .before .before .before .before .before .before .before .before
     .before .before .before in
-    omega (arith, pair-few (s .pre .4 .1 .sketch))
+    omega (arith, pair-few (s .pre .4 .1 .asked-outline))
 
 cast-pair : tie.Need-cast-pair
 cast-pair c =
     let s = c .before .before .before .before .before .before .before .before .before .before .before
     .before .before .before in
-    omega (arith, pair-few (s .pre .4 .1 .sketch))
+    omega (arith, pair-few (s .pre .4 .1 .asked-outline))
 
 sub-mode : tie.Need-sub-mode
 sub-mode c =
     let s = c .before .before .before .before .before .before .before .before .before .before .before
     .before .before .before .before in
-    s .pre .4 .1 .sketch .some
+    s .pre .4 .1 .asked-outline .some
 
 part-map-pairs-end : tie.Need-part-map-pairs-end
 part-map-pairs-end c =
@@ -118,7 +118,7 @@ map-pairs-requires : tie.Need-map-pairs-requires
 map-pairs-requires c κs =
     let s = c .before .before .before .before .before .before .before .before .before .before .before
     .before .before .before .before .before .before .before .before .before in
-    let k = s .pre .4 .1 .sketch in
+    let k = s .pre .4 .1 .asked-outline in
     let need : List ℕ = now (s .args .need) in (
       (λ i. s .pre .1 i .0),
       part-blank (length need) (now (s .args .numbers)) (λ i. s .pre .1 i .1),
@@ -127,7 +127,7 @@ map-pairs-requires c κs =
       omega (arith, s .pre .3),
       pair-in k need (s .pre .2),
       omega (arith, k .some, k .few),
-      sketch-formed k need (s .pre .2),
+      outline-formed k need (s .pre .2),
       omega (arith, left-whole s),
       omega (arith, rights-whole s),
     )
@@ -171,7 +171,7 @@ part-needed-rules-end c =
 mul-needed-rules : tie.Need-mul-needed-rules
 mul-needed-rules c =
     let s = start (c .before .before .before .before .before .before .before) in
-    omega (arith, s .pre .2, sketch-few (s .pre .4 .1 .sketch))
+    omega (arith, s .pre .2, outline-few (s .pre .4 .1 .asked-outline))
 
 sub-needed-rules-2 : tie.Need-sub-needed-rules-2
 sub-needed-rules-2 c =
@@ -198,7 +198,7 @@ needed-rules-requires c κs =
       (λ i h. subst (λ (u : ℕ). PairCode (s .args .k .extent .subjects) (length (needed y)) u)
           (listed-at (numbered y) size (length (needed y)) long i (omega (arith, few))
           ∙ ap (λ (l : List ℕ). getD l i 0) (sym rest))
-          (code-pair (s .pre .4 .1 .sketch .outline) m i h)),
+          (code-pair (s .pre .4 .1 .asked-outline .outline) m i h)),
       omega (arith, left-whole s),
     )
 
@@ -222,7 +222,7 @@ lasting-of-requires c κs =
     let y = pairs-at c in
     let s = start y in
     subst (λ (b : List ℕ). RulesIn (c .needed-rules .result) b) (sym (body-is s))
-    (needed-in (s .pre .4 .1 .sketch .outline) (mapped y) (rules-needed c))
+    (needed-in (s .pre .4 .1 .asked-outline .outline) (mapped y) (rules-needed c))
 
 lasts : (c : tie.After-lasting-of) →
     (let n = c .before in
@@ -253,7 +253,7 @@ choosy-in c r e =
     let s = start y in
     let all : ℕ = s .args .k .extent .choosy in
     let rules : ℕ = n .needed-rules .result in
-    needed-in (s .pre .4 .1 .sketch .outline) (mapped y) (rules-needed n) r
+    needed-in (s .pre .4 .1 .asked-outline .outline) (mapped y) (rules-needed n) r
     (and-true (bit r all) (bit r rules) (sym (bit-and all rules r) ∙ e) .1)
 
 part-lay-tables-end : tie.Need-part-lay-tables-end
@@ -277,7 +277,7 @@ lay-tables-requires c κs =
       subst (λ (b : List ℕ). RulesIn (choosy l) b) (sym (body-is s)) (choosy-in l),
       omega (arith, rights-whole s),
       omega (arith, first-whole s),
-      map-small (s .pre .4 .1 .sketch .outline) (mapped y),
+      map-small (s .pre .4 .1 .asked-outline .outline) (mapped y),
     )
 
 -- where the fields start, and the outline with it
@@ -335,7 +335,7 @@ lay-out-requires c κs =
     let l = f .lasting-of in (
       omega (
         arith,
-        lasts-room (s .pre .4 .1 .sketch) (mapped y) (rules-needed n) (l .result)
+        lasts-room (s .pre .4 .1 .asked-outline) (mapped y) (rules-needed n) (l .result)
             (lasts f),
       ),
       omega (
@@ -391,12 +391,12 @@ pair-there : (c : tie.After-map-pairs) →
     s .args .k .object * s .args .k .extent .subjects + s .args .k .subject < length (needed c))
 pair-there c =
     let s = start c in
-    pair-in (s .pre .4 .1 .sketch) (needed c) (mapped c .size)
+    pair-in (s .pre .4 .1 .asked-outline) (needed c) (mapped c .size)
 
 mul-t30 : tie.Need-mul-t30
 mul-t30 c =
     let s = start (pairs-at (rules-at (c .before .before))) in
-    omega (arith, pair-few (s .pre .4 .1 .sketch))
+    omega (arith, pair-few (s .pre .4 .1 .asked-outline))
 
 slice-read-t69 : tie.Need-slice-read-t69
 slice-read-t69 c =
@@ -414,7 +414,7 @@ cast-t33 c =
       getD-take (length (needed y)) (numbered y) at 0 (pair-there y),
       mapped y .numbers .1 at (pair-there y),
       usedBefore-le (needed y) at,
-      pair-few (s .pre .4 .1 .sketch),
+      pair-few (s .pre .4 .1 .asked-outline),
     )
 
 walk-start-requires : tie.Need-walk-start-requires
@@ -425,7 +425,7 @@ walk-start-requires c κs =
     let s = start y in
     let l = f .lasting-of in
     subst (λ (b : List ℕ). RulesIn (l .result) b) (sym (body-is s))
-    (lasts-in (s .pre .4 .1 .sketch) (mapped y) (rules-needed n) (l .result)
+    (lasts-in (s .pre .4 .1 .asked-outline) (mapped y) (rules-needed n) (l .result)
     (lasts f))
 
 looks : (c : tie.After-walk-start) →
@@ -459,7 +459,7 @@ going c =
         rules = k .totals .rules;
         needed = rules;
       };
-      body = k .totals .authorizations * 24;
+      offset = k .totals .authorizations * 24;
       lasting = f .lasting-of .result;
       bits = h .lay-out .result;
       query = record {
@@ -488,7 +488,7 @@ ground : (c : tie.After-last-asked) →
     let s = start y in
     (base : Base) →
     TaskIn (now (s .args .records)) (now (s .args .outline)) (now (s .args .coordinates)) (s .args .k) base →
-    GroundIn (now (s .args .records)) (full h) (now (s .args .coordinates))
+    WalkGivenIn (now (s .args .records)) (full h) (now (s .args .coordinates))
     (needed y) (numbered y) (going c) base (s .args .k .asked .access))
 ground c base b =
     let v = c .before in
@@ -505,7 +505,7 @@ ground c base b =
     (front-feed (now (s .args .outline)) (full h) (full-front h)) (full-first h) (full-starts h)
     (record {
       holder = b .holder;
-      tabled = sketch-tabled (b .sketch) (mapped y) (rules-needed n) (l .lasting-of .result)
+      tabled = outline-tabled (b .asked-outline) (mapped y) (rules-needed n) (l .lasting-of .result)
           (h .lay-out .result) (going c .query) (k .asked .one) (k .asked .instant)
           (y .map-pairs .ensures .1) (record {
             chosen = refl;

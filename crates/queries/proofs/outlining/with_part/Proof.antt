@@ -6,7 +6,7 @@ use Prim.Native.Nat.{ℕ, _*_}
 use denote.Ref.{now}
 use lib.ListN.{length, take}
 use lib.Seq.{length-take-le}
-use Rattle.queries.proofs.AskingFacts.{part-blank, sketch-few}
+use Rattle.queries.proofs.AskingFacts.{part-blank, outline-few}
 use Rattle.queries.proofs.outlining.with_part.Statement.{statement}
 use Rattle.queries.proofs.outlining.with_part.Tie as tie
 
@@ -19,12 +19,12 @@ taken c = length-take-le (size c) (now (c .args .need)) (c .pre .2)
 mul-size : tie.Need-mul-size
 mul-size c =
     let s = c .before .before .before .before .before .before .before .before in
-    omega (arith, sketch-few (s .pre .4 .1 .sketch))
+    omega (arith, outline-few (s .pre .4 .1 .asked-outline))
 
 cast-size : tie.Need-cast-size
 cast-size c =
     let s = c .before .before .before .before .before .before .before .before in
-    omega (arith, sketch-few (s .pre .4 .1 .sketch))
+    omega (arith, outline-few (s .pre .4 .1 .asked-outline))
 
 slice-aggregate-with-pairs : tie.Need-slice-aggregate-with-pairs
 slice-aggregate-with-pairs c =

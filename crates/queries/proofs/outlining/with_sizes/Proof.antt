@@ -4,14 +4,14 @@ use native.Mathlib.Omega.{arith}
 use Prim.Native.Nat.{ℕ, _+_, _*_, _≤_}
 use lib.Dec.{leb}
 use Rattle.foundation.specs.Tests.{and-true, true-le}
-use Rattle.queries.proofs.AskingFacts.{zeros-blank, sketch-few}
+use Rattle.queries.proofs.AskingFacts.{zeros-blank, outline-few}
 use Rattle.queries.proofs.outlining.with_sizes.Statement.{statement}
 use Rattle.queries.proofs.outlining.with_sizes.Tie as tie
 
 mul-size : tie.Need-mul-size
 mul-size c =
     let s = c .before .before .before .before .before .before .before in
-    omega (arith, sketch-few (s .pre .1 .1 .sketch))
+    omega (arith, outline-few (s .pre .1 .1 .asked-outline))
 
 abbrev size : (c : tie.Start) → ℕ
 size c = c .args .k .extent .objects * c .args .k .extent .subjects
@@ -41,7 +41,7 @@ with-part-requires-3 : tie.Need-with-part-requires-3
 with-part-requires-3 c κs =
     let s = c .before .before .before .before .before .before .before .before .before .before .before
     .before .before .before in
-    let few : size s ≤ 4225 = sketch-few (s .pre .1 .1 .sketch) in
+    let few : size s ≤ 4225 = outline-few (s .pre .1 .1 .asked-outline) in
     let room : 2 * size s + lines s ≤ 9474 = omega (arith, s .pre .1 .1 .bodies .few) in
     (s .pre .0, (λ i. (zeros-blank 4225 i, zeros-blank 9474 i)), few, room, s .pre .1)
 

@@ -7,7 +7,8 @@ use Prim.Native.Nat.{ℕ}
 use denote.Ref.{now}
 use Rattle.model.specs.EncodingFacts.{sound-length}
 use Rattle.queries.proofs.AskingFacts.{zeros-blank}
-use Rattle.queries.proofs.Handing.{rules-in, rules-formed, handed-on}
+use Rattle.lookup.proofs.LentBodies.{rules-begin}
+use Rattle.queries.proofs.Handing.{rules-formed, handed-on}
 use Rattle.queries.proofs.prepared.prepare.Statement.{statement}
 use Rattle.queries.proofs.prepared.prepare.Tie as tie
 
@@ -20,7 +21,7 @@ sub-draw-words c =
     let d = c .before .before .before .before in
     let n = c .before .counts-of in
     let l = c .rules-at in
-    rules-in (now (d .args .s)) (d .pre .0) (n .result) (n .ensures) (l .result) (l .ensures)
+    rules-begin (now (d .args .s)) (n .result) (d .pre .0) (n .ensures) (l .result) (l .ensures)
 
 part-draw-words-start : tie.Need-part-draw-words-start
 part-draw-words-start c = sub-draw-words c

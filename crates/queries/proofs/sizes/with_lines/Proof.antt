@@ -32,7 +32,8 @@ counts-some-requires c κs =
     .before .before .before .before .before .before in
     let a = b .args in
     let g = b .pre .1 .2 in
-    subst (λ (l : List ℕ). RulesIn (a .w .chosen .needed) l) (sym (lent-rest (a .w .body) (now (a .records))))
+    subst (λ (l : List ℕ). RulesIn (a .w .chosen .needed) l)
+    (sym (lent-rest (a .w .offset) (now (a .records))))
     (needed-in (g .tabled .outline) (g .tabled .mapped) (g .tabled .needs))
 
 returns : tie.Need-returns
@@ -49,7 +50,7 @@ returns c =
           (begun-nothing (picked-sectioned (b .pre .0) (y .ensures))
           (picked-begun (b .pre .0) (y .ensures) g) zero
           (λ r e. subst (λ (l : List ℕ). negates (ruleAt l r) ≡ false)
-          (lent-rest (a .w .body) (now (a .records))) (k .ensures none r e .0)) (now (a .list)))),
+          (lent-rest (a .w .offset) (now (a .records))) (k .ensures none r e .0)) (now (a .list)))),
       refl,
     )
 

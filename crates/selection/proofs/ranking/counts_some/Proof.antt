@@ -17,11 +17,11 @@ use Rattle.selection.proofs.ranking.counts_some.Statement.{statement}
 use Rattle.selection.proofs.ranking.counts_some.Tie as tie
 
 -- rule i does not count
-abbrev Light : List ℕ → ℕ → Type 0
-Light body i = Plain (ruleAt body i)
+abbrev PlainAt : List ℕ → ℕ → Type 0
+PlainAt body i = Plain (ruleAt body i)
 
 abbrev Inv-loop : tie.InvT-loop
-Inv-loop body rules r₀ r = (r ≤ 64) × (r < 64 → bit r rules ≡ true) × ForBitsBelow rules (Light body) r
+Inv-loop body rules r₀ r = (r ≤ 64) × (r < 64 → bit r rules ≡ true) × ForBitsBelow rules (PlainAt body) r
 
 abbrev μ-loop : tie.MeasureT-loop
 μ-loop body rules r₀ r = 64 - r
@@ -30,7 +30,7 @@ loop-holds : tie.Need-loop-holds Inv-loop μ-loop
 loop-holds c =
     let a = c .before .before .args in
     let e = c .next-bit .ensures in
-    (e .1, e .3, passed-start (a .rules) (Light (now (a .body))) (c .next-bit .result) (e .2))
+    (e .1, e .3, passed-start (a .rules) (PlainAt (now (a .body))) (c .next-bit .result) (e .2))
 
 rule-at-requires : tie.Need-rule-at-requires Inv-loop μ-loop
 rule-at-requires c κs =
@@ -48,15 +48,15 @@ loop-again c =
     let l = q .before .before .loop in
     let a = q .before .before .before .before .before .args in
     let e = c .next-bit2 .ensures in
-    let light : ℕ → Type 0 = Light (now (a .body)) in
+    let plain : ℕ → Type 0 = PlainAt (now (a .body)) in
     let w = or-none (n .negates .result) (q .rule-at .result .left .negative) (g .if1 .left) in
-    let own : light (l .r) = (
+    let own : plain (l .r) = (
       ap negates (sym (q .rule-at .ensures)) ∙ sym (n .negates .ensures) ∙ w .0,
       ap (λ (x : Rule). x .left .negative) (sym (q .rule-at .ensures)) ∙ w .1,
     ) in (
       e .1,
       e .3,
-      passed-turn (a .rules) light light (l .r) (c .next-bit2 .result) (l .inv .2) (λ i _ x. x) own (e .2),
+      passed-turn (a .rules) plain plain (l .r) (c .next-bit2 .result) (l .inv .2) (λ i _ x. x) own (e .2),
     )
 
 returns-2 : tie.Need-returns-2 Inv-loop μ-loop

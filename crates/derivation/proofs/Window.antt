@@ -10,12 +10,13 @@ use Rattle.foundation.specs.Intervals.{inInterval}
 use Rattle.foundation.specs.Marks.{clear}
 use Rattle.model.specs.declared.Rule.{Rule}
 use Rattle.model.specs.declared.Access.{Access}
-use Rattle.model.specs.Stratification.{stratified}
+use Rattle.model.specs.Stratification.{stratified, lasting}
 use Rattle.model.specs.Means.{allMarks}
 use Rattle.model.specs.Base.{Base}
-use Rattle.questions.specs.OperatorSteps.{lasting, sense}
-use Rattle.questions.specs.Table.{Bits, truth, rightIn, gate, Node, Before, now-law}
-use Rattle.questions.specs.FromMarkToMark.{before-next}
+use Rattle.questions.proofs.OperatorSteps.{sense}
+use Rattle.questions.specs.Table.{Bits, truth}
+use Rattle.questions.proofs.OneInstant.{rightIn, gate, Node, Before, now-law}
+use Rattle.questions.proofs.FromMarkToMark.{before-next}
 
 -- what a rule derives at mark i, `right` saying what its right side is at each mark and `before` what it
 -- derived before the first

@@ -20,7 +20,7 @@ use Rattle.model.specs.declared.Access.{Access}
 use Rattle.model.specs.declared.Pattern.{Pattern}
 use Rattle.model.specs.Base.{Base}
 use Rattle.model.specs.Stratification.{negating, stratified, stratum, links, links-precedes, links-heavy}
-use Rattle.model.specs.Stratification.{negates-heavy}
+use Rattle.model.specs.Stratification.{negates-heavy, lasting}
 use Rattle.model.specs.StratificationFacts.{feeder-below, stratum-few}
 use Rattle.model.specs.Rules.{Fact, fact, fits, standsFor, derivesFor, rightOf, operate, holdsBy, rightBy}
 use Rattle.model.specs.Rules.{asked, derives, enough, derivedBelow, holds}
@@ -30,13 +30,15 @@ use Rattle.model.specs.HoldsFacts.{below-steady, below-stratum, rounds, rounds-
 use Rattle.model.specs.HoldsLaws.{holding, fit-precedes, StrictlyFed, strictly-fed, right-settled}
 use Rattle.model.specs.HoldsLaws.{strictly-linked, strictly-settled, settled-at}
 use Rattle.laws.specs.Dependence.{Depends}
-use Rattle.questions.specs.OperatorSteps.{lasting, sense, operate-back, operate-now, sense-more}
-use Rattle.questions.specs.Table.{truth, instant-before}
-use Rattle.derivation.specs.Window.{Window, made}
-use Rattle.derivation.specs.Lasting.{prior, made-by}
-use Rattle.derivation.specs.Exact.{AccessWords, Valued, GivenEverywhere, held-cases}
-use Rattle.derivation.specs.Turn.{Evaluated, evaluated-stays, right-seen, right-sound}
-use Rattle.derivation.specs.Turn.{right-exact, evaluated-made, right-made}
+use Rattle.questions.proofs.OperatorSteps.{sense, operate-back, operate-now, sense-more}
+use Rattle.questions.specs.Table.{truth}
+use Rattle.questions.proofs.OneInstant.{instant-before}
+use Rattle.derivation.proofs.Window.{Window, made}
+use Rattle.derivation.proofs.Lasting.{prior, made-by}
+use Rattle.derivation.specs.Words.{AccessWords}
+use Rattle.derivation.proofs.Exact.{Valued, GivenEverywhere, held-cases}
+use Rattle.derivation.proofs.Turn.{Evaluated, evaluated-stays, right-seen, right-sound}
+use Rattle.derivation.proofs.Turn.{right-exact, evaluated-made, right-made}
 
 -- of a right side that is as the operator wants no less often no less is made
 made-more : (r : Rule) (ms : ℕ → ℕ) (right more : ℕ → Bool) (before : Bool) (k : ℕ) →
@@ -195,9 +197,9 @@ module _ (base : Base) (s : stratified (base .rules) ≡ true) (count : ℕ) (ms
             (rightOf r x) .0 b in
             let held : bit i (W (e .table) y) ≡ true = held-cases base (stage n) (ms i) (rightOf r x) (c .0)
             (λ c p f t. a .lines c p (e .table) y (e .kept)
-            (subst (λ (z : Pattern). fits z (c .head) ≡ true) (sym (e .looks)) f) i inside t)
+            (subst (λ (z : Pattern). fits z (c .head) ≡ true) (sym (e .fits-right)) f) i inside t)
             (λ q p d t. given q p
-            (subst (λ (z : Pattern). derivesFor base z q ≡ true) (sym (e .looks)) d) t) in
+            (subst (λ (z : Pattern). derivesFor base z q ≡ true) (sym (e .fits-right)) d) t) in
             right-seen base s count ms w pat on Kept W a r m x v e (linked-done r m h x v e) i inside held
             (λ d. sym (settled (asked y true) (strictly-linked base r x d)) ∙ c .1 (right-sign r x ∙ d))
 

@@ -9,7 +9,8 @@ use Rattle.model.specs.declared.Access.{Access}
 use Rattle.model.specs.Base.{Base}
 use Rattle.model.specs.Means.{allMarks}
 use Rattle.model.specs.HoldsFacts.{below-steady}
-use Rattle.questions.specs.Table.{Bits, Before, Right}
+use Rattle.questions.specs.Table.{Bits}
+use Rattle.questions.proofs.OneInstant.{Before, Right}
 
 -- between marks nothing changes
 pub before-next : (base : Base) (D : Access → Bool) (X : Bits) (a t : ℕ) → a < t →

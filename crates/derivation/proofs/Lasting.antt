@@ -12,9 +12,10 @@ use Rattle.foundation.specs.Tests.{cases, le-true, le-false, true-le, false-le,
 use Rattle.foundation.specs.Intervals.{inInterval}
 use Rattle.foundation.specs.BitMasks.{bit}
 use Rattle.model.specs.declared.Rule.{Rule}
-use Rattle.questions.specs.OperatorSteps.{lasting, sense}
+use Rattle.model.specs.Stratification.{lasting}
+use Rattle.questions.proofs.OperatorSteps.{sense}
 use Rattle.words.specs.Ones.{upTo, allFrom}
-use Rattle.derivation.specs.Window.{made}
+use Rattle.derivation.proofs.Window.{made}
 
 -- bits from the a-th on are those of the word shifted by a
 bit-moved : (a j x : ℕ) → bit j (x / 2 ^ a) ≡ bit (a + j) x

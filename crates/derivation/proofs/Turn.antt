@@ -19,11 +19,15 @@ use Rattle.model.specs.SideFacts.{right-sign, fit-links}
 use Rattle.model.specs.RightFacts.{right-own, right-is}
 use Rattle.model.specs.HoldsLaws.{holding, fit-precedes}
 use Rattle.laws.specs.Dependence.{Depends}
-use Rattle.questions.specs.Table.{truth, Before, right-truth}
-use Rattle.derivation.specs.Window.{Window, made, word-right}
-use Rattle.derivation.specs.Derive.{Derived, derived-made}
-use Rattle.derivation.specs.Carried.{Carried, window-framed}
-use Rattle.derivation.specs.Exact.{AccessWords, Valued, GivenEverywhere, exact}
+use Rattle.questions.specs.Table.{truth}
+use Rattle.questions.proofs.OneInstant.{Before, right-truth}
+use Rattle.derivation.proofs.Window.{Window, made, word-right}
+use Rattle.derivation.specs.Derive.{Derived}
+use Rattle.derivation.proofs.DerivedWords.{derived-made}
+use Rattle.derivation.specs.Carried.{Carried}
+use Rattle.derivation.proofs.CarriedOn.{window-framed}
+use Rattle.derivation.specs.Words.{AccessWords}
+use Rattle.derivation.proofs.Exact.{Valued, GivenEverywhere, exact}
 
 -- what was derived at the instant before
 pub before-right : (base : Base) (D : Access → Bool) (t : ℕ) → Before base D (λ r x. truth base (t - 1) r x) t
@@ -47,7 +51,7 @@ module _ (base : Base) (count : ℕ) (ms : ℕ → ℕ) (pat : ℕ → Access �
   pub record Evaluated (W : AccessWords) (r : Rule) (x : Access) (v : ℕ) : Type 0 where
     -- a table that has the right side's pattern, and keeps its word
     pub table : ℕ
-    pub looks : pat table (rightOf r x .access) ≡ rightOf r x
+    pub fits-right : pat table (rightOf r x .access) ≡ rightOf r x
     pub kept : Kept table (rightOf r x .access)
     -- where the right side is positive, a table that has the denials of its access
     pub denials : ℕ
@@ -74,15 +78,15 @@ module _ (base : Base) (count : ℕ) (ms : ℕ → ℕ) (pat : ℕ → Access �
   unfolding Depends
   evaluated-stays W W′ r x v same e = record {
     table = e .table;
-    looks = e .looks;
+    fits-right = e .fits-right;
     kept = e .kept;
     denials = e .denials;
     denies = e .denies;
     seen = e .seen;
     seen-is = λ i. e .seen-is i ∙ cases (r .right .negative)
-        (λ n. rw (same (e .table) (inl (e .looks)) (e .kept), n))
+        (λ n. rw (same (e .table) (inl (e .fits-right)) (e .kept), n))
         (λ n. let d = e .denies n in
-        rw (same (e .table) (inl (e .looks)) (e .kept), same (e .denials) (inr (n, d .0)) (d .1)));
+        rw (same (e .table) (inl (e .fits-right)) (e .kept), same (e .denials) (inr (n, d .0)) (d .1)));
     active = e .active;
     acts = e .acts;
     inside = e .inside;
@@ -129,7 +133,7 @@ module _ (base : Base) (s : stratified (base .rules) ≡ true) (count : ℕ) (ms
         let c = and-true (bit i (W (e .table) y)) (r .right .negative || not (bit i (W (e .denials) y)))
         (sym (e .seen-is i) ∙ b) in
         right-is all all (rightOf r x) .1 (
-          subst (λ (p : Pattern). all p ≡ true) (e .looks) (a .sound (e .table) y (e .kept) i h (c .0)),
+          subst (λ (p : Pattern). all p ≡ true) (e .fits-right) (a .sound (e .table) y (e .kept) i h (c .0)),
           λ k. let n = sym (right-sign r x) ∙ k in
               sym (denials-exact n i h) ∙ not-true (bit i (W (e .denials) y))
               (subst (λ (g : Bool). g || not (bit i (W (e .denials) y)) ≡ true) n (c .1)),
@@ -144,8 +148,8 @@ module _ (base : Base) (s : stratified (base .rules) ≡ true) (count : ℕ) (ms
         let all : Pattern → Bool = holds always base (ms i) in
         let held : bit i (W (e .table) y) ≡ all (rightOf r x) =
         exact base count ms pat on Kept W a (e .table) y (e .kept)
-        (λ q n d. fed q n (subst (λ (p : Pattern). derivesFor base p q ≡ true) (e .looks) d) y) i h
-        ∙ ap all (e .looks) in
+        (λ q n d. fed q n (subst (λ (p : Pattern). derivesFor base p q ≡ true) (e .fits-right) d) y) i h
+        ∙ ap all (e .fits-right) in
         e .seen-is i
         ∙ ap (λ (n : Bool). bit i (W (e .table) y) && (n || not (bit i (W (e .denials) y))))
         (sym (right-sign r x))

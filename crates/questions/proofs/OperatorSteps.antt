@@ -9,8 +9,7 @@ use Rattle.foundation.specs.Tests.{cases, agree, true-le, false-le, and-true, a
 use Rattle.foundation.specs.Intervals.{always, always-all, all-always}
 use Rattle.model.specs.declared.Operator.{Operator}
 use Rattle.model.specs.declared.Operator.the-variants.{Whenever, AsLongAs, WheneverNot, Unless}
-use Rattle.model.specs.Stratification.{negating}
-pub use Rattle.model.specs.Stratification.{lasting}
+use Rattle.model.specs.Stratification.{negating, lasting}
 use Rattle.model.specs.Rules.{operate}
 
 -- what the operator wants of the right side now: that it is held, or that it is not

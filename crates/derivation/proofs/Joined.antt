@@ -17,8 +17,8 @@ use Rattle.model.specs.Base.{Base}
 use Rattle.model.specs.Rules.{fits, derivesFor}
 use Rattle.laws.specs.Narrowing.{accessOf, fits-access}
 use Rattle.questions.specs.Table.{truth}
-use Rattle.derivation.specs.Exact.{AccessWords, SoundWords, LineIn, Valued, GivenAt, line-holds}
-use Rattle.derivation.specs.Exact.{rule-holds}
+use Rattle.derivation.specs.Words.{AccessWords}
+use Rattle.derivation.proofs.Exact.{SoundWords, LineIn, Valued, GivenAt, line-holds, rule-holds}
 
 -- two accesses are the same or not
 same-or-not : {X : Type 0} (z x : Access) → (z ≡ x → X) → ((z ≡ x → ⊥) → X) → X

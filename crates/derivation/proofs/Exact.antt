@@ -19,10 +19,7 @@ use Rattle.model.specs.declared.Pattern.{Pattern}
 use Rattle.model.specs.Rules.{Fact, fact, fits, derivesFor, holdsBy, holds}
 use Rattle.model.specs.HoldsLaws.{derived, holds-law}
 use Rattle.questions.specs.Table.{truth}
-
--- the word of each access in each table
-abbrev pub AccessWords : Type 0
-AccessWords = ℕ → Access → ℕ
+use Rattle.derivation.specs.Words.{AccessWords}
 
 module _ (base : Base) (count : ℕ) (ms : ℕ → ℕ) (pat : ℕ → Access → Pattern)
     (Kept : ℕ → Access → Type 0) where
