@@ -4,9 +4,10 @@ use mathlib.Core.List.{List, [], _++_}
 use Prim.Native.Nat.{ℕ}
 use native.Mathlib.Omega.{arith}
 use lib.IntN.{ℤ}
-use Rattle.channel.specs.Digests.{digest, digest-none, digest-twice}
+use Rattle.channel.specs.Digests.{digest}
 use Rattle.channel.specs.declared.Channel.{Channel}
 use Rattle.channel.specs.Trace.{arrived, Opened, Fetched, Unread, Read}
+use Rattle.channel.proofs.DigestFacts.{digest-none, digest-twice}
 
 -- at the start
 pub read-none : {c : Channel} → Opened c → Read [] c

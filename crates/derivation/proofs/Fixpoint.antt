@@ -1,7 +1,7 @@
 -- The rules of one stratum, which may feed each other. With the strata below given, a word that is derived of
 -- tables which say nothing wrong says nothing wrong (`sound-stratum`). And once each of the stratum's rules
 -- has given what it derives, or derives nothing that is not in the tables, all have given what they derive
--- (`shut-done`): by induction over the instants of the window and the rounds of the stratum.
+-- (`none-new-done`): by induction over the instants of the window and the rounds of the stratum.
 use mathlib.Core.Path.{_≡_, refl, sym, _∙_, subst}
 use mathlib.Core.Logic.{_⊎_, ⊎-elim}
 use Prim.Native.Nat.{ℕ, zero, suc, _*_, _-_, _≤_, _<_}
@@ -62,21 +62,21 @@ made-more r ms right more before k f (suc i) h e =
 module _ (base : Base) (count : ℕ) (ms : ℕ → ℕ) (pat : ℕ → Access → Pattern)
     (Kept : ℕ → Access → Type 0) where
   -- what the rule derives for x of the tables is in table T already
-  abbrev pub ShutAt : AccessWords → Rule → ℕ → Access → Type 0
-  ShutAt W r T x = (v : ℕ) × Evaluated base count ms pat Kept W r x v
+  abbrev pub NothingNewAt : AccessWords → Rule → ℕ → Access → Type 0
+  NothingNewAt W r T x = (v : ℕ) × Evaluated base count ms pat Kept W r x v
       × ((i : ℕ) → i < count → bit i v ≡ true → bit i (W T x) ≡ true)
 
   -- and so for all words that the rule derives for
   abbrev pub NothingNew : AccessWords → Rule → Type 0
-  NothingNew W r = (T : ℕ) (x : Access) → Kept T x → derivesFor base (pat T x) r ≡ true → ShutAt W r T x
+  NothingNew W r = (T : ℕ) (x : Access) → Kept T x → derivesFor base (pat T x) r ≡ true → NothingNewAt W r T x
 
   -- that stays so while the words that the rule looks at do not change, and no bit is lost
-  pub shut-stays : (W W′ : AccessWords) (r : Rule) (T : ℕ) (x : Access) →
+  pub none-new-stays : (W W′ : AccessWords) (r : Rule) (T : ℕ) (x : Access) →
       ((R : ℕ) → Depends r x (pat R (rightOf r x .access)) → Kept R (rightOf r x .access) →
       W′ R (rightOf r x .access) ≡ W R (rightOf r x .access)) →
       ((i : ℕ) → bit i (W T x) ≡ true → bit i (W′ T x) ≡ true) →
-      ShutAt W r T x → ShutAt W′ r T x
-  shut-stays W W′ r T x same more z = (
+      NothingNewAt W r T x → NothingNewAt W′ r T x
+  none-new-stays W W′ r T x same more z = (
     z .0,
     evaluated-stays base count ms pat Kept W W′ r x (z .0) same (z .1),
     λ i h b. more i (z .2 i h b),
@@ -138,7 +138,7 @@ module _ (base : Base) (s : stratified (base .rules) ≡ true) (count : ℕ) (ms
       Evaluated base count ms pat Kept W r x v → truth base (ms i) r x ≡ true → bit i v ≡ true
 
   module _ (few : k ≤ 2 * length (base .rules))
-      (shut : (r : Rule) → Mem r (base .rules) → stratum (base .rules) r ≡ k →
+      (none-new : (r : Rule) → Mem r (base .rules) → stratum (base .rules) r ≡ k →
       GivenEverywhere base count ms pat Kept W r ⊎ NothingNew base count ms pat Kept W r) where
     -- what a round derives is derived at last, and by a rule of this stratum or one below
     round-true : (n : ℕ) → n ≤ enough always base → (r : Rule) → Mem r (base .rules) → (x : Access) (u : ℕ) →
@@ -172,7 +172,7 @@ module _ (base : Base) (s : stratified (base .rules) ≡ true) (count : ℕ) (ms
             let c : stratum (base .rules) q ≡ k = omega (arith, g .0) in
             ⊎-elim done
             (λ f. let u = f (e .table) y (e .kept) d in u .2 i inside (found q p c y (u .0) (u .1) b))
-            (shut q p c))
+            (none-new q p c))
 
         -- the right side, as the round looks at it, up to the stratum and below it
         abbrev same : ℕ → Bool
@@ -278,15 +278,15 @@ module _ (base : Base) (s : stratified (base .rules) ≡ true) (count : ℕ) (ms
     made-at (suc i) g = made-now (suc i) g (λ j q. let p : i ≡ j = omega arith in
         subst MadeAt p (made-at i (omega arith)))
 
-    shut-given : (r : Rule) → Mem r (base .rules) → stratum (base .rules) r ≡ k →
+    none-new-given : (r : Rule) → Mem r (base .rules) → stratum (base .rules) r ≡ k →
         NothingNew base count ms pat Kept W r → GivenEverywhere base count ms pat Kept W r
-    shut-given r m h f x T t d i g b =
+    none-new-given r m h f x T t d i g b =
         let u = f T x t d in u .2 i g (made-at i g r m h x (u .0) (u .1) b)
 
   -- every rule of the stratum has given what it derives
-  pub shut-done : ((r : Rule) → Mem r (base .rules) → stratum (base .rules) r ≡ k →
+  pub none-new-done : ((r : Rule) → Mem r (base .rules) → stratum (base .rules) r ≡ k →
       GivenEverywhere base count ms pat Kept W r ⊎ NothingNew base count ms pat Kept W r) →
       (r : Rule) → Mem r (base .rules) → stratum (base .rules) r ≡ k → GivenEverywhere base count ms pat Kept
       W r
-  shut-done shut r m h = ⊎-elim (λ d. d)
-      (shut-given (omega (arith, stratum-few (base .rules) s r m)) shut r m h) (shut r m h)
+  none-new-done none-new r m h = ⊎-elim (λ d. d)
+      (none-new-given (omega (arith, stratum-few (base .rules) s r m)) none-new r m h) (none-new r m h)

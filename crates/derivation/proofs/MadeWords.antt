@@ -15,8 +15,9 @@ use Rattle.model.specs.declared.Operator.{Operator}
 use Rattle.model.specs.declared.Operator.the-variants.{Whenever, AsLongAs, WheneverNot, Unless}
 use Rattle.model.specs.Stratification.{lasting}
 use Rattle.questions.proofs.OperatorSteps.{sense}
-use Rattle.words.specs.Ones.{ones, ones-from}
-use Rattle.words.specs.Bits.{bit-less}
+use Rattle.words.specs.Ones.{ones}
+use Rattle.words.proofs.OnesFacts.{ones-from}
+use Rattle.words.proofs.CutBit.{bit-less}
 use Rattle.derivation.proofs.Window.{made}
 use Rattle.derivation.proofs.Lasting.{prior, made-plain, made-broken, made-lasting}
 use Rattle.derivation.specs.Words.{wantedWord, derivedWord}

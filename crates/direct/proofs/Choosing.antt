@@ -23,7 +23,8 @@ use Rattle.model.specs.HoldsSteady.{marks-length}
 use Rattle.model.specs.Means.{boundaries, marksOf}
 use Rattle.model.specs.Rules.{fits, asked}
 use Rattle.relevance.specs.declared.Chosen.{Chosen}
-use Rattle.relevance.specs.Chosen.{authorizationAt, picked, picked-none, picked-more, marksFor}
+use Rattle.relevance.specs.Chosen.{authorizationAt, picked, marksFor}
+use Rattle.relevance.proofs.PickedFacts.{picked-none, picked-more}
 use Rattle.direct.specs.Direct.{heldDirectly}
 use Rattle.direct.specs.Among.{isFor, signedAt, heldAmong}
 use Rattle.direct.proofs.FoundLoop.{by-sign, live-step, is-positive, is-negative}

@@ -247,10 +247,10 @@ edited-out {s₁ = s₁} {at = at} e p = edited e p (sym (put-nothing at s₁))
 -- ---- resizing
 
 -- a gap opened behind the old bytes
-pub opened : (at old new : ℕ) (s : List ℕ) → old < new → at + new ≤ length s →
+pub lengthened : (at old new : ℕ) (s : List ℕ) → old < new → at + new ≤ length s →
     gapped (at + old) (length s) (new - old) s ≡ resized at old new s
 unfolding gapped resized
-opened at old new s h k =
+lengthened at old new s h k =
     let a : at + old + (new - old) ≡ at + new = omega arith in
     let n : length s - (at + old) - (new - old) ≡ length s - at - new = omega arith in
     let z : old - new ≡ 0 = omega arith in
@@ -264,10 +264,10 @@ opened at old new s h k =
     )
 
 -- the bytes behind the new ones taken out
-pub shut : (at old new : ℕ) (s : List ℕ) → new ≤ old → at + old ≤ length s →
+pub shortened : (at old new : ℕ) (s : List ℕ) → new ≤ old → at + old ≤ length s →
     gapClosed (at + new) (length s) (old - new) s ≡ resized at old new s
 unfolding gapClosed resized
-shut at old new s h k =
+shortened at old new s h k =
     let a : at + new + (old - new) ≡ at + old = omega arith in
     let d : List ℕ = drop (at + old) s in
     let l : length (drop (at + old) s) ≡ length s - (at + old) = length-drop (at + old) s in

@@ -30,13 +30,15 @@ use Rattle.model.specs.Kinds.{kind-is, is-apart, is-kinds, grantKinds, labelKin
 use Rattle.laws.specs.Rows.{rule-in, label-left}
 use Rattle.laws.specs.RuleTerms.{ruleTests}
 use Rattle.laws.specs.Preservation.{sound-after}
+use Rattle.encoding.specs.declared.Counts.{Counts}
+use Rattle.encoding.specs.Format.{countsOf}
+use Rattle.encoding.proofs.FormatFacts.{decoded-lengths}
 use Rattle.edits.specs.declared.PrivilegeBody.the-variants.{Objects}
 use Rattle.edits.specs.Edits.{Written, withStamp}
 use Rattle.edits.proofs.Written.{written-sound, written-encode}
 use Rattle.model.specs.Effects.{withAuthorizations, withRules, withReferrers}
 use Rattle.edits.specs.Edits.{withPrivileges, privilegesOf}
 use Rattle.edits.proofs.Kept.{fits-clock}
-use Rattle.edits.specs.Edits.{withPrivileges, privilegesOf}
 use Rattle.effects.specs.EffectRecords.{Allowed, privilegeBodyOf, dropsBy}
 
 -- ---- bytes that hold a base
@@ -80,7 +82,7 @@ module _ (kinds : List ℕ) (s : List ℕ) (q : Request) (a : Allowed kinds s q)
   after-fits = base-fits (effect plainly (decode s) q)
       (tests-sound (effect plainly (decode s) q) (sound-after (decode s) q allowed-sound (a .accepted)))
 
-  pub label-room : allb (λ k. anyb (eqb k) labelKinds) kinds ≡ true → decode s .last < lastLabel
+  label-room : allb (λ k. anyb (eqb k) labelKinds) kinds ≡ true → decode s .last < lastLabel
   label-room h = label-left (decode s) q (a .accepted) (is-kinds q kinds labelKinds h (a .kind))
 
 pub operator-in : (s : List ℕ) (q : Request) → Allowed (ADDRULE ∷ []) s q → q .rule .operator < 256
@@ -142,8 +144,9 @@ module _ (b : Base) (q : Request) where
 
 -- a body of the base that takes records with labels
 pub record LabelledBody (R : Type 0) : Type 1 where
-  -- its records, and the base with others
+  -- its records, their number in the heading, and the base with others
   pub of : Base → List R
+  pub count : Counts → ℕ
   pub with : List R → Base → Base
   pub most : ℕ
   pub FitsBytes : R → Type 0
@@ -152,6 +155,7 @@ pub record LabelledBody (R : Type 0) : Type 1 where
   pub clock : (xs : List R) (b : Base) → with xs b .clock ≡ b .clock
   pub last : (xs : List R) (b : Base) → with xs b .last ≡ b .last
   pub stays : (clock last : ℕ) (b : Base) → of (withStamp clock last b) ≡ of b
+  pub counted : (s : List ℕ) → length (of (decode s)) ≡ count (countsOf s)
   -- of a base that fits, it is not too long, and its records fit
   pub limited : (b : Base) → BaseFits b → length (of b) ≤ most
   pub fits : (b : Base) → BaseFits b → (x : R) → Mem x (of b) → FitsBytes x
@@ -159,6 +163,7 @@ pub record LabelledBody (R : Type 0) : Type 1 where
 abbrev pub authorizationBody : LabelledBody Authorization
 authorizationBody = record {
   of = λ b. b .authorizations;
+  count = λ c. c .authorizations;
   with = withAuthorizations;
   most = mostAuthorizations;
   FitsBytes = AuthorizationFits;
@@ -166,6 +171,7 @@ authorizationBody = record {
   clock = λ xs b. refl;
   last = λ xs b. refl;
   stays = λ clock last b. refl;
+  counted = λ s. decoded-lengths s .3;
   limited = λ b f. f .counts .authorizations;
   fits = λ b f. f .authorizations;
 }
@@ -173,6 +179,7 @@ authorizationBody = record {
 abbrev pub ruleBody : LabelledBody Rule
 ruleBody = record {
   of = λ b. b .rules;
+  count = λ c. c .rules;
   with = withRules;
   most = mostRules;
   FitsBytes = RuleFits;
@@ -180,6 +187,7 @@ ruleBody = record {
   clock = λ xs b. refl;
   last = λ xs b. refl;
   stays = λ clock last b. refl;
+  counted = λ s. decoded-lengths s .4;
   limited = λ b f. f .counts .rules;
   fits = λ b f. f .rules;
 }
@@ -187,6 +195,7 @@ ruleBody = record {
 -- an addition: what is put in under a label, and the effect of the request
 pub record Addition {R : Type 0} (P : LabelledBody R) (s : List ℕ) (q : Request) (new : ℕ → R) : Type 0 where
   pub written : Written s
+  pub unused : decode s .last < lastLabel
   pub after : BaseFits (effect plainly (decode s) q)
   pub effects : effect plainly (decode s) q
       ≡ P .with (P .of (decode s) ++ (new (suc (decode s .last)) ∷ []))
@@ -196,6 +205,7 @@ pub grant-addition : (s : List ℕ) (q : Request) → Allowed grantKinds s q →
     Addition authorizationBody s q (λ label. authorization (newHead label q) (q .interval))
 grant-addition s q a = record {
   written = allowed-written grantKinds s q a;
+  unused = label-room grantKinds s q a refl;
   after = after-fits grantKinds s q a;
   effects = effect-authorization (decode s) q (a .kind);
 }
@@ -204,6 +214,7 @@ pub rule-addition : (s : List ℕ) (q : Request) → Allowed (ADDRULE ∷ []) s 
     Addition ruleBody s q (λ label. newRule label q)
 rule-addition s q a = record {
   written = allowed-written (ADDRULE ∷ []) s q a;
+  unused = label-room (ADDRULE ∷ []) s q a refl;
   after = after-fits (ADDRULE ∷ []) s q a;
   effects = effect-rule (decode s) q (a .kind);
 }
@@ -219,7 +230,7 @@ module _ {R : Type 0} {P : LabelledBody R} {s : List ℕ} {q : Request} {new : �
   added : P .of (effect plainly (decode s) q) ≡ old ++ (new (suc (decode s .last)) ∷ [])
   added = ap (P .of) (d .effects) ∙ P .got (old ++ (new (suc (decode s .last)) ∷ [])) then
 
-  module _ (label : ℕ) (e : label ≡ decode s .last + 1) where
+  module _ {label : ℕ} (e : label ≡ decode s .last + 1) where
     next : suc (decode s .last) ≡ label
     next = omega arith
 
@@ -236,25 +247,29 @@ module _ {R : Type 0} {P : LabelledBody R} {s : List ℕ} {q : Request} {new : �
         (rw added (mem-right (new (suc (decode s .last))) old (new (suc (decode s .last)) ∷ []) (inl refl))))
 
     -- behind the stamp, with the place that was counted before
-    module _ (s₁ : List ℕ) (e₁ : s₁ ≡ encode (withStamp (q .now) label (decode s)))
-        (i : ℕ) (place : i ≡ length (P .of (decode s))) where
+    module _ {s₁ : List ℕ} (e₁ : s₁ ≡ encode (withStamp (q .now) label (decode s)))
+        {c : Counts} (counts : c ≡ countsOf s) where
+      place : P .count c ≡ length (P .of (decode s))
+      place = ap (P .count) counts ∙ sym (P .counted s)
+
       now-holds : HoldsBase (withStamp (q .now) label (decode s)) s₁
       now-holds = stamped s (q .now) label (d .written) (d .after .clock) label-within s₁ e₁
 
       now-old : P .of (decode s₁) ≡ P .of (decode s)
       now-old = ap (P .of) (now-holds .base) ∙ P .stays (q .now) label (decode s)
 
-      pub room : Written s₁ × (i ≤ length (P .of (decode s₁))) × (length (P .of (decode s₁)) < P .most)
+      pub room : Written s₁ × (P .count c ≤ length (P .of (decode s₁)))
+          × (length (P .of (decode s₁)) < P .most)
       room =
           let l = ap length now-old in
           let f = P .limited (effect plainly (decode s) q) (d .after) in
           let m = ap length added ∙ length-append old (new (suc (decode s .last)) ∷ []) in
-          (now-holds .written, omega (arith, l), omega (arith, l, f, m))
+          (now-holds .written, omega (arith, l, place), omega (arith, l, f, m))
 
-      pub put-last : (x : R) → x ≡ new label → (s₂ : List ℕ) →
-          s₂ ≡ encode (P .with (insertAt i x (P .of (decode s₁))) (decode s₁)) →
+      pub put-last : {x : R} → x ≡ new label → {s₂ : List ℕ} →
+          s₂ ≡ encode (P .with (insertAt (P .count c) x (P .of (decode s₁))) (decode s₁)) →
           s₂ ≡ encode (effect plainly (decode s) q)
-      put-last x ex s₂ e₂ =
+      put-last ex e₂ =
           e₂
           ∙ (λ k. encode (P .with (insertAt (place k) ((ex ∙ ap new (sym next)) k) (now-old k))
           (now-holds .base k)))

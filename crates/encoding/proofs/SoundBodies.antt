@@ -27,6 +27,10 @@ pub rest-of : (s : List ℕ) (a b : ℕ) → a ≡ b → lent s a ≡ drop b s
 rest-of s a b e = lent-rest a s ∙ ap (λ (n : ℕ). drop n s) e
 
 module _ (s : List ℕ) (e : soundBytes s ≡ true) where
+  -- the heading is there
+  pub heading-there : 32 ≤ length s
+  heading-there = omega (arith, sound-length s e)
+
   pub base-sound : Sound (decode s)
   base-sound = decoded-sound s e
 

@@ -15,7 +15,8 @@ use Rattle.foundation.specs.Quotients.{parted}
 use Rattle.foundation.specs.BitMasks.{bit, none-set}
 use Rattle.model.specs.declared.Access.{Access}
 use Rattle.model.specs.Base.{Base}
-use Rattle.places.specs.ReachedNumbers.{used, usedBefore, usedBefore-le, usedBefore-apart, usedBefore-onto}
+use Rattle.places.specs.ReachedNumbers.{used, usedBefore}
+use Rattle.places.proofs.NumberFacts.{usedBefore-le, usedBefore-apart, usedBefore-onto}
 use Rattle.places.specs.ReachedNumbers.{codeOf}
 use Rattle.places.specs.Regions.{Within}
 use Rattle.tables.specs.TableLayout.{SmallGrid}

@@ -1,7 +1,7 @@
 -- What the steps of a window leave: words of instants that fit the fields (`active-low`), fields that are
 -- cleared (`all-clear`); and the evaluation, once all are done (`evaluated`).
 use mathlib.Core.Path.{_≡_, refl, ap, _∙_}
-use mathlib.Core.Bool.{Bool, true, false, _&&_}
+use mathlib.Core.Bool.{Bool, true, _&&_}
 use mathlib.Core.List.{List}
 use Prim.Native.Nat.{ℕ, zero, suc, _+_, _*_, _/_, _^_, _≤_, _<_}
 use native.Mathlib.Nat.{lt-of-lt-of-le, mul-le-mul-right}

@@ -1,5 +1,5 @@
 -- What it means that authorizations are given to the tables: words stay sound (`lines-sound`) and have in
--- them what was given (`lines-in`). Empty words are then sound and have all of them (`facts-valued`).
+-- them what was given (`lines-in`). Empty words are sound (`blank-sound`).
 use mathlib.Core.Path.{_≡_, refl, sym, ap, _∙_, subst}
 use mathlib.Core.Logic.{⊎-elim, inl, inr}
 use mathlib.Core.Bool.{Bool, true, false, _&&_, Bool·beq}
@@ -27,7 +27,7 @@ use Rattle.tables.proofs.FieldsApart.{field-below}
 use Rattle.tables.specs.TableGiving.{tablesOf, TablesGiven}
 use Rattle.facts.specs.Facts.{fitsKind, fitsRule, takenBy, Setting, setting, placeIn}
 use Rattle.facts.specs.Facts.{LineStep, LineSteps, none, then}
-use Rattle.derivation.proofs.Exact.{Valued, SoundWords, LineIn, none-sound}
+use Rattle.derivation.proofs.Exact.{SoundWords, LineIn, none-sound}
 use Rattle.derivation.proofs.Joined.{Joined, line-stays, line-sound, line-in}
 use Rattle.grounding.specs.RuleSteps.{pairIn}
 use Rattle.grounding.specs.Meaning.{pat, Mapping, placeOf, Kept, wordsIn, Placed}
@@ -164,16 +164,3 @@ module _ (z : Mapping) (placed : Placed z) (body : List ℕ) (asked : Access) (s
       none-sound (z .base) count instant patterns (Kept z) (wordsIn z w) (λ T x k.
       empty (fieldIn t T (placeOf z x .pair) (z .point x))
       (field-below t 0 (z .frame .fields) laid T (placeOf z x .pair) (z .point x) (k .1)))
-
-  -- and, given all authorizations of the base, have all of them
-  pub facts-valued : {l : List Authorization} {w₀ w : List ℕ} →
-      TablesLaid (tablesOf (z .frame) (z .right) (z .first)) 0 (z .frame .fields) →
-      ((i : ℕ) → i < z .frame .fields → fieldOf (z .frame .width) w₀ i ≡ 0) → z .base .authorizations ≡ l →
-      ((a : Authorization) → Mem a l → LineAt z by a) → LineSteps by l w₀ w →
-      Valued (z .base) count instant patterns (Kept z) (wordsIn z w)
-  facts-valued {l} {w₀} {w} laid empty same at row =
-      let all : All l = λ a m. (subst (Mem a) (sym same) m, at a m) in
-      record {
-        sound = lines-sound row all (blank-sound w₀ laid empty);
-        lines = λ a m. lines-in row all a (subst (Mem a) same m);
-      }

@@ -19,7 +19,8 @@ use Rattle.model.specs.Rules.{may}
 use Rattle.encoding.specs.Format.{ruleAt}
 use Rattle.laws.specs.NothingHeld.{nothing-may}
 use Rattle.relevance.specs.declared.Chosen.{Chosen}
-use Rattle.relevance.specs.Chosen.{picked, picked-none}
+use Rattle.relevance.specs.Chosen.{picked}
+use Rattle.relevance.proofs.PickedFacts.{picked-none}
 use Rattle.relevance.specs.Forgotten.{during}
 use Rattle.selection.proofs.Selected.{selected-rule}
 use Rattle.scan.specs.Filled.{filled}

@@ -2,7 +2,7 @@
 -- The instants that a window is filled with are a window of the base (`views`), its word has the answers
 -- (`answered`, `yes-last`), and behind it the walk has ended or goes on (`ends`, `goes`).
 use mathlib.Core.Path.{_≡_, refl, sym, ap, ap₂, _∙_, subst}
-use mathlib.Core.Logic.{_⊎_, inl, inr, ⊎-elim}
+use mathlib.Core.Logic.{_⊎_, inl, inr}
 use mathlib.Core.Bool.{Bool, true, false, not, _&&_, false≢true}
 use mathlib.Core.List.{List, [], _∷_}
 use Prim.Native.Nat.{ℕ, zero, suc, _-_, _^_, _≤_, _<_}
@@ -43,7 +43,7 @@ use Rattle.outlines.specs.Coordinates.{Chart}
 use Rattle.grounding.specs.RuleTurns.{Prepared, Able, Marked}
 use Rattle.engine.specs.declared.Query.{Query}
 use Rattle.engine.specs.declared.walking.Progress.{Progress}
-use Rattle.engine.specs.Evaluation.{Low, Evaluation}
+use Rattle.engine.specs.Evaluation.{Low, StrataKnown, Evaluation}
 use Rattle.engine.proofs.AccessPlaces.{place-within}
 use Rattle.engine.proofs.StandingPlaces.{rule-low}
 use Rattle.engine.specs.Posed.{Posed, CarriedAt, Walks, Finds}
@@ -96,13 +96,15 @@ startOf base x which words bits list =
 
 -- at the first instant nothing is done
 pub walk-starts : {lines which : List ℕ} {c : Chosen} {lasting : ℕ} {q : Query} {C : Chart} {p : Prepared}
-    {words bits : List ℕ} {base : Base} {x : Access} → Walks lines which c lasting q C p words bits base x →
+    {strata words bits : List ℕ} {base : Base} {x : Access} →
+    Walks lines which c lasting q C p words bits base x →
     q .from ≤ 4294967296 → (list : List ℕ) → Going lines c lasting q C p
-    (startOf base x which words bits list) which words bits list (record {
+    (startOf base x which words bits list) strata which words bits list (record {
       next = q .from;
       track = record { count = 0; inside = false; from = 0 };
       yes = false;
       left = c .authorizations;
+      ranked = false;
     })
 unfolding filled
 walk-starts {q = q} {base = base} {x = x} w h list = record {
@@ -125,6 +127,7 @@ walk-starts {q = q} {base = base} {x = x} w h list = record {
     held = λ z. absurd (false≢true z);
   };
   last = λ l. absurd (omega (arith, w .forward));
+  ranked = λ e. absurd (false≢true e);
   words-size = refl;
   bits-size = refl;
 }
@@ -132,8 +135,8 @@ walk-starts {q = q} {base = base} {x = x} w h list = record {
 -- ---- a window
 
 module _ {lines : List ℕ} {c : Chosen} {lasting : ℕ} {q : Query} {C : Chart} {p : Prepared} {o : Start}
-    {which words bits list : List ℕ} {s : Progress}
-    (g : Going lines c lasting q C p o which words bits list s) where
+    {strata which words bits list : List ℕ} {s : Progress}
+    (g : Going lines c lasting q C p o strata which words bits list s) where
   abbrev posed : Posed (c .rules) C (q .own) p (c .needed) (length (o .words)) (length (o .bits)) (o .base)
       (o .access)
   posed = g .walks .posed
@@ -159,8 +162,8 @@ module _ {lines : List ℕ} {c : Chosen} {lasting : ℕ} {q : Query} {C : Chart}
   }
 
   -- the authorizations that have an asked instant
-  abbrev asked : List Authorization
-  asked = keepIf (during (q .from) (q .to)) (o .base .authorizations)
+  abbrev linesAsked : List Authorization
+  linesAsked = keepIf (during (q .from) (q .to)) (o .base .authorizations)
 
   -- from the next instant to the last one the marks of what is left are those of the base
   marks-alike : (u v : ℕ) → s .next ≤ u → v ≤ q .to →
@@ -169,7 +172,7 @@ module _ {lines : List ℕ} {c : Chosen} {lasting : ℕ} {q : Query} {C : Chart}
   marks-alike u v h k =
       ap₂ (λ (xs : List Authorization) (rs : List Rule). clear (marks xs rs) u v) (g .left)
       (sym (posed .rules))
-      ∙ clear-left (g .since) u (omega (arith, g .past)) asked
+      ∙ clear-left (g .since) u (omega (arith, g .past)) linesAsked
       (ordered-kept (during (q .from) (q .to)) (o .base .authorizations) ordered)
       (ruleMarks (o .base .rules)) v
       ∙ clear-during (q .from) (q .to) u v (omega (arith, g .low)) k (o .base .authorizations) ordered
@@ -236,13 +239,6 @@ module _ {lines : List ℕ} {c : Chosen} {lasting : ℕ} {q : Query} {C : Chart}
     pub further : s .next < r .next
     further = omega (arith, last-from, fills .last)
 
-    -- where another window follows there is room for what is kept
-    pub keeps : r .next ≤ q .to → ((r : ℕ) → bit r lasting ≡ true → ⊥) ⊎ (0 < length bits)
-    keeps h = ⊎-elim
-        (λ e. absurd (omega (arith, g .low, further)))
-        (⊎-elim (λ n. inl n) (λ l. inr (omega (arith, g .bits-size))))
-        (g .walks .kept)
-
     -- no mark lies behind the window, before the next instant and up to the last one that is asked
     behind : (v : ℕ) → v ≤ q .to → v < r .next → clear (allMarks (o .base)) last v ≡ true
     behind v h k = sym (marks-alike last v last-from h)
@@ -255,7 +251,7 @@ module _ {lines : List ℕ} {c : Chosen} {lasting : ℕ} {q : Query} {C : Chart}
     missing a m = cases (during (q .from) (q .to) a)
         (λ d. cases (endsFrom (g .since) a)
         (λ e. inl (subst (λ (l : List Authorization). Mem a l) (sym (g .left))
-        (keepIf-mem (endsFrom (g .since)) asked a
+        (keepIf-mem (endsFrom (g .since)) linesAsked a
         (keepIf-mem (during (q .from) (q .to)) (o .base .authorizations) a m d) e)))
         (λ e. inr (λ i h. inInterval-above (a .interval) (getD ms i 0) (omega (
           arith,
@@ -280,7 +276,8 @@ module _ {lines : List ℕ} {c : Chosen} {lasting : ℕ} {q : Query} {C : Chart}
       few = omega (arith, fills .few);
       fits = omega (arith, fills .few);
       among = λ a m. kept (during (q .from) (q .to)) (o .base .authorizations) a
-          (kept (endsFrom (g .since)) asked a (subst (λ (l : List Authorization). Mem a l) (g .left) m) .0)
+          (kept (endsFrom (g .since)) linesAsked a (subst (λ (l : List Authorization). Mem a l) (g .left)
+          m) .0)
           .0;
       missed = missing;
     }
@@ -327,7 +324,7 @@ module _ {lines : List ℕ} {c : Chosen} {lasting : ℕ} {q : Query} {C : Chart}
             (fieldIn (tablesOf (p .frame) (p .right) (p .first)) 0 (z .pair) (z .point)))
             && not (bit i (fieldOf (p .frame .width) new
             (fieldIn (tablesOf (p .frame) (p .right) (p .first)) 1 (z .pair) (z .point))))) (g .walks .place)
-            ∙ answers posed views (g .bits-size) done carried-here i h
+            ∙ answers posed views done carried-here i h
 
         pub answered : Answered answer (q .to) (r .count) ms (cappedAt (q .to) (r .next)) word
         answered = record {
@@ -348,10 +345,12 @@ module _ {lines : List ℕ} {c : Chosen} {lasting : ℕ} {q : Query} {C : Chart}
         module _ (sized : length new ≡ length words) (w : Track) (yes : Bool)
             (told : yes ≡ bit (r .count - 1) word) (list′ : List ℕ)
             (listed : q .listing ≡ true →
-            ScannedTo answer (q .to) (o .list) (cappedAt (q .to) (r .next)) w list′) where
+            ScannedTo answer (q .to) (o .list) (cappedAt (q .to) (r .next)) w list′)
+            (ranked : Bool) {strata′ : List ℕ}
+            (known : ranked ≡ true → StrataKnown (c .rules) (c .needed) (p .body) strata′) where
           -- the last instant was in the window
-          pub ends : q .to < r .next → Going lines c lasting q C p o which new bits list′
-              (record { next = r .next; track = w; yes = yes; left = s .left })
+          pub ends : q .to < r .next → Going lines c lasting q C p o strata′ which new bits list′
+              (record { next = r .next; track = w; yes = yes; left = s .left; ranked = ranked })
           ends h = record {
             walks = g .walks;
             low = omega (arith, g .low, further);
@@ -363,6 +362,7 @@ module _ {lines : List ℕ} {c : Chosen} {lasting : ℕ} {q : Query} {C : Chart}
             carried = λ k. absurd (omega arith);
             listed = listed;
             last = λ k. told ∙ yes-last h;
+            ranked = known;
             words-size = sized ∙ g .words-size;
             bits-size = g .bits-size;
           }
@@ -371,8 +371,8 @@ module _ {lines : List ℕ} {c : Chosen} {lasting : ℕ} {q : Query} {C : Chart}
           pub goes : r .next ≤ q .to → {bits′ which′ : List ℕ} {k : ℕ} →
               Marked p active new (r .count - 1) last lasting 0 bits bits′ → length bits′ ≡ length bits →
               Forgets lines (s .left) last which which′ k →
-              Going lines c lasting q C p o which′ new bits′ list′
-              (record { next = r .next; track = w; yes = yes; left = k })
+              Going lines c lasting q C p o strata′ which′ new bits′ list′
+              (record { next = r .next; track = w; yes = yes; left = k; ranked = ranked })
           goes h {bits′} {which′} {k} marked same f =
               record {
                 walks = g .walks;
@@ -382,12 +382,13 @@ module _ {lines : List ℕ} {c : Chosen} {lasting : ℕ} {q : Query} {C : Chart}
                 since = last;
                 past = omega (arith, fills .last);
                 left = f .left ∙ ap (keepIf (endsFrom last)) (g .left)
-                    ∙ keep-twice (g .since) last (omega (arith, g .past, last-from)) asked;
-                carried = λ l. carried-next posed views (g .bits-size) done carried-here (r .next)
+                    ∙ keep-twice (g .since) last (omega (arith, g .past, last-from)) linesAsked;
+                carried = λ l. carried-next posed views done carried-here (r .next)
                     (fills .last) (behind (r .next - 1) (omega arith) (omega (arith, fills .last))) lasting
-                    (g .walks .lasts) marked (keeps h);
+                    (g .walks .lasts) marked;
                 listed = listed;
                 last = λ l. absurd (omega arith);
+                ranked = known;
                 words-size = sized ∙ g .words-size;
                 bits-size = same ∙ g .bits-size;
               }

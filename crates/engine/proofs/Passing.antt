@@ -1,5 +1,5 @@
--- Through a window, by the slices that hold the tables: the outline changes in its last section only, and so
--- do the numbers, so what is prepared stays.
+-- Through a window, by the slices that hold the tables: the outline changes in its last two sections only,
+-- and the numbers in their last, so what is prepared stays.
 use mathlib.Core.Path.{_≡_, refl, sym, ap, _∙_, subst}
 use mathlib.Core.Bool.{true, not, _&&_}
 use mathlib.Core.List.{List}
@@ -75,9 +75,6 @@ module _ (R U C N M W : List ℕ) (w : WindowWalk) where
     pub first-as : firstOf U′ ≡ firstOf U
     first-as = front-same 280 64 408 U U′ (omega arith) front
 
-    pub lefts-stay : take 280 U′ ≡ take 280 U
-    lefts-stay = front-same 0 280 408 U U′ (omega arith) front
-
     fields-size : length (fieldsIn f W′) ≡ length (fieldsIn f W)
     fields-size = part-alike (wordsFor (f .fields) (f .width)) W′ W long
 
@@ -124,12 +121,11 @@ module _ (R U C N M W : List ℕ) (w : WindowWalk) where
 
     -- what follows goes on in the tables as they are now
     pub going-as : (M′ : List ℕ) → take at M′ ≡ take at M → {L : List ℕ} {o : Start} {s : Progress}
-        {which words words′ bits bits′ : List ℕ} → words′ ≡ words → bits′ ≡ bits →
-        Going R (w .chosen) (w .lasting) (w .query) (chartIn C f) (preparedFor R U C N M w) o which words
-        bits L
-        s →
-        Going R (w .chosen) (w .lasting) (w .query) (chartIn C f) (preparedFor R U′ C N M′ w) o which words′
-        bits′ L s
+        {strata which words words′ bits bits′ : List ℕ} → words′ ≡ words → bits′ ≡ bits →
+        Going R (w .chosen) (w .lasting) (w .query) (chartIn C f) (preparedFor R U C N M w) o strata which
+        words bits L s →
+        Going R (w .chosen) (w .lasting) (w .query) (chartIn C f) (preparedFor R U′ C N M′ w) o strata which
+        words′ bits′ L s
     going-as M′ e d b x = rw (
       prepared-same U′ U front (drop (w .offset) R) (drop (w .offset) R) C N M′ M f refl e,
       d,

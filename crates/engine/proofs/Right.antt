@@ -122,7 +122,7 @@ module _ {n : ℕ} {C : Chart} {own : Access} {p : Prepared} {needed words bits�
   -- ---- what it says, once it is evaluated
 
   module _ {lines : List Authorization} {marks : List ℕ} {count : ℕ} {active bits new : List ℕ}
-      (views : Views lines marks count) (size : length bits ≡ bits₀)
+      (views : Views lines marks count)
       (done : Evaluation (settingFor marks count) p lines n needed active bits new)
       (carried : CarriedAt posed (getD marks 0 0) bits) where
     abbrev stage : WindowInputs
@@ -221,39 +221,27 @@ module _ {n : ℕ} {C : Chart} {own : Access} {p : Prepared} {needed words bits�
         (lasting : ℕ) → ((r : ℕ) → bit r lasting ≡ bit r (posed .drawn .lasts)) →
         {bits′ : List ℕ} →
         Marked p active new (count - 1) (getD marks (count - 1) 0) lasting 0 bits bits′ →
-        ((r : ℕ) → bit r lasting ≡ true → ⊥) ⊎ (0 < length bits) → CarriedAt posed u bits′
-    carried-next u h c lasting same marked kept active′ =
+        CarriedAt posed u bits′
+    carried-next u h c lasting same marked active′ =
         let d = posed .drawn in
-        let looks : (r : ℕ) → bit r lasting ≡ true →
+        let lasts : (r : ℕ) → bit r lasting ≡ true →
         (bit r needed ≡ true) × (model.lasting (ruleAt (p .body) r .operator) ≡ true) = λ r e.
         and-true (bit r needed) (model.lasting (ruleAt (p .body) r .operator))
         (sym (d .lasts-is r) ∙ sym (same r) ∙ e) in
-        let laid : (to : ℕ) × TablesLaid (brokenTables stage lasting) 0 to = ⊎-elim
-        (λ f. (
-          0,
-          record {
-            room = omega arith;
-            low = λ r e. absurd (f r e);
-            high = λ r e. absurd (f r e);
-            behind = λ r q e. absurd (f r e);
-          },
-        ))
-        (λ b. let l = d .starts (omega (arith, size)) in (
-          d .total,
-          record {
-            room = l .room;
-            low = λ r e. l .low r (sym (same r) ∙ e);
-            high = λ r e. l .high r (sym (same r) ∙ e);
-            behind = λ r q e f. l .behind r q (sym (same r) ∙ e) (sym (same q) ∙ f);
-          },
-        )) kept in
+        let l = d .starts in
+        let laid : TablesLaid (brokenTables stage lasting) 0 (d .total) = record {
+          room = l .room;
+          low = λ r e. l .low r (sym (same r) ∙ e);
+          high = λ r e. l .high r (sym (same r) ∙ e);
+          behind = λ r q e f. l .behind r q (sym (same r) ∙ e) (sym (same q) ∙ f);
+        } in
         next-carried stage staged new (all-right .0) (all-right .1) (count - 1)
-        (omega (arith, views .some)) lasting looks 0 (laid .0) (laid .1)
+        (omega (arith, views .some)) lasting lasts 0 (d .total) laid
         (λ r e y m s. record {
           table = e;
           within = place-within d base y m;
-          inside = left-in d r (rule-few r (looks r e .0) .0) base (posed .powers) active y m s;
-        }) marked kept
+          inside = left-in d r (rule-few r (lasts r e .0) .0) base (posed .powers) active y m s;
+        }) marked
         (λ r e l. same r ∙ d .lasts-is r
         ∙ and-intro (bit r needed) (model.lasting (ruleAt (p .body) r .operator)) e l)
         u h c active′

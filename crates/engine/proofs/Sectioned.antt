@@ -12,7 +12,8 @@ use lib.ListN.{length, take, drop, length-take, length-drop}
 use lib.Seq.{take-take, take-at, drop-at, length-take-le}
 use Rattle.foundation.specs.Tests.{cases, and-true, and-intro, le-true}
 use Rattle.foundation.specs.BitMasks.{bit}
-use Rattle.words.specs.Bits.{bit-less, less}
+use Rattle.words.specs.Bits.{less}
+use Rattle.words.proofs.CutBit.{bit-less}
 use Rattle.tables.specs.declared.Frame.{Frame}
 use Rattle.facts.specs.declared.WindowTask.{WindowTask}
 use Rattle.facts.specs.Facts.{settingIn}

@@ -20,7 +20,8 @@ use Rattle.places.specs.declared.Region.{Region}
 use Rattle.places.specs.declared.Point.{Point}
 use Rattle.places.specs.Regions.{sizeOf, In}
 use Rattle.tables.specs.TableLayout.{regionAt, wholeRegion, isThere, offsetOf, regionOf}
-use Rattle.tables.specs.TableGiving.{whole-at, shapesOf, tableTakes}
+use Rattle.tables.specs.TableGiving.{shapesOf, tableTakes}
+use Rattle.tables.proofs.WholeCodes.{whole-at}
 use Rattle.model.specs.declared.OptionTerm.{OptionTerm}
 use Rattle.model.specs.declared.OptionTerm.the-variants.{With, Without, Either}
 use Rattle.model.specs.declared.Rule.{Rule}
@@ -34,12 +35,13 @@ use Rattle.model.specs.SideFacts.{derives-eq, derives-is, right-eq, fit-feeds, 
 use Rattle.encoding.specs.Format.{ruleAt}
 use Rattle.outlines.specs.Coordinates.{Chart, subjectOf, objectOf, known, modeOf}
 use Rattle.outlines.proofs.CoordinateFacts.{known-one}
-use Rattle.outlines.proofs.RuleAims.{aim-known}
+use Rattle.outlines.proofs.RightAccesses.{right-known}
 use Rattle.outlines.specs.NeededAccesses.{needed}
 use Rattle.outlines.proofs.NeededFacts.{needed-known}
 use Rattle.outlines.proofs.StandingRules.{rule-bit}
 use Rattle.outlines.specs.Feed.{isEither, isChoosy}
-use Rattle.facts.specs.Facts.{takersIn, takers-bit}
+use Rattle.facts.specs.Facts.{takersIn}
+use Rattle.facts.proofs.LineGiving.{takers-bit}
 use Rattle.facts.specs.Sharing.{SameKind}
 use Rattle.grounding.specs.RuleSteps.{turnedPoint}
 use Rattle.grounding.specs.Meaning.{pat, Kept, TurnOf}
@@ -135,15 +137,15 @@ module _ {holder : Base} {n : ℕ} {C : Chart} {asked : Access} {p : Prepared} {
   pointOf x = record { subject = subjectOf C asked x; mode = modeOf x; object = objectOf C asked x }
 
   -- an access at a place of a right side is on it
-  pub aim-same : (base : Base) (r : ℕ) → bit r matter ≡ true → (x : Access) → known C asked x ≡ true →
+  pub right-same : (base : Base) (r : ℕ) → bit r matter ≡ true → (x : Access) → known C asked x ≡ true →
       In (regionAt (p .right) r) (pointOf x) → rightOf (ruleAt (p .body) r) x .access ≡ x
-  aim-same base r b x k i =
+  right-same base r b x k i =
       let y = rightOf (ruleAt (p .body) r) x .access in
       let h = rule-low d r b in
       let e : pointOf y ≡ pointOf x =
       sym (point-right d base r b x) ∙ in-turned (regionAt (p .right) r) (pointOf x) i in
       known-one C asked (d .charted) (d .well-formed .few) y x
-      (aim-known (d .well-formed) C (d .charted) (p .right) (d .rights) asked r h x k) k
+      (right-known (d .well-formed) C (d .charted) (p .right) (d .rights) asked r h x k) k
       (ap (λ (s : Point). s .object) e) (ap (λ (s : Point). s .subject) e) (ap (λ (s : Point). s .mode) e)
 
   -- the table of a rule has its right side
@@ -268,7 +270,7 @@ module _ {holder : Base} {n : ℕ} {C : Chart} {asked : Access} {p : Prepared} {
         ∙ ap₂ (λ (a b : Bool). a && b)
         (d .feed .1 .onward r c k h ∙ ap (λ (a : Bool). a && feeds one q) (d .feed .2 c h ∙ w .1)) t
         ∙ and-yes (feeds one q) in
-        let o : rightOf q x .access ≡ x = aim-same base c (w .0) x (needed-known C asked (p .need) x m) i in
+        let o : rightOf q x .access ≡ x = right-same base c (w .0) x (needed-known C asked (p .need) x m) i in
         let g : pat (ruleAt (p .body)) (suc (suc c)) x ≡ rightOf q x =
         ap (pat (ruleAt (p .body)) (suc (suc c))) (sym o)
         ∙ own-pattern (ruleAt (p .body)) c x in

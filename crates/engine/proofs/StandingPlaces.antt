@@ -18,7 +18,8 @@ use Rattle.model.specs.Stratification.{isStar}
 use Rattle.model.specs.Rules.{standsOn, standsFor}
 use Rattle.model.specs.SideFacts.{stands-eq, stands-same}
 use Rattle.encoding.specs.Format.{ruleAt}
-use Rattle.places.specs.ReachedNumbers.{used, usedBefore, usedBefore-more, usedBefore-apart}
+use Rattle.places.specs.ReachedNumbers.{used, usedBefore}
+use Rattle.places.proofs.NumberFacts.{usedBefore-more, usedBefore-apart}
 use Rattle.places.specs.Regions.{free, In}
 use Rattle.tables.specs.declared.Place.{Place}
 use Rattle.tables.specs.TableLayout.{regionAt}

@@ -17,7 +17,7 @@ use Rattle.model.specs.Rules.{standsFor, rightOf}
 use Rattle.encoding.specs.Format.{ruleAt}
 use Rattle.model.specs.Stratification.{lasting}
 use Rattle.places.specs.declared.Point.{Point}
-use Rattle.places.specs.ReachedNumbers.{usedBefore-le}
+use Rattle.places.proofs.NumberFacts.{usedBefore-le}
 use Rattle.places.specs.Regions.{sizeOf, Within}
 use Rattle.tables.specs.declared.Place.{Place}
 use Rattle.tables.specs.TableLayout.{regionAt, wholeRegion}
@@ -27,12 +27,12 @@ use Rattle.tables.proofs.GivingSteps.{reaches}
 use Rattle.masks.specs.RuleMasks.{RulesIn}
 use Rattle.outlines.specs.Coordinates.{Chart}
 use Rattle.outlines.proofs.CoordinateFacts.{known-is}
-use Rattle.outlines.proofs.RuleAims.{aim-object, aim-subject, aim-mode}
+use Rattle.outlines.proofs.RightAccesses.{right-object, right-subject, right-mode}
 use Rattle.outlines.proofs.StandingRules.{stands, stands-alike}
 use Rattle.outlines.specs.Feed.{isChoosy}
 use Rattle.outlines.specs.NeededAccesses.{needed}
 use Rattle.outlines.proofs.NeededFacts.{needed-known, needed-right}
-use Rattle.facts.specs.Facts.{takers-some}
+use Rattle.facts.proofs.LineGiving.{takers-some}
 use Rattle.grounding.specs.RuleSteps.{turnedPoint, pairIn, rightPlace, Ordinary, StepReads}
 use Rattle.grounding.specs.RuleTurns.{Prepared, derivedHead, takersFor, turnIn, Able}
 use Rattle.grounding.specs.Meaning.{placeOf}
@@ -42,15 +42,15 @@ use Rattle.engine.proofs.StandingPlaces.{rule-low, range-few, stands-in
 
 module _ {holder : Base} {n : ℕ} {C : Chart} {asked : Access} {p : Prepared} {rules words bits : ℕ}
     (d : Drawn holder n C asked p rules words bits) where
-  -- the broken bits of a rule that looks back have room, where bits are kept
-  pub lasting-room : (r : ℕ) → bit r rules ≡ true → lasting (ruleAt (p .body) r .operator) ≡ true → 0 < bits →
+  -- the broken bits of a rule that looks back have room
+  pub lasting-room : (r : ℕ) → bit r rules ≡ true → lasting (ruleAt (p .body) r .operator) ≡ true →
       (getD (p .starts) r 0 + sizeOf (p .frame .grid) (regionAt (p .sides) r) ≤ 64 * bits)
       × (getD (p .starts) r 0 + sizeOf (p .frame .grid) (regionAt (p .sides) r) < 4294967296)
-  lasting-room r e l h =
+  lasting-room r e l =
       let o = lasting (ruleAt (p .body) r .operator) in
       let b = d .lasts-is r ∙ and-intro (bit r rules) o e l in
-      let w = d .starts h .high r b in
-      let v = d .room h in
+      let w = d .starts .high r b in
+      let v = d .room in
       (omega arith, omega arith)
 
   -- the table that a rule shares has room
@@ -87,9 +87,9 @@ module _ {holder : Base} {n : ℕ} {C : Chart} {asked : Access} {p : Prepared} {
         ≡ mappingOf base C asked p .point (rightOf (ruleAt (p .body) r) x .access)
     point-right x =
         let h = rule-low d r e in
-        let s = aim-subject (d .well-formed) C (d .charted) (p .right) (d .rights) asked r h x in
-        let m = aim-mode (d .well-formed) C (d .charted) (p .right) (d .rights) asked r h x in
-        let o = aim-object (d .well-formed) C (d .charted) (p .right) (d .rights) asked r h x in
+        let s = right-subject (d .well-formed) C (d .charted) (p .right) (d .rights) asked r h x in
+        let m = right-mode (d .well-formed) C (d .charted) (p .right) (d .rights) asked r h x in
+        let o = right-object (d .well-formed) C (d .charted) (p .right) (d .rights) asked r h x in
         λ j. record { subject = s j; mode = m j; object = o j }
 
     -- which is needed
@@ -123,8 +123,8 @@ module _ {holder : Base} {n : ℕ} {C : Chart} {asked : Access} {p : Prepared} {
             within = place-within d base x m;
             low = omega (arith, w .3);
             size = omega (arith, size-small (p .frame .grid) (grid-small d) (regionAt (p .sides) r));
-            room = λ l b. lasting-room r e l b .0;
-            number = λ l b. lasting-room r e l b .1;
+            room = λ l. lasting-room r e l .0;
+            number = λ l. lasting-room r e l .1;
           }
 
       reads-at : (x : Access) → needed C asked (p .need) x ≡ true →

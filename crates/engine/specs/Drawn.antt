@@ -1,8 +1,8 @@
 -- The tables of a question as they were drawn (`Drawn`), and the mapping that they stand for (`mappingOf`).
 use mathlib.Core.Path.{_≡_}
-use mathlib.Core.Bool.{true, _&&_, _||_}
+use mathlib.Core.Bool.{true, _&&_}
 use mathlib.Core.List.{List}
-use Prim.Native.Nat.{ℕ, _+_, _*_, _≤_, _<_}
+use Prim.Native.Nat.{ℕ, _*_, _≤_, _<_}
 use lib.ListN.{length, getD}
 use Rattle.foundation.specs.BitMasks.{bit}
 use Rattle.model.specs.declared.Access.{Access}
@@ -11,6 +11,7 @@ use Rattle.encoding.specs.Format.{ruleAt}
 use Rattle.model.specs.Stratification.{lasting}
 use Rattle.reach.specs.Net.{ClosedNet}
 use Rattle.places.specs.ReachedNumbers.{used, usedBefore, codeOf}
+use Rattle.places.specs.Needs.{eitherAt}
 use Rattle.tables.specs.TableLayout.{TablesLaid, ruleTables}
 use Rattle.tables.specs.TableGiving.{shapesOf, TablesReady}
 use Rattle.masks.specs.RuleMasks.{Needed}
@@ -63,8 +64,7 @@ pub record Drawn (holder : Base) (n : ℕ) (C : Chart) (asked : Access) (p : Pre
     pub grid : (p .frame .grid .subjects ≡ C .width) × (p .frame .grid .objects ≡ C .height)
         × (p .frame .grid .pairs ≡ usedBefore (p .need) (length (p .need)))
     pub modes : (p .frame .grid .modes < 256) × ((j k : ℕ) → j < length (p .need) → k < 8 →
-        bit k (getD (p .need) j 0) || bit (8 + k) (getD (p .need) j 0) ≡ true →
-        bit k (p .frame .grid .modes) ≡ true)
+        eitherAt (getD (p .need) j 0) k ≡ true → bit k (p .frame .grid .modes) ≡ true)
     pub needs : Needed (p .left) (p .need) (p .codes) (C .width) (p .frame .grid .pairs) rules
     -- the tables of fields and of broken bits
     pub choosy : (c : ℕ) → bit c (p .frame .choosy) ≡ bit c rules && isChoosy (ruleAt (p .body) c)
@@ -76,8 +76,8 @@ pub record Drawn (holder : Base) (n : ℕ) (C : Chart) (asked : Access) (p : Pre
     pub lasts : ℕ
     pub lasts-is : (r : ℕ) → bit r lasts ≡ bit r rules && lasting (ruleAt (p .body) r .operator)
     pub total : ℕ
-    pub starts : (0 < bits) → TablesLaid (ruleTables (p .frame .grid) (p .sides) lasts (p .starts)) 0 total
-    pub room : (0 < bits) → (total ≤ 64 * bits) × (total < 4294967296)
+    pub starts : TablesLaid (ruleTables (p .frame .grid) (p .sides) lasts (p .starts)) 0 total
+    pub room : (total ≤ 64 * bits) × (total < 4294967296)
 
 -- the mapping, for a base
 abbrev pub mappingOf : Base → Chart → Access → Prepared → Mapping

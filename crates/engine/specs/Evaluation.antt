@@ -20,11 +20,15 @@ abbrev pub Low : List ℕ → ℕ → ℕ → Type 0
 Low active rules width = (r : ℕ) → bit r rules ≡ true →
     (getD active r 0 < 9223372036854775808) × (getD active r 0 < 2 ^ (2 ^ width))
 
+-- a table has the stratum of each rule of a mask, among these
+abbrev pub StrataKnown : ℕ → ℕ → List ℕ → List ℕ → Type 0
+StrataKnown n needed body l = (r : ℕ) → bit r needed ≡ true →
+    getD l r 0 ≡ stratum (selected needed (rulesIn n body)) (ruleAt body r)
+
 -- those of a mask have their turns stratum by stratum
 pub record StrataRan (p : Prepared) (n needed rest : ℕ) (active bits old new : List ℕ) : Type 0 where
   pub strata : List ℕ
-  pub numbered : (r : ℕ) → bit r needed ≡ true →
-      getD strata r 0 ≡ stratum (selected needed (rulesIn n (p .body))) (ruleAt (p .body) r)
+  pub numbered : StrataKnown n needed (p .body) strata
   pub ran : Strata p active bits strata rest 0 old new
 
 -- the rules have their turns behind those that precede them, those that are left theirs stratum by stratum
@@ -35,9 +39,7 @@ pub record RulesRan (p : Prepared) (n needed : ℕ) (active bits old new : List 
   pub fewer : (r : ℕ) → bit r rest ≡ true → bit r needed ≡ true
   pub strata : List ℕ
   pub closed : (((q : ℕ) → q < 64 → bit q rest ≡ true → ⊥) × (new ≡ turned))
-      ⊎ (((r : ℕ) → bit r needed ≡ true →
-      getD strata r 0 ≡ stratum (selected needed (rulesIn n (p .body))) (ruleAt (p .body) r))
-      × Strata p active bits strata rest 0 turned new)
+      ⊎ (StrataKnown n needed (p .body) strata × Strata p active bits strata rest 0 turned new)
 
 -- the words are cleared, the authorizations given, and the rules have their turns
 pub record Evaluation (e : Setting) (p : Prepared) (given-lines : List Authorization) (n needed : ℕ)

@@ -16,11 +16,12 @@ use Rattle.relevance.specs.Forgotten.{endsFrom, during}
 use Rattle.scan.specs.Runs.{ScannedTo}
 use Rattle.tables.specs.declared.Frame.{Frame}
 use Rattle.outlines.specs.Coordinates.{Chart}
-use Rattle.sections.specs.Sections.{subjectsOf, objectsOf, whichOf}
+use Rattle.sections.specs.Sections.{strataOf, subjectsOf, objectsOf, whichOf}
 use Rattle.grounding.specs.RuleTurns.{Prepared, preparedIn, fieldsIn, bitsIn, SlicedIn}
 use Rattle.engine.specs.declared.WindowWalk.{WindowWalk}
 use Rattle.engine.specs.declared.Query.{Query}
 use Rattle.engine.specs.declared.walking.Progress.{Progress}
+use Rattle.engine.specs.Evaluation.{StrataKnown}
 use Rattle.engine.specs.Posed.{CarriedAt, Walks}
 
 abbrev pub chartOf : List ℕ → List ℕ → Frame → Chart
@@ -50,7 +51,7 @@ pub record Start : Type 0 where
 
 -- all instants before the next are done
 pub record Going (lines : List ℕ) (c : Chosen) (lasting : ℕ) (q : Query) (C : Chart) (p : Prepared)
-    (o : Start) (which words bits list : List ℕ) (s : Progress) : Type 0 where
+    (o : Start) (strata which words bits list : List ℕ) (s : Progress) : Type 0 where
   pub walks : Walks lines (o .which) c lasting q C p (o .words) (o .bits) (o .base) (o .access)
   pub low : q .from ≤ s .next
   pub high : s .next ≤ 4294967296
@@ -64,6 +65,7 @@ pub record Going (lines : List ℕ) (c : Chosen) (lasting : ℕ) (q : Query) (C 
   pub listed : q .listing ≡ true →
       ScannedTo (may (o .base) (o .access)) (q .to) (o .list) (cappedAt (q .to) (s .next)) (s .track) list
   pub last : q .to < s .next → s .yes ≡ may (o .base) (o .access) (q .to)
+  pub ranked : s .ranked ≡ true → StrataKnown (c .rules) (c .needed) (p .body) strata
   pub words-size : length words ≡ length (o .words)
   pub bits-size : length bits ≡ length (o .bits)
 
@@ -81,7 +83,7 @@ module _ (records outline coordinates need numbers : List ℕ) where
 
     abbrev pub GoingIn : List ℕ → Start → Progress → Type 0
     GoingIn list o s = Going records (w .chosen) (w .lasting) (w .query) (chartIn coordinates (w .frame))
-        (preparedFor w) o (whichOf (length need) numbers) (fieldsIn (w .frame) work)
+        (preparedFor w) o (strataOf outline) (whichOf (length need) numbers) (fieldsIn (w .frame) work)
         (bitsIn (w .frame) work) list s
 
     -- they have room for it

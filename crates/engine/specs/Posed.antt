@@ -1,10 +1,9 @@
 -- A question as it is put to the tables (`Posed`), what is kept for it of the time before (`CarriedAt`), and
 -- what the walk from window to window starts with (`Walks`) and finds (`Finds`).
 use mathlib.Core.Path.{_≡_}
-use mathlib.Core.Logic.{_⊎_}
 use mathlib.Core.Bool.{true, false}
 use mathlib.Core.List.{List}
-use Prim.Native.Nat.{ℕ, suc, _≤_, _<_}
+use Prim.Native.Nat.{ℕ, suc, _≤_}
 use lib.ListN.{length}
 use Rattle.foundation.specs.Lists.{Mem, keepIf}
 use Rattle.foundation.specs.Intervals.{maximal}
@@ -65,7 +64,6 @@ pub record Walks (lines which : List ℕ) (c : Chosen) (lasting : ℕ) (q : Quer
   pub place : q .place ≡ placeOf (mappingOf base C (q .own) p) x
   pub forward : q .from ≤ q .to
   pub lasts : (r : ℕ) → bit r lasting ≡ bit r (posed .drawn .lasts)
-  pub kept : (q .from ≡ q .to) ⊎ (((r : ℕ) → bit r lasting ≡ true → ⊥) ⊎ (0 < length bits))
   -- what is kept of the time before
   pub carried : (active : List ℕ) (r : ℕ) → bit r (c .needed) ≡ true → (y : Access) →
       outlines.needed C (q .own) (p .need) y ≡ true → standsFor base (ruleAt (p .body) r) y ≡ true →

@@ -3,7 +3,7 @@ ghost use mathlib.Core.Path.{_≡_};
 ghost use mathlib.Core.Bool.{Bool, true};
 ghost use mathlib.Core.List.{List};
 ghost use Prim.Native.Nat.{ℕ, _^_, _≤_, _<_};
-ghost use lib.ListN.{getD, take};
+ghost use lib.ListN.{getD};
 ghost use Rattle.model.specs.Base.{Base};
 ghost use Rattle.model.specs.declared.Access.{Access};
 ghost use Rattle.windows.specs.Windows.{Rising};
@@ -29,13 +29,14 @@ use sections::RIGHT;
 use sections::STARTS;
 use sections::SUBJECTS;
 
-// How far the walk is: the next instant, the intervals so far, the answer at the last instant, and how many
-// authorizations are left.
+// How far the walk is: the next instant, the intervals so far, the answer at the last instant, how many
+// authorizations are left, and whether the strata of the needed rules are in the outline already.
 pub struct Progress {
     pub next: u64,
     pub track: Track,
     pub yes: bool,
     pub left: usize,
+    pub ranked: bool,
 }
 
 // How many instants a window has whose fields have 2^width bits. A field of 64 has one bit to spare.
@@ -95,8 +96,7 @@ fn pass_window(
         (now (coordinates .entry)) (now (need .entry)) (now (numbers .entry)) (now (work .entry)) (g .walk)
         (now (list .entry)) o (g .progress) → (g .progress .next < r .next) × GoingIn (now (records .entry))
         (now (outline .exit)) (now (coordinates .entry)) (now (need .entry)) (now (numbers .exit))
-        (now (work .exit)) (g .walk) (now (list .exit)) o r)
-        × (take 280 (now (outline .exit)) ≡ take 280 (now (outline .entry))) ⌝ }
+        (now (work .exit)) (g .walk) (now (list .exit)) o r) ⌝ }
 {
     let mut marks = [0u32; 63];
     let w = g.walk;
@@ -131,8 +131,9 @@ fn pass_window(
         own: own,
         count: count,
         frame: f,
+        ranked: s.ranked,
     };
-    evaluate(
+    let ranked = evaluate(
         records,
         window,
         outline,
@@ -179,6 +180,7 @@ fn pass_window(
         track: track,
         yes: yes,
         left: left,
+        ranked: ranked,
     }
 }
 
@@ -199,8 +201,7 @@ pub fn walk_windows(
         (now numbers) (now work) w base x) ⌝ }
     ensures { λ r. ⌜ ((base : Base) (x : Access) → WalksIn (now (records .entry)) (now (outline .entry))
         (now (coordinates .entry)) (now (need .entry)) (now (numbers .entry)) (now (work .entry)) w base x →
-        Finds (w .query) base x r (now (list .entry)) (now (list .exit)))
-        × (take 280 (now (outline .exit)) ≡ take 280 (now (outline .entry))) ⌝ }
+        Finds (w .query) base x r (now (list .entry)) (now (list .exit))) ⌝ }
 {
     let q = w.query;
     let to = q.to;
@@ -214,6 +215,7 @@ pub fn walk_windows(
         track: none,
         yes: false,
         left: w.chosen.authorizations,
+        ranked: false,
     };
     while s.next <= to as u64 {
         let g = WalkStage {

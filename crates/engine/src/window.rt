@@ -12,10 +12,10 @@ ghost use Rattle.tables.specs.TableLayout.{fieldIn};
 ghost use Rattle.tables.specs.TableGiving.{tablesOf, TablesReady};
 ghost use Rattle.words.specs.Fields.{fieldOf};
 ghost use Rattle.relevance.specs.Chosen.{picked, selected};
-ghost use Rattle.sections.specs.Sections.{activeOf, numberedOf, whichOf};
+ghost use Rattle.sections.specs.Sections.{activeOf, strataOf, numberedOf, whichOf};
 ghost use Rattle.facts.specs.Facts.{settingIn, LinesReady};
 ghost use Rattle.grounding.specs.RuleTurns.{preparedIn, Able, fieldsIn, bitsIn, SlicedIn};
-ghost use Rattle.engine.specs.Evaluation.{Low, StrataRan, RulesRan, Evaluation};
+ghost use Rattle.engine.specs.Evaluation.{Low, StrataKnown, StrataRan, RulesRan, Evaluation};
 use facts::WindowTask;
 use facts::give_lines;
 use grounding::close;
@@ -26,18 +26,38 @@ use masks::spans;
 use masks::words_for;
 use sections::ACTIVE;
 use sections::OUTLINE;
+use sections::STRATA;
 use selection::strata_of;
 use tables::Frame;
 use tables::Place;
 use tables::all_places;
+use tables::denials_start;
 use tables::field_in;
+
+// Puts the strata of the needed rules into the outline, unless they are there.
+fn put_strata(body: &[u8], w: WindowTask, outline: &mut [u64])
+    requires { ⌜ ((r : ℕ) → bit r (w .chosen .needed) ≡ true → r < w .chosen .rules)
+        × (w .chosen .rules ≤ 64) × (w .chosen .rules * 28 ≤ length (now body))
+        × (stratified (selected (w .chosen .needed) (rulesIn (w .chosen .rules) (now body))) ≡ true)
+        × (w .ranked ≡ true →
+        StrataKnown (w .chosen .rules) (w .chosen .needed) (now body) (strataOf (now outline)))
+        × (length (now outline) ≡ 536) ⌝ }
+    ensures { λ _. ⌜ StrataKnown (w .chosen .rules) (w .chosen .needed) (now (body .entry))
+        (strataOf (now (outline .exit)))
+        × (take 472 (now (outline .exit)) ≡ take 472 (now (outline .entry))) ⌝ }
+{
+    if !w.ranked {
+        let c = w.chosen;
+        strata_of(body, c.rules, c.needed, &mut outline[STRATA..OUTLINE]);
+    }
+}
 
 // Gives the rules that are left, on circles or behind them, their turns, stratum by stratum.
 fn derive_rest(
     body: &[u8],
     rest: u64,
     w: WindowTask,
-    outline: &[u64],
+    outline: &mut [u64],
     coordinates: &[u8],
     need: &[u16],
     numbers: &[u16],
@@ -49,21 +69,24 @@ fn derive_rest(
         × SlicedIn (now outline) (now coordinates) (now need) (now numbers) (w .frame) (now work) ⌝ }
     requires { ⌜ ((r : ℕ) → bit r (w .chosen .needed) ≡ true → r < w .chosen .rules)
         × (w .chosen .rules ≤ 64) × (w .chosen .rules * 28 ≤ length (now body))
-        × (stratified (selected (w .chosen .needed) (rulesIn (w .chosen .rules) (now body))) ≡ true) ⌝ }
+        × (stratified (selected (w .chosen .needed) (rulesIn (w .chosen .rules) (now body))) ≡ true)
+        × (w .ranked ≡ true →
+        StrataKnown (w .chosen .rules) (w .chosen .needed) (now body) (strataOf (now outline))) ⌝ }
     ensures { λ _. ⌜ StrataRan (preparedIn (now (body .entry)) (now (outline .entry))
         (now (coordinates .entry)) (now (need .entry)) (now (numbers .entry)) (w .frame)) (w .chosen .rules)
         (w .chosen .needed) rest (activeOf (now (outline .entry))) (bitsIn (w .frame) (now (work .entry)))
         (fieldsIn (w .frame) (now (work .entry))) (fieldsIn (w .frame) (now (work .exit)))
-        × (bitsIn (w .frame) (now (work .exit)) ≡ bitsIn (w .frame) (now (work .entry))) ⌝ }
+        × (bitsIn (w .frame) (now (work .exit)) ≡ bitsIn (w .frame) (now (work .entry)))
+        × StrataKnown (w .chosen .rules) (w .chosen .needed) (now (body .entry))
+        (strataOf (now (outline .exit)))
+        × (take 472 (now (outline .exit)) ≡ take 472 (now (outline .entry))) ⌝ }
 {
-    let c = w.chosen;
     let f = w.frame;
-    let mut strata = [0u16; 65];
-    strata_of(body, c.rules, c.needed, &mut strata);
+    put_strata(body, w, outline);
     let mut todo = rest;
-    let mut k: u16 = 0;
+    let mut k: u64 = 0;
     while (todo != 0) & (k <= 128) {
-        let now = of_stratum(&strata, todo, k);
+        let now = of_stratum(&outline[STRATA..OUTLINE], todo, k);
         close(body, now, f, outline, coordinates, need, numbers, work);
         todo = todo - (todo & now);
         k += 1;
@@ -71,39 +94,46 @@ fn derive_rest(
 }
 
 // Lets each rule that is needed have its turn behind those that precede it, and those that are left, as they
-// are on circles or behind them, theirs stratum by stratum.
+// are on circles or behind them, theirs stratum by stratum. Tells whether the strata are in the outline.
 fn derive_all(
     body: &[u8],
     w: WindowTask,
-    outline: &[u64],
+    outline: &mut [u64],
     coordinates: &[u8],
     need: &[u16],
     numbers: &[u16],
     work: &mut [u64],
-)
+) -> bool
     requires { ⌜ ((r : ℕ) → bit r (w .chosen .needed) ≡ true → Able (preparedIn (now body) (now outline)
         (now coordinates) (now need) (now numbers) (w .frame)) (activeOf (now outline))
         (length (fieldsIn (w .frame) (now work))) (length (bitsIn (w .frame) (now work))) r)
         × SlicedIn (now outline) (now coordinates) (now need) (now numbers) (w .frame) (now work) ⌝ }
     requires { ⌜ ((r : ℕ) → bit r (w .chosen .needed) ≡ true → r < w .chosen .rules)
         × (w .chosen .rules ≤ 64) × (w .chosen .rules * 28 ≤ length (now body))
-        × (stratified (selected (w .chosen .needed) (rulesIn (w .chosen .rules) (now body))) ≡ true) ⌝ }
-    ensures { λ _. ⌜ RulesRan (preparedIn (now (body .entry)) (now (outline .entry))
+        × (stratified (selected (w .chosen .needed) (rulesIn (w .chosen .rules) (now body))) ≡ true)
+        × (w .ranked ≡ true →
+        StrataKnown (w .chosen .rules) (w .chosen .needed) (now body) (strataOf (now outline))) ⌝ }
+    ensures { λ r. ⌜ RulesRan (preparedIn (now (body .entry)) (now (outline .entry))
         (now (coordinates .entry)) (now (need .entry)) (now (numbers .entry)) (w .frame)) (w .chosen .rules)
         (w .chosen .needed) (activeOf (now (outline .entry))) (bitsIn (w .frame) (now (work .entry)))
         (fieldsIn (w .frame) (now (work .entry))) (fieldsIn (w .frame) (now (work .exit)))
-        × (bitsIn (w .frame) (now (work .exit)) ≡ bitsIn (w .frame) (now (work .entry))) ⌝ }
+        × (bitsIn (w .frame) (now (work .exit)) ≡ bitsIn (w .frame) (now (work .entry)))
+        × (r ≡ true → StrataKnown (w .chosen .rules) (w .chosen .needed) (now (body .entry))
+        (strataOf (now (outline .exit))))
+        × (take 472 (now (outline .exit)) ≡ take 472 (now (outline .entry))) ⌝ }
 {
     let c = w.chosen;
     let f = w.frame;
     let rest = derive_rules(body, c.needed, f, outline, coordinates, need, numbers, work);
     if rest != 0 {
         derive_rest(body, rest, w, outline, coordinates, need, numbers, work);
+        return true;
     }
+    w.ranked
 }
 
 // Puts what holds at the instants of a window into the words, and the instants of each rule's interval into
-// the outline.
+// the outline. Tells whether the strata are there too.
 pub fn evaluate(
     records: &[u8],
     w: WindowTask,
@@ -113,7 +143,7 @@ pub fn evaluate(
     numbers: &[u16],
     marks: &[u32; 63],
     work: &mut [u64],
-)
+) -> bool
     requires { ⌜ LinesReady (settingIn (drop (w .offset) (now records)) w (now outline) (now coordinates)
         (numberedOf (length (now need)) (now numbers)) (now marks)) (now records)
         (whichOf (length (now need)) (now numbers)) (w .chosen .authorizations)
@@ -127,8 +157,10 @@ pub fn evaluate(
         × (stratified (selected (w .chosen .needed)
         (rulesIn (w .chosen .rules) (drop (w .offset) (now records)))) ≡ true)
         × (w .offset ≤ length (now records))
-        × SlicedIn (now outline) (now coordinates) (now need) (now numbers) (w .frame) (now work) ⌝ }
-    ensures { λ _. ⌜ Evaluation (settingIn (drop (w .offset) (now (records .entry))) w (now (outline .entry))
+        × SlicedIn (now outline) (now coordinates) (now need) (now numbers) (w .frame) (now work)
+        × (w .ranked ≡ true → StrataKnown (w .chosen .rules) (w .chosen .needed)
+        (drop (w .offset) (now records)) (strataOf (now outline))) ⌝ }
+    ensures { λ r. ⌜ Evaluation (settingIn (drop (w .offset) (now (records .entry))) w (now (outline .entry))
         (now (coordinates .entry)) (numberedOf (length (now (need .entry))) (now (numbers .entry)))
         (now (marks .entry))) (preparedIn (drop (w .offset) (now (records .entry))) (now (outline .entry))
         (now (coordinates .entry)) (now (need .entry)) (now (numbers .entry)) (w .frame)) (picked
@@ -136,7 +168,9 @@ pub fn evaluate(
         (w .chosen .authorizations)) (w .chosen .rules) (w .chosen .needed) (activeOf (now (outline .exit)))
         (bitsIn (w .frame) (now (work .entry))) (fieldsIn (w .frame) (now (work .exit)))
         × (bitsIn (w .frame) (now (work .exit)) ≡ bitsIn (w .frame) (now (work .entry)))
-        × (take 408 (now (outline .exit)) ≡ take 408 (now (outline .entry))) ⌝ }
+        × (take 408 (now (outline .exit)) ≡ take 408 (now (outline .entry)))
+        × (r ≡ true → StrataKnown (w .chosen .rules) (w .chosen .needed)
+        (drop (w .offset) (now (records .entry))) (strataOf (now (outline .exit)))) ⌝ }
 {
     let c = w.chosen;
     let f = w.frame;
@@ -151,7 +185,7 @@ pub fn evaluate(
         c.needed,
         marks,
         w.count,
-        &mut outline[ACTIVE..OUTLINE],
+        &mut outline[ACTIVE..STRATA],
     );
     clear_words(&mut work[..k], k);
     give_lines(
@@ -164,7 +198,7 @@ pub fn evaluate(
         marks,
         &mut work[..k],
     );
-    derive_all(body, w, outline, coordinates, need, numbers, work);
+    derive_all(body, w, outline, coordinates, need, numbers, work)
 }
 
 // The answers at the instants of a window, once it is evaluated.
@@ -179,6 +213,6 @@ pub fn answers_in(f: Frame, p: Place, words: &[u64], right: &[u8], first: &[u64]
     let b = all_places();
     let g = f.grid;
     let granted = field_in(words, f, 0, b, p);
-    let denied = field_in(words, f, places::size_of(g, b), b, p);
+    let denied = field_in(words, f, denials_start(g), b, p);
     granted - (granted & denied)
 }

@@ -10,7 +10,8 @@ use Rattle.foundation.specs.BitMasks.{bit, bit-zero}
 use Rattle.foundation.specs.BitLaws.{no-bits}
 use Rattle.model.specs.declared.Operator.{Operator}
 use Rattle.model.specs.Stratification.{negating, lasting}
-use Rattle.words.specs.Ones.{allFrom, ones-from}
+use Rattle.words.specs.Ones.{allFrom}
+use Rattle.words.proofs.OnesFacts.{ones-from}
 use Rattle.derivation.specs.Words.{wantedWord}
 use Rattle.derivation.specs.Derive.{FirstBit, Derived}
 

@@ -1,10 +1,11 @@
 // The evaluation of one rule at one place, over a window at once.
 ghost use mathlib.Core.Path.{_≡_};
 ghost use Prim.Native.Nat.{_<_};
-ghost use Rattle.model.specs.Stratification.{negating, lasting};
+ghost use Rattle.model.specs.Stratification.{lasting};
 ghost use Rattle.derivation.specs.Words.{wantedWord};
 ghost use Rattle.derivation.specs.Derive.{Derived};
 use model::Operator;
+use rules::is_negating;
 
 // Whether an operator looks back to the rule's start.
 pub fn is_lasting(o: Operator) -> bool
@@ -14,24 +15,12 @@ pub fn is_lasting(o: Operator) -> bool
         Operator::Whenever => false,
         Operator::AsLongAs => true,
         Operator::WheneverNot => false,
-        Operator::Unless => true, // what it gave once and no longer gives it never gives again
-    }
-}
-
-// Whether an operator wants the right side not held.
-fn is_negating(o: Operator) -> bool
-    ensures { λ r. ⌜ r ≡ negating o ⌝ }
-{
-    match o {
-        Operator::Whenever => false,
-        Operator::AsLongAs => false,
-        Operator::WheneverNot => true,
         Operator::Unless => true,
     }
 }
 
 // The active instants at which the right side is as the operator wants.
-fn wanted(o: Operator, held: u64, active: u64) -> u64
+fn wanted_word(o: Operator, held: u64, active: u64) -> u64
     ensures { λ r. ⌜ r ≡ wantedWord o held active ⌝ }
 {
     if is_negating(o) {
@@ -47,7 +36,7 @@ pub fn derive(o: Operator, held: u64, active: u64, broken: bool) -> u64
     requires { ⌜ active < 9223372036854775808 ⌝ }
     ensures { λ r. ⌜ Derived o held active broken r ⌝ }
 {
-    let x = wanted(o, held, active);
+    let x = wanted_word(o, held, active);
     if !is_lasting(o) {
         return x;
     }

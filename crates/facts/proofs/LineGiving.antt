@@ -10,17 +10,20 @@ use lib.ListN.{length, getD}
 use lib.Pow.{pow-mono}
 use Rattle.foundation.specs.declared.Interval.{Interval}
 use Rattle.foundation.specs.Intervals.{inInterval}
-use Rattle.foundation.specs.Tests.{cases, le-false}
-use Rattle.foundation.specs.BitMasks.{asBit, bit}
-use Rattle.foundation.specs.BitLaws.{below-power}
+use Rattle.foundation.specs.Tests.{cases, le-false, and-true}
+use Rattle.foundation.specs.BitMasks.{asBit, bit, maskOf, mask-at}
+use Rattle.foundation.specs.BitLaws.{below-power, bit-and}
 use Rattle.model.specs.declared.Authorization.{Authorization}
 use Rattle.model.specs.declared.Head.{Head}
+use Rattle.model.specs.Encoding.{ruleOf}
+use Rattle.encoding.specs.Format.{rulesIn}
 use Rattle.windows.specs.Windows.{inside}
-use Rattle.relevance.specs.Chosen.{authorizationAt, picked, picked-none, picked-more}
+use Rattle.relevance.specs.Chosen.{authorizationAt, picked}
+use Rattle.relevance.proofs.PickedFacts.{picked-none, picked-more}
 use Rattle.tables.specs.TableGiving.{tableTakes}
 use Rattle.masks.specs.RuleMasks.{RulesIn}
-use Rattle.masks.proofs.BitWalk.{same-bits}
-use Rattle.facts.specs.Facts.{fitsRule, takersIn, takers-bit, takers-some, takenBy}
+use Rattle.masks.proofs.SameBits.{same-bits}
+use Rattle.facts.specs.Facts.{fitsKind, fitsRule, takersIn, takenBy}
 use Rattle.facts.specs.Facts.{Setting, LineStep, LineSteps, none, then}
 
 -- ---- the instants
@@ -33,15 +36,29 @@ span-fits n k v ms i l e = lt-of-lt-of-le (below-power n v (λ j m.
 -- ---- who takes it
 
 -- the tables, by a mask
-pub takes-mask : (body : List ℕ) (choosy : ℕ) (h : Head) (sign takers : ℕ) → sign ≡ asBit (h .negative) →
-    ((c : ℕ) → bit c takers ≡ bit c choosy && fitsRule body h c) →
-    tableTakes sign takers ≡ takenBy body choosy h
-takes-mask body choosy h sign takers s e i d = go d i
+pub takes-mask : (body : List ℕ) (rules : ℕ) (h : Head) (sign takers : ℕ) → sign ≡ asBit (h .negative) →
+    ((c : ℕ) → bit c takers ≡ bit c rules && fitsRule body h c) →
+    tableTakes sign takers ≡ takenBy body rules h
+takes-mask body rules h sign takers s e i d = go d i
   where
-    go : (d : ℕ) → tableTakes sign takers d ≡ takenBy body choosy h d
+    go : (d : ℕ) → tableTakes sign takers d ≡ takenBy body rules h d
     go zero = rw s
     go (suc zero) = rw s
     go (suc (suc c)) = e c
+
+-- the mask has those of the rules that it fits
+pub takers-bit : (body : List ℕ) (rules : ℕ) (h : Head) (c : ℕ) → c < 64 →
+    bit c (takersIn body rules h) ≡ bit c rules && fitsRule body h c
+unfolding takersIn
+takers-bit body rules h c l = bit-and rules (maskOf (fitsKind h) (rulesIn 64 body)) c
+    ∙ ap (λ (b : Bool). bit c rules && b) (mask-at 28 ruleOf (fitsKind h) 64 body c l)
+
+pub takers-some : (body : List ℕ) (rules : ℕ) (h : Head) (c : ℕ) → bit c (takersIn body rules h) ≡ true →
+    bit c rules ≡ true
+unfolding takersIn
+takers-some body rules h c e =
+    let m = maskOf (fitsKind h) (rulesIn 64 body) in
+    and-true (bit c rules) (bit c m) (sym (bit-and rules m c) ∙ e) .0
 
 -- the mask, by its bits
 pub takers-same : (body : List ℕ) (rules : ℕ) (h : Head) (m : ℕ) → RulesIn rules body →

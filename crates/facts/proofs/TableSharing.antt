@@ -1,15 +1,14 @@
--- Rules that share a table: options that fit the same are one, and each rule shares with itself. And what the
--- loops over rules keep.
+-- Rules that share a table: options that fit the same are one, each rule shares with itself, and what the
+-- loops over rules keep of sharing.
 use mathlib.Core.Path.{_≡_, refl, sym, ap, _∙_, subst}
 use mathlib.Core.Bool.{Bool, true, false, _&&_, _||_, Bool·beq, true≢false, false≢true}
 use mathlib.Core.List.{List}
 use mathlib.Core.Logic.{_≢_}
-use Prim.Native.Nat.{ℕ, suc, _+_, _*_, _≤_, _<_}
-use native.Mathlib.Omega.{arith}
-use lib.Dec.{leb, eqb, ltb}
+use Prim.Native.Nat.{ℕ, _+_, _*_, _≤_, _<_}
+use lib.Dec.{leb, eqb}
 use lib.ListN.{length, getD, set}
 use lib.Seq.{getD-set-same, getD-set-other}
-use Rattle.foundation.specs.Tests.{cases, eq-true, true-eq, false-eq, true-le, false-le, and-intro, and-true}
+use Rattle.foundation.specs.Tests.{cases, eq-true, true-eq, false-le, and-intro, and-true}
 use Rattle.foundation.specs.Tests.{or-cases, or-intro-left, or-true-right}
 use Rattle.foundation.specs.BitMasks.{bit}
 use Rattle.model.specs.declared.OptionTerm.{OptionTerm}
@@ -39,24 +38,7 @@ pub shares-self : (body right : List ℕ) (c : ℕ) → SharesTable body right c
 shares-self body right c =
     record { kind = record { sign = refl; grantor = refl; option = refl }; region = refl }
 
--- ---- loops over the rules of a mask: c is the next
-
-module _ (rules : ℕ) (P : ℕ → Type 0) where
-  -- what is said of each rule before the c-th
-  abbrev pub Passed : ℕ → Type 0
-  Passed c = (i : ℕ) → i < c → bit i rules ≡ true → P i
-
-  pub passed-start : (c : ℕ) → ((i : ℕ) → 0 ≤ i → i < c → bit i rules ≡ false) → Passed c
-  passed-start c z i h e = absurd (true≢false (sym e ∙ z i (omega arith) h))
-
-  pub passed-turn : (c d : ℕ) → Passed c → P c → ((i : ℕ) → c + 1 ≤ i → i < d → bit i rules ≡ false) →
-      Passed d
-  passed-turn c d p q z i h e = cases (ltb i c)
-      (λ y. p i (true-le (suc i) c y) e)
-      (λ y. cases (eqb i c)
-      (λ w. rw (true-eq i c w) q)
-      (λ w. let n = false-eq i c w in
-      absurd (true≢false (sym e ∙ z i (omega (arith, false-le (suc i) c y)) h))))
+-- ---- rules that can share a table
 
 module _ (body right : List ℕ) where
   -- rule i can share one of the tables

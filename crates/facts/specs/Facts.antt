@@ -1,25 +1,23 @@
 -- The authorizations given to the tables over a window: each at its place, in the tables of its sign and of
 -- the rules that take it (`LineStep`), one behind the other (`LineSteps`). What that means is no matter here.
-use mathlib.Core.Path.{_≡_, sym, ap, _∙_}
-use mathlib.Core.Bool.{Bool, true, _&&_, Bool·beq}
+use mathlib.Core.Path.{_≡_}
+use mathlib.Core.Bool.{Bool, _&&_, Bool·beq}
 use mathlib.Core.List.{List, [], _∷_}
-use Prim.Native.Nat.{ℕ, zero, suc, _+_, _*_, _-_, _^_, _≤_, _<_}
+use Prim.Native.Nat.{ℕ, zero, suc, _-_, _^_, _≤_, _<_}
 use lib.Bits.{bitAnd}
 use lib.Dec.{eqb}
 use lib.ListN.{length, getD}
-use Rattle.foundation.specs.Tests.{and-true}
-use Rattle.foundation.specs.BitMasks.{asBit, bit, maskOf, mask-at}
-use Rattle.foundation.specs.BitLaws.{bit-and}
+use Rattle.foundation.specs.BitMasks.{asBit, bit, maskOf}
 use Rattle.model.specs.declared.Access.{Access}
 use Rattle.model.specs.declared.Authorization.{Authorization}
 use Rattle.model.specs.declared.Head.{Head}
 use Rattle.model.specs.declared.Rule.{Rule}
-use Rattle.model.specs.Encoding.{ruleOf}
 use Rattle.model.specs.Stratification.{fitsOption}
 use Rattle.model.specs.Rules.{fitsGrantor}
 use Rattle.encoding.specs.Format.{rulesIn, ruleAt}
 use Rattle.windows.specs.Windows.{Rising, inside}
 use Rattle.places.specs.declared.Grid.{Grid}
+use Rattle.places.specs.ReachedNumbers.{pairIndex}
 use Rattle.places.specs.Regions.{Within}
 use Rattle.masks.specs.RuleMasks.{RulesIn}
 use Rattle.sections.specs.Sections.{firstOf, rightsOf, subjectsOf, objectsOf}
@@ -47,24 +45,11 @@ fitsRule body h c = fitsKind h (ruleAt body c)
 unfoldable pub takersIn : List ℕ → ℕ → Head → ℕ
 takersIn body rules h = bitAnd rules (maskOf (fitsKind h) (rulesIn 64 body))
 
-pub takers-bit : (body : List ℕ) (rules : ℕ) (h : Head) (c : ℕ) → c < 64 →
-    bit c (takersIn body rules h) ≡ bit c rules && fitsRule body h c
-unfolding takersIn
-takers-bit body rules h c l = bit-and rules (maskOf (fitsKind h) (rulesIn 64 body)) c
-    ∙ ap (λ (b : Bool). bit c rules && b) (mask-at 28 ruleOf (fitsKind h) 64 body c l)
-
-pub takers-some : (body : List ℕ) (rules : ℕ) (h : Head) (c : ℕ) → bit c (takersIn body rules h) ≡ true →
-    bit c rules ≡ true
-unfolding takersIn
-takers-some body rules h c e =
-    let m = maskOf (fitsKind h) (rulesIn 64 body) in
-    and-true (bit c rules) (bit c m) (sym (bit-and rules m c) ∙ e) .0
-
 -- the table of its sign takes it, and those of the rules of a mask that it fits
 abbrev pub takenBy : List ℕ → ℕ → Head → ℕ → Bool
-takenBy body choosy h zero = eqb 0 (asBit (h .negative))
-takenBy body choosy h (suc zero) = eqb 1 (asBit (h .negative))
-takenBy body choosy h (suc (suc c)) = bit c choosy && fitsRule body h c
+takenBy body rules h zero = eqb 0 (asBit (h .negative))
+takenBy body rules h (suc zero) = eqb 1 (asBit (h .negative))
+takenBy body rules h (suc (suc c)) = bit c rules && fitsRule body h c
 
 -- ---- its place
 
@@ -104,9 +89,10 @@ settingIn body w outline coordinates number marks =
     (rightsOf coordinates) (firstOf outline)
 
 module _ (subjects objects : List ℕ) (x : Access) (g : Grid) where
-  -- the code of the pair of what an authorization is about
+  -- where the pair lies that an authorization is about
   abbrev pub pairFor : Head → ℕ
-  pairFor h = cellOf subjects objects x h .object * g .subjects + cellOf subjects objects x h .subject
+  pairFor h =
+      pairIndex (g .subjects) (cellOf subjects objects x h .object) (cellOf subjects objects x h .subject)
 
   abbrev pub placeFor : List ℕ → Head → Place
   placeFor number h = record {

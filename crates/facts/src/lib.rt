@@ -25,7 +25,9 @@ use model::Head;
 use model::RULE_BYTES;
 use model::Rule;
 use places::Grid;
+use places::Pair;
 use places::Point;
+use places::pair_index;
 use relevance::Chosen;
 use relevance::cell_of;
 use relevance::sign_of;
@@ -42,13 +44,15 @@ use windows::span;
 use words::next_bit;
 
 // A window: what was chosen, where the bytes of the rules start behind those of the authorizations, the
-// access that coordinate 0 stands for, how many instants there are, and the frame of the tables.
+// access that coordinate 0 stands for, how many instants there are, the frame of the tables, and whether the
+// strata of the needed rules are in the outline already.
 pub struct WindowTask {
     pub chosen: Chosen,
     pub offset: usize,
     pub own: Access,
     pub count: usize,
     pub frame: Frame,
+    pub ranked: bool,
 }
 
 // The rules that have tables, whether these have all places, and how many fields all tables have.
@@ -70,17 +74,17 @@ fn fits_kind(h: Head, r: Rule) -> bool
 }
 
 // Those of a mask of rules whose right side an authorization fits.
-pub fn takers_of(h: Head, body: &[u8], choosy: u64) -> u64
-    requires { ⌜ RulesIn choosy (now body) ⌝ }
-    ensures { λ r. ⌜ (r ≡ takersIn (now (body .entry)) choosy h)
-        × ((c : ℕ) → bit c r ≡ bit c choosy && fitsRule (now (body .entry)) h c) ⌝ }
+pub fn takers_of(h: Head, body: &[u8], rules: u64) -> u64
+    requires { ⌜ RulesIn rules (now body) ⌝ }
+    ensures { λ r. ⌜ (r ≡ takersIn (now (body .entry)) rules h)
+        × ((c : ℕ) → bit c r ≡ bit c rules && fitsRule (now (body .entry)) h c) ⌝ }
 {
     let mut m = 0;
-    let mut c = next_bit(choosy, 0);
+    let mut c = next_bit(rules, 0);
     while c < 64 {
         let r = rule_at(body, (c as usize) * RULE_BYTES);
         m = with_if(m, c, fits_kind(h, r));
-        c = next_bit(choosy, c + 1);
+        c = next_bit(rules, c + 1);
     }
     m
 }
@@ -93,7 +97,11 @@ fn place_for(h: Head, x: Access, coordinates: &[u8], number: &[u16], g: Grid) ->
         (objectsOf (now (coordinates .entry))) x g (now (number .entry)) h ⌝ }
 {
     let c = cell_of(h, x, coordinates);
-    let j = (c.object * g.subjects + c.subject) as usize;
+    let p = Pair {
+        object: c.object as usize,
+        subject: c.subject as usize,
+    };
+    let j = pair_index(p, g.subjects as usize);
     Place {
         pair: number[j] as u32,
         point: Point {
@@ -118,7 +126,7 @@ fn give_line(
     requires { ⌜ Usable (settingIn (now body) w (now outline) (now coordinates) (now number) (now marks))
         (length (now words))
         × HasPlace (settingIn (now body) w (now outline) (now coordinates) (now number) (now marks)) (a .head)
-        × (length (now outline) ≡ 472) × (length (now coordinates) ≡ 1666) ⌝ }
+        × (length (now outline) ≡ 536) × (length (now coordinates) ≡ 1666) ⌝ }
     ensures { λ _. ⌜ LineStep (settingIn (now (body .entry)) w (now (outline .entry))
         (now (coordinates .entry)) (now (number .entry)) (now (marks .entry)))
         a (now (words .entry)) (now (words .exit)) ⌝ }
@@ -157,7 +165,7 @@ pub fn give_lines(
 )
     requires { ⌜ LinesReady (settingIn (drop (w .offset) (now records)) w (now outline) (now coordinates)
         (now number) (now marks)) (now records) (now which) (w .chosen .authorizations) (length (now words))
-        × (w .offset ≤ length (now records)) × (length (now outline) ≡ 472)
+        × (w .offset ≤ length (now records)) × (length (now outline) ≡ 536)
         × (length (now coordinates) ≡ 1666) ⌝ }
     ensures { λ _. ⌜ LineSteps (settingIn (drop (w .offset) (now (records .entry))) w (now (outline .entry))
         (now (coordinates .entry)) (now (number .entry)) (now (marks .entry)))

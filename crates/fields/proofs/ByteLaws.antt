@@ -11,7 +11,7 @@ use native.Mathlib.Numerals.{add-one}
 use lib.Arith.{mod-mul, digits-div, digits-mod}
 use lib.ListN.{length, take, drop, getD, set, length-append, length-take, length-drop, List·getD-append}
 use lib.ListN.{replicate, length-replicate, drop-of-length-le}
-use lib.Seq.{take-append-le, take-at, drop-at, length-take-le, drop-drop, sets, sets-eq, take-take}
+use lib.Seq.{take-at, drop-at, length-take-le, drop-drop, sets, sets-eq, take-take}
 use lib.Seq.{take-nil, take-add, getD-append-add, getD-take, getD-drop, drop-cons, take-suc, set-at}
 use lib.Seq.{append-snoc}
 use Rattle.foundation.specs.Tests.{and-false}

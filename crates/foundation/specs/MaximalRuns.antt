@@ -1,13 +1,13 @@
 -- Maximal intervals found from left to right: instants passed over where the test fails (`maximal-skip`), and
 -- one interval where it holds up to an instant where it fails, or to the end (`maximal-run`).
-use mathlib.Core.Path.{_≡_, sym, ap, _∙_, subst}
-use mathlib.Core.Bool.{Bool, true, false, _&&_, _||_}
+use mathlib.Core.Path.{_≡_, sym, _∙_, subst}
+use mathlib.Core.Bool.{Bool, true, false, _&&_}
 use mathlib.Core.List.{List, [], _∷_}
 use Prim.Native.Nat.{ℕ, suc, _-_, _≤_, _<_}
 use native.Mathlib.Omega.{arith}
 use lib.Dec.{leb}
 use Rattle.foundation.specs.declared.Interval.{Interval}
-use Rattle.foundation.specs.Tests.{cases, le-true, le-false, true-le, false-le, and-false}
+use Rattle.foundation.specs.Tests.{cases, le-true, true-le, false-le, and-false}
 use Rattle.foundation.specs.Intervals.{interval, inInterval, inInterval-in, inInterval-above, Separate}
 use Rattle.foundation.specs.Intervals.{covered}
 use Rattle.foundation.specs.Intervals.{maximal, maximal-separate, maximal-covered, maximal-unique}

@@ -8,9 +8,8 @@ use Prim.Native.Nat.{ℕ, zero, suc, _-_, _≤_, _<_}
 use native.Mathlib.Omega.{arith}
 use lib.Bits.{bitOr}
 use lib.Dec.{eqb, leb, ltb}
-use lib.ListN.{length}
 use Rattle.foundation.specs.Tests.{pick, cases, le-true, le-false, true-le, false-le, true-eq, eq-true}
-use Rattle.foundation.specs.Tests.{ne-false, or-none, or-false}
+use Rattle.foundation.specs.Tests.{or-none, or-false}
 use Rattle.foundation.specs.Lists.{Mem}
 use Rattle.foundation.specs.Marks.{clear}
 use Rattle.foundation.specs.BitMasks.{asBit, bit}
@@ -100,13 +99,12 @@ module _ (o : WindowInputs) where
 
     -- each bit is as before or as behind
     pub record Marking (bits : List ℕ) : Type 0 where
-      pub some : 0 < length bits
       pub each : (r : ℕ) (x : Access) → Instance r x →
           (isBroken bits r x ≡ was r x) ⊎ (isBroken bits r x ≡ final r x)
 
-    read-bit : (bits : List ℕ) → 0 < length bits → (r : ℕ) → bit r rules ≡ true → (x : Access) →
+    read-bit : (bits : List ℕ) (r : ℕ) → bit r rules ≡ true → (x : Access) →
         isBroken bits r x ≡ eqb (fieldOf 0 bits (bitOf r x)) 1
-    read-bit bits h r e x = rw (within r e .1, ne-false (length bits) 0 (λ z. omega arith))
+    read-bit bits r e x = rw (within r e .1)
 
     -- different instances have different bits
     instance-same : (r q : ℕ) (x y : Access) → Instance r x → Instance q y → bitOf r x ≡ bitOf q y →
@@ -125,17 +123,14 @@ module _ (o : WindowInputs) where
 
     module _ (q : ℕ) (y : Access) (j : Instance q y) (started : windowRule o q .interval .start ≤ mark)
         (old new : List ℕ) (d : Marks q (placeOf (windowMapping o) y) old new) (m : Marking old) where
-      size : 0 < length new
-      size = omega (arith, d .lengths, m .some)
-
       own-bit : isBroken new q y ≡ isBroken old q y || not (bit last (d .value))
       own-bit =
           let i = bitOf q y in
-          read-bit new size q (j .rule) y ∙ ap (λ (n : ℕ). eqb n 1) (d .marked i)
+          read-bit new q (j .rule) y ∙ ap (λ (n : ℕ). eqb n 1) (d .marked i)
           ∙ ap (λ (b : Bool). eqb (pick b (bitOr (fieldOf 0 old i) (asBit (not (bit last (d .value)))))
           (fieldOf 0 old i)) 1) (eq-true i i refl)
           ∙ or-bit (fieldOf 0 old i) (not (bit last (d .value))) (one-bit old i)
-          ∙ ap (λ (b : Bool). b || not (bit last (d .value))) (sym (read-bit old (m .some) q (j .rule) y))
+          ∙ ap (λ (b : Bool). b || not (bit last (d .value))) (sym (read-bit old q (j .rule) y))
 
       -- the word that it derives is right
       value-right : isBroken old q y ≡ was q y → bit last (d .value) ≡ truth (o .base) mark (windowRule o q) y
@@ -175,11 +170,11 @@ module _ (o : WindowInputs) where
       step-each r x i = cases (eqb (bitOf r x) (bitOf q y))
           (λ e. let s = instance-same r q x y i j (true-eq (bitOf r x) (bitOf q y) e) in
           inr (ap₂ (isBroken new) (s .0) (s .1) ∙ own-final ∙ sym (ap₂ final (s .0) (s .1))))
-          (λ e. inl (read-bit new size r (i .rule) x
+          (λ e. inl (read-bit new r (i .rule) x
           ∙ ap (λ (n : ℕ). eqb n 1) (d .marked (bitOf r x))
           ∙ ap (λ (b : Bool). eqb (pick b (bitOr (fieldOf 0 old (bitOf q y))
           (asBit (not (bit last (d .value))))) (fieldOf 0 old (bitOf r x))) 1) e
-          ∙ sym (read-bit old (m .some) r (i .rule) x)))
+          ∙ sym (read-bit old r (i .rule) x)))
 
       step-final : (r : ℕ) (x : Access) → Instance r x → isBroken old r x ≡ final r x →
           isBroken new r x ≡ final r x
@@ -187,7 +182,6 @@ module _ (o : WindowInputs) where
 
       step-marking : Marking new
       step-marking = record {
-        some = size;
         each = λ r x i. ⊎-elim
             (λ s. ⊎-elim (λ e. inl (s ∙ e)) (λ e. inr (s ∙ e)) (m .each r x i))
             (λ s. inr s) (step-each r x i);
@@ -284,19 +278,17 @@ module _ (o : WindowInputs) where
     -- behind the window, u being the first instant of the next one, what is kept is right
     pub marked-carried : {bits : List ℕ} →
         Marked (o .prepared) (o .active) words last mark rules 0 (o .bits) bits →
-        ((r : ℕ) → bit r rules ≡ true → ⊥) ⊎ (0 < length (o .bits)) →
         (r : ℕ) → bit r rules ≡ true → (x : Access) → o .matters x ≡ true →
         standsFor (o .base) (windowRule o r) x ≡ true →
         (u : ℕ) → mark < u → clear (allMarks (o .base)) mark (u - 1) ≡ true → (active : List ℕ) →
         Carried (o .base) u (windowRule o r) x
         (brokenIn (turnIn (o .prepared) active r) (o .prepared .frame .grid) bits
         (placeOf (windowMapping o) x))
-    marked-carried {bits} marked kept r e x m s u h c active =
+    marked-carried {bits} marked r e x m s u h c active =
         let n = within r e .0 in
         let t = staged .turn r n in
-        let some : 0 < length (o .bits) = ⊎-elim (λ z. absurd (z r e)) (λ z. z) kept in
         let i : Instance r x = record { rule = e; matters = m; stands = s } in
-        let start : Marking (o .bits) = record { some = some; each = λ r x i. inl refl } in
+        let start : Marking (o .bits) = record { each = λ r x i. inl refl } in
         let z = all-final marked start (λ q l x i. absurd (omega arith)) r x i in
         subst (Carried (o .base) u (windowRule o r) x) (sym z)
         (carried-on (o .base) (staged .strata) (windowRule o r) (t .mem) x (o .ms 0) mark u (was r x)
@@ -312,7 +304,6 @@ module _ (o : WindowInputs) where
     -- and so for all rules, if the set has those that look back
     pub next-carried : {bits : List ℕ} →
         Marked (o .prepared) (o .active) words last mark rules 0 (o .bits) bits →
-        ((r : ℕ) → bit r rules ≡ true → ⊥) ⊎ (0 < length (o .bits)) →
         ((r : ℕ) → bit r (o .needed) ≡ true → lasting (windowRule o r .operator) ≡ true → bit r rules ≡ true)
         →
         (u : ℕ) → mark < u → clear (allMarks (o .base)) mark (u - 1) ≡ true → (active : List ℕ) →
@@ -320,6 +311,6 @@ module _ (o : WindowInputs) where
         standsFor (o .base) (windowRule o r) x ≡ true → Carried (o .base) u (windowRule o r) x
         (brokenIn (turnIn (o .prepared) active r) (o .prepared .frame .grid) bits
         (placeOf (windowMapping o) x))
-    next-carried {bits} marked kept lasts u h c active r n x m s = cases (lasting (windowRule o r .operator))
-        (λ l. marked-carried marked kept r (lasts r n l) x m s u h c active)
+    next-carried {bits} marked lasts u h c active r n x m s = cases (lasting (windowRule o r .operator))
+        (λ l. marked-carried marked r (lasts r n l) x m s u h c active)
         (λ l. plain-carried r l x u bits)

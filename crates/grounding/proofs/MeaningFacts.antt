@@ -12,7 +12,8 @@ use Rattle.foundation.specs.Tests.{pick, cases, and-true, and-three, true-eq, e
 use Rattle.foundation.specs.Lists.{Mem}
 use Rattle.foundation.specs.BitMasks.{bit}
 use Rattle.foundation.specs.BitLaws.{bit-or}
-use Rattle.words.specs.Bits.{less, bit-less}
+use Rattle.words.specs.Bits.{less}
+use Rattle.words.proofs.CutBit.{bit-less}
 use Rattle.words.specs.Fields.{fieldOf}
 use Rattle.places.specs.declared.Region.{Region}
 use Rattle.places.specs.declared.Point.{Point}

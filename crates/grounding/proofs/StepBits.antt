@@ -1,6 +1,6 @@
 -- What a step reads: the bit that says whether the rule is broken. What it marks.
-use mathlib.Core.Path.{_≡_, refl, sym, ap, _∙_}
-use mathlib.Core.Bool.{Bool, true, false, not, _&&_, _||_, true≢false, false≢true}
+use mathlib.Core.Path.{_≡_, sym, ap, _∙_}
+use mathlib.Core.Bool.{Bool, true, not}
 use mathlib.Core.List.{List}
 use Prim.Native.Nat.{ℕ, _*_, _/_, _%_, _^_, _<_}
 use native.Mathlib.Omega.{arith}
@@ -18,26 +18,14 @@ use Rattle.grounding.specs.RuleSteps.{brokenAt, Ordinary}
 
 -- ---- the bit
 
--- a rule that does not look back, or for which no bits are kept, is not broken
-pub unbroken : (l z b : Bool) → not l || z ≡ true → l && not z && b ≡ false
-unbroken false z b e = refl
-unbroken true true b e = refl
-unbroken true false b e = absurd (false≢true e)
-
--- for another its bit says it
-pub by-bit : (l z b : Bool) → not l || z ≡ false → l && not z && b ≡ b
-by-bit true false b e = refl
-by-bit true true b e = absurd (true≢false e)
-by-bit false z b e = absurd (true≢false e)
-
 module _ (t : RuleTurn) (g : Grid) (bits : ℕ) (p : Place) (o : Ordinary t g bits p) where
   -- the place of the bit of a rule that looks back is a number
-  pub bit-number : lasting (t .operator) ≡ true → 0 < bits → brokenAt t g p < 4294967296
-  bit-number l h = omega (arith, o .number l h, index-below g (t .left) (p .pair) (p .point) (o .within))
+  pub bit-number : lasting (t .operator) ≡ true → brokenAt t g p < 4294967296
+  bit-number l = omega (arith, o .number l, index-below g (t .left) (p .pair) (p .point) (o .within))
 
-  -- and lies in the words, if there are any
-  pub bit-room : lasting (t .operator) ≡ true → 0 < bits → starts 0 (brokenAt t g p) < 64 * bits
-  bit-room l h = omega (arith, o .room l h, index-below g (t .left) (p .pair) (p .point) (o .within))
+  -- and lies in the words
+  pub bit-room : lasting (t .operator) ≡ true → starts 0 (brokenAt t g p) < 64 * bits
+  bit-room l = omega (arith, o .room l, index-below g (t .left) (p .pair) (p .point) (o .within))
 
 -- ---- what is marked
 

@@ -1,7 +1,7 @@
 -- Rows of steps of any kind: one behind another, over more places, and the places visited on the way. The
 -- loops over the modes of a pair (`ModesTo`) and over the pairs of a range (`PairsTo`) make such rows.
 use mathlib.Core.Path.{_≡_, refl, _∙_}
-use mathlib.Core.Bool.{true, _&&_, _||_}
+use mathlib.Core.Bool.{true, _||_}
 use mathlib.Core.List.{List}
 use Prim.Native.Nat.{ℕ, suc, _+_, _*_, _≤_, _<_}
 use native.Mathlib.Omega.{arith}
@@ -9,6 +9,7 @@ use lib.Dec.{eqb, ltb}
 use lib.ListN.{length, getD}
 use Rattle.foundation.specs.Tests.{cases, true-eq, false-eq, true-le, and-three}
 use Rattle.foundation.specs.BitMasks.{bit}
+use Rattle.places.specs.Needs.{bothAt}
 use Rattle.places.specs.Regions.{free}
 use Rattle.tables.specs.declared.Frame.{Frame}
 use Rattle.tables.specs.declared.Place.{Place}
@@ -116,7 +117,7 @@ module _ (t : RuleTurn) (f : Frame) (left need codes : List ℕ) where
   low-mode n m s =
       let w : ℕ = getD need (objectAt t f left need codes n * f .grid .subjects
       + subjectAt t f left need codes n) 0 in
-      true-le (suc m) 8 (and-three (ltb m 8) (bit m w && bit (8 + m) w)
+      true-le (suc m) 8 (and-three (ltb m 8) (bothAt w m)
       (free (t .left .mode) || eqb (t .left .mode) m) .0 (s .mode) .0)
 
   -- those below n are done

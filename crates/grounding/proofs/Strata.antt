@@ -22,7 +22,7 @@ use Rattle.model.specs.Rules.{standsFor, rightOf}
 use Rattle.laws.specs.Dependence.{Depends, depends-fed}
 use Rattle.derivation.proofs.Joined.{rule-valued}
 use Rattle.derivation.proofs.Turn.{Evaluated, evaluated-stays}
-use Rattle.derivation.proofs.Fixpoint.{NothingNew, shut-stays, sound-stratum, shut-done}
+use Rattle.derivation.proofs.Fixpoint.{NothingNew, none-new-stays, sound-stratum, none-new-done}
 use Rattle.grounding.specs.RuleSteps.{Steps, then}
 use Rattle.grounding.specs.Meaning.{StandsIn, Kept, placeOf}
 use Rattle.grounding.proofs.MeaningFacts.{pat-on, step-joined, step-evaluated}
@@ -44,8 +44,8 @@ module _ (o : WindowInputs) (staged : Staged o) where
   abbrev pub Below : ℕ → List ℕ → Type 0
   Below k u = (q : Rule) → Mem q (o .base .rules) → rank q < k → DoneIn o u q
 
-  abbrev pub ShutIn : List ℕ → Rule → Type 0
-  ShutIn u = NothingNew (o .base) (o .count) (o .ms) (patternOf o) (Kept (windowMapping o)) (W o u)
+  abbrev pub NothingNewIn : List ℕ → Rule → Type 0
+  NothingNewIn u = NothingNew (o .base) (o .count) (o .ms) (patternOf o) (Kept (windowMapping o)) (W o u)
 
   below-gained : (k : ℕ) (u v : List ℕ) → Gained o u v → Below k u → Below k v
   below-gained k u v g b q m h = done-gained o u v g q (b q m h)
@@ -86,7 +86,7 @@ module _ (o : WindowInputs) (staged : Staged o) where
       turn-sound (inr ran) a b =
           steps-along (λ v. RightIn o v × Below k v) row-sound (row-of o staged r n ran) (a, b) .0
 
-    -- ---- a rule is shut behind its turn, if it does not precede itself or nothing was new
+    -- ---- a rule derives nothing new behind its turn, if it does not precede itself or nothing was new
 
     module _ (u v : List ℕ) (still : (precedes (windowRule o r) (windowRule o r) ≡ false) ⊎ (v ≡ u)) where
       -- what it looked at did not change behind it
@@ -106,8 +106,8 @@ module _ (o : WindowInputs) (staged : Staged o) where
           omega (arith, steps-grow o staged r n to R y k, steps-grow o staged r n from R y k))
           still
 
-      ran-shut : TurnRan o staged r n u v → ShutIn v (windowRule o r)
-      ran-shut ran T x k d =
+      ran-none-new : TurnRan o staged r n u v → NothingNewIn v (windowRule o r)
+      ran-none-new ran T x k d =
           let s = stands-there o staged r n T x d in
           let seen = visited-of o staged r n ran x (k .0) s in
           let here : StandsIn (windowMapping o) (windowRule o r) (placeOf (windowMapping o) x) =
@@ -127,29 +127,30 @@ module _ (o : WindowInputs) (staged : Staged o) where
                 (j .there T k d i ∙ or-true-right (bit i (W o (seen .before) T x)) (bit i (e .value)) b),
           )
 
-      turn-shut : RuleRan (o .prepared) (o .active) (o .bits) r u v →
-          DoneIn o v (windowRule o r) ⊎ ShutIn v (windowRule o r)
-      turn-shut (inl e) = inl (idle-done o staged r n (e .0) v)
-      turn-shut (inr ran) = inr (ran-shut ran)
+      turn-none-new : RuleRan (o .prepared) (o .active) (o .bits) r u v →
+          DoneIn o v (windowRule o r) ⊎ NothingNewIn v (windowRule o r)
+      turn-none-new (inl e) = inl (idle-done o staged r n (e .0) v)
+      turn-none-new (inr ran) = inr (ran-none-new ran)
 
-    -- another rule stays shut that it does not precede
-    shut-kept : {u v : List ℕ} → RuleRan (o .prepared) (o .active) (o .bits) r u v → (q : Rule) →
-        precedes (windowRule o r) q ≡ false → ShutIn u q → ShutIn v q
-    shut-kept {u} {v} ran q f shut T x k d =
-        shut-stays (o .base) (o .count) (o .ms) (patternOf o) (Kept (windowMapping o)) (W o u) (W o v) q T x
+    -- nor does another rule that it does not precede, if it did not before
+    none-new-kept : {u v : List ℕ} → RuleRan (o .prepared) (o .active) (o .bits) r u v → (q : Rule) →
+        precedes (windowRule o r) q ≡ false → NothingNewIn u q → NothingNewIn v q
+    none-new-kept {u} {v} ran q f none-new T x k d =
+        none-new-stays (o .base) (o .count) (o .ms) (patternOf o) (Kept (windowMapping o)) (W o u) (W o v) q T
+        x
         (λ R e c. turn-untouched o staged r n ran R (rightOf q x .access) c
         (λ d. false≢true (sym f ∙ depends-fed q x (patternOf o R (rightOf q x .access)) (o .base) e
         (windowRule o r) d)))
-        (turn-gained o staged r n ran T x k) (shut T x k d)
+        (turn-gained o staged r n ran T x k) (none-new T x k d)
 
   -- ---- the rounds of stratum k
 
   module _ (rules k : ℕ)
       (within : (q : ℕ) → bit q rules ≡ true → (bit q (o .needed) ≡ true) × (rank (windowRule o q) ≡ k)) where
-    -- a rule has given what it derives, or is of the set and still to come, or shut
+    -- a rule has given what it derives, or is of the set and still to come, or derives nothing new
     abbrev Settling : ℕ → List ℕ → ℕ → Type 0
     Settling dirty u q = DoneIn o u (windowRule o q)
-        ⊎ ((bit q rules ≡ true) × ((bit q dirty ≡ true) ⊎ ShutIn u (windowRule o q)))
+        ⊎ ((bit q rules ≡ true) × ((bit q dirty ≡ true) ⊎ NothingNewIn u (windowRule o q)))
 
     abbrev pub AllSettling : ℕ → List ℕ → Type 0
     AllSettling dirty u = (q : ℕ) → bit q (o .needed) ≡ true → rank (windowRule o q) ≡ k → Settling dirty u q
@@ -173,19 +174,19 @@ module _ (o : WindowInputs) (staged : Staged o) where
 
       turn-settles : (q : ℕ) → Settling dirty u q → Settling dirty′ v q
       turn-settles q (inl d) = inl (done-gained o u v (turn-gained o staged r n ran) (windowRule o q) d)
-      turn-settles q (inr (e, inr shut)) = preceded-or-not q e
+      turn-settles q (inr (e, inr none-new)) = preceded-or-not q e
           (λ d. inr (e, inl d))
           (λ s. inr (
             e,
             inr (⊎-elim
-                (λ f. shut-kept r n ran (windowRule o q) f shut)
-                (λ f. subst (λ (w : List ℕ). ShutIn w (windowRule o q)) (sym f) shut) s),
+                (λ f. none-new-kept r n ran (windowRule o q) f none-new)
+                (λ f. subst (λ (w : List ℕ). NothingNewIn w (windowRule o q)) (sym f) none-new) s),
           ))
       turn-settles q (inr (e, inl d)) = cases (eqb q r)
           (λ s. let t = true-eq q r s in
           preceded-or-not q e
           (λ d. inr (e, inl d))
-          (λ still. let c = turn-shut r n u v
+          (λ still. let c = turn-none-new r n u v
           (subst (λ (j : ℕ). (precedes (windowRule o r) (windowRule o j) ≡ false) ⊎ (v ≡ u)) t still) ran in
           subst (Settling dirty′ v) (sym t) (⊎-elim (λ d. inl d) (λ f. inr (in-set, inr f)) c)))
           (λ s. inr (e, inl (kept q d (false-eq q r s))))
@@ -205,15 +206,15 @@ module _ (o : WindowInputs) (staged : Staged o) where
           (λ c. below q m (true-le (suc (rank q)) k c))
           (λ c. let l = false-le (suc (rank q)) k c in
           let e : rank q ≡ k = omega arith in
-          shut-done (o .base) (staged .strata) (o .count) (o .ms) (staged .window) (patternOf o)
+          none-new-done (o .base) (staged .strata) (o .count) (o .ms) (staged .window) (patternOf o)
           (pat-on (windowRule o)) (Kept (windowMapping o)) (W o u) a k below (λ q m e. end q m e) q m e);
     }
       where
-        end : (q : Rule) → Mem q (o .base .rules) → rank q ≡ k → DoneIn o u q ⊎ ShutIn u q
+        end : (q : Rule) → Mem q (o .base .rules) → rank q ≡ k → DoneIn o u q ⊎ NothingNewIn u q
         end q m e =
             let c = staged .all q m in
             let j = c .0 in
-            subst (λ (q : Rule). DoneIn o u q ⊎ ShutIn u q) (sym (c .2)) (⊎-elim
+            subst (λ (q : Rule). DoneIn o u q ⊎ NothingNewIn u q) (sym (c .2)) (⊎-elim
             (λ d. inl d)
             (λ s. ⊎-elim (λ b. absurd (clean j (staged .low j (c .1)) b)) (λ f. inr f) (s .1))
             (settled j (c .1) (ap rank (sym (c .2)) ∙ e)))

@@ -4,7 +4,7 @@
 use mathlib.Core.Path.{_≡_}
 use mathlib.Core.Bool.{Bool, true, not, _&&_, _||_}
 use mathlib.Core.List.{List}
-use Prim.Native.Nat.{ℕ, _+_, _*_, _/_, _%_, _^_, _≤_, _<_}
+use Prim.Native.Nat.{ℕ, _+_, _*_, _^_, _≤_, _<_}
 use lib.Dec.{eqb, ltb}
 use lib.ListN.{length, getD}
 use Rattle.foundation.specs.Tests.{pick}
@@ -15,6 +15,8 @@ use Rattle.reach.specs.Net.{turned}
 use Rattle.places.specs.declared.Grid.{Grid}
 use Rattle.places.specs.declared.Region.{Region}
 use Rattle.places.specs.declared.Point.{Point}
+use Rattle.places.specs.ReachedNumbers.{pairIndex, codeObject, codeSubject}
+use Rattle.places.specs.Needs.{bothAt}
 use Rattle.places.specs.Regions.{free, sizeOf, indexIn, Within}
 use Rattle.tables.specs.declared.Frame.{Frame}
 use Rattle.tables.specs.declared.Place.{Place}
@@ -33,9 +35,9 @@ turnedPoint b x = record {
   object = turned (b .object) (x .object);
 }
 
--- the code of a pair: pairs lie object by object
+-- where the pair of a place lies
 abbrev pub pairIn : Grid → Point → ℕ
-pairIn g x = x .object * g .subjects + x .subject
+pairIn g x = pairIndex (g .subjects) (x .object) (x .subject)
 
 abbrev pub rightPlace : RuleTurn → Grid → List ℕ → Point → Place
 rightPlace t g number x =
@@ -61,19 +63,17 @@ forceIn t f number words x = forceAt t f words (rightPlace t (f .grid) number x)
 abbrev pub brokenAt : RuleTurn → Grid → Place → ℕ
 brokenAt t g p = t .bits + indexIn g (t .left) (p .pair) (p .point)
 
--- it looks back and is broken; where no bits are kept none is
+-- it looks back and is broken
 abbrev pub brokenIn : RuleTurn → Grid → List ℕ → Place → Bool
-brokenIn t g bits p =
-    lasting (t .operator) && not (eqb (length bits) 0) && eqb (fieldOf 0 bits (brokenAt t g p)) 1
+brokenIn t g bits p = lasting (t .operator) && eqb (fieldOf 0 bits (brokenAt t g p)) 1
 
--- a place at which a rule can be broken: `bits` is how many words of bits are kept, if any, for rules that
--- look back
+-- a place at which a rule can be broken: `bits` is how many words of bits are kept for rules that look back
 pub record Ordinary (t : RuleTurn) (g : Grid) (bits : ℕ) (p : Place) : Type 0 where
   pub within : Within g (p .pair) (p .point)
   pub low : p .point .mode < 32
   pub size : sizeOf g (t .left) < 4294967296
-  pub room : lasting (t .operator) ≡ true → 0 < bits → t .bits + sizeOf g (t .left) ≤ 64 * bits
-  pub number : lasting (t .operator) ≡ true → 0 < bits → t .bits + sizeOf g (t .left) < 4294967296
+  pub room : lasting (t .operator) ≡ true → t .bits + sizeOf g (t .left) ≤ 64 * bits
+  pub number : lasting (t .operator) ≡ true → t .bits + sizeOf g (t .left) < 4294967296
 
 -- what a step reads is there; `words` and `bits` are the lengths of the tables
 pub record StepReads (t : RuleTurn) (f : Frame) (number : List ℕ) (words bits : ℕ) (p : Place) : Type 0 where
@@ -130,8 +130,7 @@ module _ (Does : Place → List ℕ → List ℕ → Type 0) (At : Place → Typ
 
 -- the mode is needed, with both signs, and the rule has it
 abbrev pub modesAt : RuleTurn → ℕ → ℕ → Bool
-modesAt t need m =
-    ltb m 8 && (bit m need && bit (8 + m) need) && (free (t .left .mode) || eqb (t .left .mode) m)
+modesAt t need m = ltb m 8 && bothAt need m && (free (t .left .mode) || eqb (t .left .mode) m)
 
 -- the place of a pair with a mode
 abbrev pub withMode : Place → ℕ → Place
@@ -159,16 +158,16 @@ pub record ModesRan (Does : Place → List ℕ → List ℕ → Type 0) (p : Pla
 module _ (t : RuleTurn) (f : Frame) (left need codes : List ℕ) where
   -- object and subject of the pair with number n
   abbrev pub objectAt : ℕ → ℕ
-  objectAt n = getD codes n 0 / 256
+  objectAt n = codeObject (getD codes n 0)
 
   abbrev pub subjectAt : ℕ → ℕ
-  subjectAt n = getD codes n 0 % 256
+  subjectAt n = codeSubject (getD codes n 0)
 
   -- the rule stands at the pair with number n, with mode m
   pub record StandsAt (n m : ℕ) : Type 0 where
     pub object : bit (t .rule) (getD left (objectAt n) 0) ≡ true
     pub subject : bit (t .rule) (getD left (65 + subjectAt n) 0) ≡ true
-    pub mode : modesAt t (getD need (objectAt n * f .grid .subjects + subjectAt n) 0) m ≡ true
+    pub mode : modesAt t (getD need (pairIndex (f .grid .subjects) (objectAt n) (subjectAt n)) 0) m ≡ true
 
   abbrev pub placeAt : ℕ → ℕ → Place
   placeAt n m = record { pair = n; point = record { subject = subjectAt n; mode = m; object = objectAt n } }
@@ -178,7 +177,7 @@ module _ (t : RuleTurn) (f : Frame) (left need codes : List ℕ) where
     pub sign : t .sign < 2
     pub listed : to ≤ length codes
     pub low : (n : ℕ) → n < to → (objectAt n < 65) × (subjectAt n < 65)
-        × (objectAt n * f .grid .subjects + subjectAt n < length need)
+        × (pairIndex (f .grid .subjects) (objectAt n) (subjectAt n) < length need)
     pub reads : (n m : ℕ) → from ≤ n → n < to → StandsAt n m → StepReads t f number words bits (placeAt n m)
 
   abbrev pub AtPair : ℕ → ℕ → Place → Type 0

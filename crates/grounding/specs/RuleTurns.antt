@@ -4,7 +4,7 @@ use mathlib.Core.Path.{_≡_}
 use mathlib.Core.Logic.{_⊎_}
 use mathlib.Core.Bool.{Bool, true, false}
 use mathlib.Core.List.{List}
-use Prim.Native.Nat.{ℕ, zero, suc, _+_, _*_, _/_, _%_, _^_, _≤_, _<_}
+use Prim.Native.Nat.{ℕ, suc, _+_, _*_, _/_, _%_, _^_, _≤_, _<_}
 use lib.Bits.{bitAnd}
 use lib.Dec.{eqb, ltb}
 use lib.ListN.{length, getD}
@@ -18,6 +18,7 @@ use Rattle.sections.specs.Sections.{leftOf, feedOf, firstOf, startsOf, sidesOf,
 use Rattle.sections.specs.Sections.{listedOf, fieldsOf, brokenOf}
 use Rattle.places.specs.declared.Grid.{Grid}
 use Rattle.places.specs.declared.Region.{Region}
+use Rattle.places.specs.ReachedNumbers.{rowIndex, pairIndex}
 use Rattle.places.specs.Regions.{free, sizeOf}
 use Rattle.tables.specs.declared.Frame.{Frame}
 use Rattle.tables.specs.TableLayout.{regionAt, wholeRegion}
@@ -28,14 +29,15 @@ use Rattle.grounding.specs.declared.RuleTurn.{RuleTurn}
 use Rattle.grounding.specs.declared.Range.{Range}
 use Rattle.grounding.specs.RuleSteps.{Step, Mark, PairsReady, PairsRan}
 
--- the number of the pair with code j; behind the last one how many there are
+-- the number of the pair that lies at j; behind the last one how many there are
 abbrev pub pairNumberAt : List ℕ → ℕ → ℕ → ℕ
 pairNumberAt number j pairs = pick (ltb j (length number)) (getD number j 0) pairs
 
 -- the numbers of the pairs of a region, and maybe others
 abbrev pub rangeOf : Region → Grid → List ℕ → Range
 rangeOf b g number =
-    let row : ℕ = b .object * g .subjects in
+    let row = rowIndex (g .subjects) (b .object) in
+    let at = pairIndex (g .subjects) (b .object) (b .subject) in
     pick (free (b .object))
     (record { from = 0; to = g .pairs })
     (pick (free (b .subject))
@@ -44,8 +46,8 @@ rangeOf b g number =
       to = pairNumberAt number (row + g .subjects) (g .pairs);
     })
     (record {
-      from = pairNumberAt number (row + b .subject) (g .pairs);
-      to = pairNumberAt number (row + b .subject + 1) (g .pairs);
+      from = pairNumberAt number at (g .pairs);
+      to = pairNumberAt number (at + 1) (g .pairs);
     }))
 
 -- how many words hold fields of 2^k bits
@@ -126,7 +128,7 @@ preparedIn body outline coordinates need numbers =
 
 -- which have room for all of it; `words` of the words that are worked in have fields
 pub record Sliced (outline coordinates need numbers work : List ℕ) (words : ℕ) : Type 0 where
-  pub outlined : length outline ≡ 472
+  pub outlined : length outline ≡ 536
   pub placed : length coordinates ≡ 1666
   pub numbered : 2 * length need ≤ length numbers
   pub roomy : words ≤ length work

@@ -7,6 +7,7 @@ ghost use Rattle.foundation.specs.BitMasks.{bit};
 ghost use Rattle.model.specs.Stratification.{lasting};
 ghost use Rattle.words.specs.Sums.{SumGrown};
 ghost use Rattle.reach.specs.Net.{turned};
+ghost use Rattle.places.specs.ReachedNumbers.{pairIndex};
 ghost use Rattle.places.specs.Regions.{sizeOf};
 ghost use Rattle.tables.specs.TableLayout.{wholeRegion};
 ghost use Rattle.sections.specs.Sections.{leftOf, firstOf, rightsOf, numberedOf, listedOf};
@@ -21,17 +22,23 @@ use crate::Range;
 use crate::RuleTurn;
 use evaluation::is_lasting;
 use places::Grid;
+use places::Pair;
 use places::Point;
 use places::Region;
+use places::modes_with_both;
+use places::pair_index;
+use places::pair_of_code;
 use sections::FEED;
 use sections::FIRST;
 use sections::LEFT;
+use sections::LEFT_SUBJECTS;
 use sections::RIGHT;
 use sections::STARTS;
 use sections::SUBJECTS;
 use tables::Frame;
 use tables::Place;
 use tables::all_places;
+use tables::denials_start;
 use tables::field_in;
 use tables::give;
 use words::field_at;
@@ -61,26 +68,29 @@ fn right_point(b: Region, x: Point) -> Point
 
 // The same with the number of its pair.
 fn right_place(t: RuleTurn, g: Grid, number: &[u16], x: Point) -> Place
-    requires { ⌜ (pairIn g (turnedPoint (t .right) x) < length (now number))
-        × (pairIn g (turnedPoint (t .right) x) < 4294967296) ⌝ }
+    requires { ⌜ pairIn g (turnedPoint (t .right) x) < length (now number) ⌝ }
     ensures { λ r. ⌜ r ≡ rightPlace t g (now (number .entry)) x ⌝ }
 {
     let b = t.right;
     let y = right_point(b, x);
-    let j = (y.object * g.subjects + y.subject) as usize;
+    let p = Pair {
+        object: y.object as usize,
+        subject: y.subject as usize,
+    };
+    let j = pair_index(p, g.subjects as usize);
     Place {
         pair: number[j] as u32,
         point: y,
     }
 }
 
-// Whether the rule is broken at a place. Where no bits are kept none is.
+// Whether the rule is broken at a place.
 fn is_broken(t: RuleTurn, g: Grid, bits: &[u64], p: Place) -> bool
     requires { ⌜ Ordinary t g (length (now bits)) p ⌝ }
     ensures { λ r. ⌜ r ≡ brokenIn t g (now (bits .entry)) p ⌝ }
 {
     let o = t.operator;
-    if !is_lasting(o) | (bits.len() == 0) {
+    if !is_lasting(o) {
         return false;
     }
     let b = t.left;
@@ -100,9 +110,7 @@ fn instants_in_force(t: RuleTurn, f: Frame, words: &[u64], y: Place) -> u64
         return held;
     }
     let g = f.grid;
-    let every = all_places();
-    let from = places::size_of(g, every);
-    held - (held & field_in(words, f, from, every, y))
+    held - (held & field_in(words, f, denials_start(g), all_places(), y))
 }
 
 // What the rule derives over the window at a place of its left side: where it is broken nothing, and then
@@ -156,7 +164,7 @@ fn derive_at(
 fn modes_at(t: RuleTurn, need: u16) -> u64
     ensures { λ r. ⌜ ((m : ℕ) → bit m r ≡ modesAt t need m) ⌝ }
 {
-    let w = (need & (need >> 8) & 255) as u64;
+    let w = modes_with_both(need);
     let m = t.left.mode;
     if m == 255 {
         return w;
@@ -213,23 +221,26 @@ fn stands_at_pair(t: RuleTurn, left: &[u64], o: usize, s: usize) -> bool
         × (bit (t .rule) (getD (now (left .entry)) o 0) ≡ true →
         bit (t .rule) (getD (now (left .entry)) (65 + s) 0) ≡ true → r ≡ true) ⌝ }
 {
-    ((left[o] & left[65 + s]) >> t.rule) % 2 == 1
+    ((left[o] & left[LEFT_SUBJECTS + s]) >> t.rule) % 2 == 1
 }
 
-// The modes of the pair with a code at which the rule stands; none where it does not.
-fn standing_modes(t: RuleTurn, g: Grid, left: &[u64], need: &[u16], o: usize, s: usize) -> u64
-    requires { ⌜ (o < 65) × (s < 65) × (t .rule < 64) × (t .sign < 2) × (152 ≤ length (now left))
-        × (o * g .subjects + s < length (now need)) ⌝ }
+// The modes of a pair with which the rule stands there; none where it does not.
+fn standing_modes(t: RuleTurn, g: Grid, left: &[u64], need: &[u16], p: Pair) -> u64
+    requires { ⌜ (p .object < 65) × (p .subject < 65) × (t .rule < 64) × (t .sign < 2)
+        × (152 ≤ length (now left))
+        × (pairIndex (g .subjects) (p .object) (p .subject) < length (now need)) ⌝ }
     ensures { λ r. ⌜ ((m : ℕ) → bit m r ≡ true →
-        (bit (t .rule) (getD (now (left .entry)) o 0) ≡ true)
-        × (bit (t .rule) (getD (now (left .entry)) (65 + s) 0) ≡ true)
-        × (modesAt t (getD (now (need .entry)) (o * g .subjects + s) 0) m ≡ true))
-        × ((m : ℕ) → bit (t .rule) (getD (now (left .entry)) o 0) ≡ true →
-        bit (t .rule) (getD (now (left .entry)) (65 + s) 0) ≡ true →
-        modesAt t (getD (now (need .entry)) (o * g .subjects + s) 0) m ≡ true → bit m r ≡ true) ⌝ }
+        (bit (t .rule) (getD (now (left .entry)) (p .object) 0) ≡ true)
+        × (bit (t .rule) (getD (now (left .entry)) (65 + p .subject) 0) ≡ true)
+        × (modesAt t (getD (now (need .entry)) (pairIndex (g .subjects) (p .object) (p .subject)) 0) m
+        ≡ true))
+        × ((m : ℕ) → bit (t .rule) (getD (now (left .entry)) (p .object) 0) ≡ true →
+        bit (t .rule) (getD (now (left .entry)) (65 + p .subject) 0) ≡ true →
+        modesAt t (getD (now (need .entry)) (pairIndex (g .subjects) (p .object) (p .subject)) 0) m ≡ true →
+        bit m r ≡ true) ⌝ }
 {
-    if stands_at_pair(t, left, o, s) {
-        return modes_at(t, need[o * (g.subjects as usize) + s]);
+    if stands_at_pair(t, left, p.object, p.subject) {
+        return modes_at(t, need[pair_index(p, g.subjects as usize)]);
     }
     0
 }
@@ -268,18 +279,16 @@ pub fn derive_pairs(
     let mut fresh = false;
     let mut n = range.from;
     while n < range.to {
-        let c = listed[n as usize] as usize;
-        let o = c / 256;
-        let s = c % 256;
+        let p = pair_of_code(listed[n as usize]);
         let pair = Place {
             pair: n,
             point: Point {
-                subject: s as u32,
+                subject: p.subject as u32,
                 mode: 0,
-                object: o as u32,
+                object: p.object as u32,
             },
         };
-        let modes = standing_modes(t, g, &outline[LEFT..FEED], need, o, s);
+        let modes = standing_modes(t, g, &outline[LEFT..FEED], need, p);
         fresh = fresh
             | derive_modes(
                 t,
@@ -300,7 +309,7 @@ pub fn derive_pairs(
 fn mark_broken_at(t: RuleTurn, f: Frame, number: &[u16], work: &mut [u64], last: u32, p: Place)
     requires { ⌜ StepReads t f (now number) (length (fieldsOf (t .words) (now work)))
         (length (brokenOf (t .words) (now work))) p × (t .words ≤ length (now work)) × (last < 64)
-        × (0 < length (brokenOf (t .words) (now work))) × (lasting (t .operator) ≡ true) ⌝ }
+        × (lasting (t .operator) ≡ true) ⌝ }
     ensures { λ _. ⌜ Mark t f (now (number .entry)) (fieldsOf (t .words) (now (work .entry))) last p
         (brokenOf (t .words) (now (work .entry))) (brokenOf (t .words) (now (work .exit)))
         × (fieldsOf (t .words) (now (work .exit)) ≡ fieldsOf (t .words) (now (work .entry))) ⌝ }
@@ -328,7 +337,7 @@ fn mark_modes(
 )
     requires { ⌜ ModesReady t f (now number) (length (fieldsOf (t .words) (now work)))
         (length (brokenOf (t .words) (now work))) pair modes × (t .words ≤ length (now work)) × (last < 64)
-        × (0 < length (brokenOf (t .words) (now work))) × (lasting (t .operator) ≡ true) ⌝ }
+        × (lasting (t .operator) ≡ true) ⌝ }
     ensures { λ _. ⌜ ModesRan (Mark t f (now (number .entry)) (fieldsOf (t .words) (now (work .entry))) last)
         pair modes (brokenOf (t .words) (now (work .entry))) (brokenOf (t .words) (now (work .exit)))
         × (fieldsOf (t .words) (now (work .exit)) ≡ fieldsOf (t .words) (now (work .entry))) ⌝ }
@@ -364,8 +373,7 @@ pub fn mark_pairs(
         (numberedOf (length (now need)) (now numbers)) (length (fieldsOf (t .words) (now work)))
         (length (brokenOf (t .words) (now work))) (range .from) (range .to)
         × (152 ≤ length (now left)) × (2 * length (now need) ≤ length (now numbers))
-        × (t .words ≤ length (now work)) × (last < 64) × (0 < length (brokenOf (t .words) (now work)))
-        × (lasting (t .operator) ≡ true) ⌝ }
+        × (t .words ≤ length (now work)) × (last < 64) × (lasting (t .operator) ≡ true) ⌝ }
     ensures { λ _. ⌜ PairsRan t f (now (left .entry)) (now (need .entry))
         (listedOf (length (now (need .entry))) (now (numbers .entry)))
         (Mark t f (numberedOf (length (now (need .entry))) (now (numbers .entry)))
@@ -380,18 +388,16 @@ pub fn mark_pairs(
     let listed = &rest[..size];
     let mut n = range.from;
     while n < range.to {
-        let c = listed[n as usize] as usize;
-        let o = c / 256;
-        let s = c % 256;
+        let p = pair_of_code(listed[n as usize]);
         let pair = Place {
             pair: n,
             point: Point {
-                subject: s as u32,
+                subject: p.subject as u32,
                 mode: 0,
-                object: o as u32,
+                object: p.object as u32,
             },
         };
-        let modes = standing_modes(t, g, left, need, o, s);
+        let modes = standing_modes(t, g, left, need, p);
         mark_modes(t, f, number, work, last, pair, modes);
         n += 1;
     }

@@ -7,7 +7,6 @@ ghost use lib.ListN.{length, getD};
 ghost use Rattle.foundation.specs.BitMasks.{bit};
 ghost use Rattle.words.specs.Sums.{SumGrown};
 ghost use Rattle.foundation.specs.Tests.{pick};
-ghost use mathlib.Core.Logic.{_⊎_};
 ghost use Rattle.places.specs.Regions.{sizeOf};
 ghost use Rattle.tables.specs.TableLayout.{regionAt, wholeRegion};
 ghost use Rattle.tables.specs.TableGiving.{shapesOf};
@@ -36,7 +35,10 @@ use model::Head;
 use model::RULE_BYTES;
 use model::Rule;
 use places::Grid;
+use places::Pair;
 use places::Region;
+use places::pair_index;
+use places::row_index;
 use sections::ACTIVE;
 use sections::FEED;
 use sections::FIRST;
@@ -47,6 +49,7 @@ use sections::STARTS;
 use sections::SUBJECTS;
 use tables::Frame;
 use tables::all_places;
+use tables::denials_start;
 use tables::region_at;
 use tables::shape_at;
 use words::next_bit;
@@ -71,15 +74,20 @@ fn range_of(b: Region, g: Grid, number: &[u16]) -> Range
             to: g.pairs,
         };
     }
-    let stride = g.subjects as usize;
-    let row = (b.object as usize) * stride;
+    let o = b.object as usize;
+    let subjects = g.subjects as usize;
     if b.subject == 255 {
+        let row = row_index(o, subjects);
         return Range {
             from: pair_number_at(number, row, g.pairs),
-            to: pair_number_at(number, row + stride, g.pairs),
+            to: pair_number_at(number, row + subjects, g.pairs),
         };
     }
-    let j = row + b.subject as usize;
+    let p = Pair {
+        object: o,
+        subject: b.subject as usize,
+    };
+    let j = pair_index(p, subjects);
     Range {
         from: pair_number_at(number, j, g.pairs),
         to: pair_number_at(number, j + 1, g.pairs),
@@ -98,7 +106,7 @@ fn table_start(f: Frame, first: &[u64], i: usize, own: bool, denied: bool) -> u3
     }
     if denied {
         let g = f.grid;
-        return places::size_of(g, all_places());
+        return denials_start(g);
     }
     0
 }
@@ -145,7 +153,7 @@ fn turn_of(body: &[u8], r: u32, f: Frame, outline: &[u64], coordinates: &[u8]) -
         × (sizeOf (f .grid) wholeRegion < 4294967296)
         × (bit r (f .choosy) ≡ true → getD (firstOf (now outline)) r 0 < 4294967296)
         × (f .width ≤ 6)
-        × (length (now outline) ≡ 472)
+        × (length (now outline) ≡ 536)
         × (length (now coordinates) ≡ 1666) ⌝ }
     ensures { λ t. ⌜ t ≡ turnFrom f (now (body .entry)) (feedOf (now (outline .entry)))
         (sidesOf (now (coordinates .entry))) (rightsOf (now (coordinates .entry)))
@@ -293,7 +301,6 @@ fn mark_rule(
         (length (bitsIn (e .frame) (now work))) r
         × SlicedIn (now outline) (now coordinates) (now need) (now numbers) (e .frame) (now work)
         × (e .last < 64)
-        × (0 < length (bitsIn (e .frame) (now work)))
         × (lasting (ruleAt (now body) r .operator) ≡ true) ⌝ }
     ensures { λ _. ⌜ RuleMarked (preparedIn (now (body .entry)) (now (outline .entry))
         (now (coordinates .entry)) (now (need .entry)) (now (numbers .entry)) (e .frame))
@@ -329,7 +336,6 @@ pub fn mark_broken(
         (length (fieldsIn (e .frame) (now work))) (length (bitsIn (e .frame) (now work))) r)
         × SlicedIn (now outline) (now coordinates) (now need) (now numbers) (e .frame) (now work)
         × (e .last < 64)
-        × (((r : ℕ) → bit r rules ≡ true → ⊥) ⊎ (0 < length (bitsIn (e .frame) (now work))))
         × ((r : ℕ) → bit r rules ≡ true → lasting (ruleAt (now body) r .operator) ≡ true) ⌝ }
     ensures { λ _. ⌜ Marked (preparedIn (now (body .entry)) (now (outline .entry)) (now (coordinates .entry))
         (now (need .entry)) (now (numbers .entry)) (e .frame)) (activeOf (now (outline .entry)))

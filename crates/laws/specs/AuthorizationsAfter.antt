@@ -3,7 +3,7 @@
 -- was there (`origin`).
 use mathlib.Core.Path.{_≡_, refl, ap, _∙_}
 use mathlib.Core.Logic.{_⊎_, inl, inr, ⊎-elim}
-use Prim.Native.Nat.{ℕ, suc}
+use Prim.Native.Nat.{suc}
 use native.Mathlib.Omega.{arith}
 use mathlib.Core.Bool.{Bool, true, false, not, _||_}
 use mathlib.Core.List.{[], _∷_, _++_}
@@ -15,13 +15,11 @@ use Rattle.model.specs.declared.Request.{Request}
 use Rattle.model.specs.Base.{Base}
 use Rattle.model.specs.Support.{supported, live}
 use Rattle.model.specs.Withdrawal.{authorization, restrict}
-use Rattle.model.specs.Requests.{REVOKE, REVOKEP, REVOKEN, REVOKEADM, grants, withdraws, rootAfter, newHead}
-use Rattle.model.specs.Requests.{takes}
-use Rattle.model.specs.Requests.{leave, affects}
+use Rattle.model.specs.Requests.{grants, withdraws, rootAfter, newHead, takes, leave, affects}
 use Rattle.model.specs.Means.{plainly}
 use Rattle.model.specs.Step.{effect}
 use Rattle.model.specs.SoundnessFacts.{Sound}
-use Rattle.model.specs.Kinds.{grantKinds, withdrawalKinds, is-apart, not-kind}
+use Rattle.model.specs.Kinds.{grantKinds, withdrawalKinds, is-apart}
 use Rattle.laws.specs.Chained.{pairwise-last}
 use Rattle.laws.specs.KeepFacts.{Piece, piece-piece, pieces-of, Precedes, Sorted, keep-sorted}
 use Rattle.laws.specs.SoundFacts.{interval-rises, label-given, sorted}
@@ -29,15 +27,6 @@ use Rattle.laws.specs.SoundFacts.{interval-rises, label-given, sorted}
 -- the authorization that a GRANT or DENY adds
 abbrev pub newAuthorization : Base → Request → Authorization
 newAuthorization b q = authorization (newHead (suc (b .last)) q) (q .interval)
-
--- a request that withdraws nothing takes nothing
-pub no-takes : (q : Request) → withdraws q ≡ false → (h : Head) (t : ℕ) → takes q h t ≡ false
-unfolding takes
-no-takes q w h t = rw (
-  not-kind q (REVOKE ∷ []) withdrawalKinds refl w,
-  not-kind q (REVOKEP ∷ REVOKEN ∷ []) withdrawalKinds refl w,
-  not-kind q (REVOKEADM ∷ []) withdrawalKinds refl w,
-)
 
 module _ (b : Base) (q : Request) where
   -- ---- by kind

@@ -16,23 +16,21 @@ use Rattle.model.specs.declared.Pattern.{Pattern}
 use Rattle.model.specs.Base.{Base}
 use Rattle.model.specs.Stratification.{negating, negates, lasting}
 use Rattle.model.specs.StratificationFacts.{unlabelled}
-use Rattle.model.specs.Rules.{standsFor, rightOf, asked, rightHolds, operate}
+use Rattle.model.specs.Rules.{rightOf, asked, rightHolds, operate}
+use Rattle.model.specs.SideFacts.{right-eq, right-sign}
 use Rattle.model.specs.RightFacts.{right-is}
 use Rattle.model.specs.HoldsLaws.{PrecededOnly, StrictlyFed, fit-precedes, strictly-fed, strictly-linked}
 
 -- the same rule, under this label or another
-abbrev pub Twins : Rule → Rule → Type 0
-Twins r s = unlabelled r ≡ unlabelled s
+abbrev pub Relabelled : Rule → Rule → Type 0
+Relabelled r s = unlabelled r ≡ unlabelled s
 
--- twins look for the same
-pub right-twin : (r s : Rule) → Twins r s → (x : Access) → rightOf r x ≡ rightOf s x
-unfolding rightOf
-right-twin r s e x = ap (λ (z : Rule). rightOf z x) e
-
--- and stand for the same accesses
-pub stands-twin : (b : Base) (r s : Rule) → Twins r s → (x : Access) → standsFor b r x ≡ standsFor b s x
-unfolding standsFor
-stands-twin b r s e x = ap (λ (z : Rule). standsFor b z x) e
+-- they look for the same
+pub right-relabelled : (r s : Rule) → Relabelled r s → (x : Access) → rightOf r x ≡ rightOf s x
+right-relabelled r s e x =
+    let without : (z : Rule) → rightOf z x ≡ rightOf (unlabelled z) x =
+    λ z. right-eq z x ∙ sym (right-eq (unlabelled z) x) in
+    without r ∙ ap (λ (z : Rule). rightOf z x) e ∙ sym (without s)
 
 -- p asks for denials of the access that r, standing for x, looks for with a positive right side
 abbrev Denials : Rule → Access → Pattern → Type 0
@@ -76,21 +74,22 @@ module _ (r : Rule) (x : Access) (p : Pattern) where
   depends-strictly base w = ⊎-elim (λ n. strictly-fed base r (n .0) p (depends-fed base (n .1)))
       (λ d. denials-strictly base d) w
 
-  module _ (s : Rule) (twins : Twins r s) where
-    denials-twin : Denials r x p → Denials s x p
-    denials-twin d = (
-      ap (λ (z : Rule). z .right .negative) (sym twins) ∙ d .0,
-      d .1 ∙ ap (λ (q : Pattern). asked (q .access) true) (right-twin r s twins x),
+  module _ (s : Rule) (relabelled : Relabelled r s) where
+    denials-relabelled : Denials r x p → Denials s x p
+    denials-relabelled d = (
+      ap (λ (z : Rule). z .right .negative) (sym relabelled) ∙ d .0,
+      d .1 ∙ ap (λ (q : Pattern). asked (q .access) true) (right-relabelled r s relabelled x),
     )
 
-    pub depends-twin : Depends r x p → Depends s x p
+    pub depends-relabelled : Depends r x p → Depends s x p
     unfolding Depends
-    depends-twin e = ⊎-elim (λ a. inl (a ∙ right-twin r s twins x)) (λ d. inr (denials-twin d)) e
+    depends-relabelled e = ⊎-elim (λ a. inl (a ∙ right-relabelled r s relabelled x))
+        (λ d. inr (denials-relabelled d)) e
 
-    pub below-twin : DependsBelow r x p → DependsBelow s x p
+    pub below-relabelled : DependsBelow r x p → DependsBelow s x p
     unfolding DependsBelow
-    below-twin w = ⊎-elim (λ n. inl (ap negates (sym twins) ∙ n .0, depends-twin (n .1)))
-        (λ d. inr (denials-twin d)) w
+    below-relabelled w = ⊎-elim (λ n. inl (ap negates (sym relabelled) ∙ n .0, depends-relabelled (n .1)))
+        (λ d. inr (denials-relabelled d)) w
 
 -- where no less holds of what r looks at, and the same of what it looks at below its stratum, its right side
 -- counts as held no less
@@ -98,12 +97,13 @@ pub right-carry : (r : Rule) (x : Access) (same same′ lower lower′ : Pattern
     ((p : Pattern) → Depends r x p → same p ≡ true → same′ p ≡ true) →
     ((p : Pattern) → DependsBelow r x p → lower p ≡ lower′ p) →
     rightHolds same lower (rightOf r x) ≡ true → rightHolds same′ lower′ (rightOf r x) ≡ true
-unfolding Depends DependsBelow rightOf
+unfolding Depends DependsBelow
 right-carry r x same same′ lower lower′ h k e =
     let p = rightOf r x in
     let w = right-is same lower p .0 e in
+    let denied : Pattern = asked (p .access) true in
     right-is same′ lower′ p .1
-    (h p (inl refl) (w .0), λ n. sym (k (asked (p .access) true) (inr (n, refl))) ∙ w .1 n)
+    (h p (inl refl) (w .0), λ n. sym (k denied (inr (sym (right-sign r x) ∙ n, refl))) ∙ w .1 n)
 
 -- a rule with WHENEVERNOT or UNLESS looks only below its stratum: where the same holds there, its right side
 -- counts as held alike

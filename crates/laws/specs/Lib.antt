@@ -15,7 +15,7 @@ pub mod SoundAuthorizations
 pub mod SoundSupport
 pub mod Preservation
 pub mod RequestFacts
-pub mod LedgerFacts
+pub mod Refinement
 pub mod SessionFacts
 pub mod FirstLine
 pub mod Created

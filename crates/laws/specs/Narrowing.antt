@@ -18,7 +18,7 @@ use Rattle.model.specs.Support.{live}
 use Rattle.model.specs.SupportFacts.{mem-live, live-mem}
 use Rattle.model.specs.Stratification.{stratified}
 use Rattle.model.specs.Rules.{fits, standsFor, rightOf, holds, asked, mayWith, may}
-use Rattle.model.specs.SideFacts.{fits-is}
+use Rattle.model.specs.SideFacts.{fits-is, stands-same}
 use Rattle.model.specs.Effects.{withAuthorizations, withRules}
 use Rattle.laws.specs.RulesAfter.{stratified-less}
 use Rattle.laws.specs.Dependence.{depends-access}
@@ -54,8 +54,7 @@ narrowed-stratified base s keepLine keepRule =
 -- a rule stands for the same accesses there: which, says the base's objects and privileges
 narrowed-stands : (base : Base) (keepLine : Authorization → Bool) (keepRule : Rule → Bool) (r : Rule)
     (x : Access) → standsFor (narrowed base keepLine keepRule) r x ≡ standsFor base r x
-unfolding standsFor
-narrowed-stands base keepLine keepRule r x = refl
+narrowed-stands base keepLine keepRule r x = stands-same (narrowed base keepLine keepRule) base r x refl
 
 module _ (base : Base) (s : stratified (base .rules) ≡ true) (D : Access → Bool)
     (keepLine : Authorization → Bool) (keepRule : Rule → Bool)

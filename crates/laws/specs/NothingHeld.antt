@@ -1,21 +1,20 @@
 -- Where no authorization covers an instant and no rule negates, nothing is held at it (`nothing-held`), and
 -- MAY says no (`nothing-may`): rules hand on what is held, and only those that negate start from nothing.
-use mathlib.Core.Path.{_≡_, refl, sym, ap, _∙_}
+use mathlib.Core.Path.{_≡_, sym, ap, _∙_}
 use mathlib.Core.Bool.{true, false, true≢false}
-use Prim.Native.Nat.{ℕ, zero, suc, _≤_}
+use Prim.Native.Nat.{ℕ, zero, suc}
 use native.Mathlib.Omega.{arith}
 use Rattle.foundation.specs.Tests.{cases, and-true, true-le}
 use Rattle.foundation.specs.Lists.{Mem}
 use Rattle.foundation.specs.Intervals.{inInterval}
 use Rattle.model.specs.declared.Access.{Access}
 use Rattle.model.specs.declared.Authorization.{Authorization}
-use Rattle.model.specs.declared.Operator.the-variants.{WheneverNot, Unless}
 use Rattle.model.specs.declared.Rule.{Rule}
 use Rattle.model.specs.Base.{Base}
 use Rattle.model.specs.Stratification.{negating, negates, stratified}
 use Rattle.model.specs.declared.Pattern.{Pattern}
 use Rattle.model.specs.Rules.{asked, may}
-use Rattle.model.specs.Held.{Applies, HeldUpTo, HeldBelow, Held, lower, whenever, asLongAs, wheneverNot}
+use Rattle.model.specs.Held.{HeldUpTo, HeldBelow, Held, lower, whenever, asLongAs, wheneverNot}
 use Rattle.model.specs.Held.{unless}
 use Rattle.model.specs.HeldFacts.{may-held}
 

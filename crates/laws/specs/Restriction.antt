@@ -18,11 +18,11 @@ use Rattle.model.specs.Support.{sameObjectAndMode, supported, supported-chain, 
 use Rattle.model.specs.SupportFacts.{mem-live, live-mem, chain-local}
 use Rattle.model.specs.Withdrawal.{restrict}
 use Rattle.model.specs.Requests.{REVOKE, REVOKEP, REVOKEN, REVOKEADM, is, withdraws, rootAfter, names, takes}
-use Rattle.model.specs.Requests.{leave}
-use Rattle.model.specs.Requests.{affects}
+use Rattle.model.specs.Requests.{leave, affects}
 use Rattle.model.specs.Means.{plainly}
 use Rattle.model.specs.Step.{effect}
 use Rattle.model.specs.SoundnessFacts.{Sound}
+use Rattle.model.specs.SurvivalFacts.{takes-eq, affects-eq}
 use Rattle.model.specs.Kinds.{is-apart}
 use Rattle.laws.specs.KeepFacts.{live-keep, keep-cong}
 use Rattle.laws.specs.SoundFacts.{all-supported}
@@ -35,14 +35,13 @@ use Rattle.laws.specs.AuthorizationsAfter.{withdrawn-authorizations}
 module _ (xs : List Authorization) (q : Request) (k h : Head) (t : ℕ) (a : Authorization) (m : Mem a xs)
     (head : a .head ≡ k) (object : k .object ≡ h .object) (mode : k .mode ≡ h .mode) where
   takes-affects : takes q k t ≡ true → affects xs q h ≡ true
-  unfolding takes affects
-  takes-affects e = cases (is q (REVOKE ∷ []))
-      (λ r. rw r (byLabel (rw r at e)))
+  takes-affects e = rw (affects-eq xs q h) (cases (is q (REVOKE ∷ []))
+      (λ r. rw r (byLabel (rw (takes-eq q k t, r) at e)))
       (λ r. cases (is q (REVOKEP ∷ REVOKEN ∷ []))
-      (λ p. rw (r, p) (byName (rw (r, p) at e)))
+      (λ p. rw (r, p) (byName (rw (takes-eq q k t, r, p) at e)))
       (λ p. cases (is q (REVOKEADM ∷ []))
-      (λ d. rw (r, p, d) (byGrantor (rw (r, p, d) at e)))
-      (λ d. absurd (false≢true (rw (r, p, d) at e)))))
+      (λ d. rw (r, p, d) (byGrantor (rw (takes-eq q k t, r, p, d) at e)))
+      (λ d. absurd (false≢true (rw (takes-eq q k t, r, p, d) at e))))))
     where
       byLabel : eqb (k .label) (q .label) ≡ true →
           anyb (λ a. eqb (a .head .label) (q .label) && sameObjectAndMode (a .head) h) xs ≡ true
@@ -82,9 +81,9 @@ module _ (b : Base) (q : Request) where
   -- what REVOKEADM does not affect is on another object
   not-affected : (h : Head) → affects (b .authorizations) q h ≡ false → is q (REVOKEADM ∷ []) ≡ true →
       h .object ≢ q .object
-  unfolding affects
   not-affected h f d = false-eq (h .object) (q .object)
       (rw (
+        affects-eq (b .authorizations) q h,
         is-apart q (REVOKEADM ∷ []) (REVOKE ∷ []) refl d,
         is-apart q (REVOKEADM ∷ []) (REVOKEP ∷ REVOKEN ∷ []) refl d,
         d,

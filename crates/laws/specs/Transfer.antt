@@ -22,8 +22,9 @@ use Rattle.model.specs.HoldsFacts.{below-stratum, rounds, rounds-below}
 use Rattle.model.specs.HoldsLaws.{derived, holds-law, settled-at, strictly-settled}
 use Rattle.laws.specs.Dependence.{DependsBelow, depends-access}
 use Rattle.laws.specs.Dependence.{below-depends, depends-fed, depends-strictly}
-use Rattle.laws.specs.Dependence.{depends-twin, below-twin}
-use Rattle.laws.specs.Matching.{direct, Bears, Matched, Alike, TwinsFor, swap, pair-bears, late-twin}
+use Rattle.laws.specs.Dependence.{depends-relabelled, below-relabelled}
+use Rattle.laws.specs.Matching.{direct, StandsInside, Matched, Alike, RelabelledFor, swap}
+use Rattle.laws.specs.Matching.{stands-inside, late-relabelled}
 use Rattle.laws.specs.Matching.{alike-swap, ongoing, held-more, carried}
 
 -- what a round of a stratum derives is derived at last
@@ -38,9 +39,9 @@ round-derived b k few i j r m x t e =
 module _ (D : Access → Bool) (h : ℕ) (A B : Base)
     (sA : stratified (A .rules) ≡ true) (sB : stratified (B .rules) ≡ true)
     (forth : Matched D h A B) (back : Matched D h B A) (alike : Alike D h A B) where
-  -- twins of which A's has a stratum below k derive the same
+  -- a rule of A with a stratum below k and the same rule of B derive the same
   abbrev Same : ℕ → Type 0
-  Same k = (r s : Rule) (x : Access) → TwinsFor D A B r s x → stratum (A .rules) r < k →
+  Same k = (r s : Rule) (x : Access) → RelabelledFor D A B r s x → stratum (A .rules) r < k →
       (t : ℕ) → h ≤ t → derived A (fact r x t) ≡ derived B (fact s x t)
 
   module _ (k : ℕ) (known : Same k) where
@@ -60,7 +61,7 @@ module _ (D : Access → Bool) (h : ℕ) (A B : Base)
           (sym (holds-law B t p) ∙ e))
 
     -- so does what a rule of A's stratum k looks at below it
-    below-same : (r : Rule) (x : Access) → Bears D h A r x → stratum (A .rules) r ≡ k →
+    below-same : (r : Rule) (x : Access) → StandsInside D h A r x → stratum (A .rules) r ≡ k →
         (p : Pattern) → DependsBelow r x p → (u : ℕ) → h ≤ u → holds always A u p ≡ holds always B u p
     below-same r x w level p e u i =
         let n = below-depends r x p e in
@@ -72,13 +73,13 @@ module _ (D : Access → Bool) (h : ℕ) (A B : Base)
     -- ---- what A's stratum k derives, B derives
 
     module _ (few : k ≤ 2 * length (A .rules)) where
-      lower-carried : (r s : Rule) (x : Access) → TwinsFor D A B r s x → (t : ℕ) → h ≤ t →
+      lower-carried : (r s : Rule) (x : Access) → RelabelledFor D A B r s x → (t : ℕ) → h ≤ t →
           derivedBelow always A k (fact r x t) ≡ true → derived B (fact s x t) ≡ true
       lower-carried r s x w t l e =
           let v = below-stratum A k (fact r x t) e in
           sym (known r s x w v t l) ∙ settled-at A k (fact r x t) (w .first) v (omega arith) ∙ e
 
-      found : (i : ℕ) → i ≤ enough always A → (r s : Rule) (x : Access) → TwinsFor D A B r s x →
+      found : (i : ℕ) → i ≤ enough always A → (r s : Rule) (x : Access) → RelabelledFor D A B r s x →
           (t : ℕ) → h ≤ t → rounds A k i (fact r x t) ≡ true → derived B (fact s x t) ≡ true
       unfolding iter
       found zero j r s x w t l e = lower-carried r s x w t l e
@@ -91,7 +92,7 @@ module _ (D : Access → Bool) (h : ℕ) (A B : Base)
           let f = and-true (eqb v k) (derives always A L S (fact r x t)) (rw y at e) in
           let level : v ≡ k = true-eq v k (f .0) in
           let d = round-derived A k few (suc i) j r (w .first) x t e in
-          let z = pair-bears D h A B r s x w (ongoing A sA r (w .first) x h t l d) in
+          let z = stands-inside D h A B r s x w (ongoing A sA r (w .first) x h t l d) in
           carried D h A B sB L S r s x w t l (alike .fresh r x z)
           (λ p n u c.
           let d = ap D (depends-access r x p n) ∙ alike .inward r x z in
@@ -104,21 +105,21 @@ module _ (D : Access → Bool) (h : ℕ) (A B : Base)
           ∙ below-same r x z level p n u c)
           (f .1))
 
-    -- ---- and back: stratum by stratum of B, what twins of A's stratum k derive in B, they derive in A
+    -- ---- and back: stratum by stratum of B, what rules of A's stratum k derive in B, they derive in A
 
     abbrev Returned : ℕ → Type 0
-    Returned j = (r s : Rule) (x : Access) → TwinsFor D A B r s x → stratum (A .rules) r ≤ k →
+    Returned j = (r s : Rule) (x : Access) → RelabelledFor D A B r s x → stratum (A .rules) r ≤ k →
         stratum (B .rules) s < j → (t : ℕ) → h ≤ t →
         derived B (fact s x t) ≡ true → derived A (fact r x t) ≡ true
 
     module _ (j : ℕ) (few : j ≤ 2 * length (B .rules)) (had : Returned j) where
-      lower-back : (r s : Rule) (x : Access) → TwinsFor D A B r s x → stratum (A .rules) r ≤ k →
+      lower-back : (r s : Rule) (x : Access) → RelabelledFor D A B r s x → stratum (A .rules) r ≤ k →
           (t : ℕ) → h ≤ t → derivedBelow always B j (fact s x t) ≡ true → derived A (fact r x t) ≡ true
       lower-back r s x w v t l e =
           let c = below-stratum B j (fact s x t) e in
           had r s x w v c t l (settled-at B j (fact s x t) (w .second) c (omega arith) ∙ e)
 
-      returns : (i : ℕ) → i ≤ enough always B → (r s : Rule) (x : Access) → TwinsFor D A B r s x →
+      returns : (i : ℕ) → i ≤ enough always B → (r s : Rule) (x : Access) → RelabelledFor D A B r s x →
           stratum (A .rules) r ≤ k → (t : ℕ) → h ≤ t → rounds B j i (fact s x t) ≡ true →
           derived A (fact r x t) ≡ true
       unfolding iter
@@ -139,8 +140,8 @@ module _ (D : Access → Bool) (h : ℕ) (A B : Base)
           let back-pair = swap D A B r s x w in
           let d = round-derived B j few (suc i) c s (w .second) x t e in
           let late = ongoing B sB s (w .second) x h t l d in
-          let bs = pair-bears D h B A s r x back-pair late in
-          let br = pair-bears D h A B r s x w (late-twin h s r (sym (w .twins)) late) in
+          let bs = stands-inside D h B A s r x back-pair late in
+          let br = stands-inside D h A B r s x w (late-relabelled h s r (sym (w .relabelled)) late) in
           let other = alike-swap D h A B back alike in
           carried D h B A sA L S s r x back-pair t l (other .fresh s x bs)
           (λ p n u q.
@@ -150,13 +151,13 @@ module _ (D : Access → Bool) (h : ℕ) (A B : Base)
           (omega (
             arith,
             feeder-not-above (A .rules) sA r′ r (w′ .second) (w .first)
-                (depends-fed r x p A (depends-twin s x p r (sym (w .twins)) n) r′ b),
+                (depends-fed r x p A (depends-relabelled s x p r (sym (w .relabelled)) n) r′ b),
           )) u q)
           (λ s′ m′ a. ongoing B sB s′ m′ (p .access) h u q
           (round-derived B j few i (omega arith) s′ m′ (p .access) u a)))
           (λ p n u q. subst (λ (i : ℕ). holdsBy always B (derivedBelow always B i) u p ≡ holds always B u p)
           here (strictly-settled B sB s (w .second) u p (depends-strictly s x p B n))
-          ∙ sym (below-same r x br level p (below-twin s x p r (sym (w .twins)) n) u q))
+          ∙ sym (below-same r x br level p (below-relabelled s x p r (sym (w .relabelled)) n) u q))
           (f .1)))
 
       returned-on : Returned (suc j)

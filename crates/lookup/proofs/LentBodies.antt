@@ -8,19 +8,15 @@ use Prim.Native.Nat.{ℕ, _*_, _≤_}
 use native.Mathlib.Omega.{arith}
 use lib.ListN.{length}
 use Rattle.foundation.specs.Lists.{anyb}
-use Rattle.model.specs.EncodingFacts.{sound-length}
 use Rattle.model.specs.Soundness.{soundBytes}
 use Rattle.encoding.specs.declared.Counts.{Counts}
 use Rattle.encoding.specs.Format.{countsOf, administratorsAt, referrersAt, authorizationsAt, rulesAt}
 use Rattle.lookup.proofs.NarrowedFacts.{listed-narrowed, label-narrowed}
 use Rattle.lookup.proofs.NarrowedFacts.{other-narrowed, rule-narrowed, author-narrowed}
-use Rattle.encoding.proofs.SoundBodies.{lent, fitting, there, objects-in, objects-lent}
+use Rattle.encoding.proofs.SoundBodies.{heading-there, lent, fitting, there, objects-in, objects-lent}
 use Rattle.encoding.proofs.SoundBodies.{administrators-in, administrators-lent, referrers-in}
 use Rattle.encoding.proofs.SoundBodies.{referrers-lent, authorizations-in, authorizations-lent}
 use Rattle.encoding.proofs.SoundBodies.{rules-in, rules-lent}
-
-pub heading-there : (s : List ℕ) → soundBytes s ≡ true → 32 ≤ length s
-heading-there s e = omega (arith, sound-length s e)
 
 module _ (s : List ℕ) (c : Counts) (e : soundBytes s ≡ true) (q : c ≡ countsOf s) where
   pub objects-lent-whole : c .objects * 4 ≤ length (lent s 32)

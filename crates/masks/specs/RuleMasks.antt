@@ -2,9 +2,10 @@
 use mathlib.Core.Path.{_≡_}
 use mathlib.Core.Bool.{true}
 use mathlib.Core.List.{List}
-use Prim.Native.Nat.{ℕ, _+_, _*_, _/_, _%_, _≤_, _<_}
+use Prim.Native.Nat.{ℕ, _+_, _*_, _≤_, _<_}
 use lib.ListN.{length, getD}
 use Rattle.foundation.specs.BitMasks.{bit}
+use Rattle.places.specs.ReachedNumbers.{codeObject, codeSubject, codeIndex}
 use Rattle.reach.specs.Net.{standing}
 
 -- the bytes hold each rule of a mask
@@ -27,20 +28,21 @@ pub record StandsOnNeed (left : List ℕ) (o s need m : ℕ) : Type 0 where
   pub all : (k r : ℕ) → bit k need ≡ true → bit r (standing left o s k) ≡ true → bit r m ≡ true
   pub only : (r : ℕ) → bit r m ≡ true → bit r (getD left o 0) ≡ true
 
--- the code of a pair: 256 times its object and its subject, and what is needed there is in the table
+-- the code of a pair, and what is needed there is in the table
 pub record PairCode (subjects size c : ℕ) : Type 0 where
-  pub object : c / 256 < 65
-  pub subject : c % 256 < 65
-  pub inside : c / 256 * subjects + c % 256 < size
+  pub object : codeObject c < 65
+  pub subject : codeSubject c < 65
+  pub inside : codeIndex subjects c < size
 
 -- what is needed at a pair with a code
 abbrev pub needAt : List ℕ → ℕ → ℕ → ℕ
-needAt need subjects c = getD need (c / 256 * subjects + c % 256) 0
+needAt need subjects c = getD need (codeIndex subjects c) 0
 
 -- m has the rules that stand at one of the first pairs with a bit that is needed there, and none that does
 -- not stand on the object of one
 pub record Needed (left need codes : List ℕ) (subjects pairs m : ℕ) : Type 0 where
   pub all : (n k r : ℕ) → n < pairs → bit k (needAt need subjects (getD codes n 0)) ≡ true →
-      bit r (standing left (getD codes n 0 / 256) (getD codes n 0 % 256) k) ≡ true → bit r m ≡ true
+      bit r (standing left (codeObject (getD codes n 0)) (codeSubject (getD codes n 0)) k) ≡ true →
+      bit r m ≡ true
   pub only : (r : ℕ) → bit r m ≡ true →
-      (n : ℕ) × (n < pairs) × (bit r (getD left (getD codes n 0 / 256) 0) ≡ true)
+      (n : ℕ) × (n < pairs) × (bit r (getD left (codeObject (getD codes n 0)) 0) ≡ true)

@@ -3,7 +3,6 @@
 ghost use mathlib.Core.Path.{_≡_};
 ghost use mathlib.Core.Bool.{true, not, _&&_, _||_};
 ghost use Prim.Native.Nat.{ℕ, _+_, _*_, _/_, _%_, _^_, _≤_, _<_};
-ghost use lib.Bits.{bitAnd};
 ghost use lib.Dec.{eqb, ltb};
 ghost use lib.ListN.{length, getD};
 ghost use Rattle.foundation.specs.BitMasks.{bit};
@@ -12,6 +11,10 @@ ghost use Rattle.windows.specs.Windows.{Rising, inside};
 ghost use Rattle.masks.specs.RuleMasks.{Alone, RuleReady, StandsOnNeed, PairCode, Needed};
 use encoding::rule_at;
 use model::RULE_BYTES;
+use places::pair_index;
+use places::pair_of_code;
+use sections::LEFT_MODES;
+use sections::LEFT_SUBJECTS;
 use words::next_bit;
 
 // A rule of a mask, and whether one goes upwards from it.
@@ -163,7 +166,8 @@ pub fn next_ready(feed: &[u64], rest: u64, r: u32, up: bool) -> Next
 }
 
 // Those of a mask that are in stratum k.
-pub fn of_stratum(strata: &[u16; 65], rest: u64, k: u16) -> u64
+pub fn of_stratum(strata: &[u64], rest: u64, k: u64) -> u64
+    requires { ⌜ 64 ≤ length (now strata) ⌝ }
     ensures { λ m. ⌜ ((i : ℕ) → bit i m
         ≡ ltb i 64 && bit i rest && eqb (getD (now (strata .entry)) i 0) k) ⌝ }
 {
@@ -208,7 +212,7 @@ fn on_modes(left: &[u64], need: u16) -> u64
     let mut m = 0;
     let mut k = next_bit(w, 0);
     while k < 64 {
-        m = m | left[130 + k as usize];
+        m = m | left[LEFT_MODES + k as usize];
         k = next_bit(w, k + 1);
     }
     m
@@ -219,11 +223,10 @@ fn at_pair(left: &[u64], o: usize, s: usize, need: u16) -> u64
     requires { ⌜ (o < 65) × (s < 65) × (152 ≤ length (now left)) ⌝ }
     ensures { λ m. ⌜ StandsOnNeed (now (left .entry)) o s need m ⌝ }
 {
-    left[o] & left[65 + s] & on_modes(left, need)
+    left[o] & left[LEFT_SUBJECTS + s] & on_modes(left, need)
 }
 
-// The rules that stand at a place that is needed, or more. `codes` has the pairs: 256 times the object, and
-// the subject.
+// The rules that stand at a place that is needed, or more. `codes` has the pairs.
 pub fn needed_rules(left: &[u64], need: &[u16], codes: &[u16], pairs: usize, subjects: usize) -> u64
     requires { ⌜ (pairs ≤ length (now codes)) × ((n : ℕ) → n < pairs →
         PairCode subjects (length (now need)) (getD (now codes) n 0)) × (152 ≤ length (now left)) ⌝ }
@@ -232,10 +235,8 @@ pub fn needed_rules(left: &[u64], need: &[u16], codes: &[u16], pairs: usize, sub
     let mut m = 0;
     let mut n = 0;
     while n < pairs {
-        let c = codes[n] as usize;
-        let o = c / 256;
-        let s = c % 256;
-        m = m | at_pair(left, o, s, need[o * subjects + s]);
+        let p = pair_of_code(codes[n]);
+        m = m | at_pair(left, p.object, p.subject, need[pair_index(p, subjects)]);
         n += 1;
     }
     m

@@ -6,7 +6,7 @@ use mathlib.Core.Logic.{_↔_}
 use Prim.Native.Nat.{ℕ}
 use mathlib.Core.Bool.{Bool, true, false, not, _&&_, _||_, Bool·beq, true≢false}
 use lib.Dec.{eqb}
-use Rattle.foundation.specs.Tests.{pick, cases, true-eq, not-true, beq-eq, and-three, and-four, and-six}
+use Rattle.foundation.specs.Tests.{pick, cases, not-true, beq-eq, and-three, and-four, and-six}
 use Rattle.model.specs.declared.Head.{Head}
 use Rattle.model.specs.declared.Rule.{Rule}
 use Rattle.model.specs.declared.Access.{Access}

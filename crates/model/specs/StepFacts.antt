@@ -57,6 +57,19 @@ first-none (s ∷ rest) up z r m = cases (s .given)
     (λ g. let w : s .number ≡ 0 = rw g at z in absurd (omega (arith, up .0)))
     (λ g. ⊎-elim (λ e. rw e g) (λ k. first-none rest (up .1) (rw g at z) r k) m)
 
+-- whether the condition of the row numbered n holds
+abbrev pub rowGiven : ℕ → List Row → Bool
+rowGiven n [] = false
+rowGiven n (r ∷ rest) = pick (eqb (r .number) n) (r .given) (rowGiven n rest)
+
+-- where no number is given, no row's condition holds
+pub none-given : (rows : List Row) → Numbered rows → firstNumber rows ≡ 0 → (n : ℕ) →
+    rowGiven n rows ≡ false
+none-given [] up z n = refl
+none-given (r ∷ rest) up z n =
+    let f : r .given ≡ false = first-none (r ∷ rest) up z r (inl refl) in
+    cases (eqb (r .number) n) (λ e. rw e f) (λ e. rw e (none-given rest (up .1) (rw f at z) n))
+
 -- rows behind others count where none of those applies
 pub first-append : (front rest : List Row) → Numbered front →
     firstNumber (front ++ rest) ≡ pick (eqb (firstNumber front) 0) (firstNumber rest) (firstNumber front)
@@ -134,21 +147,21 @@ pub record Accepted (b : Base) (q : Request) : Type 0 where
 
 pub accepted : (b : Base) (q : Request) → refusal plainly b q ≡ 0 → Accepted b q
 accepted b q z =
-    let t : (r : Row) → Mem r (table plainly b q) → r .given ≡ false =
-    first-none (table plainly b q) (table-numbered plainly b q) z in
+    let none : (n : ℕ) → rowGiven n (table plainly b q) ≡ false =
+    none-given (table plainly b q) (table-numbered plainly b q) z in
     record {
-      range = t _ (inl refl);
-      clock = t _ (inr (inl refl));
-      interval = t _ (inr (inr (inl refl)));
-      object = t _ (inr (inr (inr (inl refl))));
-      label = t _ (inr (inr (inr (inr (inl refl)))));
-      permitted = t _ (inr (inr (inr (inr (inr (inl refl))))));
-      unbarred = t _ (inr (inr (inr (inr (inr (inr (inl refl)))))));
-      support = t _ (inr (inr (inr (inr (inr (inr (inr (inl refl))))))));
-      fresh = t _ (inr (inr (inr (inr (inr (inr (inr (inr (inl refl)))))))));
-      held = t _ (inr (inr (inr (inr (inr (inr (inr (inr (inr (inl refl))))))))));
-      strata = t _ (inr (inr (inr (inr (inr (inr (inr (inr (inr (inr (inl refl)))))))))));
-      room = t _ (inr (inr (inr (inr (inr (inr (inr (inr (inr (inr (inr (inl refl))))))))))));
+      range = none 3;
+      clock = none 4;
+      interval = none 5;
+      object = none 6;
+      label = none 7;
+      permitted = none 8;
+      unbarred = none 14;
+      support = none 9;
+      fresh = none 10;
+      held = none 11;
+      strata = none 12;
+      room = none 13;
     }
 
 -- one of the tests of row 3
@@ -159,25 +172,25 @@ in-range q = any-false (λ y. y) (rangeTests q)
 
 module _ (b : Base) (q : Request) where
   -- the authorization that is asked for
-  abbrev asked : Head
-  asked = newHead (suc (b .last)) q
+  abbrev askedHead : Head
+  askedHead = newHead (suc (b .last)) q
 
   -- t lies in the span and is not covered, and every instant of the span before it is
   abbrev pub IsEarliest : ℕ → Type 0
-  IsEarliest = Earliest (b .authorizations) asked (q .interval)
+  IsEarliest = Earliest (b .authorizations) askedHead (q .interval)
 
   -- 02: "the earliest uncovered" instant is what goes with 9, where row 9 applies,
   pub earliest-gap : notSupported plainly b q ≡ true → IsEarliest (earliestGap plainly b q)
   earliest-gap e =
-      let lacks = not (none? (gaps (b .authorizations) asked (q .interval))) in
+      let lacks = not (none? (gaps (b .authorizations) askedHead (q .interval))) in
       let outside = not (controls b (q .object) (q .requester)) in
-      gaps-earliest (b .authorizations) asked (q .interval)
-      (not-true (none? (gaps (b .authorizations) asked (q .interval)))
+      gaps-earliest (b .authorizations) askedHead (q .interval)
+      (not-true (none? (gaps (b .authorizations) askedHead (q .interval)))
       (and-true (grants q && outside) lacks e .1))
 
   -- and no other instant is
   pub earliest-one : (t : ℕ) → IsEarliest t → t ≡ earliestGap plainly b q
-  earliest-one = earliest-only (b .authorizations) asked (q .interval)
+  earliest-one = earliest-only (b .authorizations) askedHead (q .interval)
 
   -- with 9 the instant, with any other number nothing
   pub reply-nine : refusalReply plainly b q 9 ≡ Unsupported (earliestGap plainly b q)

@@ -1,6 +1,6 @@
 -- Theorem 3: forbidden circles and ranks in the papers' words: by feeding, links, and which rules have a
 -- WHENEVERNOT or UNLESS (`negates-is`). `label-free`: a rule's label does not matter for them.
-use mathlib.Core.Path.{_≡_, refl, sym, ap, ap₂, _∙_, subst}
+use mathlib.Core.Path.{_≡_, refl, sym, ap, _∙_, subst}
 use mathlib.Core.Logic.{_↔_, _⊎_, inl, inr, ⊎-elim}
 use Prim.Native.Nat.{ℕ, _+_, _*_, _≤_, _<_}
 use mathlib.Core.Bool.{Bool, true, false, not, _||_, true≢false}

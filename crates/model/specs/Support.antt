@@ -6,7 +6,7 @@ use Prim.Native.Nat.{ℕ, zero, suc, _≤_, _<_}
 use native.Mathlib.Omega.{arith}
 use mathlib.Core.Bool.{Bool, true, false, not, _&&_, _||_}
 use mathlib.Core.List.{List, [], _∷_}
-use lib.Dec.{leb, ltb, eqb}
+use lib.Dec.{ltb, eqb}
 use Rattle.foundation.specs.Tests.{pick, cases, agree, true-le, true-eq, and-true, and-intro, or-true-right}
 use Rattle.foundation.specs.Tests.{or-false, not-true, eq-true, le-true}
 use Rattle.foundation.specs.Lists.{anyb, Mem, any-mem, mem-any, any-cong, any-none, conjunct}

@@ -1,5 +1,6 @@
--- The laws of `takes`: what it is by kind (`takes-eq`), and that what an accepted request takes out of an
--- authorization is what its giver takes back or loses with the administration of the object (`taken`).
+-- The laws of `takes` and `affects`: what they are by kind (`takes-eq`, `affects-eq`), and that what an
+-- accepted request takes out of an authorization is what its giver takes back or loses with the
+-- administration of the object (`taken`).
 use mathlib.Core.Path.{_≡_, refl, sym, ap, _∙_}
 use mathlib.Core.Logic.{_⊎_, inl, inr, _↔_, ⊎-elim}
 use Prim.Native.Nat.{ℕ, _≤_}
@@ -14,12 +15,23 @@ use Rattle.model.specs.declared.Head.{Head}
 use Rattle.model.specs.declared.Authorization.{Authorization}
 use Rattle.model.specs.declared.Request.{Request}
 use Rattle.model.specs.Base.{Base}
-use Rattle.model.specs.Requests.{REVOKE, REVOKEP, REVOKEN, REVOKEADM, is, names, takes}
+use Rattle.model.specs.Support.{sameObjectAndMode}
+use Rattle.model.specs.Requests.{REVOKE, REVOKEP, REVOKEN, REVOKEADM, is, names, takes, affects}
 use Rattle.model.specs.Step.{notPermitted}
 use Rattle.model.specs.StepFacts.{Accepted}
 use Rattle.model.specs.SupportFacts.{live-mem}
 use Rattle.model.specs.Survival.{TakesBack, label, grant, denial, LosesAdministration, administration}
 use Rattle.model.specs.Survival.{Stands}
+
+-- by object and mode, as one with the label has them or as named, or by object
+pub affects-eq : (xs : List Authorization) (q : Request) (h : Head) → affects xs q h
+    ≡ pick (is q (REVOKE ∷ []))
+    (anyb (λ a. eqb (a .head .label) (q .label) && sameObjectAndMode (a .head) h) xs)
+    (pick (is q (REVOKEP ∷ REVOKEN ∷ [])) (eqb (h .object) (q .object) && eqb (h .mode) (q .mode))
+    (pick (is q (REVOKEADM ∷ [])) (eqb (h .object) (q .object))
+    false))
+unfolding affects
+affects-eq xs q h = refl
 
 module _ (q : Request) (h : Head) (t : ℕ) where
   -- by label, by what is named and the interval, or by object and grantor

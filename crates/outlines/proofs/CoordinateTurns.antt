@@ -4,13 +4,13 @@
 use mathlib.Core.Path.{_≡_, refl, sym, ap, _∙_}
 use mathlib.Core.Bool.{Bool, true, false, not, _&&_, _||_}
 use mathlib.Core.List.{List}
-use Prim.Native.Nat.{ℕ, zero, suc, _+_, _≤_, _<_}
+use Prim.Native.Nat.{ℕ, suc, _+_, _≤_, _<_}
 use native.Mathlib.Numerals.{add-one}
 use native.Mathlib.Omega.{arith}
 use lib.Dec.{eqb}
 use lib.ListN.{length, getD, set, take, length-set}
 use lib.Seq.{getD-set-same, getD-set-other}
-use Rattle.foundation.specs.Tests.{pick, cases, true-eq, false-eq, eq-true, ne-false, not-true, and-true}
+use Rattle.foundation.specs.Tests.{cases, true-eq, false-eq, eq-true, ne-false, not-true, and-true}
 use Rattle.model.specs.declared.Rule.{Rule}
 use Rattle.encoding.specs.Format.{ruleAt}
 use Rattle.sections.specs.Sections.{subjectsOf, objectsOf}
@@ -21,34 +21,34 @@ use Rattle.outlines.specs.Coordinates.{unlisted, Added, namedIn, HasCoor
 
 -- y came back to the place of subjects, then z to that of objects
 module _ (c y z : List ℕ) (long : length c ≡ 1666) (p : length y ≡ 1024) (q : length z ≡ 130) where
-  abbrev between : List ℕ
-  between = putBack c 512 1024 y
+  abbrev halfBack : List ℕ
+  halfBack = putBack c 512 1024 y
 
   abbrev after : List ℕ
-  after = putBack between 1536 130 z
+  after = putBack halfBack 1536 130 z
 
-  between-long : length between ≡ 1666
-  between-long = back-length c 512 1024 y (omega arith) p ∙ long
+  half-long : length halfBack ≡ 1666
+  half-long = back-length c 512 1024 y (omega arith) p ∙ long
 
-  inside : 1536 + 130 ≤ length between
-  inside = omega (arith, between-long)
+  inside : 1536 + 130 ≤ length halfBack
+  inside = omega (arith, half-long)
 
   pub both-long : length after ≡ 1666
-  both-long = back-length between 1536 130 z inside q ∙ between-long
+  both-long = back-length halfBack 1536 130 z inside q ∙ half-long
 
   pub both-subjects : subjectsOf after ≡ y
-  both-subjects = same-part between after (both-long ∙ sym between-long) 512 1024
-      (λ k a b. back-before between 1536 130 z inside q k b)
+  both-subjects = same-part halfBack after (both-long ∙ sym half-long) 512 1024
+      (λ k a b. back-before halfBack 1536 130 z inside q k b)
       ∙ back-own c 512 1024 y (omega arith) p
 
   pub both-objects : objectsOf after ≡ z
-  both-objects = back-own between 1536 130 z inside q
+  both-objects = back-own halfBack 1536 130 z inside q
 
-  pub objects-between : objectsOf between ≡ objectsOf c
+  pub objects-between : objectsOf halfBack ≡ objectsOf c
   objects-between = ap (take 130) (back-rest c 512 1024 y (omega arith) p)
 
   pub both-front : (k : ℕ) → k < 512 → getD after k 0 ≡ getD c k 0
-  both-front k h = back-before between 1536 130 z inside q k (omega arith)
+  both-front k h = back-before halfBack 1536 130 z inside q k (omega arith)
       ∙ back-before c 512 1024 y (omega arith) p k h
 
 -- ---- one more coordinate

@@ -27,7 +27,7 @@ use Rattle.outlines.proofs.StandingRules.{star-is, code-small, subject-
 use Rattle.outlines.proofs.StandingRules.{rule-bit}
 use Rattle.outlines.specs.Feed.{Outlined, rightModeWord, meetingWord, linkersWord, feedersOf}
 use Rattle.outlines.specs.Feed.{precedersOf}
-use Rattle.masks.proofs.BitWalk.{same-bits}
+use Rattle.masks.proofs.SameBits.{same-bits}
 
 -- q's left side has the sign g, and its object, subject and mode meet r's right side
 abbrev pub meetsRight : Bool → Rule → Rule → Bool

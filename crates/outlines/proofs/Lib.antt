@@ -1,7 +1,7 @@
--- `CoordinateFacts` has accesses by coordinates, `RuleAims` where rules lead from them, `NeededFacts` what a
--- question can rest on, `StandingRules` which rules the masks say to stand.
+-- `CoordinateFacts` has accesses by coordinates, `RightAccesses` where rules lead from them, `NeededFacts`
+-- what a question can rest on, `StandingRules` which rules the masks say to stand.
 pub mod CoordinateFacts
-pub mod RuleAims
+pub mod RightAccesses
 pub mod NeededFacts
 pub mod StandingRules
 -- What the proofs of the functions use.

@@ -13,13 +13,13 @@ use Rattle.model.specs.declared.Access.{Access}
 use Rattle.model.specs.Base.{Base}
 use Rattle.model.specs.Rules.{standsFor, rightOf}
 use Rattle.encoding.specs.Format.{ruleAt}
-use Rattle.reach.specs.Net.{aimBits, has, ClosedNet}
+use Rattle.reach.specs.Net.{rightNeeds, has, ClosedNet}
 use Rattle.outlines.specs.Coordinates.{WellFormed, Chart, Charted, subjectOf, objectOf, known, modeOf}
 use Rattle.outlines.specs.Coordinates.{pairOf}
 use Rattle.outlines.proofs.CoordinateFacts.{known-is}
 use Rattle.outlines.specs.NeededAccesses.{needed}
 use Rattle.outlines.specs.Outline.{RightSides, StandingMasks}
-use Rattle.outlines.proofs.RuleAims.{aim-pair, aim-known, aim-bits}
+use Rattle.outlines.proofs.RightAccesses.{right-pair, right-known, right-needs}
 
 module _ (C : Chart) (asked : Access) (need : List ℕ) where
   pub needed-known : (x : Access) → needed C asked need x ≡ true → known C asked x ≡ true
@@ -63,11 +63,11 @@ module _ {n : ℕ} {body : List ℕ} (g : WellFormed n body) (C : Chart) (t : Ch
       let there = stands x k r (omega (arith, g .few)) sign
       ∙ and-intro (ltb r n) (standsFor b (ruleAt body r) x && Bool·beq sign sign) (le-true (suc r) n h)
       (and-intro (standsFor b (ruleAt body r) x) (Bool·beq sign sign) s (beq-self sign)) in
-      let follow : (c : ℕ) → bit c (aimBits right r (modeOf x)) ≡ true → has need (pairOf C asked y) c ≡
+      let follow : (c : ℕ) → bit c (rightNeeds right r (modeOf x)) ≡ true → has need (pairOf C asked y) c ≡
       true =
-      λ c d. rw (sym (aim-pair g C t right codes asked r h x))
+      λ c d. rw (sym (right-pair g C t right codes asked r h x))
       (rw (o, u, f) at (closed (pairOf C asked x) q (needed-bit C asked need x e sign) r
       (omega (arith, g .few)) (rw (o, u) there)) c d) in
-      let v = aim-bits g C t right codes asked r h x in
-      needed-both C asked need y (aim-known g C t right codes asked r h x k)
+      let v = right-needs g C t right codes asked r h x in
+      needed-both C asked need y (right-known g C t right codes asked r h x k)
       (follow (modeOf y) (v .0)) (follow (8 + modeOf y) (v .1))

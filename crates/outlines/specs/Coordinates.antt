@@ -3,7 +3,7 @@
 use mathlib.Core.Path.{_≡_}
 use mathlib.Core.Bool.{Bool, false, not, _&&_}
 use mathlib.Core.List.{List}
-use Prim.Native.Nat.{ℕ, zero, suc, _+_, _*_, _-_, _≤_, _<_}
+use Prim.Native.Nat.{ℕ, zero, suc, _*_, _-_, _≤_, _<_}
 use lib.Dec.{eqb, ltb}
 use lib.ListN.{length, getD}
 use Rattle.foundation.specs.Tests.{pick}
@@ -14,6 +14,7 @@ use Rattle.model.specs.declared.Access.{Access}
 use Rattle.model.specs.Ranges.{isMode}
 use Rattle.model.specs.Stratification.{isStar}
 use Rattle.encoding.specs.Format.{ruleAt}
+use Rattle.places.specs.ReachedNumbers.{pairIndex}
 
 -- ---- what soundness says of the rules
 
@@ -106,4 +107,4 @@ module _ (C : Chart) (asked : Access) where
 
   -- the pair of its object and its subject
   abbrev pub pairOf : Access → ℕ
-  pairOf x = objectOf x * C .width + subjectOf x
+  pairOf x = pairIndex (C .width) (objectOf x) (subjectOf x)

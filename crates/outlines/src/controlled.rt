@@ -14,6 +14,7 @@ use encoding::rule_at;
 use lookup::controls;
 use masks::with_if;
 use model::RULE_BYTES;
+use sections::STARRED_OBJECTS;
 use words::next_bit;
 
 // Of some rules those whose author controls an object.
@@ -66,7 +67,7 @@ fn join_each(s: &[u8], body: &[u8], n: usize, objects: &[u8], left: &mut [u64])
     ensures { λ _. ⌜ Controlled (now (s .entry)) (now (body .entry)) (now (objects .entry))
         (now (left .entry)) (now (left .exit)) ⌝ }
 {
-    let starred = left[151];
+    let starred = left[STARRED_OBJECTS];
     let mut v = 0;
     while v < 130 {
         join_controlled(s, body, n, starred, v, usize_of(objects[v]), left);
@@ -82,7 +83,7 @@ pub fn draw_controlled(s: &[u8], body: &[u8], n: usize, objects: &[u8], left: &m
     ensures { λ _. ⌜ Controlled (now (s .entry)) (now (body .entry)) (now (objects .entry))
         (now (left .entry)) (now (left .exit)) ⌝ }
 {
-    if left[151] == 0 {
+    if left[STARRED_OBJECTS] == 0 {
         return;
     }
     join_each(s, body, n, objects, left);

@@ -26,8 +26,13 @@ use model::Rule;
 use sections::FEED;
 use sections::FIRST;
 use sections::LEFT;
+use sections::LEFT_DENIALS;
+use sections::LEFT_MODES;
+use sections::LEFT_SIGNS;
+use sections::LEFT_SUBJECTS;
 use sections::RIGHT;
 use sections::SIDES;
+use sections::STARRED_OBJECTS;
 use sections::SUBJECTS;
 use words::next_bit;
 
@@ -85,7 +90,7 @@ fn by_grantor(body: &[u8], n: usize, f: u64, grantor: u16) -> u64
 }
 
 // Of some rules those that fit a right side's grantor and option.
-fn narrowed(body: &[u8], n: usize, f: u64, r: Rule) -> u64
+fn by_grantor_and_option(body: &[u8], n: usize, f: u64, r: Rule) -> u64
     requires { ⌜ (n * 28 ≤ length (now body)) × ((q : ℕ) → bit q f ≡ true → q < n) ⌝ }
     ensures { λ x. ⌜ ((q : ℕ) → bit q x ≡ bit q f
         && fitsGrantor (r .grantor) (ruleAt (now (body .entry)) q .author)
@@ -105,9 +110,9 @@ fn right_mode_word(code: usize, sign: usize) -> usize
     ensures { λ r. ⌜ r ≡ rightModeWord code sign ⌝ }
 {
     if code == 255 {
-        return 146 + sign;
+        return LEFT_SIGNS + sign;
     }
-    130 + (code + 8 * sign)
+    LEFT_MODES + (code + 8 * sign)
 }
 
 // Of some rules those that meet a right side's subject.
@@ -118,7 +123,7 @@ fn meet_subject(left: &[u64], f: u64, code: usize) -> u64
     if code == 255 {
         return f;
     }
-    f & left[65 + code]
+    f & left[LEFT_SUBJECTS + code]
 }
 
 // Of some rules those that meet a right side's object: those that name it, and the starred ones.
@@ -130,7 +135,7 @@ fn meet_object(left: &[u64], f: u64, code: usize) -> u64
     if code == 255 {
         return f;
     }
-    f & (left[151] | left[code])
+    f & (left[STARRED_OBJECTS] | left[code])
 }
 
 // The rules whose left side has a sign and meets the right side of rule i in object, subject and mode.
@@ -151,13 +156,13 @@ fn feeders(body: &[u8], n: usize, i: usize, left: &[u64], right: &[u8], sides: &
     ensures { λ x. ⌜ x ≡ feedersOf (rulesIn n (now (body .entry))) (ruleAt (now (body .entry)) i) ⌝ }
 {
     let f = meeting(left, right, i, usize_of(sides[4 * i + 3]) / 2);
-    narrowed(body, n, f, rule_at(body, i * RULE_BYTES))
+    by_grantor_and_option(body, n, f, rule_at(body, i * RULE_BYTES))
 }
 
 // Puts the feeders of each rule in its place.
 fn draw_feeders(body: &[u8], n: usize, coordinates: &[u8], outline: &mut [u64])
     requires { ⌜ Outlined n (now body) (leftOf (now outline)) (rightsOf (now coordinates))
-        (sidesOf (now coordinates)) × (length (now outline) ≡ 472) × (length (now coordinates) ≡ 1666) ⌝ }
+        (sidesOf (now coordinates)) × (280 ≤ length (now outline)) × (length (now coordinates) ≡ 1666) ⌝ }
     ensures { λ _. ⌜ RuleTable n (now (body .entry)) (feedersOf (rulesIn n (now (body .entry))))
         (feedOf (now (outline .exit)))
         × ((k : ℕ) → n ≤ k →
@@ -209,7 +214,7 @@ fn linkers(left: &[u64], right: &[u8], sides: &[u8], i: usize) -> u64
 // Joins to each rule's word those that link to the rule.
 fn draw_linkers(n: usize, coordinates: &[u8], outline: &mut [u64])
     requires { ⌜ (n ≤ 64) × ((i : ℕ) → i < n → CodesPlaced (rightsOf (now coordinates)) i)
-        × (length (now outline) ≡ 472) × (length (now coordinates) ≡ 1666) ⌝ }
+        × (280 ≤ length (now outline)) × (length (now coordinates) ≡ 1666) ⌝ }
     ensures { λ _. ⌜ ((w : ℕ) → getD (feedOf (now (outline .exit))) w 0
         ≡ pick (ltb w n) (bitOr (getD (feedOf (now (outline .entry))) w 0)
         (linkersWord (leftOf (now (outline .entry))) (rightsOf (now (coordinates .entry)))
@@ -234,14 +239,14 @@ fn draw_linkers(n: usize, coordinates: &[u8], outline: &mut [u64])
 // on the left link, so bases without one pay nothing for links.
 pub fn draw_feed(body: &[u8], n: usize, choosy: u64, coordinates: &[u8], outline: &mut [u64])
     requires { ⌜ Outlined n (now body) (leftOf (now outline)) (rightsOf (now coordinates))
-        (sidesOf (now coordinates)) × (length (now outline) ≡ 472) × (length (now coordinates) ≡ 1666)
+        (sidesOf (now coordinates)) × (280 ≤ length (now outline)) × (length (now coordinates) ≡ 1666)
         × ((k : ℕ) → getD (feedOf (now outline)) k 0 ≡ 0) ⌝ }
     ensures { λ _. ⌜ FeedTable n (now (body .entry)) choosy (feedOf (now (outline .exit)))
         × (leftOf (now (outline .exit)) ≡ leftOf (now (outline .entry))) ⌝ }
 {
     draw_feeders(body, n, coordinates, outline);
     draw_fed(choosy, &mut outline[FEED..FIRST]);
-    if outline[LEFT + 147] == 0 {
+    if outline[LEFT + LEFT_DENIALS] == 0 {
         return;
     }
     draw_linkers(n, coordinates, outline);

@@ -14,6 +14,14 @@ use encoding::rule_at;
 use lookup::stands_on;
 use model::Access;
 use model::RULE_BYTES;
+use sections::LEFT_DENIED_MODES;
+use sections::LEFT_MODES;
+use sections::LEFT_SIGNS;
+use sections::LEFT_SUBJECTS;
+use sections::STARRED_DENIED_MODES;
+use sections::STARRED_MODES;
+use sections::STARRED_OBJECTS;
+use sections::STARRED_SUBJECTS;
 
 // Puts bit i into a word.
 fn put_mask(left: &mut [u64], at: usize, i: u32)
@@ -37,7 +45,7 @@ fn object_word(code: usize) -> usize
     ensures { λ r. ⌜ r ≡ objectWord code ⌝ }
 {
     if code == 255 {
-        return 151;
+        return STARRED_OBJECTS;
     }
     code
 }
@@ -48,9 +56,9 @@ fn subject_word(code: usize) -> usize
     ensures { λ r. ⌜ r ≡ subjectWord code ⌝ }
 {
     if code == 255 {
-        return 148;
+        return STARRED_SUBJECTS;
     }
-    65 + code
+    LEFT_SUBJECTS + code
 }
 
 // The word of a mode's code, with a sign.
@@ -59,9 +67,9 @@ fn mode_word(code: usize, sign: usize) -> usize
     ensures { λ r. ⌜ r ≡ modeWord code sign ⌝ }
 {
     if code == 255 {
-        return 149 + sign;
+        return STARRED_MODES + sign;
     }
-    130 + (code + 8 * sign)
+    LEFT_MODES + (code + 8 * sign)
 }
 
 // Puts bit i into four words.
@@ -88,7 +96,7 @@ fn put_masks(left: &mut [u64], sides: &[u8], i: usize)
     let object = object_word(usize_of(sides[4 * i]));
     let subject = subject_word(usize_of(sides[4 * i + 1]));
     let mode = mode_word(usize_of(sides[4 * i + 2]), sign);
-    put_four(left, i as u32, object, subject, mode, 146 + sign);
+    put_four(left, i as u32, object, subject, mode, LEFT_SIGNS + sign);
 }
 
 // Puts each rule into its words.
@@ -126,12 +134,12 @@ pub fn draw_masks(sides: &[u8], n: usize, subjects: usize, left: &mut [u64])
     ensures { λ _. ⌜ WrittenMasks n subjects (now (sides .entry)) (now (left .exit)) ⌝ }
 {
     gather(left, sides, n);
-    let any = left[148];
-    spread(left, 65, 65 + subjects, any);
-    let positive = left[149];
-    spread(left, 130, 138, positive);
-    let denied = left[150];
-    spread(left, 138, 146, denied);
+    let any = left[STARRED_SUBJECTS];
+    spread(left, LEFT_SUBJECTS, LEFT_SUBJECTS + subjects, any);
+    let positive = left[STARRED_MODES];
+    spread(left, LEFT_MODES, LEFT_DENIED_MODES, positive);
+    let denied = left[STARRED_DENIED_MODES];
+    spread(left, LEFT_DENIED_MODES, LEFT_SIGNS, denied);
 }
 
 // Stores a word.
@@ -162,5 +170,5 @@ pub fn own_masks(s: &[u8], body: &[u8], n: usize, x: Access, left: &mut [u64])
         subjects = 2 * subjects + subject as u64;
     }
     put_word(left, 0, objects);
-    put_word(left, 65, subjects);
+    put_word(left, LEFT_SUBJECTS, subjects);
 }

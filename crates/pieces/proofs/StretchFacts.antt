@@ -13,7 +13,7 @@ use Rattle.foundation.specs.Intervals.{interval, inInterval, inInterval-in, inI
 use Rattle.foundation.specs.Intervals.{Separate, separate-weaken, unique, maximalFrom-no}
 use Rattle.foundation.specs.Intervals.{maximalFrom-separate, maximalFrom-covered, within, within-in}
 use Rattle.foundation.specs.Intervals.{within-above, maximal, maximal-separate, maximal-covered}
-use Rattle.laws.specs.LedgerFacts.{separate-append, covered-append}
+use Rattle.laws.specs.Refinement.{separate-append, covered-append}
 use Rattle.cover.specs.First.{first}
 use Rattle.cover.proofs.FirstFacts.{First, first-of}
 use Rattle.pieces.specs.Stretches.{inStretch, maximalTo}

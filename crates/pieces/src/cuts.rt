@@ -49,7 +49,7 @@ fn named(c: Cut, h: Head) -> Stretch
 }
 
 // The instants that a cut takes out of an authorization.
-pub fn taken(c: Cut, h: Head) -> Stretch
+pub fn taken_stretch(c: Cut, h: Head) -> Stretch
     ensures { λ r. ⌜ r ≡ takenOf c h ⌝ }
 {
     let kind = c.kind;

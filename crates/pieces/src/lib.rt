@@ -11,7 +11,7 @@ mod cuts;
 mod granting;
 
 use cover::Want;
-pub use cuts::taken;
+pub use cuts::taken_stretch;
 use fields::larger;
 use fields::lesser;
 use foundation::Interval;

@@ -1,2 +1,3 @@
 pub mod ReachedNumbers
+pub mod Needs
 pub mod Regions

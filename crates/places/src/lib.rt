@@ -1,10 +1,14 @@
 // Places: a place is a subject, a mode and an object, by coordinates. Pairs of a subject and an object, and
 // modes, are numbered as far as they are reached; a region of places is numbered by them.
 ghost use mathlib.Core.Path.{_≡_};
-ghost use mathlib.Core.Bool.{true, _||_};
+ghost use mathlib.Core.Bool.{true, _&&_};
 ghost use Prim.Native.Nat.{ℕ, _+_, _*_, _≤_, _<_};
+ghost use lib.Dec.{ltb};
 ghost use lib.ListN.{length, getD};
 ghost use Rattle.places.specs.ReachedNumbers.{used, usedBefore, modesBelow, codeOf};
+ghost use Rattle.places.specs.ReachedNumbers.{rowIndex, pairIndex, indexObject, indexSubject};
+ghost use Rattle.places.specs.ReachedNumbers.{codeObject, codeSubject};
+ghost use Rattle.places.specs.Needs.{needsOf, bothSigns, bothAt, eitherAt};
 ghost use Rattle.foundation.specs.BitMasks.{asBit, bit};
 ghost use Rattle.foundation.specs.Tests.{pick};
 ghost use Rattle.places.specs.Regions.{free, modeSize, sizeOf, Within, indexIn};
@@ -29,6 +33,49 @@ pub struct Point {
     pub subject: u32,
     pub mode: u32,
     pub object: u32,
+}
+
+// A pair, by the coordinates of its object and its subject.
+pub struct Pair {
+    pub object: usize,
+    pub subject: usize,
+}
+
+// Where the pairs of an object start: pairs lie object by object, `subjects` each.
+pub fn row_index(o: usize, subjects: usize) -> usize
+    requires { ⌜ rowIndex subjects o < 18446744073709551616 ⌝ }
+    ensures { λ r. ⌜ r ≡ rowIndex subjects o ⌝ }
+{
+    o * subjects
+}
+
+// Where a pair lies among all.
+pub fn pair_index(p: Pair, subjects: usize) -> usize
+    requires { ⌜ pairIndex subjects (p .object) (p .subject) < 18446744073709551616 ⌝ }
+    ensures { λ r. ⌜ r ≡ pairIndex subjects (p .object) (p .subject) ⌝ }
+{
+    row_index(p.object, subjects) + p.subject
+}
+
+// The pair that lies there.
+pub fn pair_of_index(j: usize, subjects: usize) -> Pair
+    requires { ⌜ 0 < subjects ⌝ }
+    ensures { λ r. ⌜ (r .object ≡ indexObject subjects j) × (r .subject ≡ indexSubject subjects j) ⌝ }
+{
+    Pair {
+        object: j / subjects,
+        subject: j % subjects,
+    }
+}
+
+// The pair with a code: 256 times the object, and the subject.
+pub fn pair_of_code(code: u16) -> Pair
+    ensures { λ r. ⌜ (r .object ≡ codeObject code) × (r .subject ≡ codeSubject code) ⌝ }
+{
+    Pair {
+        object: (code / 256) as usize,
+        subject: (code % 256) as usize,
+    }
 }
 
 // One more where something is needed.
@@ -59,12 +106,13 @@ pub fn number_pairs(need: &[u16], number: &mut [u16]) -> usize
     n as usize
 }
 
-// The code of a pair.
+// The code of the pair that lies at j.
 fn code_at(j: u32, subjects: u32) -> u16
     requires { ⌜ (0 < subjects) × (subjects ≤ 256) × (j < 256 * subjects) ⌝ }
     ensures { λ r. ⌜ r ≡ codeOf subjects j ⌝ }
 {
-    (256 * (j / subjects) + j % subjects) as u16
+    let p = pair_of_index(j as usize, subjects as usize);
+    (256 * p.object + p.subject) as u16
 }
 
 // Puts the code of each pair at which something is needed to its number.
@@ -85,9 +133,41 @@ pub fn list_pairs(need: &[u16], subjects: u32, codes: &mut [u16])
     }
 }
 
-// The low byte of a word, and its high byte.
+// What is needed at a pair is a word of 16 bits: bit m for mode m, positive, and bit 8 + m for it, denied.
+// This is a mode with signs: 1 for positive, 2 for denied, 3 for both.
+pub fn needs_of(signs: u16, mode: usize) -> u16
+    requires { ⌜ (signs < 4) × (mode < 8) ⌝ }
+    ensures { λ r. ⌜ r ≡ needsOf signs mode ⌝ }
+{
+    (signs % 2 + 256 * (signs / 2)) << mode
+}
+
+// A mode, with both signs.
+pub fn both_signs(mode: u32) -> u16
+    requires { ⌜ mode < 8 ⌝ }
+    ensures { λ r. ⌜ r ≡ bothSigns mode ⌝ }
+{
+    257 << mode
+}
+
+// Whether a mode is needed with both signs.
+pub fn is_needed_both(w: u16, m: u32) -> bool
+    requires { ⌜ m < 8 ⌝ }
+    ensures { λ r. ⌜ r ≡ bothAt w m ⌝ }
+{
+    ((w & (w >> 8)) >> m) & 1 == 1
+}
+
+// The modes that are, as bits.
+pub fn modes_with_both(w: u16) -> u64
+    ensures { λ r. ⌜ ((m : ℕ) → bit m r ≡ ltb m 8 && bothAt w m) ⌝ }
+{
+    (w & (w >> 8) & 255) as u64
+}
+
+// The modes that are needed with either, as bits.
 fn either_sign(x: u16) -> u32
-    ensures { λ r. ⌜ ((k : ℕ) → k < 8 → bit k r ≡ bit k x || bit (8 + k) x) ⌝ }
+    ensures { λ r. ⌜ ((k : ℕ) → k < 8 → bit k r ≡ eitherAt x k) ⌝ }
 {
     let y = x as u32;
     (y % 256) | (y / 256)
@@ -96,8 +176,7 @@ fn either_sign(x: u16) -> u32
 // The modes with which something is needed, positive or denied.
 pub fn modes_of(need: &[u16]) -> u32
     ensures { λ r. ⌜ ((j k : ℕ) → j < length (now (need .entry)) → k < 8 →
-        bit k (getD (now (need .entry)) j 0) || bit (8 + k) (getD (now (need .entry)) j 0) ≡ true →
-        bit k r ≡ true) ⌝ }
+        eitherAt (getD (now (need .entry)) j 0) k ≡ true → bit k r ≡ true) ⌝ }
 {
     let mut all = 0;
     let mut j = 0;

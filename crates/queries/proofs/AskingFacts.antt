@@ -4,7 +4,7 @@
 use mathlib.Core.Path.{_≡_, refl, sym, ap, ap₂, _∙_, subst}
 use mathlib.Core.Bool.{Bool, true, false, not, _&&_}
 use mathlib.Core.List.{List}
-use Prim.Native.Nat.{ℕ, suc, _+_, _*_, _-_, _^_, _≤_, _<_}
+use Prim.Native.Nat.{ℕ, suc, _+_, _*_, _-_, _≤_, _<_}
 use native.Mathlib.Omega.{arith}
 use native.Mathlib.Nat.{min-le-left}
 use lib.Dec.{leb, ltb}
@@ -21,6 +21,7 @@ use Rattle.encoding.specs.Format.{ruleAt}
 use Rattle.model.specs.Stratification.{lasting}
 use Rattle.reach.specs.Net.{Formed, has}
 use Rattle.places.specs.declared.Grid.{Grid}
+use Rattle.places.specs.Needs.{bothSigns}
 use Rattle.tables.specs.declared.Frame.{Frame}
 use Rattle.tables.specs.declared.Place.{Place}
 use Rattle.tables.specs.TableLayout.{roomOf}
@@ -90,7 +91,7 @@ module _ {holder : Base} {n : ℕ} {C : Chart} {x own : Access} {s o : ℕ} {bod
   -- what is needed of it is there
   module _ {need number codes : List ℕ} {g : Grid} (m : Mapped C left right need number codes g) where
     pub outline-matters :
-        ((b : ℕ) → bit b (257 * 2 ^ modeOf x) ≡ true → has need (o * C .width + s) b ≡ true) →
+        ((b : ℕ) → bit b (bothSigns (modeOf x)) ≡ true → has need (o * C .width + s) b ≡ true) →
         needed C (ownOf C x) need x ≡ true
     outline-matters there = asked-needed (k .outline) m (k .some) (k .few)
         (λ b e. ap (λ (j : ℕ). has need j b) outline-pair ∙ there b e)
@@ -181,7 +182,7 @@ module _ {holder : Base} {n : ℕ} {subjects objects : List ℕ} {width height :
     (lasts bits : ℕ) where
   -- they are as the steps leave them
   pub outline-tabled : (q : Query) (one : Bool) (t : ℕ) →
-      ((b : ℕ) → bit b (257 * 2 ^ modeOf x) ≡ true → has need (o * width + s) b ≡ true) →
+      ((b : ℕ) → bit b (bothSigns (modeOf x)) ≡ true → has need (o * width + s) b ≡ true) →
       Arranged n body sides right first starts choosy rules lasts bits f →
       q .own ≡ own →
       q .place ≡ record {
@@ -191,7 +192,7 @@ module _ {holder : Base} {n : ℕ} {subjects objects : List ℕ} {width height :
       q .to ≡ lastAsked one t → q .listing ≡ not one → WalkStart one t body lasts (q .from) →
       Tabled holder n (chartOf subjects objects f)
       (prepared body left feed sides right need codes number first starts f) rules lasts bits q x
-  outline-tabled q one t there a own-is place to listing looks =
+  outline-tabled q one t there a own-is place to listing history =
       let same : _≡_ {A = Chart}
       (record { subjects = subjects; objects = objects; width = width; height = height })
       (chartOf subjects objects f) = λ i. record {
@@ -212,9 +213,9 @@ module _ {holder : Base} {n : ℕ} {subjects objects : List ℕ} {width height :
         asked = record {
           own = own-is ∙ k .own-is;
           place = place ∙ ap₂ (λ (u v : ℕ). placed u v) (k .subject) (k .object);
-          forward = omega (arith, looks .forward, to);
-          first = looks .first;
-          whole = λ l. looks .all (not-true one (sym listing ∙ l));
+          forward = omega (arith, history .forward, to);
+          first = history .first;
+          whole = λ l. history .all (not-true one (sym listing ∙ l));
         };
       })
     where

@@ -1,7 +1,7 @@
 -- How large the tables of a question can become. A rule that stars its subject and its object has a field for
 -- each pair that is reached and each mode. But it names no subject and no object on its right, so that the
--- more such rules there are, the fewer pairs can be reached. At most 1,452 are (`pairs-few`), all tables
--- together have at most 131,328 fields (`fields-few`), and 120,256 broken bits are kept (`bits-few`).
+-- more such rules there are, the fewer pairs can be reached. All tables together have at most 131,328 fields
+-- (`fields-few`), and at most 120,256 broken bits are kept (`bits-few`).
 use mathlib.Core.Path.{_≡_, refl, ap, _∙_}
 use mathlib.Core.Bool.{Bool, true, false}
 use mathlib.Core.List.{List}
@@ -70,9 +70,6 @@ room-by k a b c u p h w few x y z =
   where
     joined : (v p r x y : ℕ) → v * (12 * p) ≤ x → 12 * r ≤ y → 12 * (v * p + r) ≤ x + y
     joined v p r x y h l = omega arith
-
-pairs-top : (m : ℕ) → m ≤ 64 → pairsBy m ≤ 12 * 1452
-pairs-top m h = let l : m * m ≤ 64 * 64 = mul-le-mul h h in omega arith
 
 fields-top : (m : ℕ) → m ≤ 64 → roomBy 2 m ≤ 12 * 16416
 unfolding numbersBelow
@@ -215,18 +212,6 @@ module _ {n : ℕ} {body : List ℕ} (C : Chart) (well-formed : WellFormed n bod
   few-kinds = omega (arith, kinds-all (subjectStar body) (objectStar body) n, well-formed .few)
 
   module _ {g : Grid} (w : Gridded body n g C) where
-    -- the pairs
-    pub pairs-few : g .pairs ≤ 1452
-    pairs-few =
-        let a : ℕ = subjectsOnly body n in
-        let b : ℕ = objectsOnly body n in
-        let c : ℕ = bothNamed body n in
-        omega (
-          arith,
-          pairs-by a b c (g .pairs) (w .pairs),
-          pairs-top (a + b + c) (omega (arith, few-kinds)),
-        )
-
     wide : g .subjects ≤ suc (subjectsOnly body n + bothNamed body n)
     wide = omega (arith, w .subjects, t .subjects .fewer, subjects-named body n)
 

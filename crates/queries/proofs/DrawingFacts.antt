@@ -22,22 +22,24 @@ use Rattle.encoding.specs.Format.{ruleAt}
 use Rattle.model.specs.Stratification.{lasting}
 use Rattle.reach.specs.Net.{Formed, Only, standing}
 use Rattle.places.specs.declared.Grid.{Grid}
-use Rattle.places.specs.ReachedNumbers.{usedBefore-le, usedBefore-onto, codeOf}
+use Rattle.places.specs.ReachedNumbers.{codeOf}
+use Rattle.places.specs.Needs.{bothSigns}
+use Rattle.places.proofs.NumberFacts.{usedBefore-le, usedBefore-onto}
+use Rattle.places.proofs.NeedBits.{both-bits}
 use Rattle.tables.specs.declared.Frame.{Frame}
 use Rattle.tables.specs.TableLayout.{SmallGrid}
 use Rattle.masks.specs.RuleMasks.{PairCode, RulesIn, Needed}
 use Rattle.outlines.specs.Coordinates.{Chart, Charted, coordinate}
 use Rattle.outlines.specs.Coordinates.{known, modeOf, pairOf}
 use Rattle.outlines.proofs.CoordinateFacts.{known-is}
-use Rattle.outlines.specs.LeftMasks.{Owned}
 use Rattle.outlines.proofs.StandingRules.{rule-bit}
-use Rattle.outlines.proofs.RuleAims.{formed, both-bits}
+use Rattle.outlines.proofs.RightAccesses.{formed}
 use Rattle.outlines.specs.Feed.{isChoosy}
 use Rattle.outlines.specs.NeededAccesses.{needed}
 use Rattle.outlines.proofs.NeededFacts.{needed-both}
 use Rattle.grounding.specs.RuleTurns.{prepared}
 use Rattle.engine.specs.Drawn.{Drawn}
-use Rattle.queries.specs.Drawing.{ownIn, ownOf, RulesDrawn, Outline, Mapped, Arranged, sized}
+use Rattle.queries.specs.Drawing.{ownIn, ownOf, Outline, Mapped, Arranged, sized}
 use Rattle.queries.proofs.Reached.{pairs-within}
 use Rattle.queries.proofs.Bounds.{subjectStar, objectStar, Gridded, right-codes, fields-few, bits-few}
 
@@ -57,36 +59,6 @@ own-coordinate U v = cases (eqb (getD U v 0) 0)
     (λ e. rw e)
 
 -- ---- the outline of the rules
-
--- the masks of an access come and go, and what is drawn stays
-pub still-drawn : {holder : Base} {n : ℕ} {C : Chart} {body left left′ feed sides right : List ℕ} {choosy : ℕ}
-    (own : Access) → RulesDrawn holder n C body left feed sides right choosy →
-    Owned holder n body own left left′ → RulesDrawn holder n C body left′ feed sides right choosy
-still-drawn {holder} {n} {C} {body} {left} {left′} {feed} {sides} {right} {choosy} own d w = record {
-  well-formed = d .well-formed;
-  charted = d .charted;
-  rights = d .rights;
-  behind = d .behind;
-  lefts = d .lefts;
-  masks = record {
-    sided = record {
-      subject = λ s r some few. ap (bit r) (w .other (65 + s) (λ e. omega arith) (λ e. omega arith))
-          ∙ d .masks .sided .subject s r some few;
-      mode = λ m g r few two. ap (bit r) (w .other (130 + (m + 8 * g)) (λ e. omega arith) (λ e. omega arith))
-          ∙ d .masks .sided .mode m g r few two;
-      sign = λ g r two. ap (bit r) (w .other (146 + g) (λ e. omega arith) (λ e. omega arith))
-          ∙ d .masks .sided .sign g r two;
-    };
-    object = λ v r some.
-        let below = d .charted .objects .below v in
-        let few = d .charted .objects .few in
-        let n64 = d .well-formed .few in
-        ap (bit r) (w .other (getD (C .objects) v 0) (λ e. omega arith) (λ e. omega arith))
-        ∙ d .masks .object v r some;
-  };
-  fed = d .fed;
-  choosy-is = d .choosy-is;
-}
 
 -- the bounds of what is charted
 pub chart-small : {n : ℕ} {body : List ℕ} (C : Chart) → n ≤ 64 → Charted n body C →
@@ -222,7 +194,7 @@ module _ {holder : Base} {n : ℕ} {C : Chart} {x : Access} {body left feed side
 
   -- the asked access matters
   pub asked-needed : 1 ≤ x .mode → x .mode ≤ 8 →
-      ((b : ℕ) → bit b (257 * 2 ^ modeOf x) ≡ true → bit b (getD need (pairOf C (ownOf C x) x) 0) ≡ true) →
+      ((b : ℕ) → bit b (bothSigns (modeOf x)) ≡ true → bit b (getD need (pairOf C (ownOf C x) x) 0) ≡ true) →
       needed C (ownOf C x) need x ≡ true
   asked-needed l h s =
       let w = both-bits (modeOf x) in
@@ -267,7 +239,7 @@ module _ {holder : Base} {n : ℕ} {C : Chart} {x : Access} {body left feed side
 
   -- so they are drawn
   pub drawn : 256 ≤ length right → 64 ≤ length first → (k words bits : ℕ) → k ≤ 6 →
-      f .fields * 2 ^ k ≤ 64 * words → (0 < bits → total ≤ 64 * bits) → Drawn holder n C (ownOf C x)
+      f .fields * 2 ^ k ≤ 64 * words → total ≤ 64 * bits → Drawn holder n C (ownOf C x)
       (prepared body left feed sides right need codes number first starts (sized f k)) rules words bits
   drawn rights firsts k words bits narrow fits room = record {
     well-formed = o .rules .well-formed;
@@ -310,6 +282,6 @@ module _ {holder : Base} {n : ℕ} {C : Chart} {x : Access} {body left feed side
     lasts = lasts;
     lasts-is = a .lasts-is;
     total = total;
-    starts = λ h. a .starts-laid;
-    room = λ h. (room h, omega (arith, total-small));
+    starts = a .starts-laid;
+    room = (room, omega (arith, total-small));
   }

@@ -109,72 +109,72 @@ drawn-same {holder} {n} {n′} {body} {body′} {o} {o′} {p} {p′} {e} {e′}
     (subst (λ (v : List ℕ). drawn n body o v e′) d
     (subst (λ (x : Extent). drawn n body o p x) f w))))
 
-module _ (l y p : List ℕ) (e : Extent) (long : length l ≡ 684) (first : length y ≡ 472)
+module _ (l y p : List ℕ) (e : Extent) (long : length l ≡ 492) (first : length y ≡ 280)
     (second : length p ≡ 209) where
   abbrev begun : List ℕ
-  begun = putBack l 0 472 y
+  begun = putBack l 0 280 y
 
-  begun-long : length begun ≡ 684
-  begun-long = back-length l 0 472 y (omega arith) first ∙ long
+  begun-long : length begun ≡ 492
+  begun-long = back-length l 0 280 y (omega arith) first ∙ long
 
   -- the outline and the packed words, then the three numbers
   abbrev filled : List ℕ
-  filled = putBack begun 472 209 p
+  filled = putBack begun 280 209 p
 
-  filled-long : length filled ≡ 684
-  filled-long = back-length begun 472 209 p (omega (arith, begun-long)) second ∙ begun-long
+  filled-long : length filled ≡ 492
+  filled-long = back-length begun 280 209 p (omega (arith, begun-long)) second ∙ begun-long
 
   abbrev once : List ℕ
-  once = set filled 681 (e .subjects)
+  once = set filled 489 (e .subjects)
 
-  once-long : length once ≡ 684
-  once-long = length-set filled 681 (e .subjects) ∙ filled-long
+  once-long : length once ≡ 492
+  once-long = length-set filled 489 (e .subjects) ∙ filled-long
 
-  pub second-in : 682 < length once
+  pub second-in : 490 < length once
   second-in = omega (arith, once-long)
 
   abbrev twice : List ℕ
-  twice = set once 682 (e .objects)
+  twice = set once 490 (e .objects)
 
-  twice-long : length twice ≡ 684
-  twice-long = length-set once 682 (e .objects) ∙ once-long
+  twice-long : length twice ≡ 492
+  twice-long = length-set once 490 (e .objects) ∙ once-long
 
-  pub third-in : 683 < length twice
+  pub third-in : 491 < length twice
   third-in = omega (arith, twice-long)
 
   abbrev handed : List ℕ
-  handed = set twice 683 (e .choosy)
+  handed = set twice 491 (e .choosy)
 
-  pub handed-long : length handed ≡ 684
-  handed-long = length-set twice 683 (e .choosy) ∙ twice-long
+  pub handed-long : length handed ≡ 492
+  handed-long = length-set twice 491 (e .choosy) ∙ twice-long
 
-  handed-outline : take 472 handed ≡ y
-  handed-outline = take-set-le 472 twice 683 (e .choosy) (omega arith)
-      ∙ take-set-le 472 once 682 (e .objects) (omega arith)
-      ∙ take-set-le 472 filled 681 (e .subjects) (omega arith)
-      ∙ same-front begun filled (filled-long ∙ sym begun-long) 472
-      (λ k h. back-before begun 472 209 p (omega (arith, begun-long)) second k h)
-      ∙ back-own l 0 472 y (omega arith) first
+  handed-outline : take 280 handed ≡ y
+  handed-outline = take-set-le 280 twice 491 (e .choosy) (omega arith)
+      ∙ take-set-le 280 once 490 (e .objects) (omega arith)
+      ∙ take-set-le 280 filled 489 (e .subjects) (omega arith)
+      ∙ same-front begun filled (filled-long ∙ sym begun-long) 280
+      (λ k h. back-before begun 280 209 p (omega (arith, begun-long)) second k h)
+      ∙ back-own l 0 280 y (omega arith) first
 
   -- a store behind them leaves the words that are packed
-  behind : (w : List ℕ) (i v : ℕ) → 209 ≤ i → take 209 (drop 472 (set w (472 + i) v)) ≡ take 209 (drop 472 w)
-  behind w i v h = ap (take 209) (drop-set-add 472 w i v) ∙ take-set-le 209 (drop 472 w) i v h
+  behind : (w : List ℕ) (i v : ℕ) → 209 ≤ i → take 209 (drop 280 (set w (280 + i) v)) ≡ take 209 (drop 280 w)
+  behind w i v h = ap (take 209) (drop-set-add 280 w i v) ∙ take-set-le 209 (drop 280 w) i v h
 
-  handed-packed : take 209 (drop 472 handed) ≡ p
+  handed-packed : take 209 (drop 280 handed) ≡ p
   handed-packed = behind twice 211 (e .choosy) (omega arith) ∙ behind once 210 (e .objects) (omega arith)
       ∙ behind filled 209 (e .subjects) (omega arith)
-      ∙ back-own begun 472 209 p (omega (arith, begun-long)) second
+      ∙ back-own begun 280 209 p (omega (arith, begun-long)) second
 
   handed-extent : e ≡ extentIn handed
   handed-extent =
-      let a : getD handed 681 0 ≡ e .subjects =
-      getD-set-other twice 683 681 (e .choosy) 0 (λ z. omega arith)
-      ∙ getD-set-other once 682 681 (e .objects) 0 (λ z. omega arith)
-      ∙ getD-set-same filled 681 (e .subjects) 0 (omega (arith, filled-long)) in
-      let b : getD handed 682 0 ≡ e .objects =
-      getD-set-other twice 683 682 (e .choosy) 0 (λ z. omega arith)
-      ∙ getD-set-same once 682 (e .objects) 0 second-in in
-      let c : getD handed 683 0 ≡ e .choosy = getD-set-same twice 683 (e .choosy) 0 third-in in
+      let a : getD handed 489 0 ≡ e .subjects =
+      getD-set-other twice 491 489 (e .choosy) 0 (λ z. omega arith)
+      ∙ getD-set-other once 490 489 (e .objects) 0 (λ z. omega arith)
+      ∙ getD-set-same filled 489 (e .subjects) 0 (omega (arith, filled-long)) in
+      let b : getD handed 490 0 ≡ e .objects =
+      getD-set-other twice 491 490 (e .choosy) 0 (λ z. omega arith)
+      ∙ getD-set-same once 490 (e .objects) 0 second-in in
+      let c : getD handed 491 0 ≡ e .choosy = getD-set-same twice 491 (e .choosy) 0 third-in in
       λ i. record { subjects = sym a i; objects = sym b i; choosy = sym c i }
 
   -- where the words are the bytes that begin with the coordinates q

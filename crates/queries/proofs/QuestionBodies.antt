@@ -41,11 +41,11 @@ use Rattle.direct.proofs.DirectFacts.{direct-may, ruleless-when}
 use Rattle.questions.specs.RuleNumbers.{Numbering}
 use Rattle.relevance.proofs.ChoiceFacts.{placed-in}
 use Rattle.scan.specs.declared.Track.{Track}
-use Rattle.scan.specs.Filled.{filled, filled-all}
+use Rattle.scan.specs.Filled.{filled}
 use Rattle.scan.specs.Runs.{ScannedTo}
 use Rattle.scan.proofs.RunFacts.{fewer}
 use Rattle.scan.specs.Listing.{Filling, Listing}
-use Rattle.scan.proofs.FilledFacts.{listedIfRoom-all, listedIfRoom-short}
+use Rattle.scan.proofs.FilledFacts.{filled-all, listedIfRoom-all, listedIfRoom-short}
 use Rattle.outlines.specs.Coordinates.{Ranged}
 use Rattle.queries.specs.declared.Totals.{Totals}
 use Rattle.queries.specs.Starting.{Bodies}

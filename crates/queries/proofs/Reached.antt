@@ -18,8 +18,9 @@ use Rattle.foundation.specs.Quotients.{parted}
 use Rattle.foundation.specs.Closure.{setSize, setSize-le, setSize-mono, setSize-less}
 use Rattle.foundation.specs.BitMasks.{asBit, bit, power-above}
 use Rattle.foundation.specs.BitLaws.{no-bits}
-use Rattle.reach.specs.Net.{Net, standing, turned, aimPair, ClosedUnderRules, Only}
-use Rattle.places.specs.ReachedNumbers.{used, usedBefore, usedBefore-step, usedBefore-none}
+use Rattle.reach.specs.Net.{Net, standing, turned, rightPair, ClosedUnderRules, Only}
+use Rattle.places.specs.ReachedNumbers.{used, usedBefore}
+use Rattle.places.proofs.NumberFacts.{usedBefore-step, usedBefore-none}
 
 -- ---- counting
 
@@ -308,9 +309,9 @@ module _ (n W H : ℕ) (S O : ℕ → Bool) (right : List ℕ) (codes : Codes n 
   by-test : (t : ℕ → Bool) (r : ℕ) → r < n → t r ≡ true → Mem r (passing t n)
   by-test t r h e = keepIf-mem t (numbersBelow n) r (in-below n r h) e
 
-  aimed : (j r : ℕ) → (w : Open j) → Mem j candidates → r < n →
+  right-open : (j r : ℕ) → (w : Open j) → Mem j candidates → r < n →
       Mem (turned (objectAt r) (w .object) * W + turned (subjectAt r) (w .subject)) candidates
-  aimed j r w m h =
+  right-open j r w m h =
       let s = codes .subject r h in
       let o = codes .object r h in
       cases (S r)
@@ -348,14 +349,14 @@ module _ (n W H : ℕ) (S O : ℕ → Bool) (right : List ℕ) (codes : Codes n 
     net = record { left = left; right = right; subjects = W }
 
     carried : ClosedUnderRules net isCandidate
-    unfolding aimPair
+    unfolding rightPair
     carried j k r e h b =
         let m = is-in j e in
         let w = opened j m in
         let p = parts j w in
         let l = rules (j / W) (j % W) k r (omega (arith, p .0, w .object-below)) b in
         in-is (turned (objectAt r) (j / W) * W + turned (subjectAt r) (j % W))
-        (rw (p .0, p .1) (aimed j r w m l))
+        (rw (p .0, p .1) (right-open j r w m l))
 
     module _ (need : List ℕ) (only : Only net (o₀ * W + s₀) need) where
       needed-in : (j : ℕ) → used (getD need j 0) ≡ true → Mem j candidates

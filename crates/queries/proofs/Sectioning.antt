@@ -16,7 +16,7 @@ use Rattle.model.specs.Base.{Base}
 use Rattle.sections.specs.Sections.{leftOf, feedOf, firstOf, startsOf}
 use Rattle.sections.specs.Sections.{sidesOf, rightsOf, subjectsOf, objectsOf, numberedOf, listedOf}
 use Rattle.sections.proofs.SectionWrites.{putBack, back-length, back-own, back-before, back-rest, same-front}
-use Rattle.sections.proofs.SectionWrites.{same-part, in-part, beyond-part, front-same}
+use Rattle.sections.proofs.SectionWrites.{same-part, in-part, beyond-part, front-part, front-same}
 use Rattle.reach.specs.Net.{standing}
 use Rattle.masks.specs.RuleMasks.{Needed, needAt}
 use Rattle.tables.specs.declared.Frame.{Frame}
@@ -93,12 +93,9 @@ module _ (numbers : List ℕ) (size n : ℕ) (e : n ≡ size) where
 
 -- ---- an outline: the masks of left sides came back
 
-module _ (o left : List ℕ) (long : length o ≡ 472) (e : length left ≡ 152) where
-  left-in : 0 + 152 ≤ length o
-  left-in = omega arith
-
-  pub left-long : length (putBack o 0 152 left) ≡ 472
-  left-long = back-length o 0 152 left left-in e ∙ long
+module _ (o left : List ℕ) (left-in : 152 ≤ length o) (e : length left ≡ 152) where
+  pub left-long : length (putBack o 0 152 left) ≡ length o
+  left-long = back-length o 0 152 left left-in e
 
   pub left-back : leftOf (putBack o 0 152 left) ≡ left
   left-back = back-own o 0 152 left left-in e
@@ -107,7 +104,7 @@ module _ (o left : List ℕ) (long : length o ≡ 472) (e : length left ≡ 152)
   left-feed = ap (take 128) (back-rest o 0 152 left left-in e)
 
 -- or where tables start, first of fields, then of broken bits
-module _ (o first starts : List ℕ) (long : length o ≡ 472) (e : length first ≡ 64) (g : length starts ≡ 64)
+module _ (o first starts : List ℕ) (long : length o ≡ 536) (e : length first ≡ 64) (g : length starts ≡ 64)
   where
     abbrev half : List ℕ
     half = putBack o 280 64 first
@@ -115,7 +112,7 @@ module _ (o first starts : List ℕ) (long : length o ≡ 472) (e : length first
     within : 280 + 64 ≤ length o
     within = omega arith
 
-    half-long : length half ≡ 472
+    half-long : length half ≡ 536
     half-long = back-length o 280 64 first within e ∙ long
 
     abbrev full : List ℕ
@@ -124,7 +121,7 @@ module _ (o first starts : List ℕ) (long : length o ≡ 472) (e : length first
     between : 344 + 64 ≤ length half
     between = omega (arith, half-long)
 
-    pub laid-long : length full ≡ 472
+    pub laid-long : length full ≡ 536
     laid-long = back-length half 344 64 starts between g ∙ half-long
 
     pub laid-front : take 280 full ≡ take 280 o
@@ -146,6 +143,14 @@ module _ (o o′ : List ℕ) (same : take 280 o′ ≡ take 280 o) where
 
   pub front-feed : feedOf o′ ≡ feedOf o
   front-feed = front-same 152 128 280 o o′ (omega arith) same
+
+-- they are the words y
+module _ (o y : List ℕ) (same : take 280 o ≡ y) where
+  pub drawn-left : leftOf o ≡ leftOf y
+  drawn-left = sym (front-part 0 152 280 o (omega arith)) ∙ ap leftOf same
+
+  pub drawn-feed : feedOf o ≡ feedOf y
+  drawn-feed = sym (front-part 152 128 280 o (omega arith)) ∙ ap feedOf same
 
 -- ---- coordinates: numbers are given, then the codes of right sides, then those of left sides
 

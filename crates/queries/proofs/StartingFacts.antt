@@ -1,10 +1,10 @@
 -- A question is put to the tables once they are drawn (`posed`), and the walk over them can start (`walks`).
 -- What it finds in the narrowed base is true of the whole one (`whole-found`).
 use mathlib.Core.Path.{_≡_, refl, sym, ap, _∙_, subst}
-use mathlib.Core.Logic.{_⊎_, ⊎-elim, _↔_, inr}
+use mathlib.Core.Logic.{_⊎_, ⊎-elim, _↔_}
 use mathlib.Core.Bool.{Bool, true, false, not, _&&_, _||_, true≢false}
 use mathlib.Core.List.{List, _++_, append-nil}
-use Prim.Native.Nat.{ℕ, suc, _+_, _*_, _-_, _/_, _^_, _≤_, _<_}
+use Prim.Native.Nat.{ℕ, suc, _+_, _*_, _-_, _/_, _^_, _≤_}
 use native.Mathlib.Nat.{mul-le-mul-right}
 use native.Mathlib.Omega.{arith}
 use lib.Dec.{eqb, leb}
@@ -167,15 +167,11 @@ withWidth p k = prepared (p .body) (p .left) (p .feed) (p .sides) (p .right) (p 
 unbroken : (bits : List ℕ) → ((j : ℕ) → getD bits j 0 ≡ 0) → (i : ℕ) → eqb (fieldOf 0 bits i) 1 ≡ false
 unbroken bits zero i = ap (λ (v : ℕ). eqb v 1) (clear-fields 0 (suc i) bits (λ j h. zero j) i (omega arith))
 
--- words of bits are kept for rules that look back, or need not be
-abbrev pub Keeps : Query → ℕ → ℕ → Type 0
-Keeps q lasts bits = (q .from ≡ q .to) ⊎ (((r : ℕ) → bit r lasts ≡ true → ⊥) ⊎ (0 < bits))
-
 module _ {holder : Base} {C : Chart} {p : Prepared} {lasts total : ℕ} {q : Query} {x : Access} (c : Chosen)
     (t : Tabled holder (c .rules) C p (c .needed) lasts total q x) (k : ℕ) (words bits : List ℕ)
     (rights : 256 ≤ length (p .right)) (firsts : 64 ≤ length (p .first)) (narrow : k ≤ 6)
     (fits : p .frame .fields * 2 ^ k ≤ 64 * length words)
-    (room : 0 < length bits → total ≤ 64 * length bits) where
+    (room : total ≤ 64 * length bits) where
   pub tables-drawn : Drawn holder (c .rules) C (ownOf C x) (withWidth p k) (c .needed) (length words)
       (length bits)
   tables-drawn = drawn (t .outline) (t .mapped) (t .needs) (t .arranged) rights firsts k (length words)
@@ -185,7 +181,7 @@ module _ {holder : Base} {C : Chart} {p : Prepared} {lasts total : ℕ} {q : Que
       (b : Bodies holder lines count (p .body) (c .rules) base)
       (entry which : List ℕ) (chosen : Choice (chosenFor C (ownOf C x) p q) lines count entry which
       (c .authorizations)) (long : count ≤ length entry)
-      (zero : (j : ℕ) → getD bits j 0 ≡ 0) (keeps : Keeps q lasts (length bits)) where
+      (zero : (j : ℕ) → getD bits j 0 ≡ 0) where
     abbrev few : Base
     few = neededBase tables-drawn b
 
@@ -213,9 +209,9 @@ module _ {holder : Base} {C : Chart} {p : Prepared} {lasts total : ℕ} {q : Que
         let turn = turnIn (withWidth p k) active r in
         let at = placeOf (mappingOf few C (ownOf C x) (withWidth p k)) y in
         let none : brokenIn turn (p .frame .grid) bits at ≡ false =
-        ap (λ (v : Bool). lasting (rule .operator) && not (eqb (length bits) 0) && v)
+        ap (λ (v : Bool). lasting (rule .operator) && v)
         (unbroken bits zero (brokenAt turn (p .frame .grid) at))
-        ∙ and-false (lasting (rule .operator) && not (eqb (length bits) 0)) in
+        ∙ and-false (lasting (rule .operator)) in
         subst (λ (v : Bool). Carried few (q .from) rule y v) (sym none) (record {
           fresh = λ h. refl;
           past = λ l h i. absurd (⊎-elim
@@ -237,7 +233,6 @@ module _ {holder : Base} {C : Chart} {p : Prepared} {lasts total : ℕ} {q : Que
       forward = t .asked .forward;
       lasts = λ r. t .arranged .lasts-is r
           ∙ sym (posed tables-drawn b x (t .matters) .drawn .lasts-is r);
-      kept = keeps;
       carried = λ active r e y m s. carried-none active r e y;
       few = subst (λ (f : ℕ → Bool). length (maximal 0 (q .to) f) ≤ 1089)
           (λ i u. neededBase-may tables-drawn b x (t .matters) u i) (few-intervals b x (q .to));
@@ -274,10 +269,9 @@ module _ {holder : Base} {C : Chart} {p : Prepared} {lasts total : ℕ} {q : Que
 -- ---- as the code has it
 
 -- bits, as they are at the start
-pub record Fresh (q : Query) (lasts total : ℕ) (bits : List ℕ) : Type 0 where
-  pub room : 0 < length bits → total ≤ 64 * length bits
+pub record Fresh (total : ℕ) (bits : List ℕ) : Type 0 where
+  pub room : total ≤ 64 * length bits
   pub zero : (j : ℕ) → getD bits j 0 ≡ 0
-  pub keeps : Keeps q lasts (length bits)
 
 -- a table of zeros
 pub zeros-at : (n i : ℕ) → _≡_ {A = ℕ} (getD (replicate n 0) i 0) 0
@@ -298,7 +292,7 @@ module _ {lines which : List ℕ} {c : Chosen} {lasts total : ℕ} {q : Query} {
     (b : Begun lines which c lasts total q (chartOf subjects objects f)
     (prepared body left feed sides right need codes number first starts f) base x) where
   pub begun-starts : 256 ≤ length right → 64 ≤ length first → (g : Frame) (words bits : List ℕ) →
-      Sized f (length words) g → Fresh q lasts total bits →
+      Sized f (length words) g → Fresh total bits →
       Starts lines which c lasts q (chartOf subjects objects g)
       (prepared body left feed sides right need codes number first starts g) words bits base x
   begun-starts rights firsts g words bits s h =
@@ -310,9 +304,9 @@ module _ {lines which : List ℕ} {c : Chosen} {lasts total : ℕ} {q : Query} {
         small = neededBase (tables-drawn c (b .tabled) k words bits rights firsts (s .narrow) (s .fits)
             (h .room)) (b .bodies);
         walks = walks c (b .tabled) k words bits rights firsts (s .narrow) (s .fits) (h .room) (b .bodies)
-            (b .entry) which (b .chosen) (b .long) (h .zero) (h .keeps);
+            (b .entry) which (b .chosen) (b .long) (h .zero);
         found = whole-found c (b .tabled) k words bits rights firsts (s .narrow) (s .fits) (h .room)
-            (b .bodies) (b .entry) which (b .chosen) (b .long) (h .zero) (h .keeps);
+            (b .bodies) (b .entry) which (b .chosen) (b .long) (h .zero);
       })
 
   -- the tables are small
@@ -398,11 +392,10 @@ module _ {records outline coordinates need numbers : List ℕ} {w : WindowWalk}
       same = s .same;
     }
 
-    bits-fresh : Fresh (w .query) (w .lasting) (w .bits) (drop words work)
+    bits-fresh : Fresh (w .bits) (drop words work)
     bits-fresh = record {
-      room = λ e. omega (arith, words-few, length-drop words work);
+      room = omega (arith, words-few, length-drop words work);
       zero = λ j. getD-drop words work j 0 ∙ clear (words + j);
-      keeps = inr (inr (omega (arith, words-few, length-drop words work)));
     }
 
     pub begun-roomy : Roomy records outline coordinates need numbers work (framed w g)

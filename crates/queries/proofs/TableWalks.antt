@@ -41,17 +41,15 @@ module _ {records outline coordinates need numbers : List ℕ} {w : WindowWalk} 
         let r = begun-walk (p .0) work (p .1 .0) (p .2) g beside (p .3 .2) in
         (begun-roomy (p .0) work (p .1 .0) (p .2) g beside, (r .small, p .3 .1, r .walks))
 
-    pub walk-finds : {P : Type 0} {r : Found} {old new : List ℕ} →
+    pub walk-finds : {r : Found} {old new : List ℕ} →
         ((base : Base) (x : Access) →
         WalksIn records outline coordinates need numbers work (framed w g) base x →
-        Finds (w .query) base x r old new) × P →
-        ((base : Base) (x : Access) → BegunIn records outline coordinates need numbers w base x →
-        Finds (w .query) base x r old new) × P
-    walk-finds {r = r} {old} {new} f = (
-      (λ base x b. let y = begun-walk (p .0) work (p .1 .0) (p .2) g beside b in
-          y .found r old new (f .0 (y .small) x (y .walks))),
-      f .1,
-    )
+        Finds (w .query) base x r old new) →
+        (base : Base) (x : Access) → BegunIn records outline coordinates need numbers w base x →
+        Finds (w .query) base x r old new
+    walk-finds {r = r} {old} {new} f base x b =
+        let y = begun-walk (p .0) work (p .1 .0) (p .2) g beside b in
+        y .found r old new (f (y .small) x (y .walks))
 
 -- 5,975 words have room for any base, by the bounds of all fields and of all broken bits
 pub any-room : (records outline coordinates need numbers : List ℕ) (w : WindowWalk) →

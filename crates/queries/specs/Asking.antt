@@ -78,7 +78,7 @@ module _ (records : List ℕ) (n : Totals) where
     -- the slices have room
     pub record SlicesWhole : Type 0 where
       pub recorded : n .authorizations * 24 ≤ length records
-      pub outlined : length outline ≡ 472
+      pub outlined : length outline ≡ 536
       pub placed : length coordinates ≡ 1666
 
 abbrev pub TaskIn : (records outline coordinates : List ℕ) → Inquiry → Base → Type 0

@@ -1,9 +1,9 @@
 -- How the tables of a question come about: the rules are outlined for the asked access (`Outline`), places
 -- are reached and numbered (`Mapped`), and the tables of fields and of broken bits are laid out (`Arranged`).
 use mathlib.Core.Path.{_≡_}
-use mathlib.Core.Bool.{true, _&&_, _||_}
+use mathlib.Core.Bool.{true, _&&_}
 use mathlib.Core.List.{List}
-use Prim.Native.Nat.{ℕ, _+_, _*_, _/_, _≤_, _<_}
+use Prim.Native.Nat.{ℕ, _*_, _/_, _≤_, _<_}
 use lib.Bits.{bitAnd}
 use lib.Dec.{eqb}
 use lib.ListN.{length, getD}
@@ -16,6 +16,7 @@ use Rattle.model.specs.Stratification.{lasting}
 use Rattle.reach.specs.Net.{ClosedNet, Only}
 use Rattle.places.specs.declared.Grid.{Grid}
 use Rattle.places.specs.ReachedNumbers.{used, usedBefore, codeOf}
+use Rattle.places.specs.Needs.{eitherAt}
 use Rattle.tables.specs.declared.Frame.{Frame}
 use Rattle.tables.specs.TableLayout.{TablesLaid, ruleTables, roomOf}
 use Rattle.outlines.specs.Coordinates.{WellFormed, Chart, Charted}
@@ -90,7 +91,7 @@ pub record Mapped (C : Chart) (left right need number codes : List ℕ) (g : Gri
       getD codes (usedBefore need j) 0 ≡ codeOf (C .width) j)
   pub grid : (g .subjects ≡ C .width) × (g .objects ≡ C .height) × (g .pairs ≡ usedBefore need (length need))
   pub modes : (g .modes < 256) × ((j k : ℕ) → j < length need → k < 8 →
-      bit k (getD need j 0) || bit (8 + k) (getD need j 0) ≡ true → bit k (g .modes) ≡ true)
+      eitherAt (getD need j 0) k ≡ true → bit k (g .modes) ≡ true)
 
 -- ---- the tables
 

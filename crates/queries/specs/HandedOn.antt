@@ -20,17 +20,18 @@ abbrev pub bytesIn : List ℕ → List ℕ
 bytesIn words = each words (bytesOf 8)
 
 module _ (words : List ℕ) where
+  -- the sections of the outline that are drawn of the rules alone
   abbrev pub outlineIn : List ℕ
-  outlineIn = take 472 words
+  outlineIn = take 280 words
 
   abbrev pub coordinatesIn : List ℕ
-  coordinatesIn = take 1666 (bytesIn (take 209 (drop 472 words)))
+  coordinatesIn = take 1666 (bytesIn (take 209 (drop 280 words)))
 
   abbrev pub extentIn : Extent
   extentIn = record {
-    subjects = getD words 681 0;
-    objects = getD words 682 0;
-    choosy = getD words 683 0;
+    subjects = getD words 489 0;
+    objects = getD words 490 0;
+    choosy = getD words 491 0;
   }
 
 -- the words hold what is drawn of the n rules in a body
@@ -49,5 +50,5 @@ totalsOf c = record { authorizations = c .authorizations; rules = c .rules }
 
 -- of those in the bytes s of a base
 pub record HandedOn (s words : List ℕ) : Type 0 where
-  pub size : length words ≡ 684
+  pub size : length words ≡ 492
   pub drawn : HandedIn (drop (authorizationsAt (countsOf s)) s) (totalsOf (countsOf s)) words (decode s)

@@ -19,6 +19,7 @@ use Rattle.questions.specs.RuleNumbers.{Numbering}
 use Rattle.masks.specs.RuleMasks.{Needed}
 use Rattle.relevance.specs.declared.Chosen.{Chosen}
 use Rattle.relevance.specs.Needed.{HeadInRange, Choice, isChosen}
+use Rattle.places.specs.ReachedNumbers.{pairIndex}
 use Rattle.tables.specs.declared.Frame.{Frame}
 use Rattle.tables.specs.declared.Place.{Place}
 use Rattle.outlines.specs.Coordinates.{WellFormed, Chart}
@@ -57,7 +58,7 @@ askedPlace C x number =
     let s : ℕ = getD (C .subjects) (x .subject) 0 in
     let o : ℕ = getD (C .objects) (x .object) 0 in
     record {
-      pair = getD number (o * C .width + s) 0;
+      pair = getD number (pairIndex (C .width) o s) 0;
       point = record { subject = s; mode = x .mode - 1; object = o };
     }
 
@@ -132,11 +133,11 @@ module _ (records outline coordinates need numbers : List ℕ) (w : WindowWalk) 
   -- the slices have room
   pub record Sectioned : Type 0 where
     pub bodied : w .offset ≤ length records
-    pub outlined : length outline ≡ 472
+    pub outlined : length outline ≡ 536
     pub placed : length coordinates ≡ 1666
     pub numbered : 2 * length need + w .chosen .authorizations ≤ length numbers
 
--- how many words hold broken bits, and one more
+-- how many words hold broken bits, or one more
 abbrev pub brokenWords : ℕ → ℕ
 brokenWords bits = bits / 64 + 1
 

@@ -3,13 +3,14 @@ ghost use lib.Dec.{eqb};
 ghost use Rattle.foundation.specs.Tests.{pick};
 ghost use Rattle.model.specs.Answers.{accessIn};
 ghost use mathlib.Core.Path.{_≡_};
-ghost use mathlib.Core.Bool.{true, _||_};
+ghost use mathlib.Core.Bool.{true};
 ghost use mathlib.Core.List.{List};
-ghost use Prim.Native.Nat.{ℕ, _+_, _*_, _^_, _≤_, _<_};
-ghost use lib.ListN.{length, getD, take};
+ghost use Prim.Native.Nat.{ℕ, _+_, _*_, _≤_, _<_};
+ghost use lib.ListN.{length, getD};
 ghost use Rattle.foundation.specs.BitMasks.{bit};
 ghost use Rattle.sections.specs.Sections.{leftOf, feedOf, sidesOf, rightsOf, subjectsOf, objectsOf};
 ghost use Rattle.sections.specs.Sections.{numberedOf, listedOf};
+ghost use Rattle.places.specs.Needs.{bothSigns, eitherAt};
 ghost use Rattle.reach.specs.Net.{Formed, has};
 ghost use Rattle.masks.specs.RuleMasks.{RulesIn};
 ghost use Rattle.model.specs.Base.{Base};
@@ -40,7 +41,10 @@ use outlines::draw_right;
 use outlines::number_sides;
 use outlines::own_masks;
 use places::Grid;
+use places::Pair;
 use places::Point;
+use places::both_signs;
+use places::pair_index;
 use relevance::Chosen;
 use sections::ACTIVE;
 use sections::COORDINATES;
@@ -59,19 +63,10 @@ use tables::Frame;
 use tables::Place;
 use tables::lay_out;
 
-// A mode, with both signs.
-fn both_signs(mode: u32) -> u16
-    requires { ⌜ mode < 8 ⌝ }
-    ensures { λ r. ⌜ r ≡ 257 * 2 ^ mode ⌝ }
-{
-    257 << mode
-}
-
 // The modes with which something is needed: there are eight.
 fn modes_in(need: &[u16]) -> u32
     ensures { λ r. ⌜ (r < 256) × ((j k : ℕ) → j < length (now (need .entry)) → k < 8 →
-        bit k (getD (now (need .entry)) j 0) || bit (8 + k) (getD (now (need .entry)) j 0) ≡ true →
-        bit k r ≡ true) ⌝ }
+        eitherAt (getD (now (need .entry)) j 0) k ≡ true → bit k r ≡ true) ⌝ }
 {
     places::modes_of(need) % 256
 }
@@ -116,7 +111,7 @@ fn map_pairs(
     ensures { λ r. ⌜ ((U O : List ℕ) → Mapped (chartFor U O e) (now (left .entry)) (now (right .entry))
         (now (need .exit)) (numberedOf (length (now (need .exit))) (now (numbers .exit)))
         (listedOf (length (now (need .exit))) (now (numbers .exit))) r)
-        × ((b : ℕ) → bit b (257 * 2 ^ mode) ≡ true → has (now (need .exit)) pair b ≡ true) ⌝ }
+        × ((b : ℕ) → bit b (bothSigns mode) ≡ true → has (now (need .exit)) pair b ≡ true) ⌝ }
 {
     let width = e.subjects;
     let size = need.len();
@@ -158,7 +153,7 @@ fn with_pairs(
     ensures { λ r. ⌜ ((base : Base) →
         TaskIn (now (records .entry)) (now (outline .entry)) (now (coordinates .entry)) k base →
         Answers (k .asked .one) (k .asked .instant) base (k .asked .access) r (now (list .entry))
-        (now (list .exit))) × (take 280 (now (outline .exit)) ≡ take 280 (now (outline .entry))) ⌝ }
+        (now (list .exit))) ⌝ }
 {
     let e = k.extent;
     let a = k.asked;
@@ -166,7 +161,11 @@ fn with_pairs(
     let size = need.len();
     let from = n.authorizations * AUTHORIZATION_BYTES;
     let body = &records[from..];
-    let pair = (k.object * e.subjects + k.subject) as usize;
+    let at = Pair {
+        object: k.object as usize,
+        subject: k.subject as usize,
+    };
+    let pair = pair_index(at, e.subjects as usize);
     let mode = a.access.mode - 1;
     let g = map_pairs(
         e,
@@ -259,7 +258,7 @@ fn with_part(
     ensures { λ r. ⌜ ((base : Base) →
         TaskIn (now (records .entry)) (now (outline .entry)) (now (coordinates .entry)) k base →
         Answers (k .asked .one) (k .asked .instant) base (k .asked .access) r (now (list .entry))
-        (now (list .exit))) × (take 280 (now (outline .exit)) ≡ take 280 (now (outline .entry))) ⌝ }
+        (now (list .exit))) ⌝ }
 {
     let e = k.extent;
     let size = (e.objects * e.subjects) as usize;
@@ -287,7 +286,7 @@ fn with_sizes(
     ensures { λ r. ⌜ ((base : Base) →
         TaskIn (now (records .entry)) (now (outline .entry)) (now (coordinates .entry)) k base →
         Answers (k .asked .one) (k .asked .instant) base (k .asked .access) r (now (list .entry))
-        (now (list .exit))) × (take 280 (now (outline .exit)) ≡ take 280 (now (outline .entry))) ⌝ }
+        (now (list .exit))) ⌝ }
 {
     let e = k.extent;
     let n = k.totals;
@@ -351,7 +350,7 @@ pub fn draw(
     coordinates: &mut [u8],
 ) -> Extent
     requires { ⌜ WellFormed n (now body) × Blank (now outline) × Blank (now coordinates)
-        × (length (now outline) ≡ 472) × (length (now coordinates) ≡ 1666)
+        × (280 ≤ length (now outline)) × (length (now coordinates) ≡ 1666)
         × (soundBytes (now bytes) ≡ true) ⌝ }
     ensures { λ r. ⌜ RulesDrawn (decode (now (bytes .entry))) n
         (chartFor (subjectsOf (now (coordinates .exit))) (objectsOf (now (coordinates .exit))) r)
@@ -383,7 +382,7 @@ pub fn draw(
     }
 }
 
-// Answers by what is drawn: MAY at an instant, or else WHEN. What is drawn can be used again.
+// Answers by what is drawn: MAY at an instant, or else WHEN.
 pub fn with_drawn(
     bytes: &[u8],
     records: &[u8],
@@ -399,9 +398,7 @@ pub fn with_drawn(
         × (accessIn (a .access) ≡ true) × (soundBytes (now bytes) ≡ true)
         × ((base : Base) × BodiesIn (now records) n (decode (now bytes)) base) ⌝ }
     ensures { λ r. ⌜ ((base : Base) → BodiesIn (now (records .entry)) n (decode (now (bytes .entry))) base →
-        Answers (a .one) (a .instant) base (a .access) r (now (list .entry)) (now (list .exit)))
-        × DrawnIn (now (records .entry)) n (now (outline .exit)) (now (coordinates .entry))
-        (decode (now (bytes .entry))) e ⌝ }
+        Answers (a .one) (a .instant) base (a .access) r (now (list .entry)) (now (list .exit))) ⌝ }
 {
     let x = a.access;
     let s = coordinates[SUBJECTS + x.subject as usize];

@@ -27,6 +27,7 @@ use model::AUTHORIZATION_BYTES;
 use model::Access;
 use sections::CHOOSY;
 use sections::COORDINATES;
+use sections::DRAWN;
 use sections::LEFT;
 use sections::OBJECT_COUNT;
 use sections::OUTLINE;
@@ -90,17 +91,17 @@ fn unpack(words: &[u64], bytes: &mut [u8])
 // Draws rules, and writes down what is drawn. The bytes are room to work in.
 fn draw_words(s: &[u8], body: &[u8], n: usize, bytes: &mut [u8], words: &mut [u64])
     requires { ⌜ WellFormed n (now body) × Blank (now words) × Blank (now bytes)
-        × (length (now words) ≡ 684) × (length (now bytes) ≡ 1672) × (soundBytes (now s) ≡ true) ⌝ }
+        × (length (now words) ≡ 492) × (length (now bytes) ≡ 1672) × (soundBytes (now s) ≡ true) ⌝ }
     ensures { λ _. ⌜ HandedBy (decode (now (s .entry))) n (now (body .entry)) (now (words .exit)) ⌝ }
 {
     let e = draw(
         s,
         body,
         n,
-        &mut words[LEFT..OUTLINE],
+        &mut words[LEFT..DRAWN],
         &mut bytes[SIDES..COORDINATES],
     );
-    pack(bytes, &mut words[OUTLINE..SUBJECT_COUNT]);
+    pack(bytes, &mut words[DRAWN..SUBJECT_COUNT]);
     words[SUBJECT_COUNT] = e.subjects as u64;
     words[OBJECT_COUNT] = e.objects as u64;
     words[CHOOSY] = e.choosy;
@@ -108,7 +109,7 @@ fn draw_words(s: &[u8], body: &[u8], n: usize, bytes: &mut [u8], words: &mut [u6
 
 // Draws the rules of a base.
 pub fn prepare(s: &[u8], words: &mut [u64])
-    requires { ⌜ (soundBytes (now s) ≡ true) × (length (now words) ≡ 684) × Blank (now words) ⌝ }
+    requires { ⌜ (soundBytes (now s) ≡ true) × (length (now words) ≡ 492) × Blank (now words) ⌝ }
     ensures { λ _. ⌜ HandedOn (now (s .entry)) (now (words .exit)) ⌝ }
 {
     let c = encoding::counts_of(s);
@@ -120,7 +121,7 @@ pub fn prepare(s: &[u8], words: &mut [u64])
 // Whether MAY says yes at t, by the bytes of a base, by those from its authorizations on, and by what was
 // prepared.
 fn holds_drawn(s: &[u8], records: &[u8], n: Totals, prepared: &[u64], x: Access, t: u32) -> bool
-    requires { ⌜ (n .authorizations * 24 ≤ length (now records)) × (length (now prepared) ≡ 684)
+    requires { ⌜ (n .authorizations * 24 ≤ length (now records)) × (length (now prepared) ≡ 492)
         × HandedIn (now records) n (now prepared) (decode (now s)) × (accessIn x ≡ true)
         × (soundBytes (now s) ≡ true) × ((base : Base) × BodiesIn (now records) n (decode (now s)) base) ⌝ }
     ensures { λ r. ⌜ ((base : Base) → BodiesIn (now (records .entry)) n (decode (now (s .entry))) base →
@@ -128,8 +129,8 @@ fn holds_drawn(s: &[u8], records: &[u8], n: Totals, prepared: &[u64], x: Access,
 {
     let mut outline = [0u64; OUTLINE];
     let mut coordinates = [0u8; PACKED];
-    copy_words(&prepared[LEFT..OUTLINE], &mut outline);
-    unpack(&prepared[OUTLINE..SUBJECT_COUNT], &mut coordinates);
+    copy_words(&prepared[LEFT..DRAWN], &mut outline[LEFT..DRAWN]);
+    unpack(&prepared[DRAWN..SUBJECT_COUNT], &mut coordinates);
     let e = Extent {
         subjects: prepared[SUBJECT_COUNT] as u32,
         objects: prepared[OBJECT_COUNT] as u32,
@@ -156,7 +157,7 @@ fn holds_drawn(s: &[u8], records: &[u8], n: Totals, prepared: &[u64], x: Access,
 
 // The same; where no rule stands for the access, the authorizations alone are asked.
 fn holds_handed(s: &[u8], records: &[u8], n: Totals, prepared: &[u64], x: Access, t: u32) -> bool
-    requires { ⌜ (n .authorizations * 24 ≤ length (now records)) × (length (now prepared) ≡ 684)
+    requires { ⌜ (n .authorizations * 24 ≤ length (now records)) × (length (now prepared) ≡ 492)
         × HandedIn (now records) n (now prepared) (decode (now s)) × (accessIn x ≡ true)
         × (soundBytes (now s) ≡ true) × ((base : Base) × BodiesIn (now records) n (decode (now s)) base) ⌝ }
     ensures { λ r. ⌜ ((base : Base) → BodiesIn (now (records .entry)) n (decode (now (s .entry))) base →

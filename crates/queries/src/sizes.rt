@@ -2,7 +2,7 @@
 // ones where they do, as clearing large ones takes longer than most answers.
 ghost use mathlib.Core.Path.{_≡_};
 ghost use Prim.Native.Nat.{ℕ, _*_, _^_, _≤_};
-ghost use lib.ListN.{length, getD, take};
+ghost use lib.ListN.{length, getD};
 ghost use Rattle.model.specs.Base.{Base};
 ghost use Rattle.model.specs.declared.Access.{Access};
 ghost use Rattle.engine.specs.Posed.{nothing, Finds};
@@ -17,6 +17,13 @@ use relevance::choose;
 use scan::Track;
 use selection::counts_some;
 use tables::Frame;
+
+// How many words tables of fields and broken bits take, by size; the last are enough for any base.
+const FEW_WORDS: usize = 128;
+
+const MORE_WORDS: usize = 1024;
+
+const ALL_WORDS: usize = 5975;
 
 // How wide fields can be: where one instant is asked, a bit is enough.
 fn width_of(one: bool, fields: u32, words: usize) -> u32
@@ -45,7 +52,7 @@ fn sized(f: Frame, one: bool, words: usize) -> Frame
     }
 }
 
-// How many words hold the broken bits, and one more, so that there are some.
+// How many words hold the broken bits, or one more.
 fn broken_words(bits: u32) -> usize
     ensures { λ n. ⌜ n ≡ brokenWords bits ⌝ }
 {
@@ -69,8 +76,7 @@ fn walk_narrow(
         (now numbers) w base x) ⌝ }
     ensures { λ r. ⌜ ((base : Base) (x : Access) → BegunIn (now (records .entry)) (now (outline .entry))
         (now (coordinates .entry)) (now (need .entry)) (now (numbers .entry)) w base x →
-        Finds (w .query) base x r (now (list .entry)) (now (list .exit)))
-        × (take 280 (now (outline .exit)) ≡ take 280 (now (outline .entry))) ⌝ }
+        Finds (w .query) base x r (now (list .entry)) (now (list .exit))) ⌝ }
 {
     let q = w.query;
     let f = w.frame;
@@ -104,8 +110,7 @@ fn walk_wide(
         (now numbers) w base x) ⌝ }
     ensures { λ r. ⌜ ((base : Base) (x : Access) → BegunIn (now (records .entry)) (now (outline .entry))
         (now (coordinates .entry)) (now (need .entry)) (now (numbers .entry)) w base x →
-        Finds (w .query) base x r (now (list .entry)) (now (list .exit)))
-        × (take 280 (now (outline .exit)) ≡ take 280 (now (outline .entry))) ⌝ }
+        Finds (w .query) base x r (now (list .entry)) (now (list .exit))) ⌝ }
 {
     let q = w.query;
     let f = w.frame;
@@ -138,10 +143,9 @@ fn with_few_tables(
         (now numbers) w base x) ⌝ }
     ensures { λ r. ⌜ ((base : Base) (x : Access) → BegunIn (now (records .entry)) (now (outline .entry))
         (now (coordinates .entry)) (now (need .entry)) (now (numbers .entry)) w base x →
-        Finds (w .query) base x r (now (list .entry)) (now (list .exit)))
-        × (take 280 (now (outline .exit)) ≡ take 280 (now (outline .entry))) ⌝ }
+        Finds (w .query) base x r (now (list .entry)) (now (list .exit))) ⌝ }
 {
-    let mut work = [0u64; 128];
+    let mut work = [0u64; FEW_WORDS];
     let q = w.query;
     if q.from == q.to {
         return walk_narrow(
@@ -183,10 +187,9 @@ fn with_more_tables(
         (now numbers) w base x) ⌝ }
     ensures { λ r. ⌜ ((base : Base) (x : Access) → BegunIn (now (records .entry)) (now (outline .entry))
         (now (coordinates .entry)) (now (need .entry)) (now (numbers .entry)) w base x →
-        Finds (w .query) base x r (now (list .entry)) (now (list .exit)))
-        × (take 280 (now (outline .exit)) ≡ take 280 (now (outline .entry))) ⌝ }
+        Finds (w .query) base x r (now (list .entry)) (now (list .exit))) ⌝ }
 {
-    let mut work = [0u64; 1024];
+    let mut work = [0u64; MORE_WORDS];
     let q = w.query;
     if q.from == q.to {
         return walk_narrow(
@@ -227,10 +230,9 @@ fn with_all_tables(
         (now numbers) w base x) ⌝ }
     ensures { λ r. ⌜ ((base : Base) (x : Access) → BegunIn (now (records .entry)) (now (outline .entry))
         (now (coordinates .entry)) (now (need .entry)) (now (numbers .entry)) w base x →
-        Finds (w .query) base x r (now (list .entry)) (now (list .exit)))
-        × (take 280 (now (outline .exit)) ≡ take 280 (now (outline .entry))) ⌝ }
+        Finds (w .query) base x r (now (list .entry)) (now (list .exit))) ⌝ }
 {
-    let mut work = [0u64; 5975];
+    let mut work = [0u64; ALL_WORDS];
     let q = w.query;
     if q.from == q.to {
         return walk_narrow(
@@ -272,27 +274,26 @@ fn with_fields(
         (now numbers) w base x) ⌝ }
     ensures { λ r. ⌜ ((base : Base) (x : Access) → BegunIn (now (records .entry)) (now (outline .entry))
         (now (coordinates .entry)) (now (need .entry)) (now (numbers .entry)) w base x →
-        Finds (w .query) base x r (now (list .entry)) (now (list .exit)))
-        × (take 280 (now (outline .exit)) ≡ take 280 (now (outline .entry))) ⌝ }
+        Finds (w .query) base x r (now (list .entry)) (now (list .exit))) ⌝ }
 {
     let q = w.query;
     let f = w.frame;
     let kept = broken_words(w.bits);
     if q.from == q.to {
         let n = f.fields as usize / 64 + 1 + kept;
-        if n <= 128 {
+        if n <= FEW_WORDS {
             return with_few_tables(records, w, outline, coordinates, need, numbers, list);
         }
-        if n <= 1024 {
+        if n <= MORE_WORDS {
             return with_more_tables(records, w, outline, coordinates, need, numbers, list);
         }
         return with_all_tables(records, w, outline, coordinates, need, numbers, list);
     }
     let n = f.fields as usize + kept;
-    if n <= 128 {
+    if n <= FEW_WORDS {
         return with_few_tables(records, w, outline, coordinates, need, numbers, list);
     }
-    if n <= 1024 {
+    if n <= MORE_WORDS {
         return with_more_tables(records, w, outline, coordinates, need, numbers, list);
     }
     with_all_tables(records, w, outline, coordinates, need, numbers, list)
@@ -329,8 +330,7 @@ pub fn with_lines(
         (now numbers) w base x) ⌝ }
     ensures { λ r. ⌜ ((base : Base) (x : Access) → WalkGivenIn (now (records .entry)) (now (outline .entry))
         (now (coordinates .entry)) (now (need .entry)) (now (numbers .entry)) w base x →
-        Finds (w .query) base x r (now (list .entry)) (now (list .exit)))
-        × (take 280 (now (outline .exit)) ≡ take 280 (now (outline .entry))) ⌝ }
+        Finds (w .query) base x r (now (list .entry)) (now (list .exit))) ⌝ }
 {
     let q = w.query;
     let c = w.chosen;

@@ -5,18 +5,19 @@ use mathlib.Core.Path.{_≡_, refl, sym, ap, _∙_}
 use mathlib.Core.Logic.{_⊎_, inl, inr, ⊎-elim}
 use mathlib.Core.Bool.{Bool, true, false, not, _&&_, _||_, false≢true}
 use mathlib.Core.List.{List}
-use Prim.Native.Nat.{ℕ, suc, _+_, _*_, _-_, _/_, _%_, _≤_, _<_}
+use Prim.Native.Nat.{ℕ, suc, _+_, _-_, _/_, _%_, _≤_, _<_}
 use native.Mathlib.Omega.{arith}
-use lib.Bits.{bitAnd, bitOr, or-add-and, and-comm, or-lt, and-le-l}
+use lib.Bits.{bitOr, or-add-and, and-comm, or-lt, and-le-l}
 use lib.Dec.{eqb, leb, ltb}
 use lib.ListN.{length, getD, set, length-set}
-use Rattle.foundation.specs.Tests.{pick, cases, true-eq, false-eq, or-cases, or-intro-left, or-true-right}
+use Rattle.foundation.specs.Tests.{cases, true-eq, false-eq, or-intro-left, or-true-right}
 use Rattle.foundation.specs.Tests.{and-intro, and-true, eq-true, true-le, false-le}
 use Rattle.foundation.specs.BitMasks.{bit, none-set}
 use Rattle.foundation.specs.BitLaws.{bit-or}
-use Rattle.words.specs.Bits.{bit-less, less}
+use Rattle.words.specs.Bits.{less}
+use Rattle.words.proofs.CutBit.{bit-less}
 use Rattle.words.proofs.SumFacts.{sum-set}
-use Rattle.reach.specs.Net.{Net, has, standing, aimPair, aimBits, Followed, ClosedBut, ClosedNet}
+use Rattle.reach.specs.Net.{Net, has, standing, rightPair, rightNeeds, Followed, ClosedBut, ClosedNet}
 use Rattle.reach.specs.Net.{OnlyWhere, ClosedUnderRules}
 use Rattle.reach.specs.Reach.{remaining, Grown, KeepsWithin, ReachStep}
 use Rattle.reach.proofs.Tables.{has-set, sum-small, set-small, past}
@@ -135,22 +136,22 @@ grown-then a b = record {
 
 module _ (right : List ℕ) (rules subjects o s m : ℕ) where
   -- what the first r of the rules look at is needed
-  abbrev pub AimsNeeded : ℕ → List ℕ → Type 0
-  AimsNeeded r need = (q : ℕ) → q < r → bit q rules ≡ true → (b : ℕ) → bit b (aimBits right q m) ≡ true →
-      has need (aimPair right subjects q o s) b ≡ true
+  abbrev pub RightsNeeded : ℕ → List ℕ → Type 0
+  RightsNeeded r need = (q : ℕ) → q < r → bit q rules ≡ true → (b : ℕ) → bit b (rightNeeds right q m) ≡ true →
+      has need (rightPair right subjects q o s) b ≡ true
 
-  pub done-start : (r : ℕ) (need : List ℕ) → ((i : ℕ) → i < r → bit i rules ≡ false) → AimsNeeded r need
+  pub done-start : (r : ℕ) (need : List ℕ) → ((i : ℕ) → i < r → bit i rules ≡ false) → RightsNeeded r need
   done-start r need z q l e = absurd (false≢true (sym (z q l) ∙ e))
 
-  pub done-turn : (r r′ : ℕ) {n t n′ t′ : List ℕ} → AimsNeeded r n → Grown n t n′ t′ →
-      ((b : ℕ) → bit b (aimBits right r m) ≡ true → has n′ (aimPair right subjects r o s) b ≡ true) →
-      ((i : ℕ) → r + 1 ≤ i → i < r′ → bit i rules ≡ false) → AimsNeeded r′ n′
+  pub done-turn : (r r′ : ℕ) {n t n′ t′ : List ℕ} → RightsNeeded r n → Grown n t n′ t′ →
+      ((b : ℕ) → bit b (rightNeeds right r m) ≡ true → has n′ (rightPair right subjects r o s) b ≡ true) →
+      ((i : ℕ) → r + 1 ≤ i → i < r′ → bit i rules ≡ false) → RightsNeeded r′ n′
   done-turn r r′ {n′ = n′} d g now z q l e b f = cases (leb q r)
       (λ x. let y = true-le q r x in cases (eqb q r)
       (λ u. let v : q ≡ r = true-eq q r u in
-      ap (λ (q : ℕ). has n′ (aimPair right subjects q o s) b) v
-      ∙ now b (ap (λ (q : ℕ). bit b (aimBits right q m)) (sym v) ∙ f))
-      (λ u. let v = false-eq q r u in g .more (aimPair right subjects q o s) b (d q (omega arith) e b f)))
+      ap (λ (q : ℕ). has n′ (rightPair right subjects q o s) b) v
+      ∙ now b (ap (λ (q : ℕ). bit b (rightNeeds right q m)) (sym v) ∙ f))
+      (λ u. let v = false-eq q r u in g .more (rightPair right subjects q o s) b (d q (omega arith) e b f)))
       (λ x. let y = false-le q r x in absurd (false≢true (sym (z q (omega arith) l) ∙ e)))
 
 -- where nothing is, P need hold nowhere

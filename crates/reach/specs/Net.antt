@@ -1,16 +1,17 @@
 -- The net of places that a question can rest on. A place is a subject, an object and a mode, by their
--- coordinates; a pair is a subject with an object, numbered object by object. Bit m of what is needed at a
--- pair stands for mode m, positive, and bit 8 + m for mode m, denied. A rule leads from the places of its
--- left side to that of its right side.
+-- coordinates; a pair is a subject with an object, numbered object by object. A rule leads from the places of
+-- its left side to that of its right side.
 use mathlib.Core.Path.{_≡_}
-use mathlib.Core.Bool.{Bool, true, _||_}
+use mathlib.Core.Bool.{Bool, true}
 use mathlib.Core.List.{List}
-use Prim.Native.Nat.{ℕ, _+_, _*_, _/_, _%_, _^_, _≤_, _<_}
+use Prim.Native.Nat.{ℕ, _+_, _*_, _%_, _≤_, _<_}
 use lib.Bits.{bitAnd}
-use lib.Dec.{eqb, ltb}
+use lib.Dec.{eqb}
 use lib.ListN.{getD}
 use Rattle.foundation.specs.Tests.{pick}
 use Rattle.foundation.specs.BitMasks.{bit}
+use Rattle.places.specs.ReachedNumbers.{pairIndex, indexObject, indexSubject}
+use Rattle.places.specs.Needs.{needsOf}
 
 -- `left` has the rules that stand on an object, 65 words, on a subject, 65, and on a mode with a sign, 16
 -- (what is behind those is not looked at); `right` four numbers a rule: object, subject and mode of its right
@@ -29,15 +30,13 @@ abbrev pub turned : ℕ → ℕ → ℕ
 turned code own = pick (eqb code 255) own code
 
 -- the pair on the right of rule r, seen from o and s
-unfoldable pub aimPair : List ℕ → ℕ → ℕ → ℕ → ℕ → ℕ
-aimPair right subjects r o s = turned (getD right (4 * r) 0) o * subjects + turned (getD right (4 * r + 1)
-    0) s
+unfoldable pub rightPair : List ℕ → ℕ → ℕ → ℕ → ℕ → ℕ
+rightPair right subjects r o s =
+    pairIndex subjects (turned (getD right (4 * r) 0) o) (turned (getD right (4 * r + 1) 0) s)
 
 -- what it needs there, seen from mode m
-unfoldable pub aimBits : List ℕ → ℕ → ℕ → ℕ
-aimBits right r m =
-    let signs = getD right (4 * r + 3) 0 in
-    (signs % 2 + 256 * (signs / 2)) * 2 ^ turned (getD right (4 * r + 2) 0) m
+unfoldable pub rightNeeds : List ℕ → ℕ → ℕ → ℕ
+rightNeeds right r m = needsOf (getD right (4 * r + 3) 0) (turned (getD right (4 * r + 2) 0) m)
 
 -- the codes of rule r: coordinates below the counts, or stars
 pub record CodedRight (right : List ℕ) (objects subjects r : ℕ) : Type 0 where
@@ -57,7 +56,7 @@ pub record Formed (right : List ℕ) (subjects size : ℕ) : Type 0 where
 
 -- from an object, a subject and a mode rule r leads to one of `size` pairs and to a mode
 pub record Led (right : List ℕ) (subjects size o s m r : ℕ) : Type 0 where
-  pub pair : aimPair right subjects r o s < size
+  pub pair : rightPair right subjects r o s < size
   pub mode : turned (getD right (4 * r + 2) 0) m < 8
   pub signs : getD right (4 * r + 3) 0 < 4
 
@@ -65,20 +64,28 @@ pub record Led (right : List ℕ) (subjects size o s m r : ℕ) : Type 0 where
 abbrev pub has : List ℕ → ℕ → ℕ → Bool
 has l j k = bit k (getD l j 0)
 
+-- the rules that stand at pair j with bit k, and the pair on the right of rule r, seen from there
+abbrev pub standingAt : Net → ℕ → ℕ → ℕ
+standingAt net j k = standing (net .left) (indexObject (net .subjects) j) (indexSubject (net .subjects) j) k
+
+abbrev pub pairOnRight : Net → ℕ → ℕ → ℕ
+pairOnRight net r j =
+    rightPair (net .right) (net .subjects) r (indexObject (net .subjects) j) (indexSubject (net .subjects) j)
+
 -- what is needed by rule r where it stands at pair j with bit k is needed
 abbrev pub Followed : Net → ℕ → ℕ → ℕ → List ℕ → Type 0
-Followed net j k r need = (b : ℕ) → bit b (aimBits (net .right) r (k % 8)) ≡ true →
-    has need (aimPair (net .right) (net .subjects) r (j / net .subjects) (j % net .subjects)) b ≡ true
+Followed net j k r need = (b : ℕ) → bit b (rightNeeds (net .right) r (k % 8)) ≡ true →
+    has need (pairOnRight net r j) b ≡ true
 
 -- all that is needed is followed, but for what is still to do
 abbrev pub ClosedBut : Net → List ℕ → List ℕ → Type 0
 ClosedBut net need todo = (j k : ℕ) → has need j k ≡ true → (has todo j k ≡ true → ⊥) → (r : ℕ) → r < 64 →
-    bit r (standing (net .left) (j / net .subjects) (j % net .subjects) k) ≡ true → Followed net j k r need
+    bit r (standingAt net j k) ≡ true → Followed net j k r need
 
 -- with every place that is needed, those are that the rules standing there look at
 abbrev pub ClosedNet : Net → List ℕ → Type 0
 ClosedNet net need = (j k : ℕ) → has need j k ≡ true → (r : ℕ) → r < 64 →
-    bit r (standing (net .left) (j / net .subjects) (j % net .subjects) k) ≡ true → Followed net j k r need
+    bit r (standingAt net j k) ≡ true → Followed net j k r need
 
 -- ---- no more than that
 
@@ -89,8 +96,7 @@ OnlyWhere P l = (j k : ℕ) → has l j k ≡ true → P j ≡ true
 -- from where P holds, the rules that stand there lead to where it holds
 abbrev pub ClosedUnderRules : Net → (ℕ → Bool) → Type 0
 ClosedUnderRules net P = (j k r : ℕ) → P j ≡ true → r < 64 →
-    bit r (standing (net .left) (j / net .subjects) (j % net .subjects) k) ≡ true →
-    P (aimPair (net .right) (net .subjects) r (j / net .subjects) (j % net .subjects)) ≡ true
+    bit r (standingAt net j k) ≡ true → P (pairOnRight net r j) ≡ true
 
 -- what is needed is only at the pair asked about and where rules lead from there
 abbrev pub Only : Net → ℕ → List ℕ → Type 0

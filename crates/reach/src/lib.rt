@@ -5,9 +5,16 @@ ghost use mathlib.Core.Bool.{Bool, true};
 ghost use Prim.Native.Nat.{ℕ, _+_, _*_, _/_, _%_, _≤_, _<_};
 ghost use lib.ListN.{length, getD};
 ghost use Rattle.foundation.specs.BitMasks.{bit};
-ghost use Rattle.reach.specs.Net.{Net, standing, turned, aimPair, aimBits, Led, Formed, has, ClosedNet};
+ghost use Rattle.reach.specs.Net.{standing, turned, rightPair, rightNeeds, Led, Formed, has};
+ghost use Rattle.reach.specs.Net.{ClosedNet};
 ghost use Rattle.reach.specs.Net.{Only};
 ghost use Rattle.reach.specs.Reach.{Grown, KeepsWithin, ReachStep};
+use places::Pair;
+use places::needs_of;
+use places::pair_index;
+use places::pair_of_index;
+use sections::LEFT_MODES;
+use sections::LEFT_SUBJECTS;
 use words::next_bit;
 
 // The place that rules lead on from: the coordinates of its object, subject and mode, and how many subjects
@@ -30,25 +37,27 @@ fn turn(code: u8, own: usize) -> usize
 }
 
 // The pair on the right of rule r.
-fn aim_pair(right: &[u8], r: usize, at: Origin) -> usize
-    requires { ⌜ (r < 64) × (aimPair (now right) (at .subjects) r (at .object) (at .subject)
+fn right_pair(right: &[u8], r: usize, at: Origin) -> usize
+    requires { ⌜ (r < 64) × (rightPair (now right) (at .subjects) r (at .object) (at .subject)
         < 18446744073709551616) × (256 ≤ length (now right)) ⌝ }
-    ensures { λ p. ⌜ p ≡ aimPair (now (right .entry)) (at .subjects) r (at .object) (at .subject) ⌝ }
+    ensures { λ p. ⌜ p ≡ rightPair (now (right .entry)) (at .subjects) r (at .object) (at .subject) ⌝ }
 {
-    let o = turn(right[4 * r], at.object);
-    let s = turn(right[4 * r + 1], at.subject);
-    o * at.subjects + s
+    let p = Pair {
+        object: turn(right[4 * r], at.object),
+        subject: turn(right[4 * r + 1], at.subject),
+    };
+    pair_index(p, at.subjects)
 }
 
 // What rule r needs there, seen from a mode.
-fn aim_bits(right: &[u8], r: usize, mode: usize) -> u16
+fn right_needs(right: &[u8], r: usize, mode: usize) -> u16
     requires { ⌜ (r < 64) × (turned (getD (now right) (4 * r + 2) 0) mode < 8)
         × (getD (now right) (4 * r + 3) 0 < 4) × (256 ≤ length (now right)) ⌝ }
-    ensures { λ b. ⌜ b ≡ aimBits (now (right .entry)) r mode ⌝ }
+    ensures { λ b. ⌜ b ≡ rightNeeds (now (right .entry)) r mode ⌝ }
 {
     let signs = fields::u16_of(right[4 * r + 3]);
     let m = turn(right[4 * r + 2], mode);
-    (signs % 2 + 256 * (signs / 2)) << m
+    needs_of(signs, m)
 }
 
 // Needs bits at a pair; what is new is to do.
@@ -71,18 +80,18 @@ fn follow(right: &[u8], rules: u64, at: Origin, need: &mut [u16], todo: &mut [u1
         × (256 ≤ length (now right)) ⌝ }
     ensures { λ _. ⌜ Grown (now (need .entry)) (now (todo .entry)) (now (need .exit)) (now (todo .exit))
         × ((r : ℕ) → r < 64 → bit r rules ≡ true → (b : ℕ) →
-        bit b (aimBits (now (right .entry)) r (at .mode)) ≡ true →
-        has (now (need .exit)) (aimPair (now (right .entry)) (at .subjects) r (at .object) (at .subject)) b
+        bit b (rightNeeds (now (right .entry)) r (at .mode)) ≡ true →
+        has (now (need .exit)) (rightPair (now (right .entry)) (at .subjects) r (at .object) (at .subject)) b
         ≡ true)
         × ((P : ℕ → Bool) → ((r : ℕ) → r < 64 → bit r rules ≡ true →
-        P (aimPair (now (right .entry)) (at .subjects) r (at .object) (at .subject)) ≡ true) →
+        P (rightPair (now (right .entry)) (at .subjects) r (at .object) (at .subject)) ≡ true) →
         KeepsWithin P (now (need .entry)) (now (todo .entry)) (now (need .exit)) (now (todo .exit))) ⌝ }
 {
     let mut r = next_bit(rules, 0);
     while r < 64 {
         let q = r as usize;
-        let pair = aim_pair(right, q, at);
-        let bits = aim_bits(right, q, at.mode);
+        let pair = right_pair(right, q, at);
+        let bits = right_needs(right, q, at.mode);
         ask(need, todo, pair, bits);
         r = next_bit(rules, r + 1);
     }
@@ -93,7 +102,7 @@ fn stand(left: &[u64], o: usize, s: usize, k: usize) -> u64
     requires { ⌜ (o < 65) × (s < 65) × (k < 16) × (152 ≤ length (now left)) ⌝ }
     ensures { λ r. ⌜ r ≡ standing (now (left .entry)) o s k ⌝ }
 {
-    left[o] & left[65 + s] & left[130 + k]
+    left[o] & left[LEFT_SUBJECTS + s] & left[LEFT_MODES + k]
 }
 
 // The first bit of a word of 16 that is not 0.
@@ -105,7 +114,7 @@ fn lowest(x: u16) -> usize
 }
 
 // A word of 16 bits without bit k.
-fn without(x: u16, k: usize) -> u16
+fn without_bit(x: u16, k: usize) -> u16
     requires { ⌜ (k < 16) × (bit k x ≡ true) ⌝ }
     ensures { λ r. ⌜ (r < x) × ((i : ℕ) → bit i r ≡ true → bit i x ≡ true)
         × ((i : ℕ) → bit i x ≡ true → (i ≡ k → ⊥) → bit i r ≡ true) ⌝ }
@@ -114,7 +123,7 @@ fn without(x: u16, k: usize) -> u16
 }
 
 // Follows one bit of what is to do at a pair.
-fn step(
+fn follow_bit(
     left: &[u64],
     right: &[u8],
     subjects: usize,
@@ -130,16 +139,15 @@ fn step(
         (now (need .entry)) (now (todo .entry)) (now (need .exit)) (now (todo .exit)) ⌝ }
 {
     let k = lowest(todo[pair]);
-    let o = pair / subjects;
-    let s = pair % subjects;
+    let p = pair_of_index(pair, subjects);
     let at = Origin {
-        object: o,
-        subject: s,
+        object: p.object,
+        subject: p.subject,
         mode: k % 8,
         subjects: subjects,
     };
-    follow(right, stand(left, o, s, k), at, need, todo);
-    todo[pair] = without(todo[pair], k);
+    follow(right, stand(left, p.object, p.subject, k), at, need, todo);
+    todo[pair] = without_bit(todo[pair], k);
 }
 
 // The first pair from `from` on with something to do, or how many there are.
@@ -204,7 +212,7 @@ pub fn reach(
     ask(need, todo, pair, bits);
     let mut j = next_todo(todo, pair);
     while j < todo.len() {
-        step(left, right, subjects, j, need, todo);
+        follow_bit(left, right, subjects, j, need, todo);
         j = next_todo(todo, j);
     }
 }

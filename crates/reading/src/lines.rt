@@ -74,7 +74,7 @@ fn no_rule() -> RuleTerms
 }
 
 // A request that names no rule.
-fn request(
+fn plain_request(
     kind: u32,
     time: u32,
     who: u32,
@@ -106,7 +106,7 @@ fn plain(kind: u32, time: u32, who: u32, label: u32, object: u32, subject: u32) 
     ensures { λ r. ⌜ order r ≡ ordering kind time who label 0 object subject (interval 0 0) false noRule ⌝ }
 {
     let span = Interval { start: 0, end: 0 };
-    request(kind, time, who, label, 0, object, subject, span, false)
+    plain_request(kind, time, who, label, 0, object, subject, span, false)
 }
 
 // NEW: an object.
@@ -158,7 +158,7 @@ fn interval_line(s: &[u8], at: usize, kind: u32, time: u32, who: u32) -> Parsed
         start: start.value,
         end: end.value,
     };
-    let q = request(
+    let q = plain_request(
         kind,
         time,
         who,
@@ -187,7 +187,7 @@ fn grant_line(s: &[u8], at: usize, time: u32, who: u32) -> Parsed
         start: start.value,
         end: end.value,
     };
-    let q = request(
+    let q = plain_request(
         GRANT,
         time,
         who,

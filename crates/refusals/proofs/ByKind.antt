@@ -40,23 +40,23 @@ module _ (b : Base) (q : Request) where
   abbrev objectRow : Bool → Bool → Bool
   objectRow named rule = (named && missing) || (rule && ruleMissing)
 
-  object-rule : q .kind ≡ 7 → ruleMissing ≡ noObject b q
+  object-rule : q .kind ≡ ADDRULE → ruleMissing ≡ noObject b q
   object-rule e = sym (ap (λ (k : ℕ). objectRow
       (oneOf k (NEW ∷ GRANT ∷ DENY ∷ REVOKEP ∷ REVOKEN ∷ GRANTADM ∷ REVOKEADM ∷ GRANTREF ∷ REVOKEREF ∷ [])
       && not (oneOf k (NEW ∷ []))) (oneOf k (ADDRULE ∷ []))) e)
 
   -- the rule's objects and whether they exist as code has found them
-  pub object-rule-found : q .kind ≡ 7 → (l r : ℕ) (x y : Bool) → l ≡ leftObject q → r ≡ rightObject q →
+  pub object-rule-found : q .kind ≡ ADDRULE → (l r : ℕ) (x y : Bool) → l ≡ leftObject q → r ≡ rightObject q →
       x ≡ exists b l → y ≡ exists b r → not (eqb l 0 || (x && y)) ≡ noObject b q
   object-rule-found e l r x y f g h i =
       (λ t. not (eqb (f t) 0 || ((h ∙ ap (exists b) f) t && (i ∙ ap (exists b) g) t))) ∙ object-rule e
 
-  module _ (f : q .kind ≡ 7 → ⊥) where
+  module _ (f : q .kind ≡ ADDRULE → ⊥) where
     pub object-named : namesObject q && not (is q (NEW ∷ [])) ≡ true → missing ≡ noObject b q
-    object-named e = sym ((λ t. objectRow (e t) (no-kind (q .kind) 7 f t)) ∙ or-false missing)
+    object-named e = sym ((λ t. objectRow (e t) (no-kind (q .kind) ADDRULE f t)) ∙ or-false missing)
 
     pub object-none : namesObject q && not (is q (NEW ∷ [])) ≡ false → false ≡ noObject b q
-    object-none e = sym (λ t. objectRow (e t) (no-kind (q .kind) 7 f t))
+    object-none e = sym (λ t. objectRow (e t) (no-kind (q .kind) ADDRULE f t))
 
   -- ---- row 7
 
@@ -72,14 +72,14 @@ module _ (b : Base) (q : Request) where
   abbrev labelRowAt : ℕ → Bool
   labelRowAt k = labelRow (oneOf k (REVOKE ∷ [])) (oneOf k (DROPRULE ∷ []))
 
-  pub label-revoke : q .kind ≡ 4 → unlabelled ≡ noLabel b q
+  pub label-revoke : q .kind ≡ REVOKE → unlabelled ≡ noLabel b q
   label-revoke e = sym (ap labelRowAt e ∙ or-false unlabelled)
 
-  pub label-drop : q .kind ≡ 8 → ruleUnlabelled ≡ noLabel b q
+  pub label-drop : q .kind ≡ DROPRULE → ruleUnlabelled ≡ noLabel b q
   label-drop e = sym (ap labelRowAt e)
 
-  pub label-none : (q .kind ≡ 4 → ⊥) → (q .kind ≡ 8 → ⊥) → false ≡ noLabel b q
-  label-none f g = sym (λ t. labelRow (no-kind (q .kind) 4 f t) (no-kind (q .kind) 8 g t))
+  pub label-none : (q .kind ≡ REVOKE → ⊥) → (q .kind ≡ DROPRULE → ⊥) → false ≡ noLabel b q
+  label-none f g = sym (λ t. labelRow (no-kind (q .kind) REVOKE f t) (no-kind (q .kind) DROPRULE g t))
 
   -- ---- row 8
 
@@ -103,26 +103,27 @@ module _ (b : Base) (q : Request) where
   permitRowAt k = permitRow (oneOf k (REVOKE ∷ [])) (oneOf k (DROPRULE ∷ [])) (oneOf k privilegeKinds)
       (oneOf k (ADDRULE ∷ []))
 
-  pub permit-revoke : q .kind ≡ 4 → otherGrantor ≡ notPermitted b q
+  pub permit-revoke : q .kind ≡ REVOKE → otherGrantor ≡ notPermitted b q
   permit-revoke e =
       sym (ap permitRowAt e ∙ or-false (otherGrantor || false || false) ∙ or-false (otherGrantor || false)
       ∙ or-false otherGrantor)
 
-  pub permit-drop : q .kind ≡ 8 → otherAuthor ≡ notPermitted b q
+  pub permit-drop : q .kind ≡ DROPRULE → otherAuthor ≡ notPermitted b q
   permit-drop e = sym (ap permitRowAt e ∙ or-false (otherAuthor || false) ∙ or-false otherAuthor)
 
-  permit-rule : q .kind ≡ 7 → noPower ≡ notPermitted b q
+  permit-rule : q .kind ≡ ADDRULE → noPower ≡ notPermitted b q
   permit-rule e = sym (ap permitRowAt e)
 
-  pub permit-rule-found : q .kind ≡ 7 → (l r : ℕ) (x : Bool) → l ≡ leftObject q → r ≡ rightObject q →
+  pub permit-rule-found : q .kind ≡ ADDRULE → (l r : ℕ) (x : Bool) → l ≡ leftObject q → r ≡ rightObject q →
       x ≡ mayRule b (q .requester) l r → not (eqb l 0 || x) ≡ notPermitted b q
   permit-rule-found e l r x f g h =
       (λ t. not (eqb (f t) 0 || (h ∙ ap₂ (mayRule b (q .requester)) f g) t)) ∙ permit-rule e
 
-  module _ (f : q .kind ≡ 4 → ⊥) (g : q .kind ≡ 8 → ⊥) (h : q .kind ≡ 7 → ⊥) where
+  module _ (f : q .kind ≡ REVOKE → ⊥) (g : q .kind ≡ DROPRULE → ⊥) (h : q .kind ≡ ADDRULE → ⊥) where
     permit-otherwise : (x : Bool) → is q privilegeKinds ≡ x → notPermitted b q ≡ permitRow false false x false
     permit-otherwise x e =
-        λ t. permitRow (no-kind (q .kind) 4 f t) (no-kind (q .kind) 8 g t) (e t) (no-kind (q .kind) 7 h t)
+        λ t. permitRow (no-kind (q .kind) REVOKE f t) (no-kind (q .kind) DROPRULE g t) (e t)
+        (no-kind (q .kind) ADDRULE h t)
 
     pub permit-privilege : is q privilegeKinds ≡ true → notOwner ≡ notPermitted b q
     permit-privilege e = sym (permit-otherwise true e ∙ or-false notOwner)
@@ -143,19 +144,20 @@ module _ (b : Base) (q : Request) where
   abbrev thereRowAt : ℕ → Bool
   thereRowAt k = thereRow (oneOf k (NEW ∷ [])) (oneOf k (GRANTADM ∷ [])) (oneOf k (GRANTREF ∷ []))
 
-  pub there-new : q .kind ≡ 1 → exists b (q .object) ≡ alreadyThere b q
+  pub there-new : q .kind ≡ NEW → exists b (q .object) ≡ alreadyThere b q
   there-new e = sym (ap thereRowAt e ∙ or-false (exists b (q .object) || false)
       ∙ or-false (exists b (q .object)))
 
-  pub there-administrator : q .kind ≡ 9 → controls b (q .object) (q .subject) ≡ alreadyThere b q
+  pub there-administrator : q .kind ≡ GRANTADM → controls b (q .object) (q .subject) ≡ alreadyThere b q
   there-administrator e = sym (ap thereRowAt e ∙ or-false (controls b (q .object) (q .subject)))
 
-  pub there-referrer : q .kind ≡ 11 → referrerThere ≡ alreadyThere b q
+  pub there-referrer : q .kind ≡ GRANTREF → referrerThere ≡ alreadyThere b q
   there-referrer e = sym (ap thereRowAt e)
 
-  pub there-none : (q .kind ≡ 1 → ⊥) → (q .kind ≡ 9 → ⊥) → (q .kind ≡ 11 → ⊥) → false ≡ alreadyThere b q
-  there-none f g h = sym (λ t. thereRow (no-kind (q .kind) 1 f t) (no-kind (q .kind) 9 g t)
-      (no-kind (q .kind) 11 h t))
+  pub there-none : (q .kind ≡ NEW → ⊥) → (q .kind ≡ GRANTADM → ⊥) → (q .kind ≡ GRANTREF → ⊥) →
+      false ≡ alreadyThere b q
+  there-none f g h = sym (λ t. thereRow (no-kind (q .kind) NEW f t) (no-kind (q .kind) GRANTADM g t)
+      (no-kind (q .kind) GRANTREF h t))
 
   -- ---- row 11
 
@@ -171,22 +173,22 @@ module _ (b : Base) (q : Request) where
   abbrev heldRowAt : ℕ → Bool
   heldRowAt k = heldRow (oneOf k (REVOKEADM ∷ [])) (oneOf k (REVOKEREF ∷ []))
 
-  pub held-administrator : q .kind ≡ 10 → notAdministrator ≡ notHeld b q
+  pub held-administrator : q .kind ≡ REVOKEADM → notAdministrator ≡ notHeld b q
   held-administrator e = sym (ap heldRowAt e ∙ or-false notAdministrator)
 
-  pub held-referrer : q .kind ≡ 12 → notReferrer ≡ notHeld b q
+  pub held-referrer : q .kind ≡ REVOKEREF → notReferrer ≡ notHeld b q
   held-referrer e = sym (ap heldRowAt e)
 
-  pub held-none : (q .kind ≡ 10 → ⊥) → (q .kind ≡ 12 → ⊥) → false ≡ notHeld b q
-  held-none f g = sym (λ t. heldRow (no-kind (q .kind) 10 f t) (no-kind (q .kind) 12 g t))
+  pub held-none : (q .kind ≡ REVOKEADM → ⊥) → (q .kind ≡ REVOKEREF → ⊥) → false ≡ notHeld b q
+  held-none f g = sym (λ t. heldRow (no-kind (q .kind) REVOKEADM f t) (no-kind (q .kind) REVOKEREF g t))
 
   -- ---- row 12
 
   -- the new rule is tested under the label 1
-  pub strata-rule : q .kind ≡ 7 → not (stratified (b .rules ++ (newRule 1 q ∷ []))) ≡ notStratified b q
+  pub strata-rule : q .kind ≡ ADDRULE → not (stratified (b .rules ++ (newRule 1 q ∷ []))) ≡ notStratified b q
   strata-rule e =
       let k : is q (ADDRULE ∷ []) ≡ true = ap (λ (n : ℕ). oneOf n (ADDRULE ∷ [])) e in
       rw k (ap not (label-free (b .rules) (newRule 1 q) (newRule (suc (b .last)) q) refl))
 
-  pub strata-none : (q .kind ≡ 7 → ⊥) → false ≡ notStratified b q
-  strata-none f = sym (λ t. no-kind (q .kind) 7 f t && not (stratified (rulesAfter b q)))
+  pub strata-none : (q .kind ≡ ADDRULE → ⊥) → false ≡ notStratified b q
+  strata-none f = sym (λ t. no-kind (q .kind) ADDRULE f t && not (stratified (rulesAfter b q)))

@@ -1,5 +1,5 @@
 -- Tests that code joins from the left, as the tests of a list.
-use mathlib.Core.Path.{_≡_, refl, sym, _∙_}
+use mathlib.Core.Path.{_≡_, sym, _∙_}
 use mathlib.Core.Bool.{Bool, false, _||_}
 use mathlib.Core.List.{List, [], _∷_}
 use Rattle.foundation.specs.Tests.{or-assoc, or-false}

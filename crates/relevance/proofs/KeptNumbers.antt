@@ -1,19 +1,20 @@
 -- Numbers that are kept: each is put behind those kept so far, and counted if it passes.
+use borrow.Author.Needs.{needs}
 use mathlib.Core.Path.{_≡_, refl, sym, ap, ap₂, _∙_, subst}
 use mathlib.Core.Bool.{Bool, true, false, _&&_}
 use mathlib.Core.List.{List, [], _∷_, _++_, map, append-nil}
-use Prim.Native.Nat.{ℕ, suc, _+_, _*_, _/_, _%_, _^_, _≤_, _<_}
-use native.Mathlib.Nat.{mul-le-mul, div-one, add-mul}
+use Prim.Native.Nat.{ℕ, suc, _+_, _*_, _≤_, _<_}
+use native.Mathlib.Nat.{mul-le-mul, add-mul}
 use native.Mathlib.Numerals.{add-one}
 use native.Mathlib.Omega.{arith}
-use lib.Bits.{bitAnd}
 use lib.Dec.{eqb, leb, ltb}
+use mir.Val.{Fits}
+use mir.Syntax.{w64}
 use lib.ListN.{length, getD, set, length-set}
 use lib.Seq.{take-set-le, getD-set-same, getD-set-other}
 use Rattle.foundation.specs.Tests.{pick, cases, le-true, true-le, false-le, and-intro, or-none, true-eq}
 use Rattle.foundation.specs.Tests.{false-eq}
 use Rattle.foundation.specs.Lists.{keepIf, keepIf-append}
-use Rattle.foundation.specs.BitMasks.{bit, mask-test}
 use Rattle.foundation.specs.CoordinateTables.{coordinate}
 use Rattle.foundation.specs.ByteRecords.{records-split}
 use Rattle.foundation.specs.declared.Interval.{Interval}
@@ -23,10 +24,12 @@ use Rattle.model.specs.declared.Head.{Head}
 use Rattle.model.specs.Encoding.{authorizationOf}
 use Rattle.encoding.specs.Format.{authorizationsIn}
 use Rattle.relevance.specs.declared.choice.Cell.{Cell}
-use Rattle.relevance.specs.Chosen.{authorizationAt, picked, picked-none, picked-more, Picks}
+use Rattle.relevance.specs.Chosen.{authorizationAt, picked, Picks}
+use Rattle.relevance.proofs.PickedFacts.{picked-none, picked-more}
 use Rattle.relevance.specs.Needed.{cellOf, neededIn, isNeeded, isChosen}
 use Rattle.relevance.specs.Needed.{HeadInRange, CellInTable, ChoiceReady, Choice}
 use Rattle.relevance.specs.Forgotten.{during, endsFrom, Forgets}
+use Rattle.relevance.proofs.PickedLoops.{picked-loop}
 
 -- the number of one of `total` lies in their bytes
 pub number-inside : (i total : ℕ) (s : List ℕ) → i < total → total * 24 ≤ length s → i * 24 + 24 ≤ length s
@@ -83,6 +86,14 @@ module _ (test : Authorization → Bool) (s : List ℕ) (total : ℕ) (entry : L
     same-length = refl;
   }
 
+  -- the i-th has its place behind those written down, and can be counted
+  module _ (which : List ℕ) (n i : ℕ) (c : Chose which n i) (h : i < total) where
+    pub chose-room : total ≤ length entry → n < length which
+    chose-room room = omega (arith, c .few, c .same-length)
+
+    pub chose-counts : Fits w64 total → n < 18446744073709551615
+    chose-counts l = omega (arith, c .few)
+
   pub chose-turn : (which : List ℕ) (n i k : ℕ) (b : Bool) → Chose which n i → i < total →
       total ≤ length entry → b ≡ test (authorizationAt s i) → k ≡ pick b (n + 1) n →
       Chose (set which n i) k (i + 1)
@@ -126,6 +137,8 @@ module _ (test : Authorization → Bool) (s : List ℕ) (total : ℕ) (entry : L
         same-length = c .same-length;
       }
 
+pub ruleset chose-loop = (chose-start, chose-room, chose-counts, number-inside, chose-end, needs)
+
 -- ---- those that have not ended, of n
 
 module _ (s : List ℕ) (n t : ℕ) (entry : List ℕ) where
@@ -147,6 +160,21 @@ module _ (s : List ℕ) (n t : ℕ) (entry : List ℕ) where
     old = λ j h. (j, h, refl);
     same-length = refl;
   }
+
+  -- the numbers still name what lies in the bytes, and the i-th has its place behind those kept, and can be
+  -- counted
+  module _ (which : List ℕ) (kept i : ℕ) (f : Forgot which kept i) where
+    pub forgot-picks : Picks s entry n → Picks s which n
+    forgot-picks p = record {
+      room = omega (arith, f .same-length, p .room);
+      inside = λ j h. let w = f .old j h in omega (arith, w .2, p .inside (w .0) (w .1));
+    }
+
+    pub forgot-room : i < n → Picks s entry n → kept < length which
+    forgot-room h p = omega (arith, f .few, f .same-length, p .room)
+
+    pub forgot-counts : i < n → Fits w64 n → kept < 18446744073709551615
+    forgot-counts h l = omega (arith, f .few)
 
   pub forgot-turn : (which : List ℕ) (kept i w k : ℕ) (a : Authorization) (b : Bool) → Forgot which kept i →
       i < n → n ≤ length entry → w ≡ getD which i 0 → a ≡ authorizationAt s w → b ≡ endsFrom t a →
@@ -190,10 +218,7 @@ module _ (s : List ℕ) (n t : ℕ) (entry : List ℕ) where
         same-length = f .same-length;
       }
 
--- the number at i is of an authorization that lies in the bytes
-pub forgot-inside : {s : List ℕ} {n t : ℕ} {entry which : List ℕ} {kept i : ℕ} →
-    Forgot s n t entry which kept i → Picks s entry n → i < n → getD which i 0 * 24 + 24 ≤ length s
-forgot-inside {i = i} f p h = omega (arith, f .ahead i (omega arith), p .inside i h)
+pub ruleset forget-loop = (forgot-start, forgot-picks, forgot-room, forgot-counts, forgot-end, picked-loop)
 
 -- ---- places in the table
 
@@ -203,10 +228,6 @@ pub small : {c : Cell} {stride : ℕ} {need : List ℕ} → CellInTable c stride
 small {c} {stride} t =
     let m : c .object * stride ≤ 255 * 256 = mul-le-mul (t .object) (t .narrow) in
     omega (arith, t .subject)
-
--- the lowest bit of a shifted word
-pub shifted-bit : (x k : ℕ) → eqb (bitAnd (x / 2 ^ k) 1) 1 ≡ bit k x
-shifted-bit x k = mask-test 0 (x / 2 ^ k) ∙ ap (λ (n : ℕ). eqb (n % 2) 1) (div-one (x / 2 ^ k))
 
 -- a coordinate that is there is the entry of the table
 entered : (U : List ℕ) (own v c : ℕ) → c ≡ coordinate U own v → eqb c 255 ≡ false → c ≡ getD U v 0

@@ -22,7 +22,8 @@ use Rattle.model.specs.Encoding.{ruleOf}
 use Rattle.model.specs.Means.{marksOf, ruleMarks, marks}
 use Rattle.encoding.specs.Format.{rulesIn}
 use Rattle.foundation.specs.ByteRecords.{record-nth, length-records}
-use Rattle.relevance.specs.Chosen.{authorizationAt, picked, picked-none, picked-more}
+use Rattle.relevance.specs.Chosen.{authorizationAt, picked}
+use Rattle.relevance.proofs.PickedFacts.{picked-none, picked-more}
 use Rattle.relevance.specs.Chosen.{selectedFrom, selected}
 use Rattle.relevance.specs.Distance.{edge, lineEdges, ruleEdges, Away, reached}
 use Rattle.relevance.specs.Ahead.{IsNext, NearAt, Standing}

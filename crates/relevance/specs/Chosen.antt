@@ -1,9 +1,7 @@
 -- What matters of a base's bytes: authorizations by their numbers, and rules by a bit each.
-use mathlib.Core.Path.{_≡_, refl, ap, _∙_}
-use mathlib.Core.List.{List, [], _∷_, _++_, map, map-append}
+use mathlib.Core.List.{List, [], _∷_, map}
 use Prim.Native.Nat.{ℕ, suc, _+_, _*_, _≤_, _<_}
 use lib.ListN.{length, take, drop, getD}
-use lib.Seq.{take-suc}
 use Rattle.foundation.specs.Tests.{pick}
 use Rattle.foundation.specs.BitMasks.{bit}
 use Rattle.model.specs.declared.Authorization.{Authorization}
@@ -26,19 +24,6 @@ picked s which n = map (authorizationAt s) (take n which)
 pub record Picks (s : List ℕ) (which : List ℕ) (n : ℕ) : Type 0 where
   pub room : n ≤ length which
   pub inside : (j : ℕ) → j < n → getD which j 0 * 24 + 24 ≤ length s
-
-pub picked-none : (s which : List ℕ) → picked s which 0 ≡ []
-unfolding picked
-picked-none s [] = refl
-picked-none s (w ∷ which) = refl
-
--- one more
-pub picked-more : (s which : List ℕ) (n : ℕ) → n < length which →
-    picked s which (suc n) ≡ picked s which n ++ (authorizationAt s (getD which n 0) ∷ [])
-unfolding picked
-picked-more s which n h =
-    ap (map (authorizationAt s)) (take-suc which n 0 h)
-    ∙ map-append (authorizationAt s) (take n which) (getD which n 0 ∷ [])
 
 -- ---- rules
 
@@ -63,8 +48,3 @@ pub record Matters (lines which body : List ℕ) (c : Chosen) : Type 0 where
 unfoldable pub marksFor : List ℕ → List ℕ → List ℕ → Chosen → List ℕ
 marksFor lines which body c =
     marks (picked lines which (c .authorizations)) (selected (c .needed) (rulesIn (c .rules) body))
-
-pub marks-for : (lines which body : List ℕ) (c : Chosen) → marksFor lines which body c
-    ≡ marks (picked lines which (c .authorizations)) (selected (c .needed) (rulesIn (c .rules) body))
-unfolding marksFor
-marks-for lines which body c = refl

@@ -7,13 +7,15 @@ use Prim.Native.Nat.{ℕ, _+_, _*_, _-_, _≤_, _<_}
 use lib.Dec.{eqb}
 use lib.ListN.{length, getD}
 use Rattle.foundation.specs.Lists.{keepIf}
-use Rattle.foundation.specs.BitMasks.{bit}
 use Rattle.foundation.specs.CoordinateTables.{coordinate}
 use Rattle.foundation.specs.declared.Interval.{Interval}
 use Rattle.model.specs.declared.Access.{Access}
 use Rattle.model.specs.declared.Authorization.{Authorization}
 use Rattle.model.specs.declared.Head.{Head}
 use Rattle.encoding.specs.Format.{authorizationsIn}
+use Rattle.sections.specs.Sections.{subjectsOf, objectsOf}
+use Rattle.places.specs.ReachedNumbers.{pairIndex}
+use Rattle.places.specs.Needs.{bothAt}
 use Rattle.relevance.specs.declared.choice.Cell.{Cell}
 use Rattle.relevance.specs.Chosen.{authorizationAt, picked}
 use Rattle.relevance.specs.Forgotten.{during}
@@ -24,15 +26,11 @@ cellOf subjects objects x h = record {
   object = coordinate objects (x .object) (h .object);
 }
 
--- a mode is needed with both signs
-abbrev pub bothAt : ℕ → ℕ → Bool
-bothAt w m = bit m w && bit (8 + m) w
-
 -- an authorization with these coordinates is needed: both are there, and its mode is needed there
 abbrev pub neededIn : ℕ → List ℕ → Cell → Head → Bool
 neededIn stride need c h =
     not (eqb (c .subject) 255 || eqb (c .object) 255)
-    && bothAt (getD need (c .object * stride + c .subject) 0) (h .mode - 1)
+    && bothAt (getD need (pairIndex stride (c .object) (c .subject)) 0) (h .mode - 1)
 
 abbrev pub isNeeded : List ℕ → List ℕ → Access → ℕ → List ℕ → Authorization → Bool
 isNeeded subjects objects x stride need a =
@@ -42,6 +40,10 @@ isNeeded subjects objects x stride need a =
 abbrev pub isChosen : Interval → List ℕ → List ℕ → Access → ℕ → List ℕ → Authorization → Bool
 isChosen asked subjects objects x stride need a =
     during (asked .start) (asked .end) a && isNeeded subjects objects x stride need a
+
+-- the same by the bytes that hold the coordinates
+abbrev pub isChosenBy : List ℕ → Interval → Access → ℕ → List ℕ → Authorization → Bool
+isChosenBy coordinates asked = isChosen asked (subjectsOf coordinates) (objectsOf coordinates)
 
 -- what a sound base says of an authorization, as far as the tables need it
 pub record HeadInRange (h : Head) : Type 0 where
@@ -55,8 +57,8 @@ pub record CellInTable (c : Cell) (stride : ℕ) (need : List ℕ) : Type 0 wher
   pub narrow : stride ≤ 256
   pub object : c .object ≤ 255
   pub subject : c .subject ≤ 255
-  pub inside : eqb (c .subject) 255 || eqb (c .object) 255 ≡ false → c .object * stride + c .subject < length
-      need
+  pub inside : eqb (c .subject) 255 || eqb (c .object) 255 ≡ false →
+      pairIndex stride (c .object) (c .subject) < length need
 
 -- the bytes hold the authorizations, the tables have room for their places, and the list for their numbers
 pub record ChoiceReady (s : List ℕ) (total : ℕ) (subjects objects : List ℕ) (stride : ℕ)
@@ -69,6 +71,12 @@ pub record ChoiceReady (s : List ℕ) (total : ℕ) (subjects objects : List ℕ
   pub rows : (v : ℕ) → (getD objects v 0 + 1) * stride ≤ length need
   pub numbers : total ≤ 65536
   pub room : total ≤ length which
+
+-- the same by the bytes that hold the coordinates
+abbrev pub ChoiceReadyBy : List ℕ → ℕ → List ℕ → ℕ → List ℕ → List ℕ → Type 0
+ChoiceReadyBy s total coordinates stride need which =
+    ChoiceReady s total (subjectsOf coordinates) (objectsOf coordinates) stride need which
+    × (1666 ≤ length coordinates)
 
 -- the first n numbers are those of the authorizations that pass the test, in order
 pub record Choice (test : Authorization → Bool) (s : List ℕ) (total : ℕ) (entry exit : List ℕ) (n : ℕ) : Type

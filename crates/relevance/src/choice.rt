@@ -9,14 +9,17 @@ ghost use Rattle.foundation.specs.BitMasks.{asBit};
 ghost use Rattle.foundation.specs.Intervals.{interval};
 ghost use Rattle.sections.specs.Sections.{subjectsOf, objectsOf};
 ghost use Rattle.relevance.specs.Chosen.{Picks};
-ghost use Rattle.relevance.specs.Needed.{bothAt, cellOf, neededIn, isChosen};
-ghost use Rattle.relevance.specs.Needed.{CellInTable, HeadInRange, ChoiceReady, Choice};
+ghost use Rattle.relevance.specs.Needed.{cellOf, neededIn, isChosenBy};
+ghost use Rattle.relevance.specs.Needed.{CellInTable, HeadInRange, ChoiceReadyBy, Choice};
 ghost use Rattle.relevance.specs.Forgotten.{Forgets};
 use encoding::authorization_at;
 use foundation::Interval;
 use model::AUTHORIZATION_BYTES;
 use model::Access;
 use model::Head;
+use places::Pair;
+use places::is_needed_both;
+use places::pair_index;
 use sections::OBJECTS;
 use sections::SUBJECTS;
 
@@ -61,14 +64,6 @@ pub fn sign_of(negative: bool) -> u32
     fields::as_bit(negative) as u32
 }
 
-// Whether mode m is needed with both signs.
-fn both_at(w: u16, m: u32) -> bool
-    requires { ⌜ m < 8 ⌝ }
-    ensures { λ r. ⌜ r ≡ bothAt w m ⌝ }
-{
-    ((w & (w >> 8)) >> m) & 1 == 1
-}
-
 // Whether an authorization is needed, c being its coordinates.
 fn is_needed(h: Head, c: Cell, stride: u32, need: &[u16]) -> bool
     requires { ⌜ HeadInRange h × CellInTable c stride (now need) ⌝ }
@@ -79,8 +74,11 @@ fn is_needed(h: Head, c: Cell, stride: u32, need: &[u16]) -> bool
     if (s == 255) | (o == 255) {
         return false;
     }
-    let j = (o * stride + s) as usize;
-    both_at(need[j], h.mode as u32 - 1)
+    let p = Pair {
+        object: o as usize,
+        subject: s as usize,
+    };
+    is_needed_both(need[pair_index(p, stride as usize)], h.mode as u32 - 1)
 }
 
 // n, or one more.
@@ -106,12 +104,9 @@ fn choose_during(
     need: &[u16],
     which: &mut [u16],
 ) -> usize
-    requires { ⌜ ChoiceReady (now lines) total (subjectsOf (now coordinates)) (objectsOf (now coordinates))
-        stride
-        (now need) (now which) × (1666 ≤ length (now coordinates)) ⌝ }
+    requires { ⌜ ChoiceReadyBy (now lines) total (now coordinates) stride (now need) (now which) ⌝ }
     ensures { λ r. ⌜ Choice
-        (isChosen asked (subjectsOf (now (coordinates .entry))) (objectsOf (now (coordinates .entry))) x
-        stride (now (need .entry)))
+        (isChosenBy (now (coordinates .entry)) asked x stride (now (need .entry)))
         (now (lines .entry)) total (now (which .entry)) (now (which .exit)) r ⌝ }
 {
     let mut n = 0;
@@ -139,12 +134,9 @@ fn choose_needed(
     need: &[u16],
     which: &mut [u16],
 ) -> usize
-    requires { ⌜ ChoiceReady (now lines) total (subjectsOf (now coordinates)) (objectsOf (now coordinates))
-        stride
-        (now need) (now which) × (1666 ≤ length (now coordinates)) ⌝ }
+    requires { ⌜ ChoiceReadyBy (now lines) total (now coordinates) stride (now need) (now which) ⌝ }
     ensures { λ r. ⌜ Choice
-        (isChosen (interval 0 4294967295) (subjectsOf (now (coordinates .entry)))
-        (objectsOf (now (coordinates .entry))) x stride (now (need .entry)))
+        (isChosenBy (now (coordinates .entry)) (interval 0 4294967295) x stride (now (need .entry)))
         (now (lines .entry)) total (now (which .entry)) (now (which .exit)) r ⌝ }
 {
     let mut n = 0;
@@ -170,12 +162,9 @@ pub fn choose(
     need: &[u16],
     which: &mut [u16],
 ) -> usize
-    requires { ⌜ ChoiceReady (now lines) total (subjectsOf (now coordinates)) (objectsOf (now coordinates))
-        stride
-        (now need) (now which) × (1666 ≤ length (now coordinates)) ⌝ }
+    requires { ⌜ ChoiceReadyBy (now lines) total (now coordinates) stride (now need) (now which) ⌝ }
     ensures { λ r. ⌜ Choice
-        (isChosen asked (subjectsOf (now (coordinates .entry))) (objectsOf (now (coordinates .entry))) x
-        stride (now (need .entry)))
+        (isChosenBy (now (coordinates .entry)) asked x stride (now (need .entry)))
         (now (lines .entry)) total (now (which .entry)) (now (which .exit)) r ⌝ }
 {
     if (asked.start == 0) & (asked.end == 4294967295) {

@@ -30,7 +30,7 @@ fn distance_of(i: Interval, ends: bool, t: u32) -> u32
 }
 
 // The lesser of a distance and that of an interval's mark.
-fn nearer(best: u64, i: Interval, ends: bool, t: u32) -> u64
+fn nearer_mark(best: u64, i: Interval, ends: bool, t: u32) -> u64
     ensures { λ r. ⌜ reached t r ≡ sooner t (edge ends i) (reached t best) ⌝ }
 {
     lesser(best, distance_of(i, ends, t) as u64)
@@ -58,7 +58,7 @@ pub fn nearest_line(lines: &[u8], which: &[u16], n: usize, ends: bool, t: u32) -
         let at = which[i] as usize;
         let a = authorization_at(lines, at * AUTHORIZATION_BYTES);
         let iv = a.interval;
-        best = nearer(best, iv, ends, t);
+        best = nearer_mark(best, iv, ends, t);
         i += 1;
     }
     mark_at(t, best)
@@ -76,7 +76,7 @@ pub fn nearest_rule(body: &[u8], k: usize, needed: u64, ends: bool, t: u32) -> u
     while (r as usize) < k {
         let q = rule_at(body, (r as usize) * RULE_BYTES);
         let iv = q.interval;
-        best = nearer(best, iv, ends, t);
+        best = nearer_mark(best, iv, ends, t);
         rest = without_lowest(rest);
         r = next_bit(rest, 0);
     }

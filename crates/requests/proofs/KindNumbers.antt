@@ -38,11 +38,11 @@ module _ (q : Request) where
   pub is-one : (k : ℕ) → q .kind ≡ k → is q (k ∷ []) ≡ true
   is-one k e = rw (eq-true (q .kind) k e)
 
-  known : outOfRange q ≡ false → is q (numbersFrom 1 12) ≡ true
+  known : outOfRange q ≡ false → is q (numbersFrom NEW 12) ≡ true
   known e =
       let w = and-true (leb NEW (q .kind)) (leb (q .kind) REVOKEREF)
       (not-false (between NEW REVOKEREF (q .kind)) (in-range q e _ (inl refl))) in
-      kind-among (q .kind) 1 12 (true-le NEW (q .kind) (w .0))
+      kind-among (q .kind) NEW 12 (true-le NEW (q .kind) (w .0))
       (omega (arith, true-le (q .kind) REVOKEREF (w .1)))
 
   -- one of the eight

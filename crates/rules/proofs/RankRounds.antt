@@ -38,14 +38,14 @@ module _ (every : Bool) (n : ℕ) (s : List ℕ) where
   abbrev rules : List Rule
   rules = rulesIn n s
 
-  abbrev weight : Rule → Rule → ℕ
-  weight = countOf every
+  abbrev counted : Rule → Rule → ℕ
+  counted = countOf every
 
   abbrev own : Rule → Bool
   own = ownCount every
 
-  weight-small : (q r : Rule) → weight q r ≤ 2
-  weight-small = count-small every
+  counted-small : (q r : Rule) → counted q r ≤ 2
+  counted-small = count-small every
 
   -- the first ranks are what the rules count by themselves, and a round makes the next ranks of ranks
   pub first-ranks : (b : List ℕ) → RuleTable n s (λ r. asBit (ownCount every r)) b →
@@ -62,7 +62,7 @@ module _ (every : Bool) (n : ℕ) (s : List ℕ) where
   pub ranks-small : (k : ℕ) (a : List ℕ) → RuleTable n s (ranks every (rulesIn n s) k) a → (i : ℕ) → i < n →
       getD a i 0 ≤ 2 * k + 1
   ranks-small k a h i l =
-      omega (arith, h i l, rank-rounds precedes weight own rules weight-small k (ruleAt s i))
+      omega (arith, h i l, rank-rounds precedes counted own rules counted-small k (ruleAt s i))
 
   -- a round of ranks: a before it, b after it
   module _ (k : ℕ) (a b : List ℕ) (h : RuleTable n s (ranks every (rulesIn n s) k) a)
@@ -73,26 +73,27 @@ module _ (every : Bool) (n : ℕ) (s : List ℕ) where
     member : (i : ℕ) → i < n → Mem (ruleAt s i) rules
     member i l = record-mem 28 ruleOf n s i l
 
-    still : SameBelow n a b → Still precedes weight own rules weight-small k
+    still : SameBelow n a b → Still precedes counted own rules counted-small k
     still e r m =
         let z = mem-record 28 ruleOf n s r m in
         let i : ℕ = z .0 in
         rw (z .2) (sym (h i (z .1)) ∙ e i (z .1) ∙ after i (z .1))
 
     pub same-free : SameBelow n a b → cyclic precedes (heavy (countOf every)) (rulesIn n s) ≡ false
-    same-free e = still-sound precedes weight own rules weight-small k (still e)
+    same-free e = still-sound precedes counted own rules counted-small k (still e)
 
     pub same-ranks : SameBelow n a b → RuleTable n s (rank precedes (countOf every) (ownCount every)
         (rulesIn n s)) a
     same-ranks e i l =
-        h i l ∙ sym (still-rank precedes weight own rules weight-small k (still e) (ruleAt s i) (member i l))
+        h i l ∙ sym (still-rank precedes counted own rules counted-small k (still e) (ruleAt s i)
+        (member i l))
 
     pub circle : k ≡ n → (SameBelow n a b → ⊥) → cyclic precedes (heavy (countOf every)) (rulesIn n s) ≡ true
-    circle e d = cases (cyclic precedes (heavy weight) rules) (λ c. c) (λ c. absurd (d (same c)))
+    circle e d = cases (cyclic precedes (heavy counted) rules) (λ c. c) (λ c. absurd (d (same c)))
       where
-        same : cyclic precedes (heavy weight) rules ≡ false → SameBelow n a b
+        same : cyclic precedes (heavy counted) rules ≡ false → SameBelow n a b
         same c i l =
             let w : length rules ≡ k = length-records 28 ruleOf n s ∙ sym e in
-            let q : Still precedes weight own rules weight-small k =
-            rw w at (rank-soon precedes weight own rules weight-small c) in
+            let q : Still precedes counted own rules counted-small k =
+            rw w at (rank-soon precedes counted own rules counted-small c) in
             h i l ∙ q (ruleAt s i) (member i l) ∙ sym (after i l)

@@ -61,15 +61,22 @@ pub fn links(q: Rule, r: Rule) -> bool
     q.left.negative & !r.right.negative & object & subject & mode
 }
 
-// Whether a rule says WHENEVERNOT or UNLESS.
-pub fn negates(r: Rule) -> bool
-    ensures { λ x. ⌜ x ≡ model.negates r ⌝ }
+// Whether an operator wants the right side not held.
+pub fn is_negating(o: Operator) -> bool
+    ensures { λ x. ⌜ x ≡ model.negating o ⌝ }
 {
-    let o = r.operator;
     match o {
         Operator::Whenever => false,
         Operator::AsLongAs => false,
         Operator::WheneverNot => true,
         Operator::Unless => true,
     }
+}
+
+// Whether a rule says WHENEVERNOT or UNLESS.
+pub fn negates(r: Rule) -> bool
+    ensures { λ x. ⌜ x ≡ model.negates r ⌝ }
+{
+    let o = r.operator;
+    is_negating(o)
 }

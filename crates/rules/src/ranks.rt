@@ -33,7 +33,7 @@ fn counts(r: Rule, every: bool) -> bool
 }
 
 // What the step from q to r counts, and one more; 0 if r does not look at q.
-fn step(q: Rule, r: Rule, every: bool) -> u8
+fn step_of(q: Rule, r: Rule, every: bool) -> u8
     ensures { λ x. ⌜ x ≡ stepOf every q r ⌝ }
 {
     let fed = feeds(q, r);
@@ -76,7 +76,7 @@ fn put_row(s: &[u8], n: usize, every: bool, j: usize, edges: &mut [u8; 4225]) ->
             j * 65,
             c,
             i,
-            step(rule_at(s, i * RULE_BYTES), r, every),
+            step_of(rule_at(s, i * RULE_BYTES), r, every),
         );
         i += 1;
     }

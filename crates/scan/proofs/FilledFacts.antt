@@ -1,6 +1,6 @@
 -- Intervals at the front of a lent list: one more behind others; all of them, if there is room. Assumes
 -- nothing.
-use mathlib.Core.Path.{_≡_, refl, ap, _∙_}
+use mathlib.Core.Path.{_≡_, refl, sym, ap, _∙_}
 use Prim.Native.Nat.{ℕ, zero, suc, _+_, _*_, _/_, _≤_, _<_}
 use native.Mathlib.Omega.{arith}
 use mathlib.Core.Bool.{Bool}
@@ -22,6 +22,18 @@ filled-more [] i (x ∷ y ∷ l) = refl
 filled-more (d ∷ done) i [] = refl
 filled-more (d ∷ done) i (x ∷ []) = refl
 filled-more (d ∷ done) i (x ∷ y ∷ l) = ap (λ (k : List ℕ). d .start ∷ d .end ∷ k) (filled-more done i l)
+
+-- all of them, and the rest untouched
+pub filled-all : (xs : List Interval) (l : List ℕ) → 2 * length xs ≤ length l →
+    filled xs l ≡ words xs ++ drop (2 * length xs) l
+unfolding filled
+filled-all [] l h = refl
+filled-all (i ∷ xs) [] h = absurd (omega arith)
+filled-all (i ∷ xs) (x ∷ []) h = absurd (omega arith)
+filled-all (i ∷ xs) (x ∷ y ∷ l) h =
+    let e : 2 * length (i ∷ xs) ≡ suc (suc (2 * length xs)) = omega arith in
+    ap (λ (k : List ℕ). i .start ∷ i .end ∷ k) (filled-all xs l (omega arith))
+    ∙ ap (λ (n : ℕ). i .start ∷ i .end ∷ (words xs ++ drop n (x ∷ y ∷ l))) (sym e)
 
 -- a pair put by its two numbers
 pub pair-put : (c a b : ℕ) (l : List ℕ) → 2 * c + 1 < length l →

@@ -98,15 +98,6 @@ module _ (l : List ℕ) (a w : ℕ) (y : List ℕ) (h : a + w ≤ length l) (e :
       ∙ ap (drop w) (drop-at (take a l) (y ++ drop w (drop a l)) a front-long)
       ∙ drop-at y (drop w (drop a l)) w e ∙ drop-drop w a l
 
-  pub back-behind : (k : ℕ) → a + w ≤ k → getD (putBack l a w y) k 0 ≡ getD l k 0
-  back-behind k b =
-      let q : a + w + (k - (a + w)) ≡ k = omega arith in
-      ap (λ (j : ℕ). getD (putBack l a w y) j 0) (sym q)
-      ∙ sym (getD-drop (a + w) (putBack l a w y) (k - (a + w)) 0)
-      ∙ ap (λ (j : List ℕ). getD j (k - (a + w)) 0) back-rest
-      ∙ getD-drop (a + w) l (k - (a + w)) 0
-      ∙ ap (λ (j : ℕ). getD l j 0) q
-
 -- ---- a section of a front
 
 pub front-part : (a w n : ℕ) (l : List ℕ) → a + w ≤ n → take w (drop a (take n l)) ≡ take w (drop a l)

@@ -3,7 +3,7 @@ use mathlib.Core.List.{List}
 use Prim.Native.Nat.{ℕ, _*_}
 use lib.ListN.{take, drop}
 
--- ---- of 472 words: what is drawn of the rules, and where their tables are
+-- ---- of 536 words: what is drawn of the rules, and where their tables are
 
 -- the masks of left sides
 abbrev pub leftOf : List ℕ → List ℕ
@@ -24,6 +24,10 @@ startsOf outline = take 64 (drop 344 outline)
 -- the instants of its interval
 abbrev pub activeOf : List ℕ → List ℕ
 activeOf outline = take 64 (drop 408 outline)
+
+-- its stratum
+abbrev pub strataOf : List ℕ → List ℕ
+strataOf outline = take 64 (drop 472 outline)
 
 -- ---- of 1666 bytes
 

@@ -11,6 +11,7 @@ ghost use Rattle.relevance.specs.Chosen.{selected};
 ghost use Rattle.laws.specs.Plain.{Plain};
 ghost use Rattle.selection.specs.Selection.{position};
 use encoding::rule_at;
+use masks::clear_words;
 use model::RULE_BYTES;
 use rules::negates;
 use words::next_bit;
@@ -33,9 +34,16 @@ fn select(body: &[u8], n: usize, needed: u64, few: &mut [u8; 64 * RULE_BYTES]) -
     k
 }
 
+// A rank as a word.
+fn word_of(rank: u16) -> u64
+    ensures { λ r. ⌜ r ≡ rank ⌝ }
+{
+    rank as u64
+}
+
 // Puts the first ranks in the places of the rules of a mask.
-fn spread_strata(ranks: &[u16; 65], needed: u64, strata: &mut [u16; 65])
-    requires { ⌜ length (now strata) ≡ 65 ⌝ }
+fn spread_strata(ranks: &[u16; 65], needed: u64, strata: &mut [u64])
+    requires { ⌜ length (now strata) ≡ 64 ⌝ }
     ensures { λ _. ⌜ ((r : ℕ) → r < 64 → bit r needed ≡ true → getD (now (strata .exit)) r 0
         ≡ getD (now (ranks .entry)) (position needed r) 0) ⌝ }
 {
@@ -43,7 +51,7 @@ fn spread_strata(ranks: &[u16; 65], needed: u64, strata: &mut [u16; 65])
     let mut r = next_bit(needed, 0);
     while r < 64 {
         let i = r as usize;
-        strata[i] = ranks[k];
+        strata[i] = word_of(ranks[k]);
         k += 1;
         r = next_bit(needed, r + 1);
     }
@@ -66,21 +74,19 @@ pub fn counts_some(body: &[u8], rules: u64) -> bool
 }
 
 // Puts the stratum of each rule of a mask, among these, in its place.
-pub fn strata_of(body: &[u8], n: usize, needed: u64, strata: &mut [u16; 65])
+pub fn strata_of(body: &[u8], n: usize, needed: u64, strata: &mut [u64])
     requires { ⌜ (n ≤ 64) × (n * 28 ≤ length (now body)) × ((r : ℕ) → bit r needed ≡ true → r < n)
-        × (stratified (selected needed (rulesIn n (now body))) ≡ true) ⌝ }
+        × (stratified (selected needed (rulesIn n (now body))) ≡ true) × (length (now strata) ≡ 64) ⌝ }
     ensures { λ _. ⌜ ((r : ℕ) → bit r needed ≡ true → getD (now (strata .exit)) r 0
         ≡ stratum (selected needed (rulesIn n (now (body .entry)))) (ruleAt (now (body .entry)) r)) ⌝ }
 {
     if !counts_some(body, needed) {
-        *strata = [0; 65];
+        clear_words(strata, 64);
         return;
     }
     let mut few = [0u8; 64 * RULE_BYTES];
     let mut ranks = [0u16; 65];
     let k = select(body, n, needed, &mut few);
     rules::stratify(&few, k, &mut ranks);
-    let mut placed = [0u16; 65];
-    spread_strata(&ranks, needed, &mut placed);
-    *strata = placed;
+    spread_strata(&ranks, needed, strata);
 }

@@ -9,13 +9,13 @@ use Rattle.foundation.specs.Tests.{cases}
 use Rattle.model.specs.Text.{newline}
 use Rattle.model.specs.Session.{replyLine}
 use Rattle.serving.specs.LineTurns.{lineTurn}
-use Rattle.laws.specs.FirstLine.{ends}
+use Rattle.laws.specs.FirstLine.{hasNewline}
 use Rattle.serving.specs.Stream.{printed, feed, finish, ending, feed-append, FedUpTo}
 
 -- ---- one line of a piece
 
 -- without a newline all of it belongs to the line
-pub feed-goes-on : (s pending w : List ℕ) → ends w ≡ false →
+pub feed-goes-on : (s pending w : List ℕ) → hasNewline w ≡ false →
     feed s pending w ≡ record { text = []; lent = s; pending = pending ++ w }
 feed-goes-on s pending [] e = rw (append-nil pending)
 feed-goes-on s pending (c ∷ w) e = cases (eqb c newline)
@@ -25,7 +25,7 @@ feed-goes-on s pending (c ∷ w) e = cases (eqb c newline)
 -- ---- where the input is cut is of no account
 
 -- a line and its newline: it is answered
-pub feed-line : (s pending l : List ℕ) → ends l ≡ false →
+pub feed-line : (s pending l : List ℕ) → hasNewline l ≡ false →
     feed s pending (l ++ (newline ∷ []))
     ≡ record { text = replyLine s (pending ++ l); lent = lineTurn s (pending ++ l) .lent; pending = [] }
 feed-line s pending l e =

@@ -7,11 +7,11 @@ use native.Mathlib.Omega.{arith}
 use mathlib.Core.Bool.{true, false, true≢false, false≢true}
 use mathlib.Core.List.{List, [], _∷_, _++_, append-nil}
 use lib.Dec.{eqb}
-use lib.ListN.{length, take, drop, set, getD, length-set, length-append}
+use lib.ListN.{length, drop, set, getD, length-set, length-append}
 use lib.Seq.{take-all, take-append-le, take-suc-set, drop-cons, drop-length, append-snoc}
 use Rattle.model.specs.Text.{newline}
 use Rattle.serving.specs.LineTurns.{LineKept}
-use Rattle.laws.specs.FirstLine.{ends, beforeNewline, behindNewline}
+use Rattle.laws.specs.FirstLine.{hasNewline, beforeNewline, behindNewline}
 use Rattle.serving.specs.Pieces.{Took}
 
 -- ---- one byte more of a line
@@ -49,7 +49,7 @@ pub record LineWalk (len : ℕ) (line₀ piece : List ℕ) (from n i : ℕ) (lin
   pub high : i ≤ length piece
   pub few : n ≤ 97
   pub size : length line ≡ 97
-  pub end : ends (drop i piece) ≡ ends (drop from piece)
+  pub end : hasNewline (drop i piece) ≡ hasNewline (drop from piece)
   pub rest : behindNewline (drop i piece) ≡ behindNewline (drop from piece)
   pub kept : (pending : List ℕ) → LineKept pending len line₀ →
       (p : List ℕ) × LineKept p n line × (p ++ beforeNewline (drop i piece) ≡ pending ++ beforeNewline
@@ -84,7 +84,7 @@ module _ {len : ℕ} {line₀ piece : List ℕ} {from n i : ℕ} {line : List �
         high = omega arith;
         few = f;
         size = z;
-        end = rw add-one (sym (ap ends d ∙ rw e) ∙ w .end);
+        end = rw add-one (sym (ap hasNewline d ∙ rw e) ∙ w .end);
         rest = rw add-one (sym (ap behindNewline d ∙ rw e) ∙ w .rest);
         kept = λ pending k. let g = w .kept pending k in (
           g .0 ++ (c ∷ []),
@@ -105,7 +105,7 @@ module _ {len : ℕ} {line₀ piece : List ℕ} {from n i : ℕ} {line : List �
       let same : g .0 ≡ pending ++ beforeNewline (drop from piece) =
       sym (append-nil (g .0)) ∙ ap (λ (r : List ℕ). g .0 ++ r) (sym b) ∙ g .2 in
       record {
-        ended = sym (ap ends d ∙ rw e) ∙ w .end;
+        ended = sym (ap hasNewline d ∙ rw e) ∙ w .end;
         rest = rw add-one (sym (ap behindNewline d ∙ rw e) ∙ w .rest);
         kept = subst (λ (p : List ℕ). LineKept p n line) same (g .1);
         within = omega arith;
@@ -122,7 +122,7 @@ module _ {len : ℕ} {line₀ piece : List ℕ} {from n i : ℕ} {line : List �
       let same : g .0 ≡ pending ++ beforeNewline (drop from piece) =
       sym (append-nil (g .0)) ∙ ap (λ (r : List ℕ). g .0 ++ beforeNewline r) (sym d) ∙ g .2 in
       record {
-        ended = sym (ap ends d) ∙ w .end;
+        ended = sym (ap hasNewline d) ∙ w .end;
         rest = d ∙ sym (ap behindNewline d) ∙ w .rest;
         kept = subst (λ (p : List ℕ). LineKept p n line) same (g .1);
         within = w .high;

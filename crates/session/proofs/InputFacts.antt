@@ -14,7 +14,8 @@ use Rattle.model.specs.Session.{session, bytesAfter}
 use Rattle.theorems.specs.Demand3.{Demand3}
 use Rattle.theorems.specs.Orders.{orders, demand3-text}
 use Rattle.channel.specs.declared.Channel.{Channel}
-use Rattle.channel.specs.Digests.{digest, digest-twice, digest-none}
+use Rattle.channel.specs.Digests.{digest}
+use Rattle.channel.proofs.DigestFacts.{digest-twice, digest-none}
 use Rattle.channel.specs.Trace.{Handed, Read, Stopped}
 use Rattle.channel.proofs.TraceFacts.{read-same}
 use Rattle.serving.specs.declared.steps.Stepped.{Stepped}

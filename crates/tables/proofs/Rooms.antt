@@ -82,14 +82,14 @@ module _ (g : Grid) (codes : List ℕ) (rules : ℕ) where
 -- ---- all tables
 
 -- all lie one behind the other if those of the rules do, behind the first two
-pub all-laid : (g : Grid) (right : List ℕ) (choosy : ℕ) (first : List ℕ) (to : ℕ) →
-    TablesLaid (ruleTables g right choosy first) (2 * sizeOf g wholeRegion) to →
-    TablesLaid (allTables g right choosy first) 0 to
-all-laid g right choosy first to l =
+pub all-laid : (g : Grid) (right : List ℕ) (rules : ℕ) (first : List ℕ) (to : ℕ) →
+    TablesLaid (ruleTables g right rules first) (2 * sizeOf g wholeRegion) to →
+    TablesLaid (allTables g right rules first) 0 to
+all-laid g right rules first to l =
     record { room = omega arith; low = λ c e. omega arith; high = high; behind = behind }
   where
     t : Tables
-    t = allTables g right choosy first
+    t = allTables g right rules first
 
     high : (c : ℕ) → t .there c ≡ true → t .offset c + sizeIn t c ≤ to
     high zero e = omega (arith, l .room)

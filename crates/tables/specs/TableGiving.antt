@@ -1,13 +1,12 @@
 -- What is given to the tables: bits are joined to the fields of one place in those tables that take them and
 -- have the place. All other fields stay (`TablesGiven`).
-use mathlib.Core.Path.{_≡_, refl, ap, _∙_}
+use mathlib.Core.Path.{_≡_}
 use mathlib.Core.Bool.{Bool, _&&_}
 use mathlib.Core.List.{List}
-use Prim.Native.Nat.{ℕ, zero, suc, _+_, _*_, _≤_, _<_}
-use native.Mathlib.Omega.{arith}
+use Prim.Native.Nat.{ℕ, zero, suc, _+_, _*_, _≤_}
 use lib.Bits.{bitOr}
 use lib.Dec.{eqb}
-use lib.ListN.{length, getD, replicate, length-replicate, getD-replicate}
+use lib.ListN.{length, replicate}
 use Rattle.foundation.specs.Tests.{pick}
 use Rattle.foundation.specs.BitMasks.{bit}
 use Rattle.words.specs.Fields.{starts, fieldOf}
@@ -16,30 +15,13 @@ use Rattle.places.specs.declared.Point.{Point}
 use Rattle.places.specs.Regions.{sizeOf, Within}
 use Rattle.tables.specs.declared.Frame.{Frame}
 use Rattle.tables.specs.declared.Place.{Place}
-use Rattle.tables.specs.TableLayout.{Tables, fieldIn, TablesLaid, Paired, Has, regionAt, wholeRegion}
-use Rattle.tables.specs.TableLayout.{allTables}
+use Rattle.tables.specs.TableLayout.{Tables, fieldIn, TablesLaid, Paired, Has, allTables}
 
 -- ---- the tables of a frame
 
 -- the codes of all places, for each rule
 unfoldable pub wholeCodes : List ℕ
 wholeCodes = replicate 256 255
-
-pub whole-codes : wholeCodes ≡ replicate 256 255
-unfolding wholeCodes
-whole-codes = refl
-
-pub whole-length : length wholeCodes ≡ 256
-whole-length = ap length whole-codes ∙ length-replicate {A = ℕ} 256 255
-
-pub whole-at : (c : ℕ) → c < 64 → regionAt wholeCodes c ≡ wholeRegion
-whole-at c h =
-    let code : (i : ℕ) → i < 256 → getD wholeCodes i 0 ≡ 255 =
-    λ i l. ap (λ (u : List ℕ). getD u i 0) whole-codes ∙ getD-replicate 256 i 255 0 l in
-    let s = code (4 * c + 1) (omega arith) in
-    let m = code (4 * c + 2) (omega arith) in
-    let o = code (4 * c) (omega arith) in
-    λ i. record { subject = s i; mode = m i; object = o i }
 
 -- the regions of the tables of rules: all places, or those of the right sides
 abbrev pub shapesBy : Bool → List ℕ → List ℕ

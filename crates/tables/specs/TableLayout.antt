@@ -88,9 +88,9 @@ wholeRegion = record { subject = 255; mode = 255; object = 255 }
 
 -- what is held is table 0, what is denied table 1, and table 2 + c is that of rule c
 abbrev pub isThere : ℕ → ℕ → Bool
-isThere choosy zero = true
-isThere choosy (suc zero) = true
-isThere choosy (suc (suc c)) = bit c choosy
+isThere rules zero = true
+isThere rules (suc zero) = true
+isThere rules (suc (suc c)) = bit c rules
 
 abbrev pub offsetOf : Grid → List ℕ → ℕ → ℕ
 offsetOf g first zero = 0
@@ -103,5 +103,5 @@ regionOf right (suc zero) = wholeRegion
 regionOf right (suc (suc c)) = regionAt right c
 
 abbrev pub allTables : Grid → List ℕ → ℕ → List ℕ → Tables
-allTables g right choosy first =
-    record { grid = g; there = isThere choosy; offset = offsetOf g first; region = regionOf right }
+allTables g right rules first =
+    record { grid = g; there = isThere rules; offset = offsetOf g first; region = regionOf right }

@@ -51,6 +51,14 @@ pub fn all_places() -> Region
     }
 }
 
+// Where the table of what is denied starts: behind that of what is held.
+pub fn denials_start(g: Grid) -> u32
+    requires { ⌜ sizeOf g wholeRegion < 4294967296 ⌝ }
+    ensures { λ r. ⌜ r ≡ sizeOf g wholeRegion ⌝ }
+{
+    places::size_of(g, all_places())
+}
+
 // The region whose codes stand with rule i: object, subject, mode.
 pub fn region_at(codes: &[u8], i: usize) -> Region
     requires { ⌜ (i < 64) × (256 ≤ length (now codes)) ⌝ }
@@ -75,7 +83,7 @@ pub fn shape_at(f: Frame, right: &[u8], i: usize) -> Region
 }
 
 // Whether a code names v, or is free.
-fn names(code: u8, v: u32) -> bool
+fn names_coordinate(code: u8, v: u32) -> bool
     ensures { λ r. ⌜ r ≡ free code || eqb code v ⌝ }
 {
     (code == 255) | (code as u32 == v)
@@ -85,7 +93,9 @@ fn names(code: u8, v: u32) -> bool
 fn is_in(b: Region, x: Point) -> bool
     ensures { λ r. ⌜ (r ≡ true) ↔ In b x ⌝ }
 {
-    names(b.subject, x.subject) & names(b.object, x.object) & names(b.mode, x.mode)
+    names_coordinate(b.subject, x.subject)
+        & names_coordinate(b.object, x.object)
+        & names_coordinate(b.mode, x.mode)
 }
 
 // Lays out a table for each rule of a mask, one behind the other from a field on; where they end.
@@ -108,14 +118,13 @@ pub fn lay_out(codes: &[u8], rules: u64, g: Grid, from: u32, first: &mut [u64]) 
 }
 
 // Lays out all tables, those of the rules of a mask behind the first two; how many fields they have.
-pub fn lay_all(right: &[u8], choosy: u64, g: Grid, first: &mut [u64]) -> u32
+pub fn lay_all(right: &[u8], rules: u64, g: Grid, first: &mut [u64]) -> u32
     requires { ⌜ SmallGrid g × (256 ≤ length (now right)) × (64 ≤ length (now first)) ⌝ }
-    ensures { λ r. ⌜ (r ≡ 2 * sizeOf g wholeRegion + roomOf g (now (right .entry)) choosy 64)
-        × TablesLaid (allTables g (now (right .entry)) choosy (now (first .exit))) 0 r
+    ensures { λ r. ⌜ (r ≡ 2 * sizeOf g wholeRegion + roomOf g (now (right .entry)) rules 64)
+        × TablesLaid (allTables g (now (right .entry)) rules (now (first .exit))) 0 r
         × (length (now (first .exit)) ≡ length (now (first .entry))) ⌝ }
 {
-    let b = all_places();
-    lay_out(right, choosy, g, 2 * places::size_of(g, b), first)
+    lay_out(right, rules, g, 2 * denials_start(g), first)
 }
 
 // The number of a place's field in the table of a region that starts at `from`.
@@ -196,7 +205,7 @@ pub fn give(
 {
     let g = f.grid;
     let b = all_places();
-    let mut fresh = join_in(words, f, sign * places::size_of(g, b), b, p, v);
+    let mut fresh = join_in(words, f, sign * denials_start(g), b, p, v);
     let mut c = next_bit(takers, 0);
     while c < 64 {
         fresh = fresh | give_rule(words, right, first, f, p, c, v);

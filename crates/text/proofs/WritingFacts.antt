@@ -21,7 +21,7 @@ use Rattle.reading.specs.declared.Asked.the-variants.{Order, May, When}
 use Rattle.reading.specs.ParsedLines.{askedOf}
 use Rattle.answers.proofs.AnswersByRows.{may-unsound, when-unsound}
 use Rattle.text.specs.declared.TextReply.{TextReply}
-use Rattle.text.specs.Writing.{written, Wrote, writtenAnswer, answerTo, has-room}
+use Rattle.text.specs.Writing.{writtenText, Wrote, writtenAnswer, answerTo, has-room}
 use Rattle.text.specs.Writing.{text-answer}
 
 -- the same text by another name
@@ -53,16 +53,16 @@ module _ (s : List ℕ) (l : Line) (out : List ℕ) where
   module _ (h : shortestBuffer ≤ length out) (room : length (turnText s l) < length out) where
     -- the text was written, and the base is left as the definition says
     pub all-written : {s′ out′ : List ℕ} {w : TextReply} → Wrote (turnText s l) out out′ w →
-        s′ ≡ byteTurn s l .lent → written w s′ out′ ≡ answerTo s l out
+        s′ ≡ byteTurn s l .lent → writtenText w s′ out′ ≡ answerTo s l out
     all-written p e =
-        let q : written _ _ _ ≡ writtenAnswer s l out =
+        let q : writtenText _ _ _ ≡ writtenAnswer s l out =
         λ i. record { refusal = p .refusal i; count = p .count i; lent = e i; out = p .bytes i } in
         q ∙ sym (has-room s l out h room)
 
   -- a short reply has room in 16 bytes
   pub short-written : {s′ out′ : List ℕ} {w : TextReply} {r : Reply} → shortestBuffer ≤ length out →
       Short r → byteTurn s l ≡ plainTurn r s′ → Wrote (printReply r (runsOf r [])) out out′ w →
-      written w s′ out′ ≡ answerTo s l out
+      writtenText w s′ out′ ≡ answerTo s l out
   short-written {r = r} h short e p =
       let text : turnText s l ≡ printReply r [] =
       ap (λ (x : ByteTurn). printReply (x .reply) (x .runs)) e in

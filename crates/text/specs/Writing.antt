@@ -15,8 +15,8 @@ use Rattle.model.specs.Session.{byteTurn, turnText, WrittenText, shortestBuffer
 use Rattle.text.specs.declared.TextReply.{TextReply}
 
 -- what a function gives, and the base and the buffer after it
-abbrev pub written : TextReply → List ℕ → List ℕ → WrittenText
-written w s out = record { refusal = w .refusal; count = w .count; lent = s; out = out }
+abbrev pub writtenText : TextReply → List ℕ → List ℕ → WrittenText
+writtenText w s out = record { refusal = w .refusal; count = w .count; lent = s; out = out }
 
 -- a text and a newline were written at the front of a buffer
 pub record Wrote (text before after : List ℕ) (w : TextReply) : Type 0 where

@@ -10,7 +10,7 @@ ghost use Rattle.model.specs.Text.{order, asksMay, asksWhen, printReply};
 ghost use Rattle.model.specs.Session.{runsOf, shortestBuffer, textAnswer};
 ghost use Rattle.printing.specs.Print.{RunsFit};
 ghost use Rattle.printing.specs.Print.{Short};
-ghost use Rattle.text.specs.Writing.{Wrote, written, answerTo};
+ghost use Rattle.text.specs.Writing.{Wrote, writtenText, answerTo};
 use model::Access;
 use model::Question;
 use model::Reply;
@@ -50,7 +50,7 @@ fn put_short(out: &mut [u8], r: Reply) -> TextReply
 // Carries out a request on a sound base.
 fn text_order(base: &mut [u8], q: Request, out: &mut [u8]) -> TextReply
     requires { ⌜ (shortestBuffer ≤ length (now out)) × (soundBytes (now base) ≡ true) ⌝ }
-    ensures { λ w. ⌜ written w (now (base .exit)) (now (out .exit))
+    ensures { λ w. ⌜ writtenText w (now (base .exit)) (now (out .exit))
         ≡ answerTo (now (base .entry)) (order q) (now (out .entry)) ⌝ }
 {
     put_short(out, requests::step(base, q))
@@ -59,7 +59,7 @@ fn text_order(base: &mut [u8], q: Request, out: &mut [u8]) -> TextReply
 // Answers MAY over a sound base.
 fn text_may(base: &[u8], q: Question, out: &mut [u8]) -> TextReply
     requires { ⌜ (shortestBuffer ≤ length (now out)) × (soundBytes (now base) ≡ true) ⌝ }
-    ensures { λ w. ⌜ written w (now (base .entry)) (now (out .exit))
+    ensures { λ w. ⌜ writtenText w (now (base .entry)) (now (out .exit))
         ≡ answerTo (now (base .entry)) (asksMay q) (now (out .entry)) ⌝ }
 {
     put_short(out, answers::may_sound(base, q))
@@ -69,7 +69,7 @@ fn text_may(base: &[u8], q: Question, out: &mut [u8]) -> TextReply
 // written.
 fn text_when(base: &[u8], x: Access, out: &mut [u8]) -> TextReply
     requires { ⌜ (shortestBuffer ≤ length (now out)) × (soundBytes (now base) ≡ true) ⌝ }
-    ensures { λ w. ⌜ written w (now (base .entry)) (now (out .exit))
+    ensures { λ w. ⌜ writtenText w (now (base .entry)) (now (out .exit))
         ≡ answerTo (now (base .entry)) (asksWhen x) (now (out .entry)) ⌝ }
 {
     let mut list = [0u32; 2200];
@@ -87,7 +87,7 @@ fn text_when(base: &[u8], x: Access, out: &mut [u8]) -> TextReply
 // stands at the front of the buffer after it, and the rest of the buffer is as it was. A buffer that is too
 // short is refused with 13, before a request is carried out; 24,001 bytes always suffice.
 pub fn text(base: &mut [u8], line: &[u8], out: &mut [u8]) -> TextReply
-    ensures { λ w. ⌜ written w (now (base .exit)) (now (out .exit))
+    ensures { λ w. ⌜ writtenText w (now (base .exit)) (now (out .exit))
         ≡ textAnswer (now (base .entry)) (now (line .entry)) (now (out .entry)) ⌝ }
 {
     if out.len() < 16 {

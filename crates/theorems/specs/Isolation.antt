@@ -1,8 +1,8 @@
 -- One block's replies, whatever its neighbour does (02, CR 9): over two sound bases that agree on a block of
 -- meters, MAY and WHEN about the block, and a batch of such questions, get equal replies and leave equal
--- lists. First what a reader has to believe: `Agree`, `Shut`; in 02's plain words `Whole`, `Closed`. Then the
--- lemmas, then the theorems: of the answers (`may-isolated`, `when-isolated`, `batch-isolated`; as text
--- `may-text`, `when-text`), of all that meets the contracts of the code (`may-code`, `when-code`,
+-- lists. First what a reader has to believe: `Agree`, `RightsInside`; in 02's plain words `Whole`, `Closed`.
+-- Then the lemmas, then the theorems: of the answers (`may-isolated`, `when-isolated`, `batch-isolated`; as
+-- text `may-text`, `when-text`), of all that meets the contracts of the code (`may-code`, `when-code`,
 -- `batch-code`), and in 02's plain words (`may-estate`, `when-estate`, `batch-estate`). `Neighbours` has two
 -- bases that they are about.
 use mathlib.Core.Path.{_≡_, refl, sym, ap, ap₂, _∙_, fun-ext, subst}
@@ -33,7 +33,7 @@ use Rattle.model.specs.SupportFacts.{mem-live, live-mem}
 use Rattle.model.specs.Stratification.{isStar}
 use Rattle.model.specs.StratificationFacts.{unlabelled}
 use Rattle.model.specs.Rules.{fits, standsOn, standsFor, rightOf, asked, mayWith, holds, may, when}
-use Rattle.model.specs.SideFacts.{fits-eq, fits-is, stands-is, stands-same, right-eq}
+use Rattle.model.specs.SideFacts.{fits-eq, fits-is, stands-eq, stands-is, stands-same, right-eq}
 use Rattle.model.specs.Step.{row, refusedOr}
 use Rattle.model.specs.Encoding.{decode}
 use Rattle.model.specs.Soundness.{soundBytes}
@@ -42,8 +42,8 @@ use Rattle.model.specs.Answers.{Answer, answering, refusing, accessIn, mayReply
 use Rattle.model.specs.Text.{asksMay, asksWhen, readLine}
 use Rattle.model.specs.Session.{whenList, replyLine}
 use Rattle.model.specs.Batch.{replyByte, byteFor, batchRefusal, batchBytes, Batched}
-use Rattle.laws.specs.Dependence.{stands-twin, depends-access}
-use Rattle.laws.specs.Matching.{direct, Bears, Matched, Alike}
+use Rattle.laws.specs.Dependence.{Relabelled, depends-access}
+use Rattle.laws.specs.Matching.{direct, StandsInside, Matched, Alike}
 use Rattle.laws.specs.Transfer.{holds-alike}
 
 -- what a base says of the block
@@ -103,15 +103,15 @@ module _ (block : ℕ → Bool) where
   Agree b c = seen (share b) ≡ seen (share c)
 
   -- 02: "a rule with its left object in the set, not starred, has its right object there too"
-  abbrev pub Shut : Base → Type 0
-  Shut b = (r : Rule) → Mem r (b .rules) → isStar (r .left .object) ≡ false →
+  abbrev pub RightsInside : Base → Type 0
+  RightsInside b = (r : Rule) → Mem r (b .rules) → isStar (r .left .object) ≡ false →
       block (r .left .object) ≡ true → block (r .right .object) ≡ true
 
   -- 02 in its plain words: "Choose a set of existing objects such that" this holds. The theorems do not need
   -- that they exist: about one that exists in neither base both reply 6.
   pub record Closed (b : Base) : Type 0 where
     pub existing : (o : ℕ) → block o ≡ true → exists b o ≡ true
-    pub shut : Shut b
+    pub rights-inside : RightsInside b
 
   -- and plain agreement on all of these records
   abbrev pub Whole : Base → Base → Type 0
@@ -125,6 +125,14 @@ module _ (block : ℕ → Bool) where
   moved : {A : Type 0} (f : A → A) (xs ys : List A) → map f xs ≡ map f ys → (x : A) → Mem x xs →
       (y : A) × Mem y ys × (f x ≡ f y)
   moved f xs ys g x m = map-mem f ys (f x) (subst (λ (l : List _). Mem (f x) l) g (mem-map f xs x m))
+
+  -- a rule under another label stands for the same accesses
+  stands-relabelled : (b : Base) (r s : Rule) → Relabelled r s → (x : Access) →
+      standsFor b r x ≡ standsFor b s x
+  stands-relabelled b r s e x =
+      let without : (z : Rule) → standsFor b z x ≡ standsFor b (unlabelled z) x =
+      λ z. stands-eq b z x ∙ sym (stands-eq b (unlabelled z) x) in
+      without r ∙ ap (λ (z : Rule). standsFor b z x) e ∙ sym (without s)
 
   -- ---- privileges
 
@@ -207,8 +215,8 @@ module _ (block : ℕ → Bool) where
         (listed-same (b .administrators) (c .administrators) managed o u h)
 
     -- what no rule of one base leads out of, no rule of the other does
-    pub shut-too : Shut b → Shut c
-    shut-too k r m z h =
+    pub rights-inside-too : RightsInside b → RightsInside c
+    rights-inside-too k r m z h =
         let near : Rule → Bool = λ r. block (r .left .object) in
         let w = moved unlabelled (keepIf near (c .rules)) (keepIf near (b .rules))
         (ap (λ (z : Share). z .rules) (sym g)) r (keepIf-mem near (c .rules) r m h) in
@@ -220,7 +228,7 @@ module _ (block : ℕ → Bool) where
     pub closed-too : Closed b → Closed c
     closed-too k = record {
       existing = λ o h. sym (exists-same o h) ∙ k .existing o h;
-      shut = shut-too (k .shut);
+      rights-inside = rights-inside-too (k .rights-inside);
     }
 
     -- ---- lines
@@ -251,10 +259,10 @@ module _ (block : ℕ → Bool) where
         let on : standsOn b r (x .object) ≡ true = stands-is b r x .0 st .2 in
         ap block (true-eq (r .left .object) (x .object) (rw z at on)) ∙ h
 
-    -- it has a twin in the other base,
-    twin : (r : Rule) (x : Access) → Bears (λ x. block (x .object)) 0 b r x →
+    -- the same rule is in the other base,
+    relabelled : (r : Rule) (x : Access) → StandsInside (λ x. block (x .object)) 0 b r x →
         (s : Rule) × Mem s (c .rules) × (unlabelled r ≡ unlabelled s)
-    twin r x w = cases (isStar (r .left .object))
+    relabelled r x w = cases (isStar (r .left .object))
         (λ z. let star : Rule → Bool = λ r. isStar (r .left .object) in
         let on : standsOn b r (x .object) ≡ true = stands-is b r x .0 (w .stands) .2 in
         let v = moved unlabelled (nearby b) (nearby c) (ap (λ (z : Share). z .starred) g) r
@@ -271,11 +279,12 @@ module _ (block : ℕ → Bool) where
     matched : Matched (λ x. block (x .object)) 0 b c
     matched r x w =
         let st = sym (stands-same b c r x (controls-same (x .object) (r .author) (w .inside))) ∙ w .stands in
-        let v = twin r x w in
-        (v .0, v .1, v .2, sym (stands-twin c r (v .0) (v .2) x) ∙ st)
+        let v = relabelled r x w in
+        (v .0, v .1, v .2, sym (stands-relabelled c r (v .0) (v .2) x) ∙ st)
 
     -- and looks at the block alone
-    right-inside : Sound b → Shut b → (r : Rule) (x : Access) → Bears (λ x. block (x .object)) 0 b r x →
+    right-inside : Sound b → RightsInside b → (r : Rule) (x : Access) → StandsInside (λ x. block (x .object))
+        0 b r x →
         block (rightOf r x .access .object) ≡ true
     right-inside s k r x w =
         let z = and-three
@@ -293,7 +302,7 @@ module _ (block : ℕ → Bool) where
   direct-same b c g t p h = agree (direct b t p) (direct c t p)
       (direct-more b c g t p h) (direct-more c b (sym g) t p h)
 
-  alike : (b c : Base) → Agree b c → Sound b → Shut b → Alike (λ x. block (x .object)) 0 b c
+  alike : (b c : Base) → Agree b c → Sound b → RightsInside b → Alike (λ x. block (x .object)) 0 b c
   alike b c g s k = record {
     inward = λ r x w. right-inside b c g s k r x w;
     lines = λ r x w p e t l. direct-same b c g t p
@@ -303,7 +312,7 @@ module _ (block : ℕ → Bool) where
 
   -- ---- what MAY and WHEN say of two bases
 
-  module _ (b c : Base) (sb : Sound b) (sc : Sound c) (k : Shut b) (g : Agree b c) where
+  module _ (b c : Base) (sb : Sound b) (sc : Sound c) (k : RightsInside b) (g : Agree b c) where
     holds-same : (t : ℕ) (p : Pattern) → block (p .access .object) ≡ true →
         holds always b t p ≡ holds always c t p
     holds-same t p h = holds-alike (λ x. block (x .object)) 0 b c (sb .strata) (sc .strata)
@@ -321,7 +330,7 @@ module _ (block : ℕ → Bool) where
 
   -- ---- the answers
 
-  module _ (s s′ : List ℕ) (e : soundBytes s ≡ true) (e′ : soundBytes s′ ≡ true) (k : Shut (decode s))
+  module _ (s s′ : List ℕ) (e : soundBytes s ≡ true) (e′ : soundBytes s′ ≡ true) (k : RightsInside (decode s))
       (g : Agree (decode s) (decode s′)) where
     abbrev sb : Sound (decode s)
     sb = decoded-sound s e
@@ -423,17 +432,17 @@ module _ (block : ℕ → Bool) where
 
     pub may-estate : (q : Question) → block (q .access .object) ≡ true → (r r′ : Reply) →
         r ≡ mayAnswer s q → r′ ≡ mayAnswer s′ q → r ≡ r′
-    may-estate = may-code s s′ e e′ (k .shut) g
+    may-estate = may-code s s′ e e′ (k .rights-inside) g
 
     pub when-estate : (x : Access) → block (x .object) ≡ true → (list : List ℕ) (r r′ : Reply)
         (after after′ : List ℕ) →
         answering r after ≡ whenAnswer s x list → answering r′ after′ ≡ whenAnswer s′ x list →
         (r ≡ r′) × (after ≡ after′)
-    when-estate = when-code s s′ e e′ (k .shut) g
+    when-estate = when-code s s′ e e′ (k .rights-inside) g
 
     pub batch-estate : (questions : List Question) →
         ((q : Question) → Mem q questions → block (q .access .object) ≡ true) →
         (bytes : List ℕ) (r r′ : ℕ) (after after′ : List ℕ) →
         Batched s questions bytes r after → Batched s′ questions bytes r′ after′ →
         (r ≡ r′) × (after ≡ after′)
-    batch-estate = batch-code s s′ e e′ (k .shut) g
+    batch-estate = batch-code s s′ e e′ (k .rights-inside) g

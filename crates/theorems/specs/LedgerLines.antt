@@ -32,15 +32,16 @@ use Rattle.model.specs.SoundnessFacts.{Sound, sound-tests}
 use Rattle.model.specs.Answers.{Answer, requests}
 use Rattle.model.specs.Ledger.{Entry, entry, Ledger, emptyLedger, standingHeads, keepEntries, settle}
 use Rattle.model.specs.Ledger.{newEntry, enter, follow, ledger, linesOf}
-use Rattle.laws.specs.LedgerFacts.{WithinLast, framed-keep, framed-append, live-lines, keep-lines}
-use Rattle.laws.specs.LedgerFacts.{restrict-settle, keep-all, linesOf-append, linesOf-one}
 use Rattle.model.specs.Kinds.{grantKinds, intervalKinds, withdrawalKinds, is-kinds, is-apart}
 use Rattle.laws.specs.SoundFacts.{all-supported}
 use Rattle.laws.specs.Rows.{starts-first, interval-in}
-use Rattle.laws.specs.AuthorizationsAfter.{no-takes}
 use Rattle.laws.specs.Restriction.{withdrawn-all}
 use Rattle.laws.specs.Preservation.{sound-after, effect-sound}
 use Rattle.laws.specs.RequestFacts.{request-accepted, request-refused}
+use Rattle.theorems.specs.PlayFacts.{no-takes}
+use Rattle.theorems.specs.LedgerEntries.{WithinLast, within-keep, within-append, live-lines}
+use Rattle.theorems.specs.LedgerEntries.{keep-lines, restrict-settle, keep-all, linesOf-append}
+use Rattle.theorems.specs.LedgerEntries.{linesOf-one}
 
 -- the base and the ledger say the same
 pub record Agrees (b : Base) (a : Ledger) : Type 0 where
@@ -48,7 +49,7 @@ pub record Agrees (b : Base) (a : Ledger) : Type 0 where
   pub administrators : b .administrators ≡ a .administrators
   pub last : b .last ≡ a .last
   pub lines : b .authorizations ≡ linesOf (a .entries)
-  pub framed : WithinLast (a .entries)
+  pub within-last : WithinLast (a .entries)
 
 -- ---- one accepted request
 
@@ -70,8 +71,8 @@ module _ (b : Base) (a : Ledger) (q : Request) (s : Sound b) (g : Accepted b q) 
   abbrev taken : List Entry
   taken = keepEntries (λ h t. not (takes q h t)) (a .entries)
 
-  taken-framed : WithinLast taken
-  taken-framed = framed-keep (λ h t. not (takes q h t)) (a .entries) (agrees .framed)
+  taken-within : WithinLast taken
+  taken-within = within-keep (λ h t. not (takes q h t)) (a .entries) (agrees .within-last)
 
   roots : rootIn (objectsAfter q (a .owners)) (administratorsAfter q (a .administrators)) ≡ root after
   roots = ap₂ (λ (x y : List Privilege). rootIn (objectsAfter q x) (administratorsAfter q y))
@@ -89,8 +90,8 @@ module _ (b : Base) (a : Ledger) (q : Request) (s : Sound b) (g : Accepted b q) 
       (and-true (isInstant (q .interval .start)) (isInstant (q .interval .end))
       (interval-in b q g (is-kinds q grantKinds intervalKinds refl e)) .1)
 
-  new-framed : WithinLast (newEntry a q)
-  new-framed = cases (grants q)
+  new-within : WithinLast (newEntry a q)
+  new-within = cases (grants q)
       (λ e. rw e ((λ t h. let w = inInterval-true (q .interval) t h in let l = fitting e in omega arith), tt))
       (λ e. rw e tt)
 
@@ -112,7 +113,7 @@ module _ (b : Base) (a : Ledger) (q : Request) (s : Sound b) (g : Accepted b q) 
   -- and all of them are supported
   quiet : withdraws q ≡ false → after .authorizations ≡ linesOf (settle (root after) (taken ++ newEntry a q))
   quiet w =
-      let f = framed-append (a .entries) (newEntry a q) (agrees .framed) new-framed in
+      let f = within-append (a .entries) (newEntry a q) (agrees .within-last) new-within in
       new-lines w ∙ ap linesOf (sym (
       ap (λ (xs : List Entry). settle (root after) (xs ++ newEntry a q)) (none-taken w)
       ∙ settled after (a .entries ++ newEntry a q) (sound-after b q s g) f (new-lines w)))
@@ -126,7 +127,7 @@ module _ (b : Base) (a : Ledger) (q : Request) (s : Sound b) (g : Accepted b q) 
       withdrawn-all b q s w
       ∙ ap (λ (xs : List Authorization). restrict (rootAfter b q) (λ h. true) xs)
       (ap (leave q) (agrees .lines) ∙ keep-lines (λ h t. not (takes q h t)) (a .entries))
-      ∙ restrict-settle (rootAfter b q) taken taken-framed
+      ∙ restrict-settle (rootAfter b q) taken taken-within
       ∙ ap (λ (xs : List Entry). linesOf (settle (rootAfter b q) xs))
       (sym (append-nil taken) ∙ ap (λ (xs : List Entry). taken ++ xs) (sym none))
 
@@ -139,8 +140,8 @@ module _ (b : Base) (a : Ledger) (q : Request) (s : Sound b) (g : Accepted b q) 
     administrators = ap (administratorsAfter q) (agrees .administrators);
     last = ap (λ (n : ℕ). pick (labels q) (suc n) n) (agrees .last);
     lines = after-lines ∙ ap (λ (r : Head → Bool). linesOf (settle r (taken ++ newEntry a q))) (sym roots);
-    framed = framed-keep _ (taken ++ newEntry a q)
-        (framed-append taken (newEntry a q) taken-framed new-framed);
+    within-last = within-keep _ (taken ++ newEntry a q)
+        (within-append taken (newEntry a q) taken-within new-within);
   }
 
 -- ---- a list of requests
@@ -177,7 +178,7 @@ ledger-from (q ∷ qs) b a s g = cases (eqb (refusal plainly b q) 0)
 
 empty-agrees : Agrees emptyBase emptyLedger
 unfolding linesOf
-empty-agrees = record { owners = refl; administrators = refl; last = refl; lines = refl; framed = tt }
+empty-agrees = record { owners = refl; administrators = refl; last = refl; lines = refl; within-last = tt }
 
 pub ledger-left : (qs : List Request) → MatchesLedger (requests qs (encode emptyBase)) (ledger qs)
 unfolding ledger

@@ -1,4 +1,6 @@
+pub mod RefusalNumbers
 pub mod PlayFacts
+pub mod LedgerEntries
 pub mod LedgerLines
 pub mod Remains
 pub mod Labels

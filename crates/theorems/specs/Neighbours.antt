@@ -1,20 +1,19 @@
 -- Two sound bases that differ next door and agree on a block, meter 7: what the theorems of `Isolation` ask
 -- for is there. `beside` has what `alone` has, and another clock and last label, a meter with its owner and
 -- administrator, a referrer, a line, and a rule that looks into the block.
-use mathlib.Core.Path.{_≡_, refl, sym, _∙_}
+use mathlib.Core.Path.{_≡_, refl}
 use mathlib.Core.Logic.{inl, inr}
-use mathlib.Core.Bool.{Bool, true, false, not, true≢false}
-use mathlib.Core.List.{List, [], _∷_}
+use mathlib.Core.Bool.{Bool, true, false, true≢false}
+use mathlib.Core.List.{[], _∷_}
 use Prim.Native.Nat.{ℕ}
 use lib.Dec.{eqb}
-use Rattle.foundation.specs.Tests.{true-eq, eq-true}
+use Rattle.foundation.specs.Tests.{true-eq}
 use Rattle.foundation.specs.Closure.{iter}
 use Rattle.foundation.specs.Graph.{reaches, cyclic, rankIn, rank}
-use Rattle.foundation.specs.Intervals.{always, all-always}
+use Rattle.foundation.specs.Intervals.{all-always}
 use Rattle.model.specs.declared.Authorization.{Authorization}
 use Rattle.model.specs.declared.Rule.{Rule}
 use Rattle.model.specs.declared.Side.{Side}
-use Rattle.model.specs.declared.Access.{Access}
 use Rattle.model.specs.declared.Operator.the-variants.{Whenever}
 use Rattle.model.specs.declared.OptionTerm.the-variants.{Either}
 use Rattle.model.specs.Base.{Base, privilege, exists}
@@ -22,7 +21,7 @@ use Rattle.model.specs.Support.{supports, supportedIn, supported}
 use Rattle.model.specs.Stratification.{feeds, links, precedes, weight, stratified, stratum}
 use Rattle.model.specs.Rules.{fits, standsFor, derivesFor, rightOf, derivedBelow, holds, mayWith, may}
 use Rattle.model.specs.Soundness.{sound}
-use Rattle.theorems.specs.Isolation.{Whole, Closed, Shut}
+use Rattle.theorems.specs.Isolation.{Whole, Closed, RightsInside}
 
 abbrev line : ℕ → ℕ → ℕ → Authorization
 line l g o = record {
@@ -99,10 +98,10 @@ seven-exists o e = rw (true-eq o 7 e)
 pub seven-closed : Closed seven alone
 seven-closed = record {
   existing = seven-exists;
-  shut = inside;
+  rights-inside = inside;
 }
   where
-    inside : Shut seven alone
+    inside : RightsInside seven alone
     inside r (inl e) z h = absurd (true≢false (rw e at z))
     inside r (inr m) z h = absurd (m .lower)
 

@@ -4,15 +4,16 @@ use mathlib.Core.Path.{_≡_, refl, sym, ap, _∙_, subst}
 use mathlib.Core.Logic.{_≢_}
 use Prim.Native.Nat.{ℕ, suc, _≤_}
 use native.Mathlib.Omega.{arith}
-use mathlib.Core.Bool.{true}
+use mathlib.Core.Bool.{true, false}
 use mathlib.Core.List.{List, [], _∷_, _++_}
 use lib.Dec.{eqb}
 use lib.ListN.{length}
 use Rattle.foundation.specs.Tests.{pick, cases, true-eq, false-eq}
+use Rattle.model.specs.declared.Head.{Head}
 use Rattle.model.specs.declared.Request.{Request}
 use Rattle.model.specs.declared.Reply.the-variants.{Done}
 use Rattle.model.specs.Base.{Base, emptyBase}
-use Rattle.model.specs.Requests.{grants, labels}
+use Rattle.model.specs.Requests.{REVOKE, REVOKEP, REVOKEN, REVOKEADM, grants, labels, withdraws, takes}
 use Rattle.model.specs.Means.{plainly}
 use Rattle.model.specs.Step.{accepting, Outcome, refusal, effect, step, play}
 use Rattle.model.specs.StepFacts.{step-accepted, step-refused}
@@ -21,10 +22,12 @@ use Rattle.model.specs.EncodingFacts.{decode-encode, empty-sound}
 use Rattle.model.specs.Soundness.{sound}
 use Rattle.model.specs.Answers.{Answer, request, requests, labelOf}
 use Rattle.model.specs.Survival.{after}
-use Rattle.model.specs.Kinds.{grantKinds, labelKinds, is-kinds}
+use Rattle.model.specs.SurvivalFacts.{takes-eq}
+use Rattle.model.specs.Kinds.{grantKinds, labelKinds, withdrawalKinds, is-kinds, not-kind}
 use Rattle.laws.specs.SoundPrivileges.{last-stays}
 use Rattle.laws.specs.Preservation.{effect-sound}
-use Rattle.laws.specs.RequestFacts.{request-accepted, request-refused, done-passes}
+use Rattle.laws.specs.RequestFacts.{request-accepted, request-refused}
+use Rattle.theorems.specs.RefusalNumbers.{done-passes}
 
 -- ---- one request
 
@@ -46,6 +49,15 @@ step-sound b q s = step-keeps (λ c. sound c ≡ true) b q s (effect-sound b q s
 
 pub step-last : (b : Base) (q : Request) → b .last ≤ step b q .base .last
 step-last b q = step-keeps (λ c. b .last ≤ c .last) b q (omega arith) (λ z. last-stays b q)
+
+-- a request that withdraws nothing takes nothing
+pub no-takes : (q : Request) → withdraws q ≡ false → (h : Head) (t : ℕ) → takes q h t ≡ false
+no-takes q w h t = rw (
+  takes-eq q h t,
+  not-kind q (REVOKE ∷ []) withdrawalKinds refl w,
+  not-kind q (REVOKEP ∷ REVOKEN ∷ []) withdrawalKinds refl w,
+  not-kind q (REVOKEADM ∷ []) withdrawalKinds refl w,
+)
 
 -- ---- a list
 

@@ -21,7 +21,7 @@ use Rattle.model.specs.Rules.{may, when}
 use Rattle.model.specs.Means.{plainly}
 use Rattle.model.specs.Step.{Row, row, firstNumber, refusedOr, accepting, effect, earliestGap}
 use Rattle.model.specs.StepFacts.{first-given, answered, turned-away, rising?, numbered}
-use Rattle.model.specs.StepFacts.{IsEarliest, earliest-gap, earliest-one}
+use Rattle.model.specs.StepFacts.{IsEarliest, earliest-gap, earliest-one, none-given}
 use Rattle.model.specs.Encoding.{size, encode, decode}
 use Rattle.model.specs.Soundness.{sound, soundBytes}
 use Rattle.model.specs.SoundnessFacts.{sound-bytes, decoded-sound}
@@ -37,10 +37,10 @@ use Rattle.model.specs.ReportFacts.{report-length}
 use Rattle.model.specs.Text.{Line, order, asksMay, asksWhen, unreadable}
 use Rattle.model.specs.Session.{pairs, whenList, byteTurn}
 use Rattle.model.specs.GrantFacts.{Barred, barred-instant}
-use Rattle.laws.specs.EarlyRows.{rowsUntil, none-given, given-behind}
+use Rattle.laws.specs.EarlyRows.{rowsUntil}
 use Rattle.laws.specs.SessionFacts.{when-most}
-use Rattle.laws.specs.RequestFacts.{reply-refusal, refusedWith, uncovered-reply, nine-applies}
-use Rattle.laws.specs.RequestFacts.{fourteen-barred}
+use Rattle.laws.specs.RequestFacts.{reply-refusal, refusedWith, uncovered-reply}
+use Rattle.theorems.specs.RefusalNumbers.{given-behind, nine-applies, fourteen-barred}
 
 -- an answer with a number that is not 0 is the refusal by a row, and the number is that row's
 refused : {A : Type 0} (rows : List Row) (refuse : ℕ → A) (answer : A) (number : A → ℕ) →

@@ -35,14 +35,14 @@ use Rattle.model.specs.Kinds.{grantKinds, labelKinds, is-kinds}
 use Rattle.laws.specs.KeepFacts.{live-keep}
 use Rattle.laws.specs.SoundFacts.{all-supported}
 use Rattle.laws.specs.SoundPrivileges.{last-stays}
-use Rattle.laws.specs.AuthorizationsAfter.{newAuthorization, no-takes, granted-authorizations}
-use Rattle.laws.specs.AuthorizationsAfter.{same-authorizations}
+use Rattle.laws.specs.AuthorizationsAfter.{newAuthorization, granted-authorizations, same-authorizations}
 use Rattle.laws.specs.Restriction.{withdrawn-all}
 use Rattle.laws.specs.Preservation.{sound-after, effect-sound}
-use Rattle.laws.specs.RequestFacts.{request-accepted, done-passes, number-refused, refused-number}
+use Rattle.laws.specs.RequestFacts.{request-accepted}
+use Rattle.theorems.specs.RefusalNumbers.{done-passes, number-refused, refused-number}
 use Rattle.theorems.specs.PlayFacts.{base-accepted, base-refused, step-sound, baseAfter, after-sound}
 use Rattle.theorems.specs.PlayFacts.{after-bytes, after-base, after-one, after-more, done-accepted}
-use Rattle.theorems.specs.PlayFacts.{done-label}
+use Rattle.theorems.specs.PlayFacts.{done-label, no-takes}
 
 -- ---- one accepted request
 

@@ -15,9 +15,9 @@ use native.Mathlib.Omega.{arith}
 use lib.Dec.{leb, eqb}
 use Rattle.foundation.specs.Tests.{cases, agree, and-true, and-intro, and-false, ne-false, eq-true, true-eq}
 use Rattle.foundation.specs.Tests.{false-eq, true-le}
-use Rattle.foundation.specs.Tests.{not-true, must-pass, must-fail, beq-eq, or-cases, or-intro-left}
-use Rattle.foundation.specs.Tests.{or-true-right, or-true}
-use Rattle.foundation.specs.Lists.{Mem, keepIf, all-mem, any-mem, mem-any, mem-left, keepIf-mem, kept}
+use Rattle.foundation.specs.Tests.{not-true, must-pass, beq-eq, or-cases, or-intro-left}
+use Rattle.foundation.specs.Tests.{or-true-right}
+use Rattle.foundation.specs.Lists.{Mem, all-mem, any-mem, mem-any, mem-left, keepIf-mem, kept}
 use Rattle.model.specs.declared.Privilege.{Privilege}
 use Rattle.model.specs.declared.Rule.{Rule}
 use Rattle.model.specs.declared.Request.{Request}

@@ -13,7 +13,8 @@ use lib.Seq.{length-take-le}
 use Rattle.foundation.specs.Tests.{cases, pick, agree, and-true, and-intro, true-le, eq-true, true-eq}
 use Rattle.foundation.specs.Bytes.{eqList, eqList-eq, eqList-refl}
 use Rattle.model.specs.Text.{newline, space, extend, split, withoutEmptyLast, lines}
-use Rattle.laws.specs.FirstLine.{ends, beforeNewline, behindNewline, before-all, behind-none, split-ended}
+use Rattle.laws.specs.FirstLine.{hasNewline, beforeNewline, behindNewline, before-all, behind-none}
+use Rattle.laws.specs.FirstLine.{split-ended}
 use Rattle.laws.specs.FirstLine.{split-whole}
 use Rattle.vectors.specs.declared.lines.Span.{Span}
 use Rattle.model.specs.Base.{emptyBase}
@@ -182,7 +183,7 @@ lines-more p (c ∷ s) = cases (eqb c newline)
 -- a text that has a byte has a first line, and those behind it
 pub lines-front : (s : List ℕ) → 0 < length s → lines s ≡ beforeNewline s ∷ lines (behindNewline s)
 lines-front [] h = absurd (omega arith)
-lines-front (c ∷ s) h = cases (ends (c ∷ s))
+lines-front (c ∷ s) h = cases (hasNewline (c ∷ s))
     (λ e. ap withoutEmptyLast (split-ended (c ∷ s) e) ∙ lines-more (beforeNewline (c ∷ s))
     (behindNewline (c ∷ s)))
     (λ e. ap withoutEmptyLast (split-whole (c ∷ s) e) ∙ rw (before-all (c ∷ s) e, behind-none (c ∷ s) e))

@@ -1,12 +1,11 @@
 -- The search by halves: those in front of `low` are below t, those from `high` on are not.
 use mathlib.Core.Path.{_≡_, sym, _∙_}
-use mathlib.Core.Bool.{Bool}
 use mathlib.Core.List.{List}
 use Prim.Native.Nat.{ℕ, suc, _+_, _/_, _≤_, _<_}
 use native.Mathlib.Omega.{arith}
-use lib.Dec.{eqb, leb, ltb}
+use lib.Dec.{leb, ltb}
 use lib.ListN.{getD}
-use Rattle.foundation.specs.Tests.{cases, le-true, le-false, true-le, false-le, true-eq, false-eq}
+use Rattle.foundation.specs.Tests.{cases, le-true, le-false, true-le, false-le}
 use Rattle.windows.specs.Windows.{Rising}
 
 module _ (n : ℕ) (ms : List ℕ) (t : ℕ) where

@@ -16,7 +16,7 @@ use Rattle.model.specs.declared.Authorization.{Authorization}
 use Rattle.model.specs.Support.{supports, supported, supported-step, live}
 use Rattle.model.specs.Withdrawal.{pieces, keep, restrict}
 use Rattle.laws.specs.KeepFacts.{intervalsOf, live-keep}
-use Rattle.laws.specs.LedgerFacts.{refine-maximal, keep-append, keep-pieces}
+use Rattle.laws.specs.Refinement.{refine-maximal, keep-append, keep-pieces}
 use Rattle.cover.specs.declared.Want.{Want}
 use Rattle.cover.specs.Cover.{wantOf, wanted, coveredBy}
 use Rattle.model.specs.SupportFacts.{any-live}

@@ -22,7 +22,7 @@ use model::Authorization;
 use pieces::Cut;
 use pieces::Put;
 use pieces::put_pieces;
-use pieces::taken;
+use pieces::taken_stretch;
 
 // Whether x is a piece of a, as its label and its start tell.
 fn is_piece(a: Authorization, x: Authorization) -> bool
@@ -78,7 +78,7 @@ fn take_turn(
     let g = h.granted as u64;
     if (from <= g) & (g < to) {
         let root = lookup::is_root(owners, no, administrators, na, h.object, h.grantor);
-        let cut = taken(c, h);
+        let cut = taken_stretch(c, h);
         let Put::Lines(k) = put_pieces(out, sorted, m, pos, a, root, cut) else {
             return RoundStep::Full;
         };

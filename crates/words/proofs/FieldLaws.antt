@@ -1,7 +1,7 @@
 -- Fields of one table do not meet: what is joined to one leaves the others as they are (`join-law`).
-use mathlib.Core.Path.{_≡_, refl, sym, ap, ap₂, _∙_}
+use mathlib.Core.Path.{_≡_, refl, sym, ap, _∙_}
 use mathlib.Core.Logic.{_⊎_, ⊎-elim, inl, inr}
-use mathlib.Core.Bool.{true, false}
+use mathlib.Core.Bool.{true}
 use mathlib.Core.List.{List}
 use Prim.Native.Nat.{ℕ, zero, suc, _+_, _*_, _-_, _/_, _%_, _^_, _≤_, _<_}
 use native.Mathlib.Nat.{mod-eq-of-lt, div-eq-of-lt, lt-of-lt-of-le, mul-mod-left, mul-assoc, one-mul}
@@ -15,7 +15,7 @@ use lib.Count.{trailingZeros, under}
 use lib.Dec.{eqb}
 use lib.ListN.{length, getD, set}
 use lib.Seq.{getD-set-same, getD-set-other}
-use Rattle.foundation.specs.Tests.{pick, cases, true-eq, false-eq, eq-true}
+use Rattle.foundation.specs.Tests.{cases, true-eq, false-eq, eq-true}
 use Rattle.foundation.specs.BitMasks.{bit}
 use Rattle.foundation.specs.BitLaws.{bit-half}
 use Rattle.words.specs.Fields.{starts, fieldOf, joined}

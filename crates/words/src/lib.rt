@@ -1,5 +1,6 @@
 // Fields in words: what is known of an instant each is a bit, and what is known of the instants of a window a
-// field of 2^k bits. The width shows here and nowhere else.
+// field of 2^k bits. How wide a field is shows where it is read and joined, here, and in how many instants a
+// window has and how many words a table takes.
 ghost use mathlib.Core.Path.{_≡_};
 ghost use Prim.Native.Nat.{ℕ, _+_, _*_, _^_, _≤_, _<_, _-_};
 ghost use lib.ListN.{length};

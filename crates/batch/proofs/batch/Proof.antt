@@ -125,7 +125,7 @@ sliceP = sliceTy (tyRef erased imm word)
 
 -- how many numbers are prepared
 abbrev width : ℕ
-width = 684
+width = 492
 
 abbrev table : Ty
 table = tyArray word width

@@ -8,7 +8,7 @@ use Rattle.batch.proofs.prepare.Tie as tie
 
 prepare-requires : tie.Need-prepare-requires
 prepare-requires c κs =
-    let d = c .before .before .before in (d .pre (c .before .if1 .taken), refl {a = 684}, zeros-blank 684)
+    let d = c .before .before .before in (d .pre (c .before .if1 .taken), refl {a = 492}, zeros-blank 492)
 
 returns-2 : tie.Need-returns-2
 returns-2 c = λ h. absurd (omega (arith, h, c .if1 .left))

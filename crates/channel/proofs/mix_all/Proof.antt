@@ -6,7 +6,8 @@ use mathlib.Core.Path.{_≡_, refl, sym, ap, _∙_}
 use Prim.Native.Nat.{ℕ, suc, _-_, _≤_, _<_}
 use lib.ListN.{length, drop}
 use lib.Seq.{drop-length}
-use Rattle.channel.specs.Digests.{digest, digest-none, digest-next}
+use Rattle.channel.specs.Digests.{digest}
+use Rattle.channel.proofs.DigestFacts.{digest-none, digest-next}
 use Rattle.channel.proofs.mix_all.Statement.{statement}
 use Rattle.channel.proofs.mix_all.Tie as tie
 

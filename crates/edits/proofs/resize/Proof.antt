@@ -1,8 +1,8 @@
--- `edits::resize` meets its contract: `opened` and `shut` say what each branch leaves.
+-- `edits::resize` meets its contract: `lengthened` and `shortened` say what each branch leaves.
 use native.Mathlib.Omega.{arith}
 use mathlib.Core.Path.{_∙_}
 use denote.Ref.{now}
-use Rattle.edits.proofs.EditedBytes.{opened, shut}
+use Rattle.edits.proofs.EditedBytes.{lengthened, shortened}
 use borrow.Author.Needs.{needs}
 use Rattle.edits.proofs.resize.Statement.{statement}
 use Rattle.edits.proofs.resize.Tie as tie
@@ -11,13 +11,13 @@ returns : tie.Need-returns
 returns c =
     let a = c .before .before .before .before .before .before .args in
     c .before .before .open-gap .ensures
-    ∙ opened (a .at) (a .old) (a .new) (now (a .s)) (omega arith) (omega arith)
+    ∙ lengthened (a .at) (a .old) (a .new) (now (a .s)) (omega arith) (omega arith)
 
 returns-2 : tie.Need-returns-2
 returns-2 c =
     let a = c .before .before .before .before .before .before .args in
     c .before .before .close-gap .ensures
-    ∙ shut (a .at) (a .old) (a .new) (now (a .s)) (omega arith) (omega arith)
+    ∙ shortened (a .at) (a .old) (a .new) (now (a .s)) (omega arith) (omega arith)
 
 pub resize-spec : {M : Type 1} → statement M
 resize-spec =

@@ -1,15 +1,9 @@
 -- `effects::add_rule` meets its contract, by `put-last`.
 use borrow.Author.Needs.{needs}
-use mathlib.Core.Path.{_≡_, refl, sym, ap, _∙_}
 use native.Mathlib.Omega.{arith}
-use lib.ListN.{length}
 use denote.Ref.{now}
-use Rattle.model.specs.Encoding.{decode}
-use Rattle.encoding.specs.declared.Counts.{Counts}
-use Rattle.encoding.proofs.FormatFacts.{decoded-lengths}
 use Rattle.edits.proofs.EditedBytes.{written-length}
-use Rattle.effects.proofs.AllowedEffects.{rule-addition, label-room, new-fits, room, put-last}
-use Rattle.effects.proofs.AllowedEffects.{operator-in}
+use Rattle.effects.proofs.AllowedEffects.{rule-addition, new-fits, room, put-last, operator-in}
 use Rattle.effects.proofs.add_rule.Statement.{statement}
 use Rattle.effects.proofs.add_rule.Tie as tie
 
@@ -18,16 +12,11 @@ counts-of-requires c κs =
     let d = c .before .before in
     omega (arith, written-length (now (d .args .s)) (rule-addition _ _ (d .pre) .written))
 
--- the place is behind the last
-place : (c : tie.After-counts-of) →
-    c .counts-of .result .rules ≡ length (decode (now (c .before .before .before .args .s)) .rules)
-place c = ap (λ (x : Counts). x .rules) (c .counts-of .ensures)
-    ∙ sym (decoded-lengths (now (c .before .before .before .args .s)) .4)
-
 next-label-requires : tie.Need-next-label-requires
 next-label-requires c κs =
     let d = c .before .before .before .before in
-    (rule-addition _ _ (d .pre) .written, label-room _ _ _ (d .pre) refl)
+    let a = rule-addition _ _ (d .pre) in
+    (a .written, a .unused)
 
 stamp-requires : tie.Need-stamp-requires
 stamp-requires c κs = rule-addition _ _ (c .before .before .before .before .before .before .pre) .written
@@ -36,7 +25,7 @@ new-rule-requires : tie.Need-new-rule-requires
 new-rule-requires c κs =
     let l = c .before .before .before .before .before .before in
     let d = l .before .before .before .before .before in (
-      new-fits (rule-addition _ _ (d .pre)) (l .next-label .result) (l .next-label .ensures),
+      new-fits (rule-addition _ _ (d .pre)) (l .next-label .ensures),
       operator-in _ _ (d .pre),
     )
 
@@ -45,9 +34,8 @@ insert-rule-requires c κs =
     let p = c .before .before .before .before .before in
     let l = p .before .before in
     let n = l .before .before in
-    room (rule-addition _ _ (n .before .before .before .pre)) (l .next-label .result)
-    (l .next-label .ensures) _ (p .stamp .ensures)
-    (n .counts-of .result .rules) (place n)
+    room (rule-addition _ _ (n .before .before .before .pre)) (l .next-label .ensures) (p .stamp .ensures)
+    (n .counts-of .ensures)
 
 returns : tie.Need-returns
 returns c =
@@ -55,9 +43,8 @@ returns c =
     let p = r .before .before .before .before .before .before in
     let l = p .before .before in
     let n = l .before .before in
-    put-last (rule-addition _ _ (n .before .before .before .pre)) (l .next-label .result)
-    (l .next-label .ensures) _ (p .stamp .ensures)
-    (n .counts-of .result .rules) (place n) _ (r .before .new-rule .ensures) _ (r .insert-rule .ensures)
+    put-last (rule-addition _ _ (n .before .before .before .pre)) (l .next-label .ensures)
+    (p .stamp .ensures) (n .counts-of .ensures) (r .before .new-rule .ensures) (r .insert-rule .ensures)
 
 pub add-rule-spec : {M : Type 1} → statement M
 add-rule-spec =

@@ -2,15 +2,13 @@
 use borrow.Author.Needs.{needs}
 use native.Mathlib.Omega.{arith}
 use mathlib.Core.Path.{_≡_, sym, ap, subst, _∙_}
-use mathlib.Core.Bool.{Bool, true, false, not}
-use Prim.Native.Nat.{ℕ, _≤_, _<_}
+use mathlib.Core.Bool.{true, false}
+use Prim.Native.Nat.{ℕ}
 use lib.Dec.{eqb}
 use Rattle.foundation.specs.Tests.{or-cases, true-eq, not-true, not-false}
-use Rattle.foundation.specs.BitMasks.{bit}
 use Rattle.model.specs.Stratification.{lasting}
 use Rattle.words.specs.Ones.{allFrom}
-use Rattle.derivation.specs.Words.{wantedWord}
-use Rattle.derivation.specs.Derive.{FirstBit, Derived}
+use Rattle.derivation.specs.Derive.{Derived}
 use Rattle.evaluation.proofs.RuleWords.{wanted-le, first-active, neither, plain-derived}
 use Rattle.evaluation.proofs.RuleWords.{broken-derived, idle-derived, lasting-derived}
 use Rattle.evaluation.proofs.derive.Statement.{statement}
@@ -21,7 +19,7 @@ returns c =
     let a = c .before .before .before .args in
     let e : lasting (a .o) ≡ false = sym (c .before .is-lasting .ensures)
     ∙ not-true (c .before .is-lasting .result) (c .if1 .taken) in
-    subst (λ (r : ℕ). Derived (a .o) (a .held) (a .active) (a .broken) r) (sym (c .before .before .wanted
+    subst (λ (r : ℕ). Derived (a .o) (a .held) (a .active) (a .broken) r) (sym (c .before .before .wanted-word
     .ensures))
     (plain-derived (a .o) (a .held) (a .active) (a .broken) e)
 
@@ -41,7 +39,7 @@ ones-from-requires c κs =
     let x = c .next-bit .ensures in (
       omega (
         arith,
-        c .before .before .before .before .wanted .ensures,
+        c .before .before .before .before .wanted-word .ensures,
         wanted-le (a .o) (a .held) (a
             .active),
         c .before .before .before .before .before .pre,
@@ -62,7 +60,7 @@ returns-3 c =
     let f = first-active (a .active) (c .before .next-bit .result) (n .1) (c .before .before .before .before
     .before .before .pre) (x .1)
     (λ i h. x .2 i (omega arith) h) (x .3) in
-    let w = c .before .before .before .before .before .wanted .ensures in
+    let w = c .before .before .before .before .before .wanted-word .ensures in
     let o = c .ones-from .ensures in
     lasting-derived (a .o) (a .held) (a .active) (a .broken) e (n .0) (c .before .next-bit .result)
     (c .ones-from .result) (f .1) (omega (arith, o .0))

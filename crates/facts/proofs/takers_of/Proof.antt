@@ -8,18 +8,18 @@ use denote.Ref.{now}
 use lib.Dec.{ltb}
 use Rattle.foundation.specs.Tests.{cases, le-true, and-false}
 use Rattle.foundation.specs.BitMasks.{bit}
-use Rattle.masks.proofs.Collecting.{Collected, collect-start, collect-turn}
+use Rattle.masks.proofs.BitLoops.{Collected, collect-start, collect-turn}
 use Rattle.facts.specs.Facts.{fitsKind, fitsRule}
 use Rattle.facts.proofs.LineGiving.{takers-same}
 use Rattle.facts.proofs.takers_of.Statement.{statement}
 use Rattle.facts.proofs.takers_of.Tie as tie
 
 abbrev Inv-loop : tie.InvT-loop
-Inv-loop h body choosy m₀ c₀ m c =
-    (c ≤ 64) × (c < 64 → bit c choosy ≡ true) × Collected (fitsRule body h) choosy c m
+Inv-loop h body rules m₀ c₀ m c =
+    (c ≤ 64) × (c < 64 → bit c rules ≡ true) × Collected (fitsRule body h) rules c m
 
 abbrev μ-loop : tie.MeasureT-loop
-μ-loop h body choosy m₀ c₀ m c = 64 - c
+μ-loop h body rules m₀ c₀ m c = 64 - c
 
 loop-holds : tie.Need-loop-holds Inv-loop μ-loop
 loop-holds c =
@@ -27,7 +27,7 @@ loop-holds c =
     let e = c .next-bit .ensures in (
       e .1,
       e .3,
-      collect-start (fitsRule (now (a .body)) (a .h)) (a .choosy) (c .next-bit .result) (e .2),
+      collect-start (fitsRule (now (a .body)) (a .h)) (a .rules) (c .next-bit .result) (e .2),
     )
 
 rule-at-requires : tie.Need-rule-at-requires Inv-loop μ-loop
@@ -45,7 +45,7 @@ loop-again c =
     let e = c .next-bit2 .ensures in (
       e .1,
       e .3,
-      collect-turn (fitsRule (now (a .body)) (a .h)) (a .choosy) (l .c) (c .next-bit2 .result)
+      collect-turn (fitsRule (now (a .body)) (a .h)) (a .rules) (l .c) (c .next-bit2 .result)
           (l .m) (w .with-if .result) (f .fits-kind .result) (l .inv .2) (l .inv .1 (omega arith))
           (f .fits-kind .ensures ∙ ap (fitsKind (a .h)) (r .rule-at .ensures)) (w .with-if .ensures)
           (omega arith) (e .2),
@@ -57,13 +57,13 @@ returns c =
     let s = c .before .before .before .before in
     let a = s .args in
     let z : l .c ≡ 64 = omega (arith, l .inv .0) in
-    let bits : (i : ℕ) → bit i (l .m) ≡ bit i (a .choosy) && fitsRule (now (a .body)) (a .h) i =
-    λ i. l .inv .2 i ∙ cases (bit i (a .choosy))
+    let bits : (i : ℕ) → bit i (l .m) ≡ bit i (a .rules) && fitsRule (now (a .body)) (a .h) i =
+    λ i. l .inv .2 i ∙ cases (bit i (a .rules))
     (λ e. let h : i < l .c = omega (arith, s .pre i e .0) in
-    ap (λ (b : Bool). b && bit i (a .choosy) && fitsRule (now (a .body)) (a .h) i)
+    ap (λ (b : Bool). b && bit i (a .rules) && fitsRule (now (a .body)) (a .h) i)
     (le-true (suc i) (l .c) h))
     (λ e. rw (e, and-false (ltb i (l .c)))) in
-    (takers-same (now (a .body)) (a .choosy) (a .h) (l .m) (s .pre) bits, bits)
+    (takers-same (now (a .body)) (a .rules) (a .h) (l .m) (s .pre) bits, bits)
 
 pub takers-of-spec : {M : Type 1} → statement M
 takers-of-spec =

@@ -11,7 +11,7 @@ use lib.Seq.{getD-set-other}
 use Rattle.foundation.specs.BitMasks.{bit}
 use Rattle.foundation.specs.Tests.{agree, true-eq, eq-true, or-false, and-false}
 use Rattle.masks.proofs.Puts.{put-bit}
-use Rattle.masks.proofs.BitWalk.{pass-start, pass-turn, pass-end, or-under}
+use Rattle.masks.proofs.BitLoops.{pass-start, pass-turn, pass-end, or-under}
 use Rattle.masks.proofs.hand_on.Statement.{statement}
 use Rattle.masks.proofs.hand_on.Tie as tie
 

@@ -8,7 +8,7 @@ use denote.Ref.{now}
 use lib.Dec.{eqb, ltb}
 use lib.ListN.{getD}
 use Rattle.foundation.specs.BitMasks.{bit}
-use Rattle.masks.proofs.Collecting.{Collected, collect-start, collect-turn}
+use Rattle.masks.proofs.BitLoops.{Collected, collect-start, collect-turn}
 use Rattle.masks.proofs.of_stratum.Statement.{statement}
 use Rattle.masks.proofs.of_stratum.Tie as tie
 
@@ -21,14 +21,14 @@ abbrev μ-loop : tie.MeasureT-loop
 
 loop-holds : tie.Need-loop-holds Inv-loop μ-loop
 loop-holds c =
-    let a = c .before .args in
+    let a = c .before .before .args in
     let e = c .next-bit .ensures in
     let t : ℕ → Bool = λ i. eqb (getD (now (a .strata)) i 0) (a .k) in
     (e .1, e .3, collect-start t (a .rest) (c .next-bit .result) (e .2))
 
 loop-again : tie.Need-loop-again Inv-loop μ-loop
 loop-again c =
-    let a = c .before .before .before .before .before .before .args in
+    let a = c .before .before .before .before .before .before .before .args in
     let l = c .before .before .before .before .loop in
     let e = c .next-bit2 .ensures in
     let w = c .before .with-if in
@@ -42,7 +42,7 @@ loop-again c =
 returns : tie.Need-returns Inv-loop μ-loop
 returns c =
     let l = c .before .loop in
-    let a = c .before .before .before .args in
+    let a = c .before .before .before .before .args in
     λ i. l .inv .2 i ∙ ap (λ (x : ℕ). ltb i x && bit i (a .rest) && eqb (getD (now (a .strata)) i 0) (a .k))
     (omega arith)
 

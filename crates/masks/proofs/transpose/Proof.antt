@@ -13,18 +13,18 @@ use lib.ListN.{getD}
 use Rattle.foundation.specs.BitMasks.{bit, bit-zero}
 use Rattle.foundation.specs.BitLaws.{bit-and}
 use Rattle.foundation.specs.Tests.{true-eq}
-use Rattle.masks.proofs.BitWalk.{pass-start, pass-turn, pass-end, bring-one}
+use Rattle.masks.proofs.BitLoops.{pass-start, pass-turn, pass-end, bring-one}
 use Rattle.masks.proofs.transpose.Statement.{statement}
 use Rattle.masks.proofs.transpose.Tie as tie
 
--- rule q looks at rule r, which is of the mask
-abbrev looks : List ℕ → ℕ → ℕ → ℕ → Bool
-looks feed rules r q = bit r (bitAnd (getD feed q 0) rules)
+-- rule r, which is of the mask, precedes rule q
+abbrev precedes : List ℕ → ℕ → ℕ → ℕ → Bool
+precedes feed rules r q = bit r (bitAnd (getD feed q 0) rules)
 
 abbrev Inv-loop : tie.InvT-loop
 Inv-loop feed rules fed₀ q₀ fed q =
     (q ≤ 64) × (q < 64 → bit q rules ≡ true)
-    × ((r p : ℕ) → r < 64 → bit p (getD fed r 0) ≡ (ltb p q && bit p rules) && looks feed rules r p)
+    × ((r p : ℕ) → r < 64 → bit p (getD fed r 0) ≡ (ltb p q && bit p rules) && precedes feed rules r p)
 
 abbrev μ-loop : tie.MeasureT-loop
 μ-loop feed rules fed₀ q₀ fed q = 64 - q
@@ -37,7 +37,7 @@ loop-holds c =
       e .1,
       e .3,
       λ r p h. ap (bit p) (b .before .pre .0 r h) ∙ bit-zero p
-          ∙ sym (ap (λ (x : Bool). x && looks (now (a .feed)) (a .rules) r p)
+          ∙ sym (ap (λ (x : Bool). x && precedes (now (a .feed)) (a .rules) r p)
           (pass-start (λ k. bit k (a .rules)) (c .next-bit .result) p (e .2))),
     )
 
@@ -48,7 +48,7 @@ loop-again c =
     let e = c .next-bit2 .ensures in
     let q = l .q in
     let own : bit q (a .rules) ≡ true = l .inv .1 (omega arith) in
-    let at : ℕ → ℕ → Bool = looks (now (a .feed)) (a .rules) in
+    let at : ℕ → ℕ → Bool = precedes (now (a .feed)) (a .rules) in
     let put : (r p : ℕ) → bit p (getD (c .before .hand-on .last .0) r 0)
     ≡ bit p (getD (l .fed) r 0) || (eqb p q && at r q) =
     λ r p. rw (zero-add r) at (c .before .hand-on .ensures .1 r p) in (

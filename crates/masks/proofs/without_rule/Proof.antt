@@ -5,8 +5,7 @@ use mathlib.Core.Bool.{Bool, not, _&&_}
 use Prim.Native.Nat.{_^_}
 use lib.Bits.{and-le-l}
 use Rattle.foundation.specs.BitMasks.{bit}
-use Rattle.words.specs.Bits.{bit-less}
-use Rattle.words.proofs.CutBit.{cut-less}
+use Rattle.words.proofs.CutBit.{bit-less, cut-less}
 use Rattle.words.proofs.FieldLaws.{bit-shifted}
 use Rattle.masks.proofs.SingleBits.{one-bit}
 use Rattle.masks.proofs.without_rule.Statement.{statement}

@@ -1,6 +1,5 @@
 -- By the test.
 use borrow.Author.Needs.{needs}
-use mathlib.Core.Path.{_≡_, refl}
 use Rattle.foundation.specs.Tests.{eq-true, ne-false}
 use Rattle.places.proofs.chosen.Statement.{statement}
 use Rattle.places.proofs.chosen.Tie as tie

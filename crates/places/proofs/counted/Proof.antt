@@ -1,7 +1,7 @@
 -- By the test.
 use borrow.Author.Needs.{needs}
 use native.Mathlib.Omega.{arith}
-use mathlib.Core.Path.{_≡_, refl}
+use mathlib.Core.Path.{refl}
 use Rattle.foundation.specs.Tests.{eq-true, ne-false}
 use Rattle.places.proofs.counted.Statement.{statement}
 use Rattle.places.proofs.counted.Tie as tie

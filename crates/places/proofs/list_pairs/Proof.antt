@@ -13,8 +13,9 @@ use lib.ListN.{length, getD, set, length-set}
 use lib.Seq.{getD-set-same, getD-set-other}
 use Rattle.foundation.specs.Tests.{cases, true-eq, false-eq, eq-true, ne-false}
 use Rattle.foundation.specs.BitMasks.{asBit}
-use Rattle.places.specs.ReachedNumbers.{used, usedBefore, usedBefore-none, usedBefore-step}
-use Rattle.places.specs.ReachedNumbers.{usedBefore-le, usedBefore-apart}
+use Rattle.places.specs.ReachedNumbers.{used, usedBefore}
+use Rattle.places.proofs.NumberFacts.{usedBefore-none, usedBefore-step, usedBefore-le}
+use Rattle.places.proofs.NumberFacts.{usedBefore-apart}
 use Rattle.places.specs.ReachedNumbers.{codeOf}
 use Rattle.places.proofs.list_pairs.Statement.{statement}
 use Rattle.places.proofs.list_pairs.Tie as tie

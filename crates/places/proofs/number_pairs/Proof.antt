@@ -3,15 +3,15 @@ use borrow.Author.Needs.{needs}
 use native.Mathlib.Numerals.{add-one}
 use native.Mathlib.Omega.{arith}
 use mathlib.Core.Path.{_≡_, sym, ap, _∙_}
-use Prim.Native.Nat.{ℕ, suc, _+_, _-_, _≤_, _<_}
+use Prim.Native.Nat.{ℕ, _+_, _-_, _≤_, _<_}
 use denote.Ref.{now}
 use lib.Dec.{eqb}
-use lib.ListN.{length, getD, set, length-set}
+use lib.ListN.{length, getD, length-set}
 use lib.Seq.{getD-set-same, getD-set-other}
 use Rattle.foundation.specs.Tests.{cases, true-eq, false-eq}
 use Rattle.foundation.specs.BitMasks.{asBit}
-use Rattle.places.specs.ReachedNumbers.{used, usedBefore, usedBefore-none, usedBefore-step}
-use Rattle.places.specs.ReachedNumbers.{usedBefore-le}
+use Rattle.places.specs.ReachedNumbers.{used, usedBefore}
+use Rattle.places.proofs.NumberFacts.{usedBefore-none, usedBefore-step, usedBefore-le}
 use Rattle.places.proofs.number_pairs.Statement.{statement}
 use Rattle.places.proofs.number_pairs.Tie as tie
 use Rattle.places.proofs.number_pairs.Reads as reads

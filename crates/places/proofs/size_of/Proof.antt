@@ -1,7 +1,7 @@
 -- The product, which fits.
 use borrow.Author.Needs.{needs}
 use native.Mathlib.Omega.{arith}
-use mathlib.Core.Path.{_≡_, ap₂, _∙_}
+use mathlib.Core.Path.{ap₂, _∙_}
 use Prim.Native.Nat.{ℕ, _*_}
 use Rattle.foundation.specs.Tests.{pick}
 use Rattle.places.specs.Regions.{free, sizeOf}

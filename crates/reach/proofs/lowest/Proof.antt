@@ -1,7 +1,7 @@
 -- A word of 16 bits that is not 0 has one of them.
 use borrow.Author.Needs.{needs}
 use native.Mathlib.Omega.{arith}
-use Rattle.reach.proofs.Aims.{low-bit}
+use Rattle.reach.proofs.RightPairs.{low-bit}
 use Rattle.reach.proofs.lowest.Statement.{statement}
 use Rattle.reach.proofs.lowest.Tie as tie
 

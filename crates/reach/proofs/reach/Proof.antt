@@ -3,8 +3,7 @@
 use borrow.Author.Needs.{needs}
 use native.Mathlib.Omega.{arith}
 use mathlib.Core.Path.{_≡_, refl, sym, subst, _∙_}
-use mathlib.Core.Bool.{Bool, true}
-use mathlib.Core.List.{List}
+use mathlib.Core.Bool.{true}
 use Prim.Native.Nat.{ℕ, _≤_, _<_}
 use denote.Ref.{now}
 use lib.ListN.{length, getD}
@@ -18,7 +17,7 @@ use Rattle.reach.proofs.reach.Reads as reads
 use Rattle.reach.proofs.reach.Lts as lts
 use Rattle.reach.proofs.ask.Reads as ask-reads
 use Rattle.reach.proofs.next_todo.Reads as next-todo-reads
-use Rattle.reach.proofs.step.Reads as step-reads
+use Rattle.reach.proofs.follow_bit.Reads as follow-bit-reads
 
 abbrev Inv-loop : tie.InvT-loop
 Inv-loop left right subjects pair bits need₀ todo₀ j₀ need todo j =
@@ -64,8 +63,8 @@ loop-holds c =
           (none-within P (now (a .todo)) (λ j. p .3 j .1)) .1),
     )
 
-step-requires : tie.Need-step-requires Inv-loop μ-loop
-step-requires c κo =
+follow-bit-requires : tie.Need-follow-bit-requires Inv-loop μ-loop
+follow-bit-requires c κo =
     let a = c .before .before .before .before .before .before .before .before .before .before .before
     .before .before .before .before .before .before .args in
     let p = c .before .before .before .before .before .before .before .before .before .before .before
@@ -85,10 +84,11 @@ step-requires c κo =
     )
 
 next-todo-requires-2 : tie.Need-next-todo-requires-2 Inv-loop μ-loop
-next-todo-requires-2 c κo = omega (arith, c .before .before .before .before .before .step .ensures .todos)
+next-todo-requires-2 c κo =
+    omega (arith, c .before .before .before .before .before .follow-bit .ensures .todos)
 
 loop-less : tie.Need-loop-less Inv-loop μ-loop
-loop-less c = c .before .before .before .before .before .before .step .ensures .less
+loop-less c = c .before .before .before .before .before .before .follow-bit .ensures .less
 
 loop-again : tie.Need-loop-again Inv-loop μ-loop
 loop-again c =
@@ -96,7 +96,7 @@ loop-again c =
     .before .before .before .before .before .before .before .before .before .before .before
     .before .before .args in
     let i = c .before .before .before .before .before .before .before .before .before .before .loop .inv in
-    let o = c .before .before .before .before .before .before .step .ensures in (
+    let o = c .before .before .before .before .before .before .follow-bit .ensures in (
       o .closed (i .0),
       (λ b e. o .more (a .pair) b (i .1 b e)),
       c .next-todo2 .ensures .0,
@@ -133,5 +133,5 @@ returns c =
 
 pub reach-spec : {M : Type 1} → statement M
 reach-spec =
-    tie.close (tie.spec Inv-loop μ-loop ask-requires next-todo-requires loop-holds step-requires
+    tie.close (tie.spec Inv-loop μ-loop ask-requires next-todo-requires loop-holds follow-bit-requires
     next-todo-requires-2 loop-less loop-again same-length same-length-2 returns)

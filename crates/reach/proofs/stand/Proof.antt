@@ -1,6 +1,6 @@
 -- Three masks have them in common.
 use borrow.Author.Needs.{needs}
-use mathlib.Core.Path.{_≡_, refl}
+use mathlib.Core.Path.{refl}
 use Rattle.reach.specs.Net.{standing}
 use Rattle.reach.proofs.stand.Statement.{statement}
 use Rattle.reach.proofs.stand.Tie as tie

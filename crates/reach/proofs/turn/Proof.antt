@@ -1,6 +1,5 @@
 -- By the test for a star.
 use borrow.Author.Needs.{needs}
-use mathlib.Core.Path.{_≡_, refl}
 use Rattle.foundation.specs.Tests.{eq-true, ne-false}
 use Rattle.reach.proofs.turn.Statement.{statement}
 use Rattle.reach.proofs.turn.Tie as tie

@@ -9,7 +9,8 @@ use mathlib.Core.List.{List, [], _∷_}
 use lib.Dec.{eqb}
 use Rattle.foundation.specs.Tests.{eq-true, ne-false, or-intro-left, or-true-right}
 use Rattle.model.specs.declared.Request.{Request}
-use Rattle.model.specs.Requests.{NEW, GRANT, DENY, ADDRULE, DROPRULE, GRANTADM, GRANTREF, REVOKEREF, is}
+use Rattle.model.specs.Requests.{NEW, GRANT, DENY, REVOKE, ADDRULE, DROPRULE, GRANTADM, GRANTREF}
+use Rattle.model.specs.Requests.{REVOKEREF, is}
 use Rattle.effects.specs.EffectRecords.{Allowed}
 use Rattle.requests.specs.KeepingKinds.{keepingKinds}
 use Rattle.requests.proofs.KindNumbers.{kind-among, kind-apart, is-one}
@@ -21,15 +22,14 @@ module _ {s : List ℕ} {q : Request} (a : Allowed keepingKinds s q) where
   allowed ks k = record { sound = a .sound; accepted = a .accepted; kind = k }
 
   -- the last of the eight, where it is none of the others
-  last-kind : (q .kind < 1) ⊎ (4 ≤ q .kind) → q .kind ≢ 1 → q .kind ≢ 7 → q .kind ≢ 8 → q .kind ≢ 9 →
-      q .kind ≢ 11 →
-      is q (REVOKEREF ∷ []) ≡ true
+  last-kind : (q .kind < NEW) ⊎ (REVOKE ≤ q .kind) → q .kind ≢ NEW → q .kind ≢ ADDRULE → q .kind ≢ DROPRULE →
+      q .kind ≢ GRANTADM → q .kind ≢ GRANTREF → is q (REVOKEREF ∷ []) ≡ true
   last-kind far n₁ n₇ n₈ n₉ n₁₁ =
       let no : (k : ℕ) → q .kind ≢ k → eqb (q .kind) k ≡ false = ne-false (q .kind) in
       rw (
         no NEW n₁,
-        kind-apart (q .kind) 1 4 GRANT far (omega arith) (omega arith),
-        kind-apart (q .kind) 1 4 DENY far (omega arith) (omega arith),
+        kind-apart (q .kind) NEW REVOKE GRANT far (omega arith) (omega arith),
+        kind-apart (q .kind) NEW REVOKE DENY far (omega arith) (omega arith),
         no ADDRULE n₇,
         no DROPRULE n₈,
         no GRANTADM n₉,
@@ -70,9 +70,9 @@ grant-requires c κs =
     let e = c .before .before in
     let m = e .before in
     let d = m .before .before in
-    let n : d .args .q .kind ≢ 1 = m .match .rest .0 .0 .0 .1 in
+    let n : d .args .q .kind ≢ NEW = m .match .rest .0 .0 .0 .1 in
     allowed (d .pre) (GRANT ∷ DENY ∷ [])
-    (kind-among (d .args .q .kind) 2 2 (omega (arith, n, e .if1 .left))
+    (kind-among (d .args .q .kind) GRANT 2 (omega (arith, n, e .if1 .left))
     (omega (arith, c .before .if2 .taken)))
 
 revoke-referrer-requires : tie.Need-revoke-referrer-requires

@@ -7,17 +7,17 @@ use native.Mathlib.Omega.{arith}
 use mathlib.Core.Bool.{false}
 use Rattle.foundation.specs.Tests.{ne-false}
 use Rattle.model.specs.declared.Request.{Request}
-use Rattle.model.specs.Requests.{REVOKE, REVOKEP, REVOKEN, REVOKEADM, withdraws}
+use Rattle.model.specs.Requests.{REVOKE, REVOKEP, REVOKEN, ADDRULE, REVOKEADM, withdraws}
 use Rattle.requests.proofs.KindNumbers.{kind-among, kind-apart, is-one}
 use Rattle.requests.proofs.carry_out.Statement.{statement}
 use Rattle.requests.proofs.carry_out.Tie as tie
 
 -- none of the kinds that withdraw
-keeps : (q : Request) → (q .kind < 4) ⊎ (7 ≤ q .kind) → q .kind ≢ REVOKEADM → withdraws q ≡ false
+keeps : (q : Request) → (q .kind < REVOKE) ⊎ (ADDRULE ≤ q .kind) → q .kind ≢ REVOKEADM → withdraws q ≡ false
 keeps q far n = rw (
-  kind-apart (q .kind) 4 7 REVOKE far (omega arith) (omega arith),
-  kind-apart (q .kind) 4 7 REVOKEP far (omega arith) (omega arith),
-  kind-apart (q .kind) 4 7 REVOKEN far (omega arith) (omega arith),
+  kind-apart (q .kind) REVOKE ADDRULE REVOKE far (omega arith) (omega arith),
+  kind-apart (q .kind) REVOKE ADDRULE REVOKEP far (omega arith) (omega arith),
+  kind-apart (q .kind) REVOKE ADDRULE REVOKEN far (omega arith) (omega arith),
   ne-false (q .kind) REVOKEADM n,
 )
 
@@ -31,7 +31,7 @@ revoke-requires : tie.Need-revoke-requires
 revoke-requires c κs =
     let e = c .before .before in
     let d = e .before .before .before in
-    (d .pre, kind-among (d .args .q .kind) 4 3 (e .if1 .left) (omega (arith, c .before .if2 .taken)))
+    (d .pre, kind-among (d .args .q .kind) REVOKE 3 (e .if1 .left) (omega (arith, c .before .if2 .taken)))
 
 add-or-drop-requires : tie.Need-add-or-drop-requires
 add-or-drop-requires c κs =

@@ -24,7 +24,7 @@ use Rattle.encoding.proofs.SoundBodies.{base-sound}
 use Rattle.foundation.specs.RecordLoops.{AnyFrom, any-starts, any-fails, any-passes, any-ends}
 use Rattle.simple.specs.Stored.{rulesFrom}
 use Rattle.simple.specs.Engine.{ServedRules, grantedAt, givesIn, wantedIn}
-use Rattle.simple.proofs.Depth.{depthFor, reach, sight, sight-denial, reach-rule, sight-right}
+use Rattle.simple.proofs.Depth.{depthFor, longestFor, sight, sight-denial, longest-rule, sight-right}
 use Rattle.simple.proofs.EngineSteps as steps
 use Rattle.simple.proofs.gives.Reads as gives
 use Rattle.simple.proofs.gives.Kinds as gives-kinds
@@ -54,7 +54,7 @@ abbrev μ-gives : Measures 1 gives-kinds.ps ℕ
 μ-gives κs a = 4 * depthFor (decode (now (a .0))) (a .1 .1 .0) (a .1 .0)
 
 abbrev μ-held : Measures 1 held-kinds.ps ℕ
-μ-held κs a = 4 * reach (decode (now (a .0))) (a .1 .0) + 1
+μ-held κs a = 4 * longestFor (decode (now (a .0))) (a .1 .0) + 1
 
 abbrev μ-in-force : Measures 1 in-force-kinds.ps ℕ
 μ-in-force κs a = 4 * sight (decode (now (a .0))) (a .1 .0) + 2
@@ -303,7 +303,7 @@ module _ (t : ℕ) where
       let s = now (d .args .s) in
       let r = c .rule .result in
       let m = steps.rule-mem s (l .loop .i) r (c .rule .ensures) (omega (arith, l .loop .inv .0)) in
-      (omega (arith, d .pre .0, reach-rule (decode s) (d .args .p) r m), (d .pre .1, m))
+      (omega (arith, d .pre .0, longest-rule (decode s) (d .args .p) r m), (d .pre .1, m))
 
   -- no authorization gives it
   ungranted : (c : held-lts.At-loop (held-claims t) (held-at t) held.Post held-Inv-loop held-μ-loop) →
@@ -374,7 +374,7 @@ module _ (t : ℕ) where
       let d = e .before .before .before .before in
       let b = decode (now (d .args .s)) in
       let l = sight-denial b (d .args .p) (e .if2 .left) in
-      (omega (arith, d .pre .0, ap (reach b) (c .asked .ensures), l), d .pre .1)
+      (omega (arith, d .pre .0, ap (longestFor b) (c .asked .ensures), l), d .pre .1)
 
   in-force-returns-3 : in-force-lts.Need-returns-3 (in-force-claims t) (in-force-at t) in-force.Post
   in-force-returns-3 c =

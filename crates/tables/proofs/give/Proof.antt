@@ -29,24 +29,19 @@ Inv-loop words₀ right first f p sign takers v fresh₀ c₀ words fresh c =
 abbrev μ-loop : tie.MeasureT-loop
 μ-loop words₀ right first f p sign takers v fresh₀ c₀ words fresh c = 64 - c
 
-size-of-requires : tie.Need-size-of-requires Inv-loop μ-loop
-size-of-requires c κs =
+denials-start-requires : tie.Need-denials-start-requires Inv-loop μ-loop
+denials-start-requires c κs =
     let s = c .before .before .before .before .before .before in
     let a = s .args in
-    omega (
-      arith,
-      ap (sizeOf (a .f .grid)) (c .before .all-places .ensures),
-      plain-fits (a .f) (now (a .right)) (now (a .first)) (s .pre .0 .laid) (a .sign) (s .pre .2),
-    )
+    omega (arith, plain-fits (a .f) (now (a .right)) (now (a .first)) (s .pre .0 .laid) (a .sign) (s .pre .2))
 
 mul-join-in : tie.Need-mul-join-in Inv-loop μ-loop
 mul-join-in c =
     let s = c .before .before .before .before .before .before .before in
     let a = s .args in
-    let e = c .size-of .ensures ∙ ap (sizeOf (a .f .grid)) (c .before .before .all-places .ensures) in
     omega (
       arith,
-      ap (λ (n : ℕ). a .sign * n) e,
+      ap (λ (n : ℕ). a .sign * n) (c .denials-start .ensures),
       plain-fits (a .f) (now (a .right)) (now (a .first)) (s .pre .0 .laid) (a .sign) (s .pre .2),
     )
 
@@ -56,7 +51,7 @@ join-in-requires c κs =
     let a = s .args in
     let p = s .pre in
     let b = ap (sizeOf (a .f .grid)) (c .before .before .all-places .ensures) in
-    let e = ap (λ (n : ℕ). a .sign * n) (c .size-of .ensures ∙ b) in
+    let e = ap (λ (n : ℕ). a .sign * n) (c .denials-start .ensures) in
     let h = plain-fits (a .f) (now (a .right)) (now (a .first)) (p .0 .laid) (a .sign) (p .2) in
     (record { narrow = p .0 .narrow; fits = p .0 .fits; high = omega arith; within = p .1 }, p .4)
 
@@ -114,7 +109,7 @@ loop-again c =
 returns : tie.Need-returns Inv-loop μ-loop
 returns c =
     let j = c .before .before .before .before .before .join-in in
-    let z = c .before .before .before .before .before .before .size-of .ensures in
+    let z = c .before .before .before .before .before .before .denials-start .ensures in
     let o = c .before .before .before .before .before .before .before .before in
     let b = o .all-places .ensures in
     let s = o .before .before .before .before .before in
@@ -126,7 +121,7 @@ returns c =
     (a .p .point) (a .v) (p .1) (now (a .words)) (j .last .0) (j .ensures .1) (a .sign) (p .2)
     (λ i. j .ensures .0 i ∙ ap₂ (λ (n : ℕ) (r : Region). joined (a .f .width) (now (a .words))
     (a .sign * n + indexIn (a .f .grid) r (a .p .pair) (a .p .point)) (a .v) i)
-    (z ∙ ap (sizeOf (a .f .grid)) b) b) in (
+    z b) in (
       given-then (tableTakes (a .sign) (a .takers)) (plain-once (a .sign) (a .takers) (l .c) (p .2))
           (λ d. rw e (below-all (a .sign) (a .takers) (p .2) (omega arith) d)) plain (l .inv .2),
       l .inv .3 (now (a .words)) (j .ensures .2),
@@ -135,6 +130,6 @@ returns c =
 pub give-spec : {M : Type 1} → statement M
 give-spec =
     tie.close
-    (tie.spec Inv-loop μ-loop (λ c κs. search needs) size-of-requires mul-join-in join-in-requires
+    (tie.spec Inv-loop μ-loop (λ c κs. search needs) denials-start-requires mul-join-in join-in-requires
     (λ c κs. search needs) loop-holds give-rule-requires (λ c. search needs) (λ c κs. search needs)
     (λ c. search needs) loop-again (λ c. search needs) returns)

@@ -24,11 +24,12 @@ returns : tie.Need-returns
 returns c =
     let b = c .before .before .before .args .b in
     let x = c .before .before .before .args .x in
-    let n = c .before .before .names in
+    let n = c .before .before .names-coordinate in
     let s = named (b .subject) (x .subject) (n .result) (n .ensures) in
-    let o = named (b .object) (x .object) (c .before .names2 .result) (c .before .names2 .ensures) in
-    let m = named (b .mode) (x .mode) (c .names3 .result) (c .names3 .ensures) in
-    let w = and-three (n .result) (c .before .names2 .result) (c .names3 .result) in (
+    let o = named (b .object) (x .object) (c .before .names-coordinate2 .result)
+    (c .before .names-coordinate2 .ensures) in
+    let m = named (b .mode) (x .mode) (c .names-coordinate3 .result) (c .names-coordinate3 .ensures) in
+    let w = and-three (n .result) (c .before .names-coordinate2 .result) (c .names-coordinate3 .result) in (
       (λ t. let v = w .0 t in record { subject = s .0 (v .0); object = o .0 (v .1); mode = m .0 (v .2) }),
       (λ i. w .1 (s .1 (i .subject), o .1 (i .object), m .1 (i .mode))),
     )

@@ -11,26 +11,26 @@ use Rattle.tables.proofs.TableSizes.{size-small, room-small}
 use Rattle.tables.proofs.lay_all.Statement.{statement}
 use Rattle.tables.proofs.lay_all.Tie as tie
 
-size-of-requires : tie.Need-size-of-requires
-size-of-requires c κs =
-    let s = c .before .before .before in
-    omega (arith, size-small (s .args .g) (s .pre .0) (c .all-places .result))
+denials-start-requires : tie.Need-denials-start-requires
+denials-start-requires c κs =
+    let s = c .before .before in
+    omega (arith, size-small (s .args .g) (s .pre .0) wholeRegion)
 
 mul-lay-out : tie.Need-mul-lay-out
 mul-lay-out c =
-    let s = c .before .before .before .before in
-    omega (arith, c .size-of .ensures, size-small (s .args .g) (s .pre .0) (c .before .all-places .result))
+    let s = c .before .before .before in
+    omega (arith, c .denials-start .ensures, size-small (s .args .g) (s .pre .0) wholeRegion)
 
 lay-out-requires : tie.Need-lay-out-requires
 lay-out-requires c κs =
-    let s = c .before .before .before .before .before in
+    let s = c .before .before .before .before in
     let a = s .args in
     let p = s .pre in (
       omega (
         arith,
-        c .before .size-of .ensures,
-        size-small (a .g) (p .0) (c .before .before .all-places .result),
-        room-small (a .g) (p .0) (now (a .right)) (a .choosy) 64,
+        c .before .denials-start .ensures,
+        size-small (a .g) (p .0) wholeRegion,
+        room-small (a .g) (p .0) (now (a .right)) (a .rules) 64,
       ),
       p .1,
       p .2,
@@ -38,18 +38,16 @@ lay-out-requires c κs =
 
 returns : tie.Need-returns
 returns c =
-    let s = c .before .before .before .before .before .before .before .before in
+    let s = c .before .before .before .before .before .before .before in
     let a = s .args in
-    let z : 2 * c .before .before .before .before .size-of .result ≡ 2 * sizeOf (a .g) wholeRegion =
-    ap (λ (n : ℕ). 2 * n) (c .before .before .before .before .size-of .ensures
-    ∙ ap (sizeOf (a .g)) (c .before .before .before .before .before .all-places .ensures)) in
+    let z : 2 * c .before .before .before .before .denials-start .result ≡ 2 * sizeOf (a .g) wholeRegion =
+    ap (λ (n : ℕ). 2 * n) (c .before .before .before .before .denials-start .ensures) in
     let e = c .before .before .lay-out .ensures in (
-      e .0 ∙ ap (λ (n : ℕ). n + roomOf (a .g) (now (a .right)) (a .choosy) 64) z,
-      all-laid (a .g) (now (a .right)) (a .choosy) _ (c .before .before .lay-out .result) (rw z at (e .1)),
+      e .0 ∙ ap (λ (n : ℕ). n + roomOf (a .g) (now (a .right)) (a .rules) 64) z,
+      all-laid (a .g) (now (a .right)) (a .rules) _ (c .before .before .lay-out .result) (rw z at (e .1)),
       e .2,
     )
 
 pub lay-all-spec : {M : Type 1} → statement M
 lay-all-spec =
-    tie.close (tie.spec (λ c κs. search needs) size-of-requires mul-lay-out lay-out-requires
-    (λ c. search needs) returns)
+    tie.close (tie.spec denials-start-requires mul-lay-out lay-out-requires (λ c. search needs) returns)

@@ -4,7 +4,8 @@ use mathlib.Core.Path.{sym, ap, _∙_}
 use mathlib.Core.Bool.{Bool}
 use denote.Ref.{now}
 use Rattle.tables.specs.TableLayout.{regionAt}
-use Rattle.tables.specs.TableGiving.{shapesBy, whole-at}
+use Rattle.tables.specs.TableGiving.{shapesBy}
+use Rattle.tables.proofs.WholeCodes.{whole-at}
 use Rattle.tables.proofs.shape_at.Statement.{statement}
 use Rattle.tables.proofs.shape_at.Tie as tie
 

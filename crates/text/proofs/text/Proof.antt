@@ -17,10 +17,10 @@ use Rattle.text.proofs.text.Statement.{statement}
 use Rattle.text.proofs.text.Tie as tie
 
 -- what a line that can be read asks
-asked : (c : tie.After-known-told) → (let r = c .before .before .before in
+told-base : (c : tie.After-known-told) → (let r = c .before .before .before in
     askedOf (c .before .a .given .0 .0) ≡ readLine
     (now (r .before .before .before .before .before .args .line)))
-asked c = let r = c .before .before .before in sym (ap lineOf (c .before .a .given .1))
+told-base c = let r = c .before .before .before in sym (ap lineOf (c .before .a .given .1))
     ∙ r .read-line .ensures
 
 -- what carries out a request or answers a question asks for
@@ -65,7 +65,7 @@ returns-3 c =
     let s = now (a .base) in
     let out = now (a .out) in
     let q = k .before .a .given .0 .0 in
-    answers-line s (now (a .line)) out (askedOf q) (asked k)
+    answers-line s (now (a .line)) out (askedOf q) (told-base k)
     (short-written s (askedOf q) out (omega (arith, e .if1 .left)) (omega arith)
     (unsound-turn s q (sym (i .is-sound .ensures) ∙ not-true (i .is-sound .result) (t .if2 .taken)))
     (p .put-short2 .ensures))
@@ -77,7 +77,7 @@ returns-4 c =
     let k = a₂ .before .before .before .before .before in
     let a = k .before .before .before .before .before .before .before .before .args in
     answers-line (now (a .base)) (now (a .line)) (now (a .out)) (order (a₂ .a2 .given .0 .0))
-    (sym (ap askedOf (a₂ .a2 .given .1)) ∙ asked k) (o .text-order .ensures)
+    (sym (ap askedOf (a₂ .a2 .given .1)) ∙ told-base k) (o .text-order .ensures)
 
 returns-5 : tie.Need-returns-5
 returns-5 c =
@@ -86,7 +86,7 @@ returns-5 c =
     let k = a₃ .before .before .before .before .before in
     let a = k .before .before .before .before .before .before .before .before .args in
     answers-line (now (a .base)) (now (a .line)) (now (a .out)) (asksMay (a₃ .a3 .given .0 .0))
-    (sym (ap askedOf (a₃ .a3 .given .1)) ∙ asked k) (m .text-may .ensures)
+    (sym (ap askedOf (a₃ .a3 .given .1)) ∙ told-base k) (m .text-may .ensures)
 
 returns-6 : tie.Need-returns-6
 returns-6 c =
@@ -95,7 +95,7 @@ returns-6 c =
     let k = a₄ .before .before .before .before .before in
     let a = k .before .before .before .before .before .before .before .before .args in
     answers-line (now (a .base)) (now (a .line)) (now (a .out)) (asksWhen (a₄ .a4 .given .0 .0))
-    (sym (ap askedOf (a₄ .a4 .given .1)) ∙ asked k) (w .text-when .ensures)
+    (sym (ap askedOf (a₄ .a4 .given .1)) ∙ told-base k) (w .text-when .ensures)
 
 pub text-spec : {M : Type 1} → statement M
 text-spec =

@@ -1,13 +1,14 @@
 use borrow.Author.Needs.{needs}
 use native.Mathlib.Omega.{arith}
-use mathlib.Core.Path.{_≡_, ap, _∙_}
+use mathlib.Core.Path.{ap, _∙_}
 use Prim.Native.Nat.{ℕ, _+_, _*_, _-_, _/_, _^_, _≤_}
 use native.Mathlib.Nat.{mul-le-mul-right, div-mul-le-self}
 use lib.Bits.{and-le-l}
 use lib.Pow.{shr-le}
 use Rattle.foundation.specs.BitMasks.{bit}
-use Rattle.words.specs.Ones.{ones, ones-from}
+use Rattle.words.specs.Ones.{ones}
 use Rattle.words.proofs.FieldLaws.{back-up}
+use Rattle.words.proofs.OnesFacts.{ones-from}
 use Rattle.words.proofs.ones_from.Statement.{statement}
 use Rattle.words.proofs.ones_from.Tie as tie
 

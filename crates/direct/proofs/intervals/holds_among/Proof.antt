@@ -7,6 +7,7 @@ use Prim.Native.Nat.{ℕ, _-_, _≤_}
 use denote.Ref.{now}
 use Rattle.direct.specs.Among.{heldAmong}
 use Rattle.relevance.specs.Chosen.{picked}
+use Rattle.relevance.proofs.PickedLoops.{picked-loop}
 use Rattle.direct.proofs.Choosing.{foundIn, found-none, granted-more, denied-more}
 use Rattle.direct.proofs.intervals.holds_among.Statement.{statement}
 use Rattle.direct.proofs.intervals.holds_among.Tie as tie
@@ -24,31 +25,6 @@ loop-holds c =
       omega arith,
       found-none (now (a .lines)) (now (a .which)) (a .t) false,
       found-none (now (a .lines)) (now (a .which)) (a .t) true,
-    )
-
-mul-at : tie.Need-mul-at Inv-loop μ-loop
-mul-at c = search needs
-
-shared-slice-read-at : tie.Need-shared-slice-read-at Inv-loop μ-loop
-shared-slice-read-at c = omega (arith, c .before .before .before .before .before .pre .room)
-
-cast-at : tie.Need-cast-at Inv-loop μ-loop
-cast-at c = omega (arith, c .shared-slice-known3 .given (c .before .before .loop .i))
-
-mul-authorization-at : tie.Need-mul-authorization-at Inv-loop μ-loop
-mul-authorization-at c =
-    omega (
-      arith,
-      c .before .before .before .before .before .pre .inside (c .before .before .loop .i)
-          (omega arith),
-    )
-
-authorization-at-requires : tie.Need-authorization-at-requires Inv-loop μ-loop
-authorization-at-requires c κs =
-    omega (
-      arith,
-      c .before .before .before .before .before .pre .inside (c .before .before .loop .i)
-          (omega arith),
     )
 
 loop-again : tie.Need-loop-again Inv-loop μ-loop
@@ -76,6 +52,6 @@ returns c =
 pub holds-among-spec : {M : Type 1} → statement M
 holds-among-spec =
     tie.close
-    (tie.spec Inv-loop μ-loop loop-holds mul-at shared-slice-read-at cast-at mul-authorization-at
-    authorization-at-requires (λ c κs. search needs) (λ c. search needs) (λ c. search needs) loop-again
-    returns)
+    (tie.spec Inv-loop μ-loop loop-holds (λ c. search needs) (λ c. search picked-loop)
+    (λ c. search picked-loop) (λ c. search picked-loop) (λ c κs. search picked-loop)
+    (λ c κs. search needs) (λ c. search needs) (λ c. search needs) loop-again returns)

@@ -4,7 +4,7 @@ use native.Mathlib.Omega.{arith}
 use mathlib.Core.Path.{_≡_, refl, sym, ap, _∙_, subst}
 use mathlib.Core.Bool.{Bool}
 use mathlib.Core.List.{List}
-use Prim.Native.Nat.{ℕ, suc, _-_, _≤_, _<_}
+use Prim.Native.Nat.{ℕ, _-_, _≤_, _<_}
 use denote.Ref.{now}
 use lib.ListN.{length}
 use Rattle.foundation.specs.Marks.{next}
@@ -13,7 +13,8 @@ use Rattle.model.specs.declared.Rule.{Rule}
 use Rattle.model.specs.Means.{marks}
 use Rattle.encoding.specs.Format.{rulesIn}
 use Rattle.marks.specs.Least.{NextMark}
-use Rattle.relevance.specs.Chosen.{picked, selected, marksFor, marks-for}
+use Rattle.relevance.specs.Chosen.{picked, selected, marksFor}
+use Rattle.relevance.proofs.PickedFacts.{marks-for}
 use Rattle.relevance.specs.Ahead.{NearAt, Standing}
 use Rattle.relevance.specs.declared.ahead.Near.{Near}
 use Rattle.scan.specs.Runs.{ScannedTo}

@@ -4,6 +4,7 @@ use mathlib.Core.Path.{sym}
 use mathlib.Core.Bool.{_&&_}
 use lib.Dec.{eqb}
 use Rattle.foundation.specs.Tests.{or-false}
+use Rattle.model.specs.Requests.{GRANT, DENY}
 use Rattle.effects.proofs.records.new_authorization.Statement.{statement}
 use Rattle.effects.proofs.records.new_authorization.Tie as tie
 
@@ -18,8 +19,8 @@ returns c =
         subject = q .subject;
         object = q .object;
         mode = q .mode;
-        negative = sym (or-false (eqb (q .kind) 3)) k;
-        option = sym (or-false (eqb (q .kind) 2)) k && q .option;
+        negative = sym (or-false (eqb (q .kind) DENY)) k;
+        option = sym (or-false (eqb (q .kind) GRANT)) k && q .option;
         granted = q .now;
       };
       interval = q .interval;

@@ -25,20 +25,20 @@ abbrev start₄ : tie.After-rules-at → tie.Start
 start₄ c = start₃ (c .before .before .before .before .before)
 
 -- the counts' bounds, by which each offset fits 16 bits
-most : (c : tie.Start) → CountsWithin (c .args .c)
-most c = fit-within (c .args .c) (c .pre .1)
+within : (c : tie.Start) → CountsWithin (c .args .c)
+within c = fit-within (c .args .c) (c .pre .1)
 
 cast-put-pair : tie.Need-cast-put-pair
-cast-put-pair c = let m = most (start₁ c) in omega arith
+cast-put-pair c = let m = within (start₁ c) in omega arith
 
 cast-put-pair-2 : tie.Need-cast-put-pair-2
-cast-put-pair-2 c = let m = most (start₂ c) in omega arith
+cast-put-pair-2 c = let m = within (start₂ c) in omega arith
 
 cast-put-pair-3 : tie.Need-cast-put-pair-3
-cast-put-pair-3 c = let m = most (start₃ c) in omega arith
+cast-put-pair-3 c = let m = within (start₃ c) in omega arith
 
 cast-put-pair-4 : tie.Need-cast-put-pair-4
-cast-put-pair-4 c = let m = most (start₄ c) in omega arith
+cast-put-pair-4 c = let m = within (start₄ c) in omega arith
 
 returns : tie.Need-returns
 returns c =

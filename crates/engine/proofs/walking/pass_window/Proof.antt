@@ -3,14 +3,12 @@
 use borrow.Author.Needs.{needs}
 use native.Mathlib.Omega.{arith}
 use mathlib.Core.Path.{_≡_, refl, sym, _∙_, subst}
-use mathlib.Core.Logic.{_⊎_}
 use mathlib.Core.Bool.{true}
 use mathlib.Core.List.{List}
-use Prim.Native.Nat.{ℕ, _*_, _≤_, _<_}
+use Prim.Native.Nat.{ℕ, _*_, _≤_}
 use denote.Ref.{now}
 use lib.ListN.{length, take}
 use lib.Seq.{length-take-le}
-use Rattle.foundation.specs.BitMasks.{bit}
 use Rattle.model.specs.Rules.{may}
 use Rattle.encoding.specs.Format.{ruleAt}
 use Rattle.model.specs.Stratification.{lasting}
@@ -21,9 +19,9 @@ use Rattle.engine.specs.declared.WindowWalk.{WindowWalk}
 use Rattle.engine.specs.Going.{Roomy, Start}
 use Rattle.engine.proofs.Sectioned.{part-alike, rest-alike}
 use Rattle.engine.proofs.Onward.{here, turns-able, rules-low, layered}
-use Rattle.engine.proofs.Onward.{among-lasting, further, keeps}
+use Rattle.engine.proofs.Onward.{among-lasting, further}
 use Rattle.engine.proofs.Onward.{given, notable, listed-first, answered, ends, goes}
-use Rattle.engine.proofs.Passing.{fills-as, picks-as, forgets-as, matters, lefts-stay, read-as}
+use Rattle.engine.proofs.Passing.{fills-as, picks-as, forgets-as, matters, read-as}
 use Rattle.engine.proofs.Passing.{readable-in, able-in, marked-as, going-as}
 use Rattle.engine.proofs.walking.pass_window.Statement.{statement}
 use Rattle.engine.proofs.walking.pass_window.Tie as tie
@@ -55,7 +53,18 @@ evaluate-requires c κs =
     let m = fills-as (now (x .records)) (now (x .outline)) (now (x .coordinates)) (now (x .need))
     (now (x .numbers)) (now (x .work)) (x .g .walk) (here g) (f .fill .ensures) in (
       given g (s .pre .1) (i .1) (i .2) m,
-      (turns-able g refl refl, (rules-low g, w .few, w .there, layered g, s .pre .0 .body, s .pre .0 .held)),
+      (
+        turns-able g refl refl,
+        (
+          rules-low g,
+          w .few,
+          w .there,
+          layered g,
+          s .pre .0 .body,
+          s .pre .0 .held,
+          g .ranked,
+        ),
+      ),
     )
 
 words-for-requires : tie.Need-words-for-requires
@@ -168,11 +177,8 @@ mark-broken-requires : tie.Need-mark-broken-requires
 mark-broken-requires c κs =
     let h = c .before .before .before .before .before .before .before .before .before .before .before .before
     .before .before .before .before in
-    let i = f h .before .before .instants .ensures in
     let g = s h .pre .2 .1 in
-    let held = roomy h .held in
-    let m = fills-as (R h) (U h) (C h) (N h) (M h) (W h) (w h) (here g) (f h .fill .ensures) in
-    let n = wordsFor (w h .frame .fields) (w h .frame .width) in (
+    let held = roomy h .held in (
       able-in (R h) (U h) (C h) (N h) (M h) (W h) (w h) (U′ h) (W′ h) (front h) (long h) g _
           (e h .evaluate .ensures .0 .low),
       record {
@@ -182,9 +188,6 @@ mark-broken-requires c κs =
         roomy = omega (arith, long h, held .roomy);
       },
       omega (arith, few h, f h .fill .ensures .some),
-      subst (λ (z : ℕ). ((r : ℕ) → bit r (w h .lasting) ≡ true → ⊥) ⊎ (0 < z))
-          (sym (rest-alike n (W′ h) (W h) (long h)))
-          (keeps g (s h .pre .1) (i .1) (i .2) m (c .before .before .before .if1 .taken)),
       λ r b. subst (λ (l : List ℕ). lasting (ruleAt l r .operator) ≡ true)
           (sym (lent-rest (w h .offset) (R h))) (among-lasting g r b .1),
     )
@@ -239,28 +242,26 @@ returns c =
     let done = e h .evaluate .ensures .0 in
     let n = wordsFor (w h .frame .fields) (w h .frame .width) in
     let read = read-as (R h) (U h) (C h) (N h) (M h) (W h) (w h) (U′ h) (W′ h) (front h) (long h)
-    (h .words-for .result) (k-is h) word (b .before .answers-in .ensures) in (
-      (λ o g.
-          let m = fills-as (R h) (U h) (C h) (N h) (M h) (W h) (w h) (here g) (f h .fill .ensures) in (
-            further g before (i .1) (i .2) m,
-            going-as (R h) (U h) (C h) (N h) (M h) (W h) (w h) (U′ h) (W′ h) (front h) (long h)
-                (bitsBack (2 * length (N h)) (M h) (numbers-room h) y)
-                (bits-rest (2 * length (N h)) (M h) (numbers-room h) y) (d .ensures .1) refl
-                (goes g before (i .1) (i .2) m done word read (part-alike n (W′ h) (W h) (long h))
-                (k .noted .result) (b .has-bit .result) (b .has-bit .ensures) _
-                (λ l. k .noted .ensures l (may (o .base) (o .access)) _ (o .list) _
-                (listed-first g before (i .1) (i .2) m l)
-                (answered g before (i .1) (i .2) m done word read))
-                (c .before .before .before .before .before .before .before .before .before .before .if1
-                .taken)
-                (marked-as (R h) (U h) (C h) (N h) (M h) (W h) (w h) (U′ h) (W′ h) (front h) (long h)
-                (e h .evaluate .ensures .1) (d .ensures .0))
-                (rest-alike n _ (W h) (c .before .before .before .before .before .work2 .given ∙ long h))
-                (forgets-as (R h) (U h) (C h) (N h) (M h) (W h) (w h) y (numbers-room h)
-                (c .before .before .forget .ensures))),
-          )),
-      lefts-stay (R h) (U h) (C h) (N h) (M h) (W h) (w h) (U′ h) (W′ h) (front h) (long h),
-    )
+    (h .words-for .result) (k-is h) word (b .before .answers-in .ensures) in (λ o g.
+    let m = fills-as (R h) (U h) (C h) (N h) (M h) (W h) (w h) (here g) (f h .fill .ensures) in (
+      further g before (i .1) (i .2) m,
+      going-as (R h) (U h) (C h) (N h) (M h) (W h) (w h) (U′ h) (W′ h) (front h) (long h)
+          (bitsBack (2 * length (N h)) (M h) (numbers-room h) y)
+          (bits-rest (2 * length (N h)) (M h) (numbers-room h) y) (d .ensures .1) refl
+          (goes g before (i .1) (i .2) m done word read (part-alike n (W′ h) (W h) (long h))
+          (k .noted .result) (b .has-bit .result) (b .has-bit .ensures) _
+          (λ l. k .noted .ensures l (may (o .base) (o .access)) _ (o .list) _
+          (listed-first g before (i .1) (i .2) m l)
+          (answered g before (i .1) (i .2) m done word read))
+          (e h .evaluate .result) (e h .evaluate .ensures .3)
+          (c .before .before .before .before .before .before .before .before .before .before .if1
+          .taken)
+          (marked-as (R h) (U h) (C h) (N h) (M h) (W h) (w h) (U′ h) (W′ h) (front h) (long h)
+          (e h .evaluate .ensures .1) (d .ensures .0))
+          (rest-alike n _ (W h) (c .before .before .before .before .before .work2 .given ∙ long h))
+          (forgets-as (R h) (U h) (C h) (N h) (M h) (W h) (w h) y (numbers-room h)
+          (c .before .before .forget .ensures))),
+    ))
 
 returns-2 : tie.Need-returns-2
 returns-2 c =
@@ -274,22 +275,20 @@ returns-2 c =
     let done = e h .evaluate .ensures .0 in
     let n = wordsFor (w h .frame .fields) (w h .frame .width) in
     let read = read-as (R h) (U h) (C h) (N h) (M h) (W h) (w h) (U′ h) (W′ h) (front h) (long h)
-    (h .words-for .result) (k-is h) word (b .before .answers-in .ensures) in (
-      (λ o g.
-          let m = fills-as (R h) (U h) (C h) (N h) (M h) (W h) (w h) (here g) (f h .fill .ensures) in (
-            further g before (i .1) (i .2) m,
-            going-as (R h) (U h) (C h) (N h) (M h) (W h) (w h) (U′ h) (W′ h) (front h) (long h) (M h) refl
-                refl
-                (e h .evaluate .ensures .1)
-                (ends g before (i .1) (i .2) m done word read (part-alike n (W′ h) (W h) (long h))
-                (k .noted .result) (b .has-bit .result) (b .has-bit .ensures) _
-                (λ l. k .noted .ensures l (may (o .base) (o .access)) _ (o .list) _
-                (listed-first g before (i .1) (i .2) m l)
-                (answered g before (i .1) (i .2) m done word read))
-                (c .if1 .left)),
-          )),
-      lefts-stay (R h) (U h) (C h) (N h) (M h) (W h) (w h) (U′ h) (W′ h) (front h) (long h),
-    )
+    (h .words-for .result) (k-is h) word (b .before .answers-in .ensures) in (λ o g.
+    let m = fills-as (R h) (U h) (C h) (N h) (M h) (W h) (w h) (here g) (f h .fill .ensures) in (
+      further g before (i .1) (i .2) m,
+      going-as (R h) (U h) (C h) (N h) (M h) (W h) (w h) (U′ h) (W′ h) (front h) (long h) (M h) refl
+          refl
+          (e h .evaluate .ensures .1)
+          (ends g before (i .1) (i .2) m done word read (part-alike n (W′ h) (W h) (long h))
+          (k .noted .result) (b .has-bit .result) (b .has-bit .ensures) _
+          (λ l. k .noted .ensures l (may (o .base) (o .access)) _ (o .list) _
+          (listed-first g before (i .1) (i .2) m l)
+          (answered g before (i .1) (i .2) m done word read))
+          (e h .evaluate .result) (e h .evaluate .ensures .3)
+          (c .if1 .left)),
+    ))
 
 pub pass-window-spec : {M : Type 1} → statement M
 pass-window-spec =

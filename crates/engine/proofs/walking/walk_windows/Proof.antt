@@ -5,7 +5,7 @@ use mathlib.Core.Path.{_≡_, refl, _∙_}
 use mathlib.Core.List.{List}
 use Prim.Native.Nat.{ℕ, _-_}
 use denote.Ref.{now}
-use lib.ListN.{length, take}
+use lib.ListN.{length}
 use Rattle.model.specs.declared.Access.{Access}
 use Rattle.model.specs.Base.{Base}
 use Rattle.sections.specs.Sections.{whichOf}
@@ -25,7 +25,6 @@ abbrev Inv-loop : tie.InvT-loop
 Inv-loop records w outline₀ coordinates need numbers₀ work₀ list₀ _ _ outline numbers work list s =
     ((base : Base) (x : Access) → WalksIn records outline₀ coordinates need numbers₀ work₀ w base x →
     GoingIn records outline coordinates need numbers work w list (begin base x w need numbers₀ work₀ list₀) s)
-    × (take 280 outline ≡ take 280 outline₀)
     × (length outline ≡ length outline₀) × (length numbers ≡ length numbers₀) × (length work ≡ length work₀)
     × (length list ≡ length list₀)
 
@@ -36,7 +35,6 @@ loop-holds : tie.Need-loop-holds Inv-loop μ-loop
 loop-holds c =
     let a = c .before .before .before .before .before .before .before .before .before .args in (
       (λ base x w. walk-starts w (omega (arith, c .struct-known .given)) (now (a .list))),
-      refl,
       refl,
       refl,
       refl,
@@ -54,10 +52,10 @@ pass-window-requires c κs =
       record {
         body = s .pre .0 .body;
         held = record {
-          outlined = v .2 ∙ held .outlined;
+          outlined = v .1 ∙ held .outlined;
           placed = held .placed;
-          numbered = omega (arith, v .3, held .numbered);
-          roomy = omega (arith, v .4, held .roomy);
+          numbered = omega (arith, v .2, held .numbered);
+          roomy = omega (arith, v .3, held .roomy);
         };
       },
       c .before .before .before .before .if1 .taken,
@@ -73,37 +71,36 @@ loop-less c =
     let l = p .before .before .before .before .before .before .before in
     let s = l .before .before .before .before .before .before .before .before .before .before in
     let w = s .pre .1 in
-    let r = p .pass-window .ensures .0 _ (l .loop .inv .0 (w .0) (w .1) (w .2)) in
+    let r = p .pass-window .ensures _ (l .loop .inv .0 (w .0) (w .1) (w .2)) in
     omega (arith, r .0, r .1 .high)
 
 loop-again : tie.Need-loop-again Inv-loop μ-loop
 loop-again c =
     let p = c .before .before .before .before .before .before .before .before in
     let v = p .before .before .before .before .before .before .before .loop .inv in (
-      (λ base x w. p .pass-window .ensures .0 _ (v .0 base x w) .1),
-      p .pass-window .ensures .1 ∙ v .1,
-      c .before .before .before .before .before .before .before .outline .given ∙ v .2,
-      c .before .before .before .before .before .numbers .given ∙ v .3,
-      c .before .before .before .work .given ∙ v .4,
-      c .before .list .given ∙ v .5,
+      (λ base x w. p .pass-window .ensures _ (v .0 base x w) .1),
+      c .before .before .before .before .before .before .before .outline .given ∙ v .1,
+      c .before .before .before .before .before .numbers .given ∙ v .2,
+      c .before .before .before .work .given ∙ v .3,
+      c .before .list .given ∙ v .4,
     )
 
 same-length : tie.Need-same-length Inv-loop μ-loop
-same-length c = c .before .before .before .loop .inv .2
+same-length c = c .before .before .before .loop .inv .1
 
 same-length-2 : tie.Need-same-length-2 Inv-loop μ-loop
-same-length-2 c = c .before .before .before .loop .inv .3
+same-length-2 c = c .before .before .before .loop .inv .2
 
 same-length-3 : tie.Need-same-length-3 Inv-loop μ-loop
-same-length-3 c = c .before .before .before .loop .inv .4
+same-length-3 c = c .before .before .before .loop .inv .3
 
 same-length-4 : tie.Need-same-length-4 Inv-loop μ-loop
-same-length-4 c = c .before .before .before .loop .inv .5
+same-length-4 c = c .before .before .before .loop .inv .4
 
 returns : tie.Need-returns Inv-loop μ-loop
 returns c =
     let v = c .before .before .before .loop .inv in
-    ((λ base x w. finds (v .0 base x w) (c .before .if1 .left)), v .1)
+    λ base x w. finds (v .0 base x w) (c .before .if1 .left)
 
 pub walk-windows-spec : {M : Type 1} → statement M
 walk-windows-spec =

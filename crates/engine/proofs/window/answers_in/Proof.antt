@@ -8,10 +8,10 @@ use denote.Ref.{now}
 use lib.Bits.{and-le-l}
 use lib.ListN.{length}
 use Rattle.foundation.specs.BitMasks.{bit}
-use Rattle.words.specs.Bits.{bit-less}
+use Rattle.words.proofs.CutBit.{bit-less}
 use Rattle.words.specs.Fields.{fieldOf}
 use Rattle.places.specs.declared.Region.{Region}
-use Rattle.places.specs.Regions.{sizeOf, indexIn}
+use Rattle.places.specs.Regions.{indexIn}
 use Rattle.tables.proofs.GivingSteps.{reaches}
 use Rattle.engine.proofs.window.answers_in.Statement.{statement}
 use Rattle.engine.proofs.window.answers_in.Tie as tie
@@ -24,23 +24,16 @@ field-in-requires c κs =
     (reaches (a .f) (now (a .right)) (now (a .first)) (length (now (a .words))) (a .p) (s .pre .0) (s .pre .1)
     0 refl)
 
-size-of-requires : tie.Need-size-of-requires
-size-of-requires c κs =
+denials-start-requires : tie.Need-denials-start-requires
+denials-start-requires c κs =
     let s = c .before .before .before .before .before .before in
-    let a = s .args in
-    omega (
-      arith,
-      ap (sizeOf (a .f .grid)) (c .before .before .all-places .ensures),
-      s .pre .0 .laid .high 1 refl,
-    )
+    omega (arith, s .pre .0 .laid .high 1 refl)
 
 field-in-requires-2 : tie.Need-field-in-requires-2
 field-in-requires-2 c κs =
     let s = c .before .before .before .before .before .before .before in
     let a = s .args in
-    let b = c .before .before .before .all-places .ensures in
-    let e = c .size-of .ensures ∙ ap (sizeOf (a .f .grid)) b in
-    rw (e, b)
+    rw (c .denials-start .ensures, c .before .before .before .all-places .ensures)
     (reaches (a .f) (now (a .right)) (now (a .first)) (length (now (a .words))) (a .p) (s .pre .0) (s .pre .1)
     1 refl)
 
@@ -52,7 +45,7 @@ returns c =
     let s = c .before .before .before .before .before .before .before .before in
     let a = s .args in
     let b = c .before .before .before .before .all-places .ensures in
-    let e = c .before .size-of .ensures ∙ ap (sizeOf (a .f .grid)) b in
+    let e = c .before .denials-start .ensures in
     let field : ℕ → Region → ℕ = λ from b.
     fieldOf (a .f .width) (now (a .words)) (from + indexIn (a .f .grid) b (a .p .pair) (a .p .point)) in
     λ i. bit-less i (c .before .before .field-in .result) (c .field-in2 .result)
@@ -62,5 +55,5 @@ returns c =
 pub answers-in-spec : {M : Type 1} → statement M
 answers-in-spec =
     tie.close
-    (tie.spec (λ c κs. search needs) field-in-requires size-of-requires field-in-requires-2 sub-result
+    (tie.spec (λ c κs. search needs) field-in-requires denials-start-requires field-in-requires-2 sub-result
     returns)

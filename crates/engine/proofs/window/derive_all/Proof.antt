@@ -10,11 +10,15 @@ use Rattle.engine.proofs.Sectioned.{part-alike}
 use Rattle.engine.proofs.window.derive_all.Statement.{statement}
 use Rattle.engine.proofs.window.derive_all.Tie as tie
 
+-- where the code starts
+abbrev start : tie.After-derive-rules → tie.Start
+start d = d .before .before .before .before .before .before .before .before .before .before .before
+
 derive-rest-requires : tie.Need-derive-rest-requires
 derive-rest-requires c κs =
-    let k = c .before .before in
+    let k = c .before .before .before in
     let d = k .before .before in
-    let s = d .before .before .before .before .before .before .before .before .before .before in
+    let s = start d in
     let f = s .args .w .frame in
     let n = wordsFor (f .fields) (f .width) in
     let held = s .pre .0 .1 in
@@ -34,19 +38,22 @@ derive-rest-requires c κs =
 
 returns : tie.Need-returns
 returns c =
-    let t = c .before .before in
-    let d = t .before .before .before .before .before in
+    let t = c .before .before .before .before in
+    let d = t .before .before .before .before .before .before in
     let e = d .derive-rules .ensures in
-    let r = t .derive-rest .ensures .0 .ran in (
+    let y = t .derive-rest .ensures in
+    let r = y .0 .ran in (
       record {
         rest = d .derive-rules .result;
         turned = _;
         turns = e .0;
         fewer = e .2;
         strata = _;
-        closed = inr (t .derive-rest .ensures .0 .numbered, rw (e .1) at r);
+        closed = inr (y .0 .numbered, rw (e .1) at r);
       },
-      t .derive-rest .ensures .1 ∙ e .1,
+      y .1 ∙ e .1,
+      (λ _. y .2),
+      y .3,
     )
 
 returns-2 : tie.Need-returns-2
@@ -61,10 +68,12 @@ returns-2 c =
         closed = inl ((λ q h e. none-set q (ap (bit q) (sym (c .if1 .left)) ∙ e)), refl);
       },
       d .derive-rules .ensures .1,
+      start d .pre .1 .4,
+      refl,
     )
 
 pub derive-all-spec : {M : Type 1} → statement M
 derive-all-spec =
     tie.close
-    (tie.spec (λ c κs. search needs) derive-rest-requires (λ c. search needs) returns
-    (λ c. search needs) returns-2)
+    (tie.spec (λ c κs. search needs) derive-rest-requires (λ c. search needs) (λ c. search needs) returns
+    (λ c. search needs) (λ c. search needs) returns-2)

@@ -14,13 +14,15 @@ use Rattle.model.specs.Stratification.{stratified}
 use Rattle.encoding.specs.Format.{rulesIn, ruleAt}
 use Rattle.windows.specs.Windows.{inside}
 use Rattle.relevance.specs.Chosen.{picked, selected}
-use Rattle.sections.proofs.SectionWrites.{part-long, putBack, back-own, back-length}
-use Rattle.sections.specs.Sections.{activeOf, numberedOf}
+use Rattle.sections.proofs.SectionWrites.{part-long, putBack, back-own, back-length, back-rest}
+use Rattle.sections.proofs.SectionWrites.{front-same}
+use Rattle.sections.specs.Sections.{activeOf, strataOf, numberedOf}
 use Rattle.facts.specs.declared.WindowTask.{WindowTask}
 use Rattle.grounding.specs.RuleTurns.{wordsFor, fieldsIn, bitsIn, SlicedIn}
 use Rattle.foundation.specs.Lists.{lent-rest}
 use Rattle.encoding.proofs.SoundBodies.{lent}
-use Rattle.engine.proofs.Sectioned.{part-alike, front-own, front-rest}
+use Rattle.engine.specs.Evaluation.{StrataKnown}
+use Rattle.engine.proofs.Sectioned.{part-alike, front-own, front-rest, front-front}
 use Rattle.engine.proofs.Sectioned.{setting-same, prepared-same}
 use Rattle.engine.proofs.Evaluating.{ready-as, able-as, low-in, evaluated-in}
 use Rattle.engine.proofs.window.evaluate.Statement.{statement}
@@ -93,8 +95,12 @@ module _ (a : tie.After-spans) where
   own : activeOf new ≡ active
   own = back-own old 408 64 active long (a .spans .ensures .1)
 
-  size : length new ≡ 472
+  size : length new ≡ 536
   size = back-length old 408 64 active long (a .spans .ensures .1) ∙ held .outlined
+
+  -- the strata are not touched
+  ranks : strataOf new ≡ strataOf old
+  ranks = ap (take 64) (back-rest old 408 64 active long (a .spans .ensures .1))
 
   acts : (r j : ℕ) → bit r (w .chosen .needed) ≡ true →
       bit j (getD active r 0) ≡ inside (w .count) (now (s .args .marks)) (ruleAt body r .interval) j
@@ -226,25 +232,35 @@ derive-all-requires c κs =
         subst (λ (b : List ℕ). w a .chosen .rules * 28 ≤ length b) (sym (body-is a)) (p .2),
         subst (λ (b : List ℕ). stratified (selected (w a .chosen .needed) (rulesIn (w a .chosen .rules) b))
             ≡ true) (sym (body-is a)) (p .3),
+        (λ e. subst (λ (b : List ℕ). StrataKnown (w a .chosen .rules) (w a .chosen .needed) b
+            (strataOf (new a))) (sym (body-is a))
+            (subst (StrataKnown (w a .chosen .rules) (w a .chosen .needed) (body a)) (sym (ranks a))
+            (p .6 e))),
       ),
     )
 
 returns : tie.Need-returns
 returns c =
-    let d = c .before .before in
+    let d = c .before .before .before .before in
     let l = d .before .before .before .before .before in
     let a = at-spans l in
     let x = s a .args in
     let u = s a .pre .0 .usable in
-    let g = cleared l in (
-      evaluated-in (w a) (body a) (now (x .coordinates)) (now (x .need)) (now (x .numbers)) (now (x .marks))
+    let g = cleared l in
+    let y : List ℕ = d .derive-all .last .1 .1 .0 in
+    let t = d .derive-all .ensures in
+    let acting : activeOf y ≡ activeOf (new a) = front-same 408 64 472 (new a) y (omega arith) (t .3) in (
+      rw acting (evaluated-in (w a) (body a) (now (x .coordinates)) (now (x .need)) (now (x .numbers))
+          (now (x .marks))
           (old a) (new a) (active a) (same a) (own a) (u .short) (u .fits) (acts a) (k a) (k-is a) (body-is a)
           (g .clear-words .ensures .0) (work1-own g)
           (ap (λ (v : List ℕ). picked (now (x .records)) v (w a .chosen .authorizations))
           (lent-rest (2 * length (now (x .need))) (now (x .numbers))))
-          (l .give-lines .ensures .0) (work2-own l) (work2-rest l) (d .derive-all .ensures .0),
-      d .derive-all .ensures .1 ∙ work2-rest l,
-      same a,
+          (l .give-lines .ensures .0) (work2-own l) (work2-rest l) (t .0)),
+      t .1 ∙ work2-rest l,
+      front-front 472 408 y (new a) (omega arith) (t .3) ∙ same a,
+      (λ e. subst (λ (b : List ℕ). StrataKnown (w a .chosen .rules) (w a .chosen .needed) b (strataOf y))
+          (body-is a) (t .2 e)),
     )
 
 pub evaluate-spec : {M : Type 1} → statement M

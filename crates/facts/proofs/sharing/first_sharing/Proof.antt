@@ -6,14 +6,14 @@ use mathlib.Core.Bool.{true, true≢false}
 use Prim.Native.Nat.{_-_, _≤_, _<_}
 use denote.Ref.{now}
 use Rattle.foundation.specs.BitMasks.{bit}
+use Rattle.masks.proofs.BitLoops.{ForBitsBelow, passed-start, passed-turn}
 use Rattle.facts.specs.Sharing.{SharesTable}
-use Rattle.facts.proofs.TableSharing.{Passed, passed-start, passed-turn}
 use Rattle.facts.proofs.sharing.first_sharing.Statement.{statement}
 use Rattle.facts.proofs.sharing.first_sharing.Tie as tie
 
 abbrev Inv-loop : tie.InvT-loop
 Inv-loop body right rules c d₀ d =
-    (d ≤ 64) × (d < 64 → bit d rules ≡ true) × Passed rules (λ i. SharesTable body right c i → ⊥) d
+    (d ≤ 64) × (d < 64 → bit d rules ≡ true) × ForBitsBelow rules (λ i. SharesTable body right c i → ⊥) d
 
 abbrev μ-loop : tie.MeasureT-loop
 μ-loop body right rules c d₀ d = 64 - d
@@ -51,8 +51,9 @@ loop-again c =
     let e = c .next-bit2 .ensures in (
       e .1,
       e .3,
-      passed-turn (a .rules) (λ i. SharesTable (now (a .body)) (now (a .right)) (a .c) i → ⊥) (l .d)
-          (c .next-bit2 .result) (l .inv .2)
+      passed-turn (a .rules) (λ i. SharesTable (now (a .body)) (now (a .right)) (a .c) i → ⊥)
+          (λ i. SharesTable (now (a .body)) (now (a .right)) (a .c) i → ⊥) (l .d)
+          (c .next-bit2 .result) (l .inv .2) (λ i h x. x)
           (λ x. true≢false (sym (s .shares-table .ensures .1 x) ∙ c .before .if1 .left)) (e .2),
     )
 

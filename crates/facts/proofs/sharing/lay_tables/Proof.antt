@@ -3,7 +3,7 @@ use borrow.Author.Needs.{needs}
 use native.Mathlib.Omega.{arith}
 use mathlib.Core.Path.{refl, sym, _∙_}
 use mathlib.Core.Bool.{true, false}
-use Rattle.tables.specs.TableGiving.{whole-codes}
+use Rattle.tables.proofs.WholeCodes.{whole-codes}
 use Rattle.facts.proofs.TableSharing.{own-tables, arranged}
 use Rattle.facts.proofs.sharing.lay_tables.Statement.{statement}
 use Rattle.facts.proofs.sharing.lay_tables.Tie as tie

@@ -6,15 +6,15 @@ use mathlib.Core.Bool.{true}
 use Prim.Native.Nat.{ℕ, _-_, _≤_, _<_}
 use denote.Ref.{now}
 use Rattle.foundation.specs.BitMasks.{bit, none-set}
-use Rattle.facts.proofs.TableSharing.{Passed, passed-start, passed-turn, Served, served-still}
-use Rattle.facts.proofs.TableSharing.{served-new, only-new}
+use Rattle.masks.proofs.BitLoops.{ForBitsBelow, passed-start, passed-turn}
+use Rattle.facts.proofs.TableSharing.{Served, served-still, served-new, only-new}
 use Rattle.facts.proofs.sharing.rules_with_tables.Statement.{statement}
 use Rattle.facts.proofs.sharing.rules_with_tables.Tie as tie
 
 abbrev Inv-loop : tie.InvT-loop
 Inv-loop body right rules tables₀ c₀ tables c =
     (c ≤ 64) × (c < 64 → bit c rules ≡ true) × ((i : ℕ) → bit i tables ≡ true → bit i rules ≡ true)
-    × Passed rules (Served body right tables) c
+    × ForBitsBelow rules (Served body right tables) c
 
 abbrev μ-loop : tie.MeasureT-loop
 μ-loop body right rules tables₀ c₀ tables c = 64 - c
@@ -53,8 +53,9 @@ loop-again c =
       e .3,
       only-new body right (l .c) k (l .tables) new found grown (a .rules)
           (l .inv .1 (f .before .loop-test .taken)) (l .inv .2),
-      passed-turn (a .rules) (Served body right new) (l .c) (c .next-bit2 .result)
-          (λ i h t. served-still body right (l .c) k (l .tables) new found grown i (l .inv .3 i h t))
+      passed-turn (a .rules) (Served body right (l .tables)) (Served body right new) (l .c)
+          (c .next-bit2 .result) (l .inv .3)
+          (λ i h v. served-still body right (l .c) k (l .tables) new found grown i v)
           (served-new body right (l .c) k (l .tables) new found grown) (e .2),
     )
 

@@ -10,10 +10,11 @@ use lib.Bits.{and-le-l}
 use lib.ListN.{length, getD, set, length-set}
 use Rattle.foundation.specs.Tests.{cases, and-true, and-intro, and-false, not-true}
 use Rattle.foundation.specs.BitMasks.{bit}
-use Rattle.words.specs.Bits.{less, bit-less}
+use Rattle.words.specs.Bits.{less}
+use Rattle.words.proofs.CutBit.{bit-less}
 use Rattle.facts.specs.Sharing.{UsesTable}
-use Rattle.facts.proofs.TableSharing.{shares-self, Passed, passed-start, passed-turn, uses-still}
-use Rattle.facts.proofs.TableSharing.{start-still, uses-new}
+use Rattle.masks.proofs.BitLoops.{ForBitsBelow, passed-start, passed-turn}
+use Rattle.facts.proofs.TableSharing.{shares-self, uses-still, start-still, uses-new}
 use Rattle.facts.proofs.sharing.share_starts.Statement.{statement}
 use Rattle.facts.proofs.sharing.share_starts.Tie as tie
 
@@ -37,7 +38,7 @@ abbrev Inv-loop : tie.InvT-loop
 Inv-loop body right rules tables first₀ rest c₀ first c =
     (c ≤ 64) × (length first ≡ length first₀) × (c < 64 → bit c rest ≡ true)
     × ((i : ℕ) → bit i rest ≡ false → getD first i 0 ≡ getD first₀ i 0)
-    × Passed rest (λ i. (d : ℕ) × UsesTable body right first tables i d) c
+    × ForBitsBelow rest (λ i. (d : ℕ) × UsesTable body right first tables i d) c
 
 abbrev μ-loop : tie.MeasureT-loop
 μ-loop body right rules tables first₀ rest c₀ first c = 64 - c
@@ -94,9 +95,9 @@ loop-again c =
       e .3,
       (λ i t. start-still body right (a .tables) (l .c) d (l .first) next (h .1) (found .0) room (moved .1) i
           (λ q. true≢false (sym here ∙ ap (λ (n : ℕ). bit n rest) (sym q) ∙ t)) ∙ l .inv .3 i t),
-      passed-turn rest (λ i. (k : ℕ) × UsesTable body right next (a .tables) i k) (l .c)
-          (c .next-bit2 .result)
-          (λ i m t. let v = l .inv .4 i m t in (
+      passed-turn rest (λ i. (k : ℕ) × UsesTable body right (l .first) (a .tables) i k)
+          (λ i. (k : ℕ) × UsesTable body right next (a .tables) i k) (l .c) (c .next-bit2 .result) (l .inv .4)
+          (λ i m v. (
             v .0,
             uses-still body right (a .tables) (l .c) d (l .first) next (h .1) (found .0) room (moved .1) i
                 (v .0) (λ q. omega arith) (v .1),

@@ -50,8 +50,8 @@ loop-holds c =
       refl,
     )
 
-shared-slice-read-c : tie.Need-shared-slice-read-c Inv-loop μ-loop
-shared-slice-read-c c =
+shared-slice-read-pair-of-code : tie.Need-shared-slice-read-pair-of-code Inv-loop μ-loop
+shared-slice-read-pair-of-code c =
     let early = c .before .before .before .before .before .before in
     let s = early .before .before .before .before .before .before .before in
     let a = s .args in
@@ -62,19 +62,21 @@ shared-slice-read-c c =
       ap length (lent-all (length (now (a .need))) (now (a .numbers))),
     )
 
-cast-c-2 : tie.Need-cast-c-2 Inv-loop μ-loop
-cast-c-2 c = omega (arith, c .shared-slice-known5 .given (c .before .before .before .loop .n))
+cast-t30 : tie.Need-cast-t30 Inv-loop μ-loop
+cast-t30 c = omega (arith, c .before .pair-of-code .ensures .1)
 
-cast-t32 : tie.Need-cast-t32 Inv-loop μ-loop
-cast-t32 c = omega (arith, c .shared-slice-known5 .given (c .before .before .before .loop .n))
-
-cast-t33 : tie.Need-cast-t33 Inv-loop μ-loop
-cast-t33 c = omega (arith, c .shared-slice-known5 .given (c .before .before .before .loop .n))
+cast-t31 : tie.Need-cast-t31 Inv-loop μ-loop
+cast-t31 c =
+    let s = c .before .before .before in
+    let h = s .shared-slice-known5 .given (s .before .before .before .loop .n) in
+    omega (arith, c .before .before .pair-of-code .ensures .0)
 
 standing-modes-requires : tie.Need-standing-modes-requires Inv-loop μ-loop
 standing-modes-requires c κs =
-    let early = c .before .before .before .before .before .before .before in
+    let i = c .before .before .before .before .before in
+    let early = i .before .before .before .before .before in
     let s = early .before .before .before .before .before .before .before in
+    let e = c .before .before .before .pair-of-code .ensures in
     let a = s .args in
     let k = a .t .words in
     let size = length (now (a .need)) in
@@ -83,18 +85,19 @@ standing-modes-requires c κs =
     (length (fieldsOf k (now (a .work)))) (length (brokenOf k (now (a .work)))) (a .range .from)
     (a .range .to) =
     rw (lent-all size (now (a .numbers))) (s .pre .0) in
-    let d = p .low (c .before .before .before .before .loop .n) (c .before .before .if1 .taken) in (
-      d .0,
-      d .1,
+    let d = p .low (i .before .before .loop .n) (i .if1 .taken) in (
+      rw (e .0) (d .0),
+      rw (e .1) (d .1),
       p .rule,
       p .sign,
       omega (arith, length-take-le 152 (now (a .outline)) (omega (arith, s .pre .2 .outlined))),
-      d .2,
+      rw (e .0, e .1) (d .2),
     )
 
 derive-modes-requires : tie.Need-derive-modes-requires Inv-loop μ-loop
 derive-modes-requires c κs =
-    let i = c .before .before .before .before .before .before in
+    let i = c .before .before .before .before .before .before .before .before .before in
+    let x = c .before .before .before .before .before .before .before .pair-of-code .ensures in
     let l = i .before .before .loop in
     let early = i .before .before .before .before .before .before in
     let s = early .before .before .before .before .before .before in
@@ -110,8 +113,8 @@ derive-modes-requires c κs =
     row-length (λ p u v d. d .given .lengths) (l .inv .1 .steps) in
     let b : brokenOf k (l .work) ≡ brokenOf k w = l .inv .3 in (
       λ m h y.
-          let u = c .before .before .before .standing-modes .ensures .0 m y in
-          rw (e, b) (p .reads (l .n) m (l .inv .0) (i .if1 .taken)
+          let u = rw (x .0, x .1) at (c .before .before .before .standing-modes .ensures .0 m y) in
+          rw (e, b, x .0, x .1) (p .reads (l .n) m (l .inv .0) (i .if1 .taken)
           record { object = u .0; subject = u .1; mode = u .2 }),
       omega (arith, both-length k (l .work) w e (ap length b), s .pre .2 .roomy),
       rw e (s .pre .1),
@@ -119,19 +122,22 @@ derive-modes-requires c κs =
 
 loop-again : tie.Need-loop-again Inv-loop μ-loop
 loop-again c =
-    let i = c .before .before .before .before .before .before .before .before .before in
+    let h = c .before .before .before .before .before .before .before .before .before .before in
+    let x = h .pair-of-code .ensures in
+    let i = h .before .before in
     let l = i .before .before .loop in
     let early = i .before .before .before .before .before .before in
     let a = early .before .before .before .before .before .before .args in
     let size = length (now (a .need)) in
     let g = c .before .before .derive-modes in
-    let w = c .before .before .before .before .before .before .standing-modes in (
+    let w = c .before .before .before .before .before .before .standing-modes in
+    let y = rw (x .0, x .1) at (w .ensures) in (
       omega arith,
       pairs-turn (a .t) (a .f) (leftOf (now (a .outline))) (now (a .need)) (lentOf size (now (a .numbers)))
           (a .range .from) (a .range .to) (l .n) (w .result) (l .inv .0) (i .if1 .taken)
-          (λ m b. let u = w .ensures .0 m b in record { object = u .0; subject = u .1; mode = u .2 })
-          (λ m u. w .ensures .1 m (u .object) (u .subject) (u .mode)) (l .inv .1)
-          (rw (l .inv .3) at (g .ensures .0)),
+          (λ m b. let u = y .0 m b in record { object = u .0; subject = u .1; mode = u .2 })
+          (λ m u. y .1 m (u .object) (u .subject) (u .mode)) (l .inv .1)
+          (rw (l .inv .3, x .0, x .1) at (g .ensures .0)),
       grown-both (l .fresh) (g .result) (l .inv .2) (g .ensures .1),
       g .ensures .2 ∙ l .inv .3,
     )
@@ -165,7 +171,8 @@ derive-pairs-spec =
     tie.close
     (tie.spec Inv-loop μ-loop slice-aggregate-number (λ c. search needs) (λ c. search needs)
     (λ c. search needs) (λ c. search needs) slice-aggregate-listed loop-holds (λ c. search needs)
-    (λ c. search needs) shared-slice-read-c cast-c-2 cast-t32 cast-t33 (λ c. search needs)
+    (λ c. search needs) shared-slice-read-pair-of-code (λ c κs. search needs) cast-t30 cast-t31
+    (λ c. search needs)
     (λ c. search needs) (λ c. search needs) standing-modes-requires (λ c. search needs) (λ c. search needs)
     (λ c. search needs) (λ c. search needs) (λ c. search needs) (λ c. search needs) derive-modes-requires
     (λ c. search needs) (λ c. search needs) loop-again same-length returns)

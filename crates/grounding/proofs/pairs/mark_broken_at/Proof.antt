@@ -19,7 +19,7 @@ cast-at : tie.Need-cast-at
 cast-at c =
     let w = c .before .before .before .before .before in
     let s = w .before .before .before .before in
-    omega (arith, s .pre .0 .here .number (s .pre .4) (s .pre .3))
+    omega (arith, s .pre .0 .here .number (s .pre .3))
 
 add-at : tie.Need-add-at
 add-at c =
@@ -30,7 +30,7 @@ add-at c =
       arith,
       c .index-in .ensures,
       bit-number (a .t) (a .f .grid) (length (brokenOf (a .t .words) (now (a .work)))) (a .p)
-          (s .pre .0 .here) (s .pre .4) (s .pre .3),
+          (s .pre .0 .here) (s .pre .3),
     )
 
 join-at-requires : tie.Need-join-at-requires
@@ -44,7 +44,7 @@ join-at-requires c κs =
         c .before .index-in .ensures,
         ap length (lent-rest (a .t .words) (now (a .work))),
         bit-room (a .t) (a .f .grid) (length (brokenOf (a .t .words) (now (a .work)))) (a .p)
-            (s .pre .0 .here) (s .pre .4) (s .pre .3),
+            (s .pre .0 .here) (s .pre .3),
       ),
       omega arith,
     )

@@ -40,8 +40,7 @@ mark-broken-at-requires c κs =
       rw (e, b) (s .pre .0 (l .m) h (l .inv .1 h)),
       omega (arith, both-length k (l .work) w (ap length b) e, s .pre .1),
       s .pre .2,
-      rw e (s .pre .3),
-      s .pre .4,
+      s .pre .3,
     )
 
 loop-again : tie.Need-loop-again Inv-loop μ-loop

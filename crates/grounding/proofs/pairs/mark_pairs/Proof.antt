@@ -43,8 +43,8 @@ loop-holds c =
       refl,
     )
 
-shared-slice-read-c : tie.Need-shared-slice-read-c Inv-loop μ-loop
-shared-slice-read-c c =
+shared-slice-read-pair-of-code : tie.Need-shared-slice-read-pair-of-code Inv-loop μ-loop
+shared-slice-read-pair-of-code c =
     let early = c .before .before .before .before .before .before in
     let s = early .before .before .before .before .before .before in
     let a = s .args in
@@ -55,18 +55,20 @@ shared-slice-read-c c =
       ap length (lent-all (length (now (a .need))) (now (a .numbers))),
     )
 
-cast-c-2 : tie.Need-cast-c-2 Inv-loop μ-loop
-cast-c-2 c = omega (arith, c .shared-slice-known4 .given (c .before .before .before .loop .n))
+cast-t29 : tie.Need-cast-t29 Inv-loop μ-loop
+cast-t29 c = omega (arith, c .before .pair-of-code .ensures .1)
 
-cast-t31 : tie.Need-cast-t31 Inv-loop μ-loop
-cast-t31 c = omega (arith, c .shared-slice-known4 .given (c .before .before .before .loop .n))
-
-cast-t32 : tie.Need-cast-t32 Inv-loop μ-loop
-cast-t32 c = omega (arith, c .shared-slice-known4 .given (c .before .before .before .loop .n))
+cast-t30 : tie.Need-cast-t30 Inv-loop μ-loop
+cast-t30 c =
+    let s = c .before .before .before in
+    let h = s .shared-slice-known4 .given (s .before .before .before .loop .n) in
+    omega (arith, c .before .before .pair-of-code .ensures .0)
 
 standing-modes-requires : tie.Need-standing-modes-requires Inv-loop μ-loop
 standing-modes-requires c κs =
-    let early = c .before .before .before .before .before .before in
+    let i = c .before .before .before .before in
+    let e = c .before .before .pair-of-code .ensures in
+    let early = i .before .before .before .before .before in
     let s = early .before .before .before .before .before .before in
     let a = s .args in
     let k = a .t .words in
@@ -75,12 +77,13 @@ standing-modes-requires c κs =
     (numberedOf size (now (a .numbers))) (length (fieldsOf k (now (a .work))))
     (length (brokenOf k (now (a .work)))) (a .range .from) (a .range .to) =
     rw (lent-all size (now (a .numbers))) (s .pre .0) in
-    let d = p .low (c .before .before .before .loop .n) (c .before .if1 .taken) in
-    (d .0, d .1, p .rule, p .sign, s .pre .1, d .2)
+    let d = p .low (i .before .before .loop .n) (i .if1 .taken) in
+    (rw (e .0) (d .0), rw (e .1) (d .1), p .rule, p .sign, s .pre .1, rw (e .0, e .1) (d .2))
 
 mark-modes-requires : tie.Need-mark-modes-requires Inv-loop μ-loop
 mark-modes-requires c κs =
-    let i = c .before .before .before in
+    let i = c .before .before .before .before .before .before in
+    let x = c .before .before .before .before .pair-of-code .ensures in
     let l = i .before .before .loop in
     let s = i .before .before .before .before .before .before .before .before .before .before .before in
     let a = s .args in
@@ -95,29 +98,30 @@ mark-modes-requires c κs =
     row-length (λ p u v d. d .lengths) (l .inv .1 .steps) in
     let b : fieldsOf k (l .work) ≡ fieldsOf k w = l .inv .2 in (
       λ m h y.
-          let u = c .before .standing-modes .ensures .0 m y in
-          rw (e, b) (p .reads (l .n) m (l .inv .0) (i .if1 .taken)
+          let u = rw (x .0, x .1) at (c .before .standing-modes .ensures .0 m y) in
+          rw (e, b, x .0, x .1) (p .reads (l .n) m (l .inv .0) (i .if1 .taken)
           record { object = u .0; subject = u .1; mode = u .2 }),
       omega (arith, both-length k (l .work) w (ap length b) e, s .pre .3),
       s .pre .4,
-      rw e (s .pre .5),
-      s .pre .6,
+      s .pre .5,
     )
 
 loop-again : tie.Need-loop-again Inv-loop μ-loop
 loop-again c =
-    let i = c .before .before .before .before .before .before in
+    let i = c .before .before .before .before .before .before .before .before .before in
+    let x = c .before .before .before .before .before .before .before .pair-of-code .ensures in
     let l = i .before .before .loop in
     let a = i .before .before .before .before .before .before .before .before .before .before .before .args in
     let size = length (now (a .need)) in
     let g = c .before .before .mark-modes in
-    let w = c .before .before .before .before .standing-modes in (
+    let w = c .before .before .before .before .standing-modes in
+    let y = rw (x .0, x .1) at (w .ensures) in (
       omega arith,
       pairs-turn (a .t) (a .f) (now (a .left)) (now (a .need)) (lentOf size (now (a .numbers)))
           (a .range .from) (a .range .to) (l .n) (w .result) (l .inv .0) (i .if1 .taken)
-          (λ m b. let u = w .ensures .0 m b in record { object = u .0; subject = u .1; mode = u .2 })
-          (λ m u. w .ensures .1 m (u .object) (u .subject) (u .mode)) (l .inv .1)
-          (rw (l .inv .2) at (g .ensures .0)),
+          (λ m b. let u = y .0 m b in record { object = u .0; subject = u .1; mode = u .2 })
+          (λ m u. y .1 m (u .object) (u .subject) (u .mode)) (l .inv .1)
+          (rw (l .inv .2, x .0, x .1) at (g .ensures .0)),
       g .ensures .1 ∙ l .inv .2,
     )
 
@@ -146,5 +150,6 @@ mark-pairs-spec =
     tie.close
     (tie.spec Inv-loop μ-loop slice-aggregate-number (λ c. search needs) (λ c. search needs)
     (λ c. search needs) (λ c. search needs) slice-aggregate-listed loop-holds (λ c. search needs)
-    (λ c. search needs) shared-slice-read-c cast-c-2 cast-t31 cast-t32 standing-modes-requires
+    (λ c. search needs) shared-slice-read-pair-of-code (λ c κs. search needs) cast-t29 cast-t30
+    standing-modes-requires
     mark-modes-requires (λ c. search needs) (λ c. search needs) loop-again same-length returns)

@@ -8,9 +8,9 @@ use Rattle.grounding.proofs.pairs.standing_modes.Tie as tie
 
 returns : tie.Need-returns
 returns c =
-    let e = c .modes-at .ensures in
-    let w = c .before .before .before .before .stands-at-pair .ensures .0
-    (c .before .before .before .if1 .taken) in
+    let e = rw (c .before .before .pair-index .ensures) at (c .modes-at .ensures) in
+    let w = c .before .before .before .before .before .stands-at-pair .ensures .0
+    (c .before .before .before .before .if1 .taken) in
     ((λ m b. (w .0, w .1, sym (e m) ∙ b)), (λ m o s b. e m ∙ b))
 
 returns-2 : tie.Need-returns-2
@@ -22,5 +22,5 @@ returns-2 c = (
 pub standing-modes-spec : {M : Type 1} → statement M
 standing-modes-spec =
     tie.close
-    (tie.spec (λ c κs. search needs) (λ c. search needs) (λ c. search needs) (λ c. search needs)
-    (λ c. search needs) (λ c. search needs) (λ c κs. search needs) returns returns-2)
+    (tie.spec (λ c κs. search needs) (λ c. search needs) (λ c κs. search needs) (λ c. search needs)
+    (λ c. search needs) (λ c κs. search needs) returns returns-2)

@@ -1,8 +1,7 @@
 -- What is read: the rule's bit, and where it is not broken what is in force at the place on the right.
 use borrow.Author.Needs.{needs}
-use native.Mathlib.Omega.{arith}
 use mathlib.Core.Path.{_≡_, sym, ap, _∙_}
-use mathlib.Core.Bool.{true, not, _&&_}
+use mathlib.Core.Bool.{true}
 use mathlib.Core.List.{List}
 use Prim.Native.Nat.{ℕ, _-_}
 use denote.Ref.{now}
@@ -38,18 +37,16 @@ returns c =
     let bits = brokenOf (a .t .words) (now (a .work)) in
     let words = fieldsOf (a .t .words) (now (a .work)) in
     let l = lasting (a .t .operator) in
-    let k = not (eqb (length bits) 0) in
     let v = eqb (fieldOf 0 bits (brokenAt (a .t) g (a .p))) 1 in
     let e : brokenIn (a .t) g bits (a .p) ≡ true =
     ap (λ (l : List ℕ). brokenIn (a .t) g l (a .p)) (sym (lent-rest (a .t .words) (now (a .work))))
     ∙ sym (b .ensures) ∙ c .if1 .taken in
     broken-derived (a .t .operator) (forceIn (a .t) (a .f) (now (a .number)) words (a .p .point))
-    (a .t .active) (brokenIn (a .t) g bits (a .p)) (and-true l k (and-true (l && k) v e .0) .0) e
+    (a .t .active) (brokenIn (a .t) g bits (a .p)) (and-true l v e .0) e
 
 right-place-requires : tie.Need-right-place-requires
 right-place-requires c κs =
-    let p = c .before .before .before .before .before .before .before .pre .0 in
-    (p .pair, omega (arith, p .pair, p .few))
+    c .before .before .before .before .before .before .before .pre .0 .pair
 
 slice-aggregate-instants-in-force : tie.Need-slice-aggregate-instants-in-force
 slice-aggregate-instants-in-force c =

@@ -13,7 +13,7 @@ use Rattle.foundation.specs.BitMasks.{bit}
 use Rattle.sections.specs.Sections.{feedOf, activeOf}
 use Rattle.foundation.specs.BitMasks.{none-set}
 use Rattle.foundation.specs.BitLaws.{bit-or}
-use Rattle.masks.proofs.BitWalk.{bits-le}
+use Rattle.masks.proofs.SameBits.{bits-le}
 use Rattle.grounding.specs.RuleTurns.{preparedIn, wordsFor, fieldsIn, bitsIn, SlicedIn}
 use Rattle.grounding.specs.RuleTurns.{RuleRan, Rounds, none, then}
 use Rattle.sections.proofs.SectionWrites.{part-long}
@@ -119,8 +119,9 @@ loop-again c =
     let r = n .result .rule in
     let m : ℕ = getD (b .before .transpose .last .1 .1 .0) r 0 in
     let own = i .1 r (n .ensures .1) in
-    let looks : ℕ → Bool = λ q. bit r (getD (feedOf (now (a .outline))) q 0) in
-    let fed : (q : ℕ) → bit q m ≡ bit q rules && (looks q && bit r rules) = λ q. i .4 r q (n .ensures .0) in
+    let precedes : ℕ → Bool = λ q. bit r (getD (feedOf (now (a .outline))) q 0) in
+    let fed : (q : ℕ) → bit q m ≡ bit q rules && (precedes q && bit r rules) =
+    λ q. i .4 r q (n .ensures .0) in
     let new = d .derive-rule .last .1 .1 .1 .1 .1 .1 .1 .0 in
     let ran : RuleRan p (activeOf (now (a .outline))) (bitsIn (a .f) (now (a .work))) r
     (fieldsIn (a .f) (l .work)) (fieldsIn (a .f) new) = rw (i .5) at (e .0) in (
@@ -130,11 +131,11 @@ loop-again c =
           (others (l .dirty) (x .result) r (x .ensures .1) q o z))
           (λ f q h o z. bit-or (x .result) m q
           ∙ or-true-right (bit q (x .result)) (bit q m)
-          (fed q ∙ and-intro (bit q rules) (looks q && bit r rules) o
-          (and-intro (looks q) (bit r rules) z own))) t)),
+          (fed q ∙ and-intro (bit q rules) (precedes q && bit r rules) o
+          (and-intro (precedes q) (bit r rules) z own))) t)),
       (λ q o. or-cases (bit q (x .result)) (bit q m) (sym (bit-or (x .result) m q) ∙ o)
           (λ y. i .1 q (among (l .dirty) (x .result) r (x .ensures .1) q y))
-          (λ y. and-true (bit q rules) (looks q && bit r rules) (sym (fed q) ∙ y) .0)),
+          (λ y. and-true (bit q rules) (precedes q && bit r rules) (sym (fed q) ∙ y) .0)),
       ran-length p (activeOf (now (a .outline))) (bitsIn (a .f) (now (a .work))) r ran ∙ i .2,
       n .ensures .0,
       i .4,

@@ -4,7 +4,6 @@ use native.Mathlib.Omega.{arith}
 use mathlib.Core.Path.{_≡_, refl, ap, _∙_}
 use mathlib.Core.Bool.{true}
 use mathlib.Core.List.{List}
-use mathlib.Core.Logic.{⊎-elim}
 use Prim.Native.Nat.{ℕ, suc, _-_, _≤_, _<_}
 use denote.Ref.{now}
 use lib.ListN.{length}
@@ -66,8 +65,7 @@ mark-rule-requires c κs =
       rw (l .inv .4, l .inv .1) (s .pre .0 (l .r) b),
       held,
       s .pre .2,
-      ⊎-elim (λ z. absurd (z (l .r) b)) (λ h. omega (arith, h, l .inv .1)) (s .pre .3),
-      s .pre .4 (l .r) b,
+      s .pre .3 (l .r) b,
     )
 
 loop-again : tie.Need-loop-again Inv-loop μ-loop

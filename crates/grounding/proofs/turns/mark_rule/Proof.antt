@@ -63,8 +63,7 @@ mark-pairs-requires c κs =
       s .pre .1 .numbered,
       rw q (s .pre .1 .roomy),
       s .pre .2,
-      rw q (s .pre .3),
-      ap (λ (t : RuleTurn). lasting (t .operator)) (d .turn-of .ensures) ∙ s .pre .4,
+      ap (λ (t : RuleTurn). lasting (t .operator)) (d .turn-of .ensures) ∙ s .pre .3,
     )
 
 same-length : tie.Need-same-length

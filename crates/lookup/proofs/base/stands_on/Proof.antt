@@ -1,6 +1,5 @@
 -- `lookup::base::stands_on`: the star, or the object's number.
 use borrow.Author.Needs.{needs}
-use mathlib.Core.Path.{_≡_, refl}
 use Rattle.foundation.specs.Tests.{eq-true, ne-false}
 use Rattle.lookup.proofs.base.stands_on.Statement.{statement}
 use Rattle.lookup.proofs.base.stands_on.Tie as tie

@@ -9,8 +9,7 @@ use Rattle.model.specs.declared.Rule.{Rule}
 use Rattle.model.specs.Base.{controls}
 use Rattle.model.specs.Encoding.{decode}
 use Rattle.outlines.specs.LeftMasks.{controlledBy}
-use Rattle.masks.proofs.BitWalk.{pass-end}
-use Rattle.masks.proofs.Collecting.{Collected, collect-start, collect-turn}
+use Rattle.masks.proofs.BitLoops.{pass-end, Collected, collect-start, collect-turn}
 use Rattle.outlines.proofs.controlled.by_control.Statement.{statement}
 use Rattle.outlines.proofs.controlled.by_control.Tie as tie
 

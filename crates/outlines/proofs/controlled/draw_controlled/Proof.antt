@@ -1,5 +1,4 @@
 use borrow.Author.Needs.{needs}
-use mathlib.Core.Path.{_≡_}
 use denote.Ref.{now}
 use Rattle.outlines.proofs.Controlling.{none-starred}
 use Rattle.outlines.proofs.controlled.draw_controlled.Statement.{statement}

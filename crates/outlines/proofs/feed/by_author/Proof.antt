@@ -7,8 +7,7 @@ use denote.Ref.{now}
 use lib.Dec.{eqb}
 use Rattle.foundation.specs.BitMasks.{bit}
 use Rattle.encoding.specs.Format.{ruleAt}
-use Rattle.masks.proofs.BitWalk.{pass-end}
-use Rattle.masks.proofs.Collecting.{Collected, collect-start, collect-turn}
+use Rattle.masks.proofs.BitLoops.{pass-end, Collected, collect-start, collect-turn}
 use Rattle.model.specs.declared.Rule.{Rule}
 use Rattle.outlines.proofs.feed.by_author.Statement.{statement}
 use Rattle.outlines.proofs.feed.by_author.Tie as tie

@@ -8,7 +8,7 @@ use lib.Dec.{eqb, ltb}
 use lib.ListN.{length, getD}
 use Rattle.foundation.specs.BitMasks.{bit, bit-zero}
 use Rattle.foundation.specs.Tests.{true-eq}
-use Rattle.masks.proofs.BitWalk.{pass-start, pass-turn, pass-end, bring-one}
+use Rattle.masks.proofs.BitLoops.{pass-start, pass-turn, pass-end, bring-one}
 use Rattle.outlines.proofs.feed.draw_fed.Statement.{statement}
 use Rattle.outlines.proofs.feed.draw_fed.Tie as tie
 

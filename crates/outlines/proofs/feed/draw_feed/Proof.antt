@@ -1,9 +1,9 @@
 use borrow.Author.Needs.{needs}
 use native.Mathlib.Omega.{arith}
-use mathlib.Core.Path.{_≡_, refl, sym, ap, ap₂, _∙_}
+use mathlib.Core.Path.{_≡_, sym, ap, ap₂, _∙_}
 use mathlib.Core.List.{List}
 use mathlib.Core.Bool.{Bool, _&&_}
-use Prim.Native.Nat.{ℕ, suc, _+_, _<_}
+use Prim.Native.Nat.{ℕ, suc, _+_, _≤_, _<_}
 use denote.Ref.{now}
 use lib.Bits.{bitOr, or-zero-r}
 use lib.Dec.{ltb}
@@ -37,19 +37,19 @@ draw-fed-requires : tie.Need-draw-fed-requires
 draw-fed-requires c κs =
     let b = c .before .before .before .before .before .before .before .before in
     let d = c .before .before .before .draw-feeders in
-    let long : length (d .last .1 .1 .1 .0) ≡ 472 = d .kept .1 .1 .1 .0 ∙ b .pre .1 in (
+    let long : 280 ≤ length (d .last .1 .1 .1 .0) = omega (arith, d .kept .1 .1 .1 .0, b .pre .1) in (
       (λ k h. d .ensures .1 k (omega (arith, b .pre .0 .well-formed .few)) ∙ b .pre .3 k),
       part-long 152 128 (d .last .1 .1 .1 .0) (omega arith),
     )
 
 -- what is fed, back in the outline o
-fed-back : (o y : List ℕ) → length o ≡ 472 → length y ≡ length (feedOf o) →
-    (length (putBack o 152 128 y) ≡ 472) × (feedOf (putBack o 152 128 y) ≡ y)
+fed-back : (o y : List ℕ) → 280 ≤ length o → length y ≡ length (feedOf o) →
+    (280 ≤ length (putBack o 152 128 y)) × (feedOf (putBack o 152 128 y) ≡ y)
     × (leftOf (putBack o 152 128 y) ≡ leftOf o)
 fed-back o y long e =
     let p = e ∙ part-long 152 128 o (omega arith) in
     let q = back-length o 152 128 y (omega arith) p in (
-      q ∙ long,
+      omega (arith, q, long),
       back-own o 152 128 y (omega arith) p,
       same-front o (putBack o 152 128 y) q 152 (back-before o 152 128 y (omega arith) p),
     )
@@ -60,7 +60,7 @@ draw-linkers-requires c κs =
     .before .before .before in
     let d = c .before .before .before .before .before .before .before .before .before .draw-feeders in
     let f = c .before .before .before .before .before .draw-fed in
-    let long = d .kept .1 .1 .1 .0 ∙ b .pre .1 in (
+    let long : 280 ≤ length (d .last .1 .1 .1 .0) = omega (arith, d .kept .1 .1 .1 .0, b .pre .1) in (
       b .pre .0 .well-formed .few,
       (λ i h. right-placed (b .pre .0) i h),
       fed-back (d .last .1 .1 .1 .0) (f .last .1 .0) long (f .kept .1 .0) .0,
@@ -97,7 +97,7 @@ returns c =
     let w = b .pre .0 in
     let o = d .last .1 .1 .1 .0 in
     let y = f .last .1 .0 in
-    let g = fed-back o y (d .kept .1 .1 .1 .0 ∙ b .pre .1) (f .kept .1 .0) in
+    let g = fed-back o y (omega (arith, d .kept .1 .1 .1 .0, b .pre .1)) (f .kept .1 .0) in
     let front : leftOf (putBack o 152 128 y) ≡ leftOf (now (a .outline)) = g .2 ∙ d .ensures .2 in
     let none : getD (leftOf (now (a .outline))) 147 0 ≡ 0 =
     ap (λ (m : List ℕ). getD m 147 0) (sym front) ∙ getD-take 152 (putBack o 152 128 y) 147 0 (omega arith)
@@ -120,7 +120,7 @@ returns-2 c =
     let l = c .before .before .draw-linkers in
     let o = d .last .1 .1 .1 .0 in
     let y = f .last .1 .0 in
-    let g = fed-back o y (d .kept .1 .1 .1 .0 ∙ b .pre .1) (f .kept .1 .0) in
+    let g = fed-back o y (omega (arith, d .kept .1 .1 .1 .0, b .pre .1)) (f .kept .1 .0) in
     let front : leftOf (putBack o 152 128 y) ≡ leftOf (now (a .outline)) = g .2 ∙ d .ensures .2 in
     let word : ℕ → List ℕ → List ℕ → ℕ = λ k m x. pick (ltb k (a .n)) (bitOr (getD x k 0)
     (linkersWord m (rightsOf (now (a .coordinates))) (sidesOf (now (a .coordinates))) k)) (getD x k 0) in (

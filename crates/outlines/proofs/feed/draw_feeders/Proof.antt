@@ -19,14 +19,14 @@ abbrev Inv-loop : tie.InvT-loop
 Inv-loop body n coordinates outline₀ i₀ outline i =
     (i ≤ n) × RuleTable i body (feedersOf (rulesIn n body)) (feedOf outline)
     × ((k : ℕ) → i ≤ k → getD (feedOf outline) k 0 ≡ getD (feedOf outline₀) k 0)
-    × (leftOf outline ≡ leftOf outline₀) × (length outline ≡ 472)
+    × (leftOf outline ≡ leftOf outline₀) × (length outline ≡ length outline₀)
 
 abbrev μ-loop : tie.MeasureT-loop
 μ-loop body n coordinates outline₀ i₀ outline i = n - i
 
 loop-holds : tie.Need-loop-holds Inv-loop μ-loop
 loop-holds c =
-    (search needs, (λ i h. absurd (omega arith)), (λ k h. refl), refl, c .before .before .before .pre .1)
+    (search needs, (λ i h. absurd (omega arith)), (λ k h. refl), refl, refl)
 
 feeders-requires : tie.Need-feeders-requires Inv-loop μ-loop
 feeders-requires c κs =
@@ -36,7 +36,7 @@ feeders-requires c κs =
     let p = b .pre .2 in (
       omega arith,
       rw (l .inv .3) (b .pre .0),
-      length-take-le 152 (l .outline) (omega (arith, l .inv .4)),
+      length-take-le 152 (l .outline) (omega (arith, l .inv .4, b .pre .1)),
       omega (arith, part-long 256 256 s (omega (arith, p))),
       omega (arith, length-take-le 256 s (omega (arith, p))),
     )
@@ -44,7 +44,8 @@ feeders-requires c κs =
 put-word-requires : tie.Need-put-word-requires Inv-loop μ-loop
 put-word-requires c κs =
     let l = c .before .before .before .before .before .before .before in
-    omega (arith, l .loop .inv .4, l .before .before .before .before .pre .0 .well-formed .few)
+    let p = l .before .before .before .before .pre in
+    omega (arith, l .loop .inv .4, p .0 .well-formed .few, p .1)
 
 loop-again : tie.Need-loop-again Inv-loop μ-loop
 loop-again c =

@@ -22,14 +22,14 @@ Inv-loop n coordinates outline₀ i₀ outline i =
     ≡ pick (ltb w i) (bitOr (getD (feedOf outline₀) w 0)
     (linkersWord (leftOf outline₀) (rightsOf coordinates) (sidesOf coordinates) w))
     (getD (feedOf outline₀) w 0))
-    × (leftOf outline ≡ leftOf outline₀) × (length outline ≡ 472)
+    × (leftOf outline ≡ leftOf outline₀) × (length outline ≡ length outline₀)
 
 abbrev μ-loop : tie.MeasureT-loop
 μ-loop n coordinates outline₀ i₀ outline i = n - i
 
 loop-holds : tie.Need-loop-holds Inv-loop μ-loop
 loop-holds c =
-    (search needs, (λ w. rw (le-false (suc w) 0 (omega arith))), refl, c .before .before .pre .2)
+    (search needs, (λ w. rw (le-false (suc w) 0 (omega arith))), refl, refl)
 
 linkers-requires : tie.Need-linkers-requires Inv-loop μ-loop
 linkers-requires c κs =
@@ -39,7 +39,7 @@ linkers-requires c κs =
     let p = b .pre .3 in (
       omega (arith, b .pre .0),
       b .pre .1 (l .i) (omega arith),
-      length-take-le 152 (l .outline) (omega (arith, l .inv .3)),
+      length-take-le 152 (l .outline) (omega (arith, l .inv .3, b .pre .2)),
       omega (arith, part-long 256 256 s (omega (arith, p))),
       omega (arith, length-take-le 256 s (omega (arith, p))),
     )
@@ -47,12 +47,14 @@ linkers-requires c κs =
 slice-read-outline : tie.Need-slice-read-outline Inv-loop μ-loop
 slice-read-outline c =
     let l = c .before .before .before .before .before .before .before in
-    omega (arith, l .loop .inv .3, l .before .before .before .pre .0)
+    let p = l .before .before .before .pre in
+    omega (arith, l .loop .inv .3, p .0, p .2)
 
 slice-write-outline : tie.Need-slice-write-outline Inv-loop μ-loop
 slice-write-outline c =
     let l = c .before .before .before .before .before .before .before in
-    omega (arith, l .loop .inv .3, l .before .before .before .pre .0)
+    let p = l .before .before .before .pre in
+    omega (arith, l .loop .inv .3, p .0, p .2)
 
 loop-again : tie.Need-loop-again Inv-loop μ-loop
 loop-again c =
@@ -63,7 +65,7 @@ loop-again c =
     let l = j .loop in
     let k = c .before .linkers in
     let few : l .i < 64 = omega (arith, b .pre .0) in
-    let there : 152 + l .i < length (l .outline) = omega (arith, l .inv .3) in
+    let there : 152 + l .i < length (l .outline) = omega (arith, l .inv .3, b .pre .2) in
     let v = bitOr (getD (l .outline) (152 + l .i) 0) (k .result) in
     let f : ℕ → ℕ = λ w. bitOr (getD (feedOf o) w 0) (linkersWord (leftOf o) (rightsOf s) (sidesOf s) w) in
     let old : getD (l .outline) (152 + l .i) 0 ≡ getD (feedOf o) (l .i) 0 =

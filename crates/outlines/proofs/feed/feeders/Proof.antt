@@ -1,6 +1,6 @@
 use borrow.Author.Needs.{needs}
 use native.Mathlib.Omega.{arith}
-use mathlib.Core.Path.{_≡_, refl, ap, _∙_}
+use mathlib.Core.Path.{ap, _∙_}
 use Prim.Native.Nat.{ℕ, _/_}
 use denote.Ref.{now}
 use Rattle.foundation.specs.BitMasks.{bit-le}
@@ -43,8 +43,8 @@ rule-at-requires : tie.Need-rule-at-requires
 rule-at-requires c κs =
     omega (arith, c .before .before .before .before .before .before .before .pre .1 .well-formed .there)
 
-narrowed-requires : tie.Need-narrowed-requires
-narrowed-requires c κs =
+by-grantor-and-option-requires : tie.Need-by-grantor-and-option-requires
+by-grantor-and-option-requires c κs =
     let b = c .before .before .before .before .before .before .before .before in
     let a = b .args in (
       b .pre .1 .well-formed .there,
@@ -58,15 +58,15 @@ returns c =
     let b = c .before .before .before .before .before .before .before .before .before in
     let a = b .args in
     feeders-same (b .pre .1) (a .i) (b .pre .0) (c .before .before .meeting .result)
-    (c .narrowed .result)
+    (c .by-grantor-and-option .result)
     (c .before .before .meeting .ensures
     ∙ ap (λ (k : ℕ). meetingWord (now (a .left)) (now (a .right)) (a .i) (k / 2))
     (c .before .before .before .usize-of .ensures .0))
-    (λ q. rw (c .before .rule-at .ensures) at (c .narrowed .ensures q))
+    (λ q. rw (c .before .rule-at .ensures) at (c .by-grantor-and-option .ensures q))
 
 pub feeders-spec : {M : Type 1} → statement M
 feeders-spec =
     tie.close
     (tie.spec mul-usize-of add-usize-of shared-slice-read-usize-of (λ c κs. search needs) meeting-requires
     mul-rule-at
-    rule-at-requires narrowed-requires returns)
+    rule-at-requires by-grantor-and-option-requires returns)

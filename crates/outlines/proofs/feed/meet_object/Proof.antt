@@ -1,6 +1,5 @@
 use borrow.Author.Needs.{needs}
 use native.Mathlib.Omega.{arith}
-use mathlib.Core.Path.{_≡_, refl}
 use Rattle.foundation.specs.Tests.{eq-true, ne-false}
 use Rattle.outlines.proofs.feed.meet_object.Statement.{statement}
 use Rattle.outlines.proofs.feed.meet_object.Tie as tie

@@ -1,6 +1,4 @@
-use borrow.Author.Needs.{needs}
 use native.Mathlib.Omega.{arith}
-use mathlib.Core.Path.{_≡_, refl}
 use Rattle.foundation.specs.Tests.{eq-true, ne-false}
 use Rattle.outlines.proofs.feed.meet_subject.Statement.{statement}
 use Rattle.outlines.proofs.feed.meet_subject.Tie as tie

@@ -1,6 +1,4 @@
 use borrow.Author.Needs.{needs}
-use native.Mathlib.Omega.{arith}
-use mathlib.Core.Path.{_≡_, refl}
 use Rattle.foundation.specs.Tests.{eq-true, ne-false}
 use Rattle.outlines.proofs.feed.right_mode_word.Statement.{statement}
 use Rattle.outlines.proofs.feed.right_mode_word.Tie as tie

@@ -1,6 +1,4 @@
 use borrow.Author.Needs.{needs}
-use native.Mathlib.Omega.{arith}
-use mathlib.Core.Path.{_≡_, refl}
 use denote.Ref.{now}
 use Rattle.outlines.proofs.Masking.{written}
 use Rattle.outlines.proofs.left.draw_masks.Statement.{statement}

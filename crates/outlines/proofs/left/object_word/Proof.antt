@@ -1,5 +1,3 @@
-use borrow.Author.Needs.{needs}
-use mathlib.Core.Path.{_≡_, refl}
 use Rattle.foundation.specs.Tests.{eq-true, ne-false}
 use Rattle.outlines.proofs.left.object_word.Statement.{statement}
 use Rattle.outlines.proofs.left.object_word.Tie as tie

@@ -1,4 +1,3 @@
-use mathlib.Core.Path.{_≡_, refl}
 use Rattle.foundation.specs.Tests.{ne-false}
 use Rattle.outlines.proofs.sides.coded.Statement.{statement}
 use Rattle.outlines.proofs.sides.coded.Tie as tie

@@ -1,5 +1,4 @@
 use borrow.Author.Needs.{needs}
-use mathlib.Core.Path.{_≡_, refl}
 use Rattle.foundation.specs.Tests.{ne-false}
 use Rattle.outlines.proofs.sides.mode_code.Statement.{statement}
 use Rattle.outlines.proofs.sides.mode_code.Tie as tie

@@ -3,7 +3,7 @@ use borrow.Author.Needs.{needs}
 use native.Mathlib.Omega.{arith}
 use mathlib.Core.Path.{_≡_, sym, ap, _∙_, subst}
 use mathlib.Core.List.{List}
-use Prim.Native.Nat.{ℕ}
+use Prim.Native.Nat.{ℕ, _≤_}
 use denote.Ref.{now}
 use lib.ListN.{length, getD}
 use Rattle.model.specs.Encoding.{decode}
@@ -88,6 +88,9 @@ masks-in c =
     let s = start (c .before .before .before .before .before .before .before) in
     putBack (now (s .args .outline)) 0 152 (c .draw-masks .last .1 .1 .1 .0)
 
+room : (s : tie.Start) → 152 ≤ length (now (s .args .outline))
+room s = omega (arith, s .pre .3)
+
 mask-long : (c : tie.After-draw-masks) → length (c .draw-masks .last .1 .1 .1 .0) ≡ 152
 mask-long c =
     let s = start (c .before .before .before .before .before .before .before) in
@@ -97,20 +100,24 @@ mask-long c =
 masked-left : (c : tie.After-draw-masks) → leftOf (masks-in c) ≡ c .draw-masks .last .1 .1 .1 .0
 masked-left c =
     let s = start (c .before .before .before .before .before .before .before) in
-    left-back (now (s .args .outline)) (c .draw-masks .last .1 .1 .1 .0) (s .pre .3) (mask-long c)
+    left-back (now (s .args .outline)) (c .draw-masks .last .1 .1 .1 .0) (room s) (mask-long c)
 
-masks-long : (c : tie.After-draw-masks) → length (masks-in c) ≡ 472
+masks-long : (c : tie.After-draw-masks) → 280 ≤ length (masks-in c)
 masks-long c =
     let s = start (c .before .before .before .before .before .before .before) in
-    left-long (now (s .args .outline)) (c .draw-masks .last .1 .1 .1 .0) (s .pre .3) (mask-long c)
+    omega (
+      arith,
+      left-long (now (s .args .outline)) (c .draw-masks .last .1 .1 .1 .0) (room s) (mask-long c),
+      s .pre .3,
+    )
 
 abbrev fed : (c : tie.After-draw-feed) → List ℕ
 fed c = c .draw-feed .last .1 .1 .1 .1 .0
 
-fed-long : (c : tie.After-draw-feed) → length (fed c) ≡ 472
+fed-long : (c : tie.After-draw-feed) → 280 ≤ length (fed c)
 fed-long c =
     let m = c .before .before .before .before .before .before in
-    c .draw-feed .kept .1 .1 .1 .1 .0 ∙ masks-long m
+    omega (arith, c .draw-feed .kept .1 .1 .1 .1 .0, masks-long m)
 
 fed-left : (c : tie.After-draw-feed) →
     (let m = c .before .before .before .before .before .before in
@@ -193,7 +200,7 @@ draw-feed-requires c κs =
       masks-long m,
       three-long l,
       λ k. ap (λ (f : List ℕ). getD f k 0)
-          (left-feed (now (s .args .outline)) (m .draw-masks .last .1 .1 .1 .0) (s .pre .3) (mask-long m))
+          (left-feed (now (s .args .outline)) (m .draw-masks .last .1 .1 .1 .0) (room s) (mask-long m))
           ∙ zero-part 152 128 (now (s .args .outline)) (s .pre .1) k,
     )
 
@@ -263,7 +270,8 @@ returns c =
       fed = f .draw-feed .ensures .0;
       choosy-is = h .choosy-of .ensures;
     } in
-    drawn-moved (left-back (fed f) left (fed-long f) long) (left-feed (fed f) left (fed-long f) long) drawn
+    let most : 152 ≤ length (fed f) = omega (arith, fed-long f) in
+    drawn-moved (left-back (fed f) left most long) (left-feed (fed f) left most long) drawn
 
 pub draw-spec : {M : Type 1} → statement M
 draw-spec =

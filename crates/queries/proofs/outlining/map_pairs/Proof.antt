@@ -11,7 +11,7 @@ use lib.Seq.{length-take-le}
 use Rattle.foundation.specs.BitMasks.{bit}
 use Rattle.sections.proofs.SectionWrites.{putBack, back-length, part-long}
 use Rattle.reach.specs.Net.{Formed}
-use Rattle.places.specs.ReachedNumbers.{usedBefore-le}
+use Rattle.places.proofs.NumberFacts.{usedBefore-le}
 use Rattle.queries.proofs.Sectioning.{map-moved, twice-number, twice-listed}
 use Rattle.queries.proofs.outlining.map_pairs.Statement.{statement}
 use Rattle.queries.proofs.outlining.map_pairs.Tie as tie

@@ -3,7 +3,7 @@ use borrow.Author.Needs.{needs}
 use native.Mathlib.Omega.{arith}
 use mathlib.Core.Path.{_≡_, sym, ap, _∙_, subst}
 use mathlib.Core.List.{List}
-use Prim.Native.Nat.{ℕ, _+_, _*_}
+use Prim.Native.Nat.{ℕ, _+_, _*_, _≤_}
 use denote.Ref.{now}
 use lib.Dec.{eqb}
 use lib.ListN.{length, getD, drop}
@@ -18,10 +18,8 @@ use Rattle.outlines.specs.LeftMasks.{Owned}
 use Rattle.queries.specs.declared.Inquiry.{Inquiry}
 use Rattle.queries.specs.Drawing.{chartFor, ownOf}
 use Rattle.queries.specs.Asking.{TaskIn, BodiesIn}
-use Rattle.queries.proofs.DrawingFacts.{still-drawn}
 use Rattle.queries.proofs.AskingFacts.{access-ranges, asked-outlined}
-use Rattle.queries.proofs.Sectioning.{left-long, left-back, left-feed, front-left, front-feed}
-use Rattle.queries.proofs.Sectioning.{drawn-moved, outline-moved, outline-at}
+use Rattle.queries.proofs.Sectioning.{left-long, left-back, left-feed, outline-moved, outline-at}
 use Rattle.queries.proofs.outlining.with_drawn.Statement.{statement}
 use Rattle.queries.proofs.outlining.with_drawn.Tie as tie
 
@@ -115,6 +113,9 @@ own-is c =
 abbrev left : (c : tie.After-own-masks) → List ℕ
 left c = c .own-masks .last .1 .1 .1 .1 .0
 
+room : (s : tie.Start) → 152 ≤ length (now (s .args .outline))
+room s = omega (arith, s .pre .0 .outlined)
+
 left-is : (c : tie.After-own-masks) → length (left c) ≡ 152
 left-is c =
     let s = start (c .before .before .before .before) in
@@ -164,8 +165,8 @@ task c base b =
     record {
       holder = decode (now (s .args .bytes));
       asked-outline = outline-at (sym (subject-at s)) (sym (object-at s))
-          (outline-moved (left-back o (left c) (s .pre .0 .outlined) (left-is c))
-          (left-feed o (left c) (s .pre .0 .outlined) (left-is c))
+          (outline-moved (left-back o (left c) (room s) (left-is c))
+          (left-feed o (left c) (room s) (left-is c))
           (asked-outlined (s .pre .1) (s .args .a .access) (own g) (s .pre .2) (own-is g)
           (owned c)));
       bodies = b;
@@ -195,10 +196,10 @@ cast-t20 c =
       d .well-formed .few,
     )
 
-outlined-long : (c : tie.After-own-masks) → length (outlined c) ≡ 472
+outlined-long : (c : tie.After-own-masks) → length (outlined c) ≡ 536
 outlined-long c =
     let s = start (c .before .before .before .before) in
-    left-long (now (s .args .outline)) (left c) (s .pre .0 .outlined) (left-is c)
+    left-long (now (s .args .outline)) (left c) (room s) (left-is c) ∙ s .pre .0 .outlined
 
 with-sizes-requires : tie.Need-with-sizes-requires
 with-sizes-requires c κs =
@@ -224,19 +225,7 @@ returns : tie.Need-returns
 returns c =
     let z = c .before .before .before .before in
     let m = z .before .before .before .before .before in
-    let g = m .before .before .before .before in
-    let s = start g in
-    let w = z .with-sizes in
-    let o : List ℕ = now (s .args .outline) in
-    let last : List ℕ = w .last .1 .1 .0 in (
-      (λ base b. w .ensures .0 base (task m base b)),
-      drawn-moved
-          (front-left (outlined m) last (w .ensures .1)
-          ∙ left-back o (left m) (s .pre .0 .outlined) (left-is m))
-          (front-feed (outlined m) last (w .ensures .1)
-          ∙ left-feed o (left m) (s .pre .0 .outlined) (left-is m))
-          (still-drawn (own g) (s .pre .1) (owned m)),
-    )
+    λ base b. z .with-sizes .ensures base (task m base b)
 
 pub with-drawn-spec : {M : Type 1} → statement M
 with-drawn-spec =

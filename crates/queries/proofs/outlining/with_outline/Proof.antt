@@ -30,9 +30,9 @@ draw-requires c κs =
       subst (λ (b : List ℕ). WellFormed (s .args .n .rules) b)
           (sym (lent-rest (s .args .n .authorizations * 24) (now (s .args .records))))
           (s .pre .3 .1 .well-formed),
-      zeros-blank 472,
+      zeros-blank 536,
       zeros-blank 1666,
-      refl {a = 472},
+      search needs,
       refl {a = 1666},
       s .pre .2,
     )
@@ -57,7 +57,7 @@ with-drawn-requires c κs =
 returns : tie.Need-returns
 returns c =
     let w = c .before .before .before in
-    w .with-drawn .ensures .0
+    w .with-drawn .ensures
 
 pub with-outline-spec : {M : Type 1} → statement M
 with-outline-spec =

@@ -4,7 +4,7 @@ use native.Mathlib.Omega.{arith}
 use mathlib.Core.Path.{_≡_, refl, sym, ap, _∙_, subst}
 use mathlib.Core.Bool.{not, _&&_}
 use mathlib.Core.List.{List}
-use Prim.Native.Nat.{ℕ, _+_, _*_, _-_, _≤_, _<_}
+use Prim.Native.Nat.{ℕ, _*_, _-_, _≤_, _<_}
 use denote.Ref.{now}
 use lib.Bits.{bitAnd}
 use lib.ListN.{length, getD, take, drop, length-drop}
@@ -19,7 +19,8 @@ use Rattle.sections.specs.Sections.{leftOf, firstOf, startsOf, rightsOf, subjec
 use Rattle.sections.specs.Sections.{numberedOf, listedOf}
 use Rattle.foundation.specs.Lists.{lent-rest}
 use Rattle.sections.proofs.SectionWrites.{putBack, back-length, part-long}
-use Rattle.places.specs.ReachedNumbers.{usedBefore-le}
+use Rattle.places.specs.ReachedNumbers.{pairIndex}
+use Rattle.places.proofs.NumberFacts.{usedBefore-le}
 use Rattle.masks.specs.RuleMasks.{Needed, PairCode, RulesIn}
 use Rattle.facts.specs.Sharing.{TablesArranged}
 use Rattle.engine.specs.declared.WindowWalk.{WindowWalk}
@@ -35,9 +36,12 @@ use Rattle.queries.proofs.outlining.with_pairs.Statement.{statement}
 use Rattle.queries.proofs.outlining.with_pairs.Tie as tie
 
 -- the places of the code that are gone back to
+abbrev asked-at : (c : tie.After-map-pairs) → tie.After-pair-index
+asked-at c = c .before .before .before .before .before .before .before
+
 abbrev start : (c : tie.After-map-pairs) → tie.Start
-start c = c .before .before .before .before .before .before .before .before .before .before .before .before
-    .before .before .before .before .before .before .before .before .before
+start c = asked-at c .before .before .before .before .before .before .before .before .before .before .before
+    .before .before .before .before
 
 abbrev pairs-at : (c : tie.After-needed-rules) → tie.After-map-pairs
 pairs-at c = c .before .before .before .before .before .before .before .before .before .before .before
@@ -65,20 +69,8 @@ part-body-start c =
     let s = c .before .before .before .before .before .before .before .before .before .before in
     s .pre .0 .recorded
 
-mul-pair : tie.Need-mul-pair
-mul-pair c =
-    let s = c .before .before .before .before .before .before .before .before .before .before .before
-    .before .before in
-    omega (arith, pair-few (s .pre .4 .1 .asked-outline))
-
-add-pair : tie.Need-add-pair
-add-pair c =
-    let s = c .before .before .before .before .before .before .before .before .before .before .before
-    .before .before .before in
-    omega (arith, pair-few (s .pre .4 .1 .asked-outline))
-
-cast-pair : tie.Need-cast-pair
-cast-pair c =
+pair-index-requires : tie.Need-pair-index-requires
+pair-index-requires c κs =
     let s = c .before .before .before .before .before .before .before .before .before .before .before
     .before .before .before in
     omega (arith, pair-few (s .pre .4 .1 .asked-outline))
@@ -86,19 +78,19 @@ cast-pair c =
 sub-mode : tie.Need-sub-mode
 sub-mode c =
     let s = c .before .before .before .before .before .before .before .before .before .before .before
-    .before .before .before .before in
+    .before .before .before .before .before in
     s .pre .4 .1 .asked-outline .some
 
 part-map-pairs-end : tie.Need-part-map-pairs-end
 part-map-pairs-end c =
     let s = c .before .before .before .before .before .before .before .before .before .before .before
-    .before .before .before .before .before in
+    .before .before .before .before .before .before in
     omega (arith, s .pre .0 .outlined)
 
 part-map-pairs-end-2 : tie.Need-part-map-pairs-end-2
 part-map-pairs-end-2 c =
     let s = c .before .before .before .before .before .before .before .before .before .before .before
-    .before .before .before .before .before .before in
+    .before .before .before .before .before .before .before in
     omega (arith, s .pre .0 .placed)
 
 -- the rules are all of what is behind the authorizations
@@ -116,8 +108,9 @@ rights-whole c = part-long 256 256 (now (c .args .coordinates)) (omega (arith, c
 
 map-pairs-requires : tie.Need-map-pairs-requires
 map-pairs-requires c κs =
-    let s = c .before .before .before .before .before .before .before .before .before .before .before
-    .before .before .before .before .before .before .before .before .before in
+    let i = c .before .before .before .before .before .before in
+    let s = i .before .before .before .before .before .before .before .before .before .before .before
+    .before .before .before .before in
     let k = s .pre .4 .1 .asked-outline in
     let need : List ℕ = now (s .args .need) in (
       (λ i. s .pre .1 i .0),
@@ -125,7 +118,7 @@ map-pairs-requires c κs =
       s .pre .2,
       chart-small _ (k .outline .rules .well-formed .few) (k .outline .rules .charted) .2,
       omega (arith, s .pre .3),
-      pair-in k need (s .pre .2),
+      omega (arith, i .pair-index .ensures, pair-in k need (s .pre .2)),
       omega (arith, k .some, k .few),
       outline-formed k need (s .pre .2),
       omega (arith, left-whole s),
@@ -294,7 +287,7 @@ first-long c =
     let s = start (pairs-at (lasts-at c .before)) in
     c .lay-tables .kept .1 .1 .1 .1 .0 ∙ first-whole s
 
-half-long : (c : tie.After-lay-tables) → length (half c) ≡ 472
+half-long : (c : tie.After-lay-tables) → length (half c) ≡ 536
 half-long c =
     let s = start (pairs-at (lasts-at c .before)) in
     back-length (now (s .args .outline)) 280 64 (first c) (omega (arith, s .pre .0 .outlined)) (first-long c)
@@ -355,7 +348,7 @@ starts-long c = c .lay-out .kept .1 .1 .1 .1 .0 ∙ starts-whole (tables-at c)
 abbrev full : (c : tie.After-lay-out) → List ℕ
 full c = putBack (half (tables-at c)) 344 64 (starts c)
 
-full-long : (c : tie.After-lay-out) → length (full c) ≡ 472
+full-long : (c : tie.After-lay-out) → length (full c) ≡ 536
 full-long c =
     let u = tables-at c in
     let s = start (pairs-at (rules-at c)) in
@@ -386,34 +379,41 @@ full-starts c =
     (starts-long c)
 
 -- the asked pair
-pair-there : (c : tie.After-map-pairs) →
-    (let s = start c in
-    s .args .k .object * s .args .k .extent .subjects + s .args .k .subject < length (needed c))
+abbrev asked : (c : tie.After-map-pairs) → ℕ
+asked c =
+    let k = start c .args .k in
+    pairIndex (k .extent .subjects) (k .object) (k .subject)
+
+asked-is : (c : tie.After-map-pairs) → asked-at c .pair-index .result ≡ asked c
+asked-is c = asked-at c .pair-index .ensures
+
+pair-there : (c : tie.After-map-pairs) → asked c < length (needed c)
 pair-there c =
     let s = start c in
     pair-in (s .pre .4 .1 .asked-outline) (needed c) (mapped c .size)
 
-mul-t30 : tie.Need-mul-t30
-mul-t30 c =
-    let s = start (pairs-at (rules-at (c .before .before))) in
-    omega (arith, pair-few (s .pre .4 .1 .asked-outline))
+mul-t33 : tie.Need-mul-t33
+mul-t33 c =
+    let y = pairs-at (rules-at (c .before .before)) in
+    let s = start y in
+    omega (arith, asked-is y, pair-few (s .pre .4 .1 .asked-outline))
 
-slice-read-t69 : tie.Need-slice-read-t69
-slice-read-t69 c =
+slice-read-t68 : tie.Need-slice-read-t68
+slice-read-t68 c =
     let y = pairs-at (rules-at (c .before .before .before)) in
     let s = start y in
-    omega (arith, pair-there y, needed-long y, numbered-long y, s .pre .3)
+    omega (arith, asked-is y, pair-there y, needed-long y, numbered-long y, s .pre .3)
 
-cast-t33 : tie.Need-cast-t33
-cast-t33 c =
+cast-t69 : tie.Need-cast-t69
+cast-t69 c =
     let y = pairs-at (rules-at (c .before .before .before)) in
     let s = start y in
-    let at : ℕ = s .args .k .object * s .args .k .extent .subjects + s .args .k .subject in
     omega (
       arith,
-      getD-take (length (needed y)) (numbered y) at 0 (pair-there y),
-      mapped y .numbers .1 at (pair-there y),
-      usedBefore-le (needed y) at,
+      ap (λ (j : ℕ). getD (numbered y) j 0) (asked-is y),
+      getD-take (length (needed y)) (numbered y) (asked y) 0 (pair-there y),
+      mapped y .numbers .1 (asked y) (pair-there y),
+      usedBefore-le (needed y) (asked y),
       pair-few (s .pre .4 .1 .asked-outline),
     )
 
@@ -428,13 +428,13 @@ walk-start-requires c κs =
     (lasts-in (s .pre .4 .1 .asked-outline) (mapped y) (rules-needed n) (l .result)
     (lasts f))
 
-looks : (c : tie.After-walk-start) →
+history : (c : tie.After-walk-start) →
     (let f = lasts-at (tables-at (c .before .before .before .before .before)) in
     let s = start (pairs-at (f .before)) in
     WalkStart (s .args .k .asked .one) (s .args .k .asked .instant)
     (drop (s .args .k .totals .authorizations * 24) (now (s .args .records)))
     (f .lasting-of .result) (c .walk-start .result))
-looks c =
+history c =
     let f = lasts-at (tables-at (c .before .before .before .before .before)) in
     let s = start (pairs-at (f .before)) in
     subst (λ (b : List ℕ). WalkStart (s .args .k .asked .one) (s .args .k .asked .instant) b
@@ -451,7 +451,6 @@ going c =
     let y = pairs-at n in
     let s = start y in
     let k = s .args .k in
-    let at : ℕ = k .object * k .extent .subjects + k .subject in
     let rules : ℕ = n .needed-rules .result in
     record {
       chosen = record {
@@ -465,7 +464,7 @@ going c =
       query = record {
         own = k .own;
         place = record {
-          pair = getD (numbered y) at 0;
+          pair = getD (numbered y) (asked-at y .pair-index .result) 0;
           point = record { subject = k .subject; mode = k .asked .access .mode - 1; object = k .object };
         };
         from = v .walk-start .result;
@@ -499,15 +498,16 @@ ground c base b =
     let y = pairs-at n in
     let s = start y in
     let k = s .args .k in
-    let at : ℕ = k .object * k .extent .subjects + k .subject in
-    let e = getD-take (length (needed y)) (numbered y) at 0 (pair-there y) in
+    let e = ap (λ (j : ℕ). getD (numbered y) j 0) (asked-is y)
+    ∙ sym (getD-take (length (needed y)) (numbered y) (asked y) 0 (pair-there y)) in
     ground-moved (front-left (now (s .args .outline)) (full h) (full-front h))
     (front-feed (now (s .args .outline)) (full h) (full-front h)) (full-first h) (full-starts h)
     (record {
       holder = b .holder;
       tabled = outline-tabled (b .asked-outline) (mapped y) (rules-needed n) (l .lasting-of .result)
           (h .lay-out .result) (going c .query) (k .asked .one) (k .asked .instant)
-          (y .map-pairs .ensures .1) (record {
+          (λ r h. ap (λ (j : ℕ). bit r (getD (needed y) j 0)) (sym (asked-is y))
+          ∙ y .map-pairs .ensures .1 r h) (record {
             chosen = refl;
             arranged = arranged u;
             lasts-is = lasts l;
@@ -515,9 +515,9 @@ ground c base b =
             starts-laid = h .lay-out .ensures .1;
           }) refl
           (λ i. record {
-            pair = sym e i;
+            pair = e i;
             point = record { subject = k .subject; mode = k .asked .access .mode - 1; object = k .object };
-          }) (c .last-asked .ensures) refl (looks v);
+          }) (c .last-asked .ensures) refl (history v);
       bodies = b .bodies;
     })
 
@@ -564,24 +564,23 @@ returns c =
     let h = laid-at z in
     let s = start (pairs-at (rules-at h)) in
     let k = s .args .k in
-    let w = t .with-lines in (
-      (λ base b. finds-answers (k .asked .one) (k .asked .instant) (going z .query) base
-          (k .asked .access) _ _ _ (z .last-asked .ensures)
-          (looks v .all) refl
-          (w .ensures .0 base (k .asked .access) (ground z base b))),
-      w .ensures .1 ∙ full-front h,
-    )
+    let w = t .with-lines in
+    λ base b. finds-answers (k .asked .one) (k .asked .instant) (going z .query) base
+    (k .asked .access) _ _ _ (z .last-asked .ensures)
+    (history v .all) refl
+    (w .ensures base (k .asked .access) (ground z base b))
 
 pub with-pairs-spec : {M : Type 1} → statement M
 with-pairs-spec =
     tie.close
-    (tie.spec mul-from (λ c. search needs) part-body-start (λ c. search needs) mul-pair add-pair
-    cast-pair sub-mode (λ c. search needs) (λ c. search needs) part-map-pairs-end (λ c. search needs)
+    (tie.spec mul-from (λ c. search needs) part-body-start (λ c. search needs) (λ c. search needs)
+    (λ c. search needs) (λ c. search needs) pair-index-requires sub-mode (λ c. search needs)
+    (λ c. search needs) part-map-pairs-end (λ c. search needs)
     (λ c. search needs) part-map-pairs-end-2 map-pairs-requires (λ c. search needs) (λ c. search needs)
     part-needed-rules-end mul-needed-rules sub-needed-rules-2 part-needed-rules-start-2
     (λ c. search needs) (λ c. search needs) (λ c. search needs) needed-rules-requires
     lasting-of-requires (λ c. search needs) (λ c. search needs) part-lay-tables-end (λ c. search needs)
     (λ c. search needs) part-lay-tables-end-2 lay-tables-requires (λ c. search needs) (λ c. search needs)
-    part-lay-out-end (λ c. search needs) (λ c. search needs) part-lay-out-end-2 lay-out-requires mul-t30
-    slice-read-t69 cast-t33 walk-start-requires (λ c κs. search needs) with-lines-requires same-length
+    part-lay-out-end (λ c. search needs) (λ c. search needs) part-lay-out-end-2 lay-out-requires mul-t33
+    slice-read-t68 cast-t69 walk-start-requires (λ c κs. search needs) with-lines-requires same-length
     same-length-2 same-length-3 (λ c. search needs) returns)

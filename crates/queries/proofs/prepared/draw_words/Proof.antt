@@ -15,9 +15,9 @@ draw-requires : tie.Need-draw-requires
 draw-requires c κs =
     let s = c .before .before .before .before .before .before in (
       s .pre .0,
-      zero-part 0 472 (now (s .args .words)) (s .pre .1),
+      zero-part 0 280 (now (s .args .words)) (s .pre .1),
       zero-part 0 1666 (now (s .args .bytes)) (s .pre .2),
-      part-long 0 472 (now (s .args .words)) (omega (arith, s .pre .3)),
+      omega (arith, part-long 0 280 (now (s .args .words)) (omega (arith, s .pre .3))),
       part-long 0 1666 (now (s .args .bytes)) (omega (arith, s .pre .4)),
       s .pre .5,
     )
@@ -36,9 +36,9 @@ bytes c = now (start c .args .bytes)
 abbrev outline : tie.After-draw → List ℕ
 outline c = c .draw .last .1 .1 .1 .0
 
-outline-long : (c : tie.After-draw) → length (outline c) ≡ 472
+outline-long : (c : tie.After-draw) → length (outline c) ≡ 280
 outline-long c =
-    c .draw .kept .1 .1 .1 .0 ∙ part-long 0 472 (words c) (omega (arith, start c .pre .3))
+    c .draw .kept .1 .1 .1 .0 ∙ part-long 0 280 (words c) (omega (arith, start c .pre .3))
 
 abbrev coordinates : tie.After-draw → List ℕ
 coordinates c = c .draw .last .1 .1 .1 .1 .0
@@ -52,11 +52,11 @@ bytes-long c =
     back-length (bytes c) 0 1666 (coordinates c) (omega (arith, start c .pre .4)) (coordinates-long c)
 
 -- the room for packed words
-room-long : (c : tie.After-draw) → length (take 209 (drop 472 (putBack (words c) 0 472 (outline c)))) ≡ 209
+room-long : (c : tie.After-draw) → length (take 209 (drop 280 (putBack (words c) 0 280 (outline c)))) ≡ 209
 room-long c =
     let p = start c .pre .3 in
-    part-long 472 209 (putBack (words c) 0 472 (outline c))
-    (omega (arith, back-length (words c) 0 472 (outline c) (omega (arith, p)) (outline-long c), p))
+    part-long 280 209 (putBack (words c) 0 280 (outline c))
+    (omega (arith, back-length (words c) 0 280 (outline c) (omega (arith, p)) (outline-long c), p))
 
 pack-requires : tie.Need-pack-requires
 pack-requires c κs =

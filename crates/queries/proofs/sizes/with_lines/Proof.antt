@@ -2,7 +2,7 @@
 -- none, and no rule negates, nothing is found.
 use borrow.Author.Needs.{needs}
 use native.Mathlib.Omega.{arith}
-use mathlib.Core.Path.{_≡_, refl, sym, subst}
+use mathlib.Core.Path.{_≡_, sym, subst}
 use mathlib.Core.Bool.{false}
 use mathlib.Core.List.{List}
 use Prim.Native.Nat.{ℕ}
@@ -44,15 +44,13 @@ returns c =
     let k = c .before .before .counts-some in
     let zero = c .before .before .before .before .if1 .taken in
     let none = not-true (k .result) (c .before .if2 .taken) in
-    let a = b .args in (
-      (λ base x g. subst (λ (f : Found). Finds (a .w .query) base x f (now (a .list)) (now (a .list)))
-          (sym (c .nothing-found .ensures))
-          (begun-nothing (picked-sectioned (b .pre .0) (y .ensures))
-          (picked-begun (b .pre .0) (y .ensures) g) zero
-          (λ r e. subst (λ (l : List ℕ). negates (ruleAt l r) ≡ false)
-          (lent-rest (a .w .offset) (now (a .records))) (k .ensures none r e .0)) (now (a .list)))),
-      refl,
-    )
+    let a = b .args in
+    λ base x g. subst (λ (f : Found). Finds (a .w .query) base x f (now (a .list)) (now (a .list)))
+    (sym (c .nothing-found .ensures))
+    (begun-nothing (picked-sectioned (b .pre .0) (y .ensures))
+    (picked-begun (b .pre .0) (y .ensures) g) zero
+    (λ r e. subst (λ (l : List ℕ). negates (ruleAt l r) ≡ false)
+    (lent-rest (a .w .offset) (now (a .records))) (k .ensures none r e .0)) (now (a .list)))
 
 with-fields-requires : tie.Need-with-fields-requires
 with-fields-requires c κs =
@@ -70,10 +68,8 @@ returns-2 c =
     .before .before .pre in
     let y = c .before .before .before .before .before .before .before .before .before .before .before
     .before .before .choose in
-    let w = c .before .before .before .before .before .before .with-fields in (
-      λ base x g. w .ensures .0 base x (picked-begun (p .0) (y .ensures) g),
-      w .ensures .1,
-    )
+    let w = c .before .before .before .before .before .before .with-fields in
+    λ base x g. w .ensures base x (picked-begun (p .0) (y .ensures) g)
 
 pub with-lines-spec : {M : Type 1} → statement M
 with-lines-spec =

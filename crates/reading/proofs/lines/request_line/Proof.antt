@@ -7,6 +7,7 @@ use Prim.Native.Nat.{ℕ}
 use lib.Dec.{eqb}
 use borrow.Author.Needs.{needs}
 use Rattle.foundation.specs.Tests.{cases}
+use Rattle.model.specs.Requests.{NEW, GRANT, DENY, REVOKE, REVOKEP, REVOKEN, ADDRULE, DROPRULE}
 use Rattle.model.specs.Text.{Line, whole, orUnreadable}
 use Rattle.reading.specs.ParsedLines.{readerFor}
 use Rattle.reading.proofs.FieldReaders.{goes-on}
@@ -16,11 +17,11 @@ use Rattle.reading.proofs.lines.request_line.Tie as tie
 -- no kind has a line without fields
 no-fields : (kind time who : ℕ) → readerFor kind time who [] ≡ none
 no-fields kind time who =
-    cases (eqb kind 1) (λ e. rw e) (λ e. rw e
-    (cases (eqb kind 2) (λ f. rw f) (λ f. rw f
-    (cases (eqb kind 7) (λ g. rw g) (λ g. rw g
-    (cases (eqb kind 4 || eqb kind 8) (λ h. rw h) (λ h. rw h
-    (cases (eqb kind 3 || eqb kind 5 || eqb kind 6) (λ i. rw i) (λ i. rw i)))))))))
+    cases (eqb kind NEW) (λ e. rw e) (λ e. rw e
+    (cases (eqb kind GRANT) (λ f. rw f) (λ f. rw f
+    (cases (eqb kind ADDRULE) (λ g. rw g) (λ g. rw g
+    (cases (eqb kind REVOKE || eqb kind DROPRULE) (λ h. rw h) (λ h. rw h
+    (cases (eqb kind DENY || eqb kind REVOKEP || eqb kind REVOKEN) (λ i. rw i) (λ i. rw i)))))))))
 
 returns : tie.Need-returns
 returns c =

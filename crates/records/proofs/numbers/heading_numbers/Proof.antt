@@ -1,9 +1,8 @@
 -- `records::numbers::heading_numbers` meets its contract, number by number.
 use borrow.Author.Needs.{needs}
 use native.Mathlib.Omega.{arith}
-use mathlib.Core.Path.{_≡_, ap, _∙_}
-use mathlib.Core.List.{List, [], _∷_}
-use Prim.Native.Nat.{ℕ}
+use mathlib.Core.Path.{ap, _∙_}
+use mathlib.Core.List.{[], _∷_}
 use lib.ListN.{length, length-drop}
 use Rattle.foundation.specs.Lists.{lent-rest}
 use denote.Ref.{now}

@@ -12,7 +12,7 @@ use Rattle.foundation.specs.Tests.{or-false}
 use Rattle.model.specs.declared.Authorization.{Authorization}
 use Rattle.model.specs.Encoding.{decode}
 use Rattle.model.specs.EncodingFacts.{sound-length}
-use Rattle.model.specs.Requests.{grants, newHead}
+use Rattle.model.specs.Requests.{GRANT, grants, newHead}
 use Rattle.encoding.specs.Format.{authorizationsAt}
 use Rattle.cover.specs.Gaps.{GapIs}
 use Rattle.refusals.proofs.AskedFacts.{GrantIn, grant-in, no-grant, in-control, uncovered-is}
@@ -99,7 +99,7 @@ returns-3 c =
       object = q .object;
       mode = q .mode;
       grantor = q .requester;
-      option = sym (or-false (eqb (q .kind) 2)) k && q .option;
+      option = sym (or-false (eqb (q .kind) GRANT)) k && q .option;
       before = q .now;
     })))
 

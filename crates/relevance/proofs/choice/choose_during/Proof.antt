@@ -9,35 +9,18 @@ use Prim.Native.Nat.{ℕ, _+_, _-_}
 use denote.Ref.{now}
 use Rattle.model.specs.declared.Authorization.{Authorization}
 use Rattle.sections.specs.Sections.{subjectsOf, objectsOf}
-use Rattle.relevance.specs.Needed.{isNeeded, isChosen}
-use Rattle.relevance.proofs.KeptNumbers.{number-inside, Chose, chose-start, chose-skip, chose-end}
+use Rattle.relevance.specs.Needed.{isNeeded, isChosenBy}
+use Rattle.relevance.proofs.KeptNumbers.{Chose, chose-skip, chose-loop}
 use Rattle.relevance.proofs.KeptNumbers.{charted, placed-at, chose-during}
 use Rattle.relevance.proofs.choice.choose_during.Statement.{statement}
 use Rattle.relevance.proofs.choice.choose_during.Tie as tie
 
 abbrev Inv-loop : tie.InvT-loop
 Inv-loop lines total x asked coordinates stride need which₀ n₀ i₀ which n i =
-    Chose (isChosen asked (subjectsOf coordinates) (objectsOf coordinates) x stride need) lines total which₀
-    which n i
+    Chose (isChosenBy coordinates asked x stride need) lines total which₀ which n i
 
 abbrev μ-loop : tie.MeasureT-loop
 μ-loop lines total x asked coordinates stride need which₀ n₀ i₀ which n i = total - i
-
-mul-authorization-at : tie.Need-mul-authorization-at Inv-loop μ-loop
-mul-authorization-at c = omega (arith, c .before .before .before .before .before .before .pre .0 .bytes)
-
--- the test of the instants is passed
-cast-which : tie.Need-cast-which Inv-loop μ-loop
-cast-which c =
-    let k = c .before .before .before .before .before .before .before in
-    omega (arith, k .before .before .before .before .before .before .before .pre .0 .numbers)
-
-slice-write-which : tie.Need-slice-write-which Inv-loop μ-loop
-slice-write-which c =
-    let k = c .before .before .before .before .before .before .before in
-    let b = k .before .before .before .before .before .before .before in
-    let v = k .before .before .loop .inv in
-    omega (arith, v .few, v .same-length, b .pre .0 .room)
 
 cell-of-requires : tie.Need-cell-of-requires Inv-loop μ-loop
 cell-of-requires c κs =
@@ -56,12 +39,6 @@ is-needed-requires c κs =
       charted (b .pre .0) (b .args .x) (r .result .head) (c .cell-of .result) (e .0) (e .1) (e .2),
     )
 
-counted-requires : tie.Need-counted-requires Inv-loop μ-loop
-counted-requires c κs =
-    let k = c .before .before .before .before .before .before .before .before .before in
-    let b = k .before .before .before .before .before .before .before in
-    omega (arith, k .before .before .loop .inv .few, b .pre .0 .numbers)
-
 -- one that passes it is chosen if it is needed, and one that does not is not
 loop-again : tie.Need-loop-again Inv-loop μ-loop
 loop-again c =
@@ -71,8 +48,7 @@ loop-again c =
     let l = k .before .before .loop in
     let r = k .authorization-at in
     let test : Authorization → Bool =
-    isChosen (a .asked) (subjectsOf (now (a .coordinates))) (objectsOf (now (a .coordinates)))
-    (a .x) (a .stride) (now (a .need)) in
+    isChosenBy (now (a .coordinates)) (a .asked) (a .x) (a .stride) (now (a .need)) in
     ⊎-elim
     (λ w. subst (λ (v : List ℕ). Chose test (now (a .lines)) (a .total) (now (a .which)) v (c .if1 .n)
     (l .i + 1)) (sym (w .4))
@@ -89,7 +65,7 @@ loop-again c =
 pub choose-during-spec : {M : Type 1} → statement M
 choose-during-spec =
     tie.close
-    (tie.spec Inv-loop μ-loop (λ c. search chose-start) mul-authorization-at
-    (λ c κs. search (number-inside, needs)) cast-which (λ c. search needs) slice-write-which
-    cell-of-requires is-needed-requires counted-requires (λ c. search needs) (λ c. search needs) loop-again
-    (λ c. search needs) (λ c. search (chose-end, needs)))
+    (tie.spec Inv-loop μ-loop (λ c. search chose-loop) (λ c. search chose-loop) (λ c κs. search chose-loop)
+    (λ c. search chose-loop) (λ c. search needs) (λ c. search chose-loop) cell-of-requires is-needed-requires
+    (λ c κs. search chose-loop) (λ c. search needs) (λ c. search needs) loop-again (λ c. search needs)
+    (λ c. search chose-loop))

@@ -4,9 +4,8 @@ use native.Mathlib.Omega.{arith}
 use Prim.Native.Nat.{_-_}
 use Rattle.foundation.specs.declared.Interval.{Interval}
 use Rattle.foundation.specs.Intervals.{interval}
-use Rattle.sections.specs.Sections.{subjectsOf, objectsOf}
-use Rattle.relevance.specs.Needed.{isChosen}
-use Rattle.relevance.proofs.KeptNumbers.{number-inside, Chose, chose-start, chose-end}
+use Rattle.relevance.specs.Needed.{isChosenBy}
+use Rattle.relevance.proofs.KeptNumbers.{Chose, chose-loop}
 use Rattle.relevance.proofs.KeptNumbers.{charted, placed-at, chose-during, during-all}
 use Rattle.relevance.proofs.choice.choose_needed.Statement.{statement}
 use Rattle.relevance.proofs.choice.choose_needed.Tie as tie
@@ -17,24 +16,10 @@ ever = interval 0 4294967295
 
 abbrev Inv-loop : tie.InvT-loop
 Inv-loop lines total x coordinates stride need which₀ n₀ i₀ which n i =
-    Chose (isChosen ever (subjectsOf coordinates) (objectsOf coordinates) x stride need) lines total which₀
-    which n i
+    Chose (isChosenBy coordinates ever x stride need) lines total which₀ which n i
 
 abbrev μ-loop : tie.MeasureT-loop
 μ-loop lines total x coordinates stride need which₀ n₀ i₀ which n i = total - i
-
-mul-authorization-at : tie.Need-mul-authorization-at Inv-loop μ-loop
-mul-authorization-at c = omega (arith, c .before .before .before .before .before .before .pre .0 .bytes)
-
-cast-which : tie.Need-cast-which Inv-loop μ-loop
-cast-which c =
-    omega (arith, c .before .before .before .before .before .before .before .before .pre .0 .numbers)
-
-slice-write-which : tie.Need-slice-write-which Inv-loop μ-loop
-slice-write-which c =
-    let b = c .before .before .before .before .before .before .before .before in
-    let v = c .before .before .before .loop .inv in
-    omega (arith, v .few, v .same-length, b .pre .0 .room)
 
 cell-of-requires : tie.Need-cell-of-requires Inv-loop μ-loop
 cell-of-requires c κs =
@@ -53,11 +38,6 @@ is-needed-requires c κs =
       charted (b .pre .0) (b .args .x) (r .result .head) (c .cell-of .result) (e .0) (e .1) (e .2),
     )
 
-counted-requires : tie.Need-counted-requires Inv-loop μ-loop
-counted-requires c κs =
-    let b = c .before .before .before .before .before .before .before .before .before .before in
-    omega (arith, c .before .before .before .before .before .loop .inv .few, b .pre .0 .numbers)
-
 loop-again : tie.Need-loop-again Inv-loop μ-loop
 loop-again c =
     let b = c .before .before .before .before .before .before .before .before .before .before .before in
@@ -73,7 +53,7 @@ loop-again c =
 pub choose-needed-spec : {M : Type 1} → statement M
 choose-needed-spec =
     tie.close
-    (tie.spec Inv-loop μ-loop (λ c. search chose-start) mul-authorization-at
-    (λ c κs. search (number-inside, needs)) cast-which (λ c. search needs) slice-write-which
-    cell-of-requires is-needed-requires counted-requires (λ c. search needs) (λ c. search needs) loop-again
-    (λ c. search needs) (λ c. search (chose-end, needs)))
+    (tie.spec Inv-loop μ-loop (λ c. search chose-loop) (λ c. search chose-loop) (λ c κs. search chose-loop)
+    (λ c. search chose-loop) (λ c. search needs) (λ c. search chose-loop) cell-of-requires is-needed-requires
+    (λ c κs. search chose-loop) (λ c. search needs) (λ c. search needs) loop-again (λ c. search needs)
+    (λ c. search chose-loop))

@@ -9,17 +9,22 @@ use Rattle.relevance.proofs.choice.is_needed.Tie as tie
 returns : tie.Need-returns
 returns c = rw (c .if1 .taken)
 
+shared-slice-read-is-needed-both : tie.Need-shared-slice-read-is-needed-both
+shared-slice-read-is-needed-both c =
+    let e = c .before .before in
+    omega (arith, c .before .pair-index .ensures, e .before .before .pre .1 .inside (e .if1 .left))
+
 returns-2 : tie.Need-returns-2
-returns-2 c = c .both-at .ensures ∙ sym (rw (c .before .before .before .if1 .left))
+returns-2 c =
+    let i = c .before .before .before .pair-index .ensures in
+    rw i at (c .is-needed-both .ensures) ∙ sym (rw (c .before .before .before .before .if1 .left))
 
 pub is-needed-spec : {M : Type 1} → statement M
 is-needed-spec =
     tie.close
-    (tie.spec returns
-    (λ c. omega (arith, small (c .before .before .pre .1)))
-    (λ c. omega (arith, small (c .before .before .pre .1)))
-    (λ c. omega (arith, small (c .before .before .pre .1)))
-    (λ c. omega (arith, small (c .before .before .pre .1)))
-    (λ c. c .before .before .before .pre .1 .inside (c .before .if1 .left))
+    (tie.spec returns (λ c. search needs) (λ c. search needs)
+    (λ c κs. omega (arith, small (c .before .before .pre .1)))
+    (λ c. omega (arith, c .pair-index .ensures, small (c .before .before .before .pre .1)))
+    shared-slice-read-is-needed-both
     (λ c. search needs) (λ c. search needs) (λ c κs. search needs)
     returns-2)

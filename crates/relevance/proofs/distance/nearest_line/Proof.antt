@@ -9,6 +9,7 @@ use Rattle.marks.specs.NextMarks.{sooner}
 use Rattle.relevance.specs.Chosen.{picked}
 use Rattle.relevance.specs.Distance.{edge, lineEdges, reached}
 use Rattle.relevance.proofs.Nearness.{line-turn, line-none, reached-none}
+use Rattle.relevance.proofs.PickedLoops.{picked-loop}
 use Rattle.relevance.proofs.distance.nearest_line.Statement.{statement}
 use Rattle.relevance.proofs.distance.nearest_line.Tie as tie
 
@@ -27,28 +28,6 @@ loop-holds c =
           ∙ sym (line-none (now (a .lines)) (now (a .which)) (a .ends) (a .t) 4294967296),
     )
 
-shared-slice-read-at : tie.Need-shared-slice-read-at Inv-loop μ-loop
-shared-slice-read-at c = omega (arith, c .before .before .before .before .before .pre .room)
-
-cast-at : tie.Need-cast-at Inv-loop μ-loop
-cast-at c = omega (arith, c .shared-slice-known3 .given (c .before .before .loop .i))
-
-mul-authorization-at : tie.Need-mul-authorization-at Inv-loop μ-loop
-mul-authorization-at c =
-    omega (
-      arith,
-      c .before .before .before .before .before .pre .inside (c .before .before .loop .i)
-          (omega arith),
-    )
-
-authorization-at-requires : tie.Need-authorization-at-requires Inv-loop μ-loop
-authorization-at-requires c κs =
-    omega (
-      arith,
-      c .before .before .before .before .before .pre .inside (c .before .before .loop .i)
-          (omega arith),
-    )
-
 loop-again : tie.Need-loop-again Inv-loop μ-loop
 loop-again c =
     let a = c .before .before .before .before .before .before .before .before .args in
@@ -56,7 +35,7 @@ loop-again c =
     let l = c .before .before .before .before .before .loop in
     let r = c .before .before .authorization-at in (
       omega arith,
-      c .nearer .ensures
+      c .nearer-mark .ensures
           ∙ ap (sooner (a .t) (edge (a .ends) (r .result .interval))) (l .inv .1)
           ∙ sym (line-turn (now (a .lines)) (now (a .which)) (a .ends) (a .t) 4294967296 (l .i)
           (r .result) (omega (arith, p .room)) (r .ensures)),
@@ -74,6 +53,6 @@ returns c =
 pub nearest-line-spec : {M : Type 1} → statement M
 nearest-line-spec =
     tie.close
-    (tie.spec Inv-loop μ-loop loop-holds (λ c. search needs) shared-slice-read-at cast-at
-    mul-authorization-at authorization-at-requires (λ c κs. search needs) (λ c. search needs)
-    (λ c. search needs) loop-again (λ c κs. search needs) returns)
+    (tie.spec Inv-loop μ-loop loop-holds (λ c. search needs) (λ c. search picked-loop)
+    (λ c. search picked-loop) (λ c. search picked-loop) (λ c κs. search picked-loop) (λ c κs. search needs)
+    (λ c. search needs) (λ c. search needs) loop-again (λ c κs. search needs) returns)

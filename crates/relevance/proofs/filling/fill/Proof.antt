@@ -10,7 +10,8 @@ use Rattle.foundation.specs.Marks.{next}
 use Rattle.encoding.specs.Format.{rulesIn}
 use denote.Ref.{now}
 use Rattle.relevance.specs.Ahead.{Standing}
-use Rattle.relevance.specs.Chosen.{marksFor, marks-for, picked, selected}
+use Rattle.relevance.specs.Chosen.{marksFor, picked, selected}
+use Rattle.relevance.proofs.PickedFacts.{marks-for}
 use Rattle.relevance.proofs.Growing.{MarksGrown, grown-start, only-one, grown-turn, grown-end}
 use Rattle.relevance.proofs.filling.fill.Statement.{statement}
 use Rattle.relevance.proofs.filling.fill.Tie as tie

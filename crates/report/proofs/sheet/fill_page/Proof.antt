@@ -7,7 +7,6 @@ use Prim.Native.Nat.{ℕ, _*_}
 use lib.ListN.{length}
 use denote.Ref.{now}
 use Rattle.foundation.specs.Lists.{keepIf}
-use Rattle.model.specs.declared.Counted.{Counted}
 use Rattle.model.specs.declared.Counted.the-variants.{Count}
 use Rattle.model.specs.Counting.{counting}
 use Rattle.model.specs.Report.{isOn, rowsOn}

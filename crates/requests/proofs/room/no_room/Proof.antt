@@ -15,7 +15,7 @@ use Rattle.model.specs.Encoding.{decode}
 use Rattle.model.specs.EncodingFacts.{sound-length}
 use Rattle.model.specs.Soundness.{soundBytes}
 use Rattle.model.specs.SoundnessFacts.{decoded-sound}
-use Rattle.model.specs.Requests.{labels, withdraws, grants}
+use Rattle.model.specs.Requests.{NEW, ADDRULE, GRANTADM, GRANTREF, labels, withdraws, grants}
 use Rattle.model.specs.Means.{plainly}
 use Rattle.model.specs.Step.{full}
 use Rattle.encoding.specs.declared.Counts.{Counts}
@@ -27,25 +27,25 @@ use Rattle.requests.proofs.room.no_room.Statement.{statement}
 use Rattle.requests.proofs.room.no_room.Tie as tie
 
 -- what the code asks
-abbrev asked : ℕ → Counts → Bool → Bool → ℕ → Bool
-asked k c granting labelling last =
-    (eqb k 1 && leb 128 (c .objects))
-    || (eqb k 9 && leb 128 (c .administrators))
-    || (eqb k 11 && leb 128 (c .referrers))
+abbrev roomAsked : ℕ → Counts → Bool → Bool → ℕ → Bool
+roomAsked k c granting labelling last =
+    (eqb k NEW && leb 128 (c .objects))
+    || (eqb k GRANTADM && leb 128 (c .administrators))
+    || (eqb k GRANTREF && leb 128 (c .referrers))
     || (granting && leb 1024 (c .authorizations))
-    || (eqb k 7 && leb 64 (c .rules))
+    || (eqb k ADDRULE && leb 64 (c .rules))
     || (labelling && leb 65535 last)
 
 asked-is : (s : List ℕ) (q : Request) → soundBytes s ≡ true → withdraws q ≡ false →
     (c : Counts) → c ≡ countsOf s → (g : Bool) → g ≡ grants q → (l : Bool) → l ≡ labels q →
     (n : ℕ) → n ≡ le 2 (drop 8 s) →
-    asked (q .kind) c g l n ≡ full plainly (decode s) q
+    roomAsked (q .kind) c g l n ≡ full plainly (decode s) q
 asked-is s q e w c ec g eg l el n en =
     let b = decode s in
     let d = decoded-lengths s in
-    let a : asked (q .kind) (countsOf s) (grants q) (labels q) (decode s .last) ≡ noRoom (decode s) q =
+    let a : roomAsked (q .kind) (countsOf s) (grants q) (labels q) (decode s .last) ≡ noRoom (decode s) q =
     rw (d .0, d .1, d .2, d .3, d .4) (simp or-false) in
-    (λ i. asked (q .kind) (ec i) (eg i) (el i) (last-read s n en i)) ∙ a
+    (λ i. roomAsked (q .kind) (ec i) (eg i) (el i) (last-read s n en i)) ∙ a
     ∙ sym (room-is b q (decoded-sound s e .counts) w)
 
 counts-of-requires : tie.Need-counts-of-requires

@@ -1,6 +1,5 @@
 -- `put_edge` meets its contract: by whether there is an edge.
 use borrow.Author.Needs.{needs}
-use native.Mathlib.Omega.{arith}
 use native.Mathlib.Numerals.{add-one}
 use Rattle.foundation.specs.Tests.{eq-true, ne-false}
 use Rattle.rules.proofs.ranks.put_edge.Statement.{statement}

@@ -37,7 +37,7 @@ put-edge-requires c κs =
       omega (arith, b .pre .1),
       omega (
         arith,
-        c .step .ensures,
+        c .step-of .ensures,
         step-small (b .args .every) (c .before .rule-at2 .result) (l .before .rule-at .result),
       ),
     )
@@ -50,14 +50,15 @@ loop-again c =
     let a = b .args in
     let s = now (a .s) in
     let i = l .loop .i in
-    let e : d .step .result ≡ stepOf (a .every) (ruleAt s i) (ruleAt s (a .j)) =
-    d .step .ensures ∙ ap₂ (stepOf (a .every)) (d .before .rule-at2 .ensures) (l .before .rule-at .ensures) in
+    let e : d .step-of .result ≡ stepOf (a .every) (ruleAt s i) (ruleAt s (a .j)) =
+    d .step-of .ensures ∙ ap₂ (stepOf (a .every)) (d .before .rule-at2 .ensures) (l .before .rule-at .ensures)
+    in
     let more = c .put-edge .ensures .1
     ∙ ap (putEdge (l .loop .edges) (a .j * 65) (l .loop .c) i) e in
     let many = c .put-edge .ensures .0 ∙ ap (putCount (l .loop .c)) e in (
       omega arith,
       ap length (c .put-edge .ensures .1)
-          ∙ put-length (l .loop .edges) (a .j * 65) (l .loop .c) i (d .step .result) ∙ l .loop .inv .1,
+          ∙ put-length (l .loop .edges) (a .j * 65) (l .loop .c) i (d .step-of .result) ∙ l .loop .inv .1,
       subst (λ (x : List ℕ). EdgeRow (a .every) (i + 1) s (a .j) x (c .put-edge .result)) (sym more)
           (subst (λ (k : ℕ). EdgeRow (a .every) (i + 1) s (a .j)
           (putEdge (l .loop .edges) (a .j * 65) (l .loop .c) i
@@ -66,7 +67,8 @@ loop-again c =
           (l .loop .inv .1) (omega (arith, b .pre .1)) (omega (arith, b .pre .1, b .pre .2))))),
       λ k h.
           ap (λ (x : List ℕ). getD x k 0) (c .put-edge .ensures .1)
-          ∙ put-other (l .loop .edges) (a .j * 65) (l .loop .c) i (d .step .result) k h ∙ l .loop .inv .3 k h,
+          ∙ put-other (l .loop .edges) (a .j * 65) (l .loop .c) i (d .step-of .result) k h ∙ l .loop .inv .3 k
+          h,
     )
 
 returns : tie.Need-returns Inv-loop μ-loop

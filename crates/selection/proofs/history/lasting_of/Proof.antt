@@ -12,7 +12,7 @@ use Rattle.foundation.specs.BitMasks.{bit}
 use Rattle.model.specs.declared.Rule.{Rule}
 use Rattle.model.specs.Stratification.{lasting}
 use Rattle.encoding.specs.Format.{ruleAt}
-use Rattle.masks.proofs.Collecting.{Collected, collect-start, collect-turn}
+use Rattle.masks.proofs.BitLoops.{Collected, collect-start, collect-turn}
 use Rattle.selection.proofs.history.lasting_of.Statement.{statement}
 use Rattle.selection.proofs.history.lasting_of.Tie as tie
 

@@ -21,7 +21,7 @@ Given ranks needed strata r = getD strata r 0 ≡ getD ranks (position needed r)
 
 abbrev Inv-loop : tie.InvT-loop
 Inv-loop ranks needed strata₀ k₀ r₀ strata k r =
-    (r ≤ 64) × (r < 64 → bit r needed ≡ true) × (length strata ≡ 65) × (k ≡ position needed r)
+    (r ≤ 64) × (r < 64 → bit r needed ≡ true) × (length strata ≡ 64) × (k ≡ position needed r)
     × ForBitsBelow needed (Given ranks needed strata) r
 
 abbrev μ-loop : tie.MeasureT-loop
@@ -29,38 +29,31 @@ abbrev μ-loop : tie.MeasureT-loop
 
 loop-holds : tie.Need-loop-holds Inv-loop μ-loop
 loop-holds c =
-    let a = c .before .args in
+    let s = c .before .before in
+    let a = s .args in
     let e = c .next-bit .ensures in (
       e .1,
       e .3,
-      c .before .pre,
+      s .pre,
       sym (position-start (a .needed) (c .next-bit .result) (e .2)),
       passed-start (a .needed) (Given (now (a .ranks)) (a .needed) (now (a .strata))) (c .next-bit .result)
           (e .2),
     )
 
-mul-strata : tie.Need-mul-strata Inv-loop μ-loop
-mul-strata c =
+-- no more ranks are given than rules passed
+few : (c : tie.In-loop Inv-loop μ-loop) → c .before .loop .k < 65
+few c =
     let l = c .before .loop in
-    omega (arith, l .inv .3, position-le (c .before .before .before .args .needed) (l .r))
-
-element-copy-out-strata : tie.Need-element-copy-out-strata Inv-loop μ-loop
-element-copy-out-strata c =
-    let l = c .before .loop in
-    omega (arith, l .inv .3, position-le (c .before .before .before .args .needed) (l .r))
-
-add-k : tie.Need-add-k Inv-loop μ-loop
-add-k c =
-    let l = c .before .before .loop in
     omega (arith, l .inv .3, position-le (c .before .before .before .before .args .needed) (l .r))
 
 loop-again : tie.Need-loop-again Inv-loop μ-loop
 loop-again c =
-    let l = c .before .before .before .loop in
-    let a = c .before .before .before .before .before .args in
+    let w = c .before .word-of in
+    let l = c .before .before .before .before .loop in
+    let a = c .before .before .before .before .before .before .before .args in
     let e = c .next-bit2 .ensures in
     let ranks = now (a .ranks) in
-    let v = getD ranks (l .k) 0 in
+    let v = w .result in
     let given = Given ranks (a .needed) in (
       e .1,
       e .3,
@@ -72,7 +65,7 @@ loop-again c =
           (c .next-bit2 .result) (l .inv .4)
           (λ i h f. getD-set-other (l .strata) (l .r) i v 0 (λ z. omega arith) ∙ f)
           (getD-set-same (l .strata) (l .r) v 0 (omega (arith, l .inv .2))
-          ∙ ap (λ (k : ℕ). getD ranks k 0) (l .inv .3))
+          ∙ w .ensures ∙ ap (λ (k : ℕ). getD ranks k 0) (l .inv .3))
           (e .2),
     )
 
@@ -84,6 +77,7 @@ returns c =
 pub spread-strata-spec : {M : Type 1} → statement M
 spread-strata-spec =
     tie.close
-    (tie.spec Inv-loop μ-loop (λ c κs. search needs) loop-holds (λ c. search needs) mul-strata
-    element-copy-out-strata (λ c. search needs) (λ c. search needs) add-k (λ c. search needs)
-    (λ c κs. search needs) (λ c. search needs) loop-again returns)
+    (tie.spec Inv-loop μ-loop (λ c κs. search needs) loop-holds (λ c. search needs)
+    (λ c. omega (arith, few c)) (λ c. few c) (λ c κs. search needs) (λ c. search needs) (λ c. search needs)
+    (λ c. omega (arith, few (c .before .before))) (λ c. search needs) (λ c κs. search needs)
+    (λ c. search needs) loop-again (λ c. search needs) returns)

@@ -1,5 +1,4 @@
 -- `serve_lines` meets its contract. The invariant: all up to the place that g has come to is answered.
-use borrow.Author.Needs.{needs}
 use native.Mathlib.Omega.{arith}
 use mathlib.Core.Path.{_≡_, refl, sym, _∙_}
 use mathlib.Core.Bool.{true}

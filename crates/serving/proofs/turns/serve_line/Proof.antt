@@ -9,9 +9,9 @@ use Rattle.serving.proofs.turns.serve_line.Statement.{statement}
 use Rattle.serving.proofs.turns.serve_line.Tie as tie
 
 -- what a line that can be read asks
-asked : (c : tie.After-known-told) → (let r = c .before .before .before in
+told-base : (c : tie.After-known-told) → (let r = c .before .before .before in
     askedOf (c .before .a .given .0 .0) ≡ readLine (now (r .before .before .before .before .args .line)))
-asked c = let r = c .before .before .before in
+told-base c = let r = c .before .before .before in
     sym (ap lineOf (c .before .a .given .1)) ∙ r .read-line .ensures
 
 returns : tie.Need-returns
@@ -30,7 +30,7 @@ returns-2 c =
     let a = o .before .before .before .before in
     let k = a .before .before in
     let d = k .before .before .before .before .before .before .before in
-    line-turned (now (d .args .s)) _ (d .pre .0) (sym (ap askedOf (a .a2 .given .1)) ∙ asked k)
+    line-turned (now (d .args .s)) _ (d .pre .0) (sym (ap askedOf (a .a2 .given .1)) ∙ told-base k)
     (o .serve-order .ensures .0) (o .serve-order .ensures .1)
 
 returns-3 : tie.Need-returns-3
@@ -39,7 +39,7 @@ returns-3 c =
     let a = m .before .before .before .before in
     let k = a .before .before in
     let d = k .before .before .before .before .before .before .before in
-    line-turned (now (d .args .s)) _ (d .pre .0) (sym (ap askedOf (a .a3 .given .1)) ∙ asked k)
+    line-turned (now (d .args .s)) _ (d .pre .0) (sym (ap askedOf (a .a3 .given .1)) ∙ told-base k)
     (m .serve-may .ensures) refl
 
 returns-4 : tie.Need-returns-4
@@ -48,7 +48,7 @@ returns-4 c =
     let a = w .before .before .before .before in
     let k = a .before .before in
     let d = k .before .before .before .before .before .before .before in
-    line-turned (now (d .args .s)) _ (d .pre .0) (sym (ap askedOf (a .a4 .given .1)) ∙ asked k)
+    line-turned (now (d .args .s)) _ (d .pre .0) (sym (ap askedOf (a .a4 .given .1)) ∙ told-base k)
     (w .serve-when .ensures) refl
 
 pub serve-line-spec : {M : Type 1} → statement M

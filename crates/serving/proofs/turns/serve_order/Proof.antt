@@ -1,6 +1,6 @@
 -- `turns::serve_order`: the reply to a request is short.
 use borrow.Author.Needs.{needs}
-use mathlib.Core.Path.{sym, ap, _∙_, subst}
+use mathlib.Core.Path.{sym, ap, subst}
 use mathlib.Core.List.{[]}
 use denote.Ref.{now}
 use Rattle.model.specs.Answers.{Answer}

@@ -19,7 +19,7 @@ went-in : (c : tie.After-k) →
     let a = cₜ .before .before .before .before .before .before .before .before .before .args in
     let os = authorizationsIn (a .m) (now (a .out)) in
     BuiltBody (c .k .given .0 .0)
-    (placed (a .pos) (partsOf (cₜ .taken .result) (cₜ .before .is-root .result) os (a .a)) os)
+    (placed (a .pos) (partsOf (cₜ .taken-stretch .result) (cₜ .before .is-root .result) os (a .a)) os)
     (c₁ .put-pieces .last .0) (c₁ .put-pieces .last .1 .0))
 went-in c =
     let c₁ = c .before .before .before .before .before .before in
@@ -31,7 +31,7 @@ returns c =
     let cₜ = c₁ .before .before .before in
     let a = cₜ .before .before .before .before .before .before .before .before .before .args in
     turn-full (a .c) (a .from) (a .to) _ (authorizationsIn (a .m) (now (a .out))) (a .a) (a .pos)
-    (cₜ .before .before .if1 .taken) _ (cₜ .taken .ensures) _ (cₜ .before .is-root .ensures)
+    (cₜ .before .before .if1 .taken) _ (cₜ .taken-stretch .ensures) _ (cₜ .before .is-root .ensures)
     (makes-full _ _ _ _ (c .enum-told .given .1) (c₁ .put-pieces .ensures))
 
 returns-2 : tie.Need-returns-2
@@ -41,7 +41,8 @@ returns-2 c =
     let cₜ = c₁ .before .before .before in
     let a = cₜ .before .before .before .before .before .before .before .before .before .args in
     turn-in (a .c) (a .from) (a .to) _ (authorizationsIn (a .m) (now (a .out))) (a .a) (a .pos)
-    (cₜ .before .before .if1 .taken) _ (cₜ .taken .ensures) _ (cₜ .before .is-root .ensures) (a .m) _ _ _
+    (cₜ .before .before .if1 .taken) _ (cₜ .taken-stretch .ensures) _ (cₜ .before .is-root .ensures)
+    (a .m) _ _ _
     (length-records 24 authorizationOf (a .m) (now (a .out))) (went-in ck)
 
 returns-3 : tie.Need-returns-3
