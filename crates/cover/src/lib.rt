@@ -12,7 +12,7 @@ use model::{AUTHORIZATION_BYTES, Authorization};
 
 // What is wanted of an authorization that is to stand directly before another in a chain: it is to `grantor`,
 // on an object and mode, and was granted before an instant.
-#[derive(Drop)]
+#[derive(Clone, Copy)]
 pub struct Want {
     pub object: u16,
     pub mode: u8,
@@ -92,7 +92,7 @@ pub fn gap_from(s: &[u8], n: usize, w: Want, a: u64, b: u64) -> u64
 }
 
 // The earliest instant that is not covered.
-#[derive(Drop)]
+#[derive(Clone, Copy)]
 pub enum Gap {
     At(u32),
     None,

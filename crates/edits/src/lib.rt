@@ -18,7 +18,7 @@ use encoding::Counts;
 use model::{AUTHORIZATION_BYTES, Authorization, PRIVILEGE_BYTES, Privilege, RULE_BYTES, Rule};
 
 // The bodies that hold privileges.
-#[derive(Drop)]
+#[derive(Clone, Copy)]
 pub enum PrivilegeBody {
     Objects,
     Administrators,

@@ -21,7 +21,7 @@ pub use insertion::{insert_in_body, insertion_index};
 pub use terms::{new_rule, number_of};
 
 // How many records each body has.
-#[derive(Drop)]
+#[derive(Clone, Copy)]
 pub struct Counts {
     pub objects: u16,
     pub administrators: u16,

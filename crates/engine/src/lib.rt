@@ -10,7 +10,7 @@ pub use walking::walk_windows;
 
 // What is asked: the access that coordinate 0 stands for, the place of the asked access, from which instant
 // to which, and whether the intervals are written down.
-#[derive(Drop)]
+#[derive(Clone, Copy)]
 pub struct Query {
     pub own: Access,
     pub place: Place,
@@ -20,7 +20,7 @@ pub struct Query {
 }
 
 // What was found: the intervals so far, and the answer at the last instant.
-#[derive(Drop)]
+#[derive(Clone, Copy)]
 pub struct Found {
     pub track: Track,
     pub yes: bool,
@@ -28,7 +28,7 @@ pub struct Found {
 
 // A walk: what was chosen, where the bytes of the rules start behind those of the authorizations, the rules
 // that look back and how many broken bits they have, what is asked, and the frame of the tables.
-#[derive(Drop)]
+#[derive(Clone, Copy)]
 pub struct WindowWalk {
     pub chosen: Chosen,
     pub offset: usize,

@@ -18,7 +18,7 @@ use sections::{FIRST, RIGHT, STARTS, SUBJECTS};
 
 // How far the walk is: the next instant, the intervals so far, the answer at the last instant, how many
 // authorizations are left, and whether the strata of the needed rules are in the outline already.
-#[derive(Drop)]
+#[derive(Clone, Copy)]
 pub struct Progress {
     pub next: u64,
     pub track: Track,
@@ -60,7 +60,7 @@ fn noted(
 }
 
 // A walk, and how far it is.
-#[derive(Drop)]
+#[derive(Clone, Copy)]
 pub struct WalkStage {
     pub walk: WindowWalk,
     pub progress: Progress,

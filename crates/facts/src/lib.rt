@@ -28,7 +28,7 @@ use words::next_bit;
 // A window: what was chosen, where the bytes of the rules start behind those of the authorizations, the
 // access that coordinate 0 stands for, how many instants there are, the frame of the tables, and whether the
 // strata of the needed rules are in the outline already.
-#[derive(Drop)]
+#[derive(Clone, Copy)]
 pub struct WindowTask {
     pub chosen: Chosen,
     pub offset: usize,
@@ -39,7 +39,7 @@ pub struct WindowTask {
 }
 
 // The rules that have tables, whether these have all places, and how many fields all tables have.
-#[derive(Drop)]
+#[derive(Clone, Copy)]
 pub struct TablePlan {
     pub tables: u64,
     pub wide: bool,

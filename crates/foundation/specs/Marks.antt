@@ -2,7 +2,7 @@
 -- (`walk-maximal`).
 use Rattle.std.specs.Prelude.{◌≡◌, ℕ, zero, suc, ◌-◌, ◌≤◌, ◌<◌, Bool, true, false, not, ◌&&◌, ◌||◌, ◌⊎◌, ◌↔◌, leb}
 use Rattle.std.proofs.Math.Path.{refl}
-use Rattle.std.proofs.Common.{sym, ap, ◌∙◌}
+use Rattle.std.proofs.Common.{subst, sym, ap, ◌∙◌}
 use native.Mathlib.Omega.{arith}
 use Rattle.std.proofs.lemmas.Bool.{false≢true}
 use mathlib.Core.List.{List, [], ◌∷◌, ◌++◌}
@@ -103,8 +103,9 @@ module _ (t d : ℕ) where
   next_is [] = inl refl
   next_is (x ∷ ms) = cases (ltb t x && ltb x (next t ms d))
       (λ e. let w = and-true (ltb t x) (ltb x (next t ms d)) e in
-      rw e (took (true-le (suc t) x w.0) (true-le (suc x) (next t ms d) w.1) (next_is ms)))
-      (λ e. rw e (left (next_is ms)))
+      let q : x ≡ next t (x ∷ ms) d = rw e in
+      subst (MarkOrNone (x ∷ ms)) q (took (true-le (suc t) x w.0) (true-le (suc x) (next t ms d) w.1) (next_is ms)))
+      (λ e. let q : next t ms d ≡ next t (x ∷ ms) d = rw e in subst (MarkOrNone (x ∷ ms)) q (left (next_is ms)))
     where
       took : t < x → x < next t ms d → MarkOrNone ms (next t ms d) → MarkOrNone (x ∷ ms) x
       took h l (inl e) = inr (inl refl, h, omega arith)

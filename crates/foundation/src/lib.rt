@@ -1,7 +1,7 @@
 // Intervals of instants, by value.
 
 // The instants from `start` to `end`, both ends included.
-#[derive(Drop)]
+#[derive(Clone, Copy)]
 pub struct Interval {
     pub start: u32,
     pub end: u32,

@@ -11,7 +11,7 @@ pub use turns::{close, derive_rules, mark_broken};
 // is a denial, and where the table that it looks at starts and which places that has; its left side, with its
 // sign, and where its broken bits start; the rules whose tables it gives to; and how many words the fields
 // have, behind which the broken bits lie.
-#[derive(Drop)]
+#[derive(Clone, Copy)]
 pub struct RuleTurn {
     pub rule: u32,
     pub operator: Operator,
@@ -28,14 +28,14 @@ pub struct RuleTurn {
 }
 
 // The tables of numbers from `from` up to, and without, `to`.
-#[derive(Drop)]
+#[derive(Clone, Copy)]
 pub struct Range {
     pub from: u32,
     pub to: u32,
 }
 
 // The end of a window: the frame of its tables, the number of its last instant in it, and that instant.
-#[derive(Drop)]
+#[derive(Clone, Copy)]
 pub struct Ending {
     pub frame: Frame,
     pub last: u32,

@@ -13,7 +13,7 @@ use sections::{LEFT_MODES, LEFT_SUBJECTS};
 use words::next_bit;
 
 // A rule of a mask, and whether one goes upwards from it.
-#[derive(Drop)]
+#[derive(Clone, Copy)]
 pub struct Next {
     pub rule: u32,
     pub up: bool,

@@ -1,6 +1,6 @@
 -- The facts that those about an access can rest on: finitely many about accesses near it, at 0 and at the
 -- marks (`keys`). A round looks at these only (`round-local`).
-use Rattle.std.specs.Prelude.{◌≡◌, refl, Bool, ◌&&◌, List, ◌∷◌, map, ltb, eqb, length}
+use Rattle.std.specs.Prelude.{◌≡◌, refl, Bool, true, false, ◌&&◌, List, ◌∷◌, map, ltb, eqb, length}
 use Rattle.std.proofs.Common.{sym, ◌∙◌, inr, le_of_eq, mul_assoc}
 use Rattle.std.proofs.Math.Path.{ap, subst}
 use Prim.Native.Nat.{ℕ, ◌≤◌}
@@ -46,7 +46,11 @@ module _ (base : Base) where
 
   starred_number : (f : Rule → ℕ) (n k : ℕ) (r : Rule) → Mem r base.rules → Mem k (numbers f n) →
       Mem (pick (is_star (f r)) k (f r)) (numbers f n)
-  starred_number f n k r m a = cases (is_star (f r)) (λ e. rw e a) (λ e. rw e (right_number f n r m))
+  starred_number f n k r m a = go (is_star (f r))
+    where
+      go : (b : Bool) → Mem (pick b k (f r)) (numbers f n)
+      go true = a
+      go false = right_number f n r m
 
   -- the right side of a rule leads to nothing that is not near
   right_near : (x y : Access) (r : Rule) → Mem r base.rules → WithinKeys x y →

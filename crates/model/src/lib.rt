@@ -44,14 +44,14 @@ pub const GRANTREF: u32 = 11;
 pub const REVOKEREF: u32 = 12;
 
 // An object with a subject: the object's owner, one of its administrators, or one of its referrers.
-#[derive(Drop)]
+#[derive(Clone, Copy)]
 pub struct Privilege {
     pub object: u16,
     pub subject: u16,
 }
 
 // What the authorizations of one label share.
-#[derive(Drop)]
+#[derive(Clone, Copy)]
 pub struct Head {
     pub label: u16,
     pub grantor: u16,
@@ -64,13 +64,13 @@ pub struct Head {
 }
 
 // A temporal authorization (01: a line).
-#[derive(Drop)]
+#[derive(Clone, Copy)]
 pub struct Authorization {
     pub head: Head,
     pub interval: Interval,
 }
 
-#[derive(Drop)]
+#[derive(Clone, Copy)]
 pub enum Operator {
     Whenever,
     AsLongAs,
@@ -79,7 +79,7 @@ pub enum Operator {
 }
 
 // The option of a rule's right side: with the grant option, without it, or starred.
-#[derive(Drop)]
+#[derive(Clone, Copy)]
 pub enum OptionTerm {
     With,
     Without,
@@ -87,7 +87,7 @@ pub enum OptionTerm {
 }
 
 // One side of a rule in the base. A subject, a mode or an object of 0 is the star.
-#[derive(Drop)]
+#[derive(Clone, Copy)]
 pub struct Side {
     pub subject: u16,
     pub mode: u8,
@@ -96,7 +96,7 @@ pub struct Side {
 }
 
 // A derivation rule. `grantor` and `option` belong to the right side; a grantor of 0 is the star.
-#[derive(Drop)]
+#[derive(Clone, Copy)]
 pub struct Rule {
     pub label: u16,
     pub author: u16,
@@ -110,14 +110,14 @@ pub struct Rule {
 
 // A number of a request where a star may stand instead. The star is no number, so that 0 remains out of
 // range.
-#[derive(Drop)]
+#[derive(Clone, Copy)]
 pub enum Term {
     Any,
     Number(u32),
 }
 
 // One side of a rule as a request words it.
-#[derive(Drop)]
+#[derive(Clone, Copy)]
 pub struct SideTerms {
     pub subject: Term,
     pub mode: Term,
@@ -127,7 +127,7 @@ pub struct SideTerms {
 
 // A rule as a request words it; its interval is the request's. The operator is its number in the base's
 // bytes, 1 to 4.
-#[derive(Drop)]
+#[derive(Clone, Copy)]
 pub struct RuleTerms {
     pub left: SideTerms,
     pub operator: u32,
@@ -138,7 +138,7 @@ pub struct RuleTerms {
 
 // A request of any kind. The kind is a number, so that an unknown one can be said; a field that the kind does
 // not name is not looked at.
-#[derive(Drop)]
+#[derive(Clone, Copy)]
 pub struct Request {
     pub now: u32,
     pub requester: u32,
@@ -153,7 +153,7 @@ pub struct Request {
 }
 
 // What the question WHEN asks about.
-#[derive(Drop)]
+#[derive(Clone, Copy)]
 pub struct Access {
     pub subject: u32,
     pub mode: u32,
@@ -162,7 +162,7 @@ pub struct Access {
 
 // What is looked for: an access, positive or denied, from a grantor or from any (0), with an option or with
 // either.
-#[derive(Drop)]
+#[derive(Clone, Copy)]
 pub struct Pattern {
     pub access: Access,
     pub negative: bool,
@@ -171,14 +171,14 @@ pub struct Pattern {
 }
 
 // The question MAY: an access at an instant.
-#[derive(Drop)]
+#[derive(Clone, Copy)]
 pub struct Question {
     pub access: Access,
     pub instant: u32,
 }
 
 // The reply to a request or a question.
-#[derive(Drop)]
+#[derive(Clone, Copy)]
 pub enum Reply {
     // accepted, with the new label or 0 and the number of authorizations (01: lines) now in the base
     Done { label: u32, count: u32 },
@@ -193,7 +193,7 @@ pub enum Reply {
 }
 
 // The answer of a call that counts: how many, or refused with a number of the table.
-#[derive(Drop)]
+#[derive(Clone, Copy)]
 pub enum Counted {
     Count(u64),
     Refused(u32),

@@ -13,7 +13,7 @@ pub use numbers::number_sides;
 pub use sides::{draw_left, draw_right};
 
 // How many coordinates there are.
-#[derive(Drop)]
+#[derive(Clone, Copy)]
 pub struct Sizes {
     pub subjects: u32,
     pub objects: u32,

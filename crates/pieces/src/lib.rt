@@ -17,7 +17,7 @@ use granting::{granting_from, granting_gap_from};
 use model::{Authorization, Head};
 
 // By what a withdrawal names what it takes out.
-#[derive(Drop)]
+#[derive(Clone, Copy)]
 pub enum CutKind {
     // the authorizations of `label`
     Label,
@@ -28,7 +28,7 @@ pub enum CutKind {
 }
 
 // What a withdrawal takes out.
-#[derive(Drop)]
+#[derive(Clone, Copy)]
 pub struct Cut {
     pub kind: CutKind,
     pub label: u16,
@@ -41,14 +41,14 @@ pub struct Cut {
 }
 
 // The instants from `from` on, before `to`.
-#[derive(Drop)]
+#[derive(Clone, Copy)]
 pub struct Stretch {
     pub from: u64,
     pub to: u64,
 }
 
 // How many authorizations a body has after a change, or that they would be too many.
-#[derive(Drop)]
+#[derive(Clone, Copy)]
 pub enum Put {
     Full,
     Lines(usize),

@@ -10,7 +10,7 @@ ghost use Rattle.foundation.specs.Tests.{pick};
 ghost use Rattle.places.specs.Regions.{free, mode_size, size_of, Within, index_in};
 
 // What is reached: how many subjects, objects and pairs, and as bits which modes.
-#[derive(Drop)]
+#[derive(Clone, Copy)]
 pub struct Grid {
     pub subjects: u32,
     pub objects: u32,
@@ -19,7 +19,7 @@ pub struct Grid {
 }
 
 // Places of which subject, mode and object are named, or free: 255.
-#[derive(Drop)]
+#[derive(Clone, Copy)]
 pub struct Region {
     pub subject: u8,
     pub mode: u8,
@@ -27,7 +27,7 @@ pub struct Region {
 }
 
 // A place.
-#[derive(Drop)]
+#[derive(Clone, Copy)]
 pub struct Point {
     pub subject: u32,
     pub mode: u32,
@@ -35,7 +35,7 @@ pub struct Point {
 }
 
 // A pair, by the coordinates of its object and its subject.
-#[derive(Drop)]
+#[derive(Clone, Copy)]
 pub struct Pair {
     pub object: usize,
     pub subject: usize,

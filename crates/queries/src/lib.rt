@@ -10,14 +10,14 @@ use model::Access;
 pub use prepared::{holds_prepared, prepare};
 
 // How many authorizations there are, and rules.
-#[derive(Drop)]
+#[derive(Clone, Copy)]
 pub struct Totals {
     pub authorizations: usize,
     pub rules: usize,
 }
 
 // What is asked: MAY of an access at an instant, or else WHEN.
-#[derive(Drop)]
+#[derive(Clone, Copy)]
 pub struct AccessQuery {
     pub access: Access,
     pub one: bool,
@@ -25,7 +25,7 @@ pub struct AccessQuery {
 }
 
 // What is drawn of the rules besides tables: how many coordinates there are, and which rules are choosy.
-#[derive(Drop)]
+#[derive(Clone, Copy)]
 pub struct Extent {
     pub subjects: u32,
     pub objects: u32,
@@ -34,7 +34,7 @@ pub struct Extent {
 
 // What is asked, with the coordinates of the subject and the object, and the access that coordinate 0 stands
 // for; of how many authorizations and rules, and by what was drawn of the rules.
-#[derive(Drop)]
+#[derive(Clone, Copy)]
 pub struct Inquiry {
     pub asked: AccessQuery,
     pub own: Access,

@@ -13,7 +13,7 @@ use words::next_bit;
 
 // The place that rules lead on from: the coordinates of its object, subject and mode, and how many subjects
 // there are.
-#[derive(Drop)]
+#[derive(Clone, Copy)]
 pub struct Origin {
     pub object: usize,
     pub subject: usize,

@@ -12,7 +12,7 @@ use model::{Access, Question, Request};
 use places::field_bounds;
 
 // What a line asks.
-#[derive(Drop)]
+#[derive(Clone, Copy)]
 pub enum Asked {
     Order(Request),
     May(Question),
@@ -20,7 +20,7 @@ pub enum Asked {
 }
 
 // A line that was read, or one that cannot be.
-#[derive(Drop)]
+#[derive(Clone, Copy)]
 pub enum Parsed {
     Line(Asked),
     Unreadable,

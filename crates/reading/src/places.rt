@@ -16,42 +16,42 @@ use crate::words::{
 use model::{OptionTerm, SideTerms, Term};
 
 // Where a field starts and where it ends.
-#[derive(Drop)]
+#[derive(Clone, Copy)]
 pub struct Bounds {
     pub from: usize,
     pub to: usize,
 }
 
 // A number that was read, and the next place.
-#[derive(Drop)]
+#[derive(Clone, Copy)]
 pub struct NumberAt {
     pub value: u32,
     pub next: usize,
 }
 
 // A number or star that was read, and the next place.
-#[derive(Drop)]
+#[derive(Clone, Copy)]
 pub struct TermAt {
     pub value: Term,
     pub next: usize,
 }
 
 // An option or a sign that was read, and the next place.
-#[derive(Drop)]
+#[derive(Clone, Copy)]
 pub struct FlagAt {
     pub value: bool,
     pub next: usize,
 }
 
 // A rule's option that was read, and the next place.
-#[derive(Drop)]
+#[derive(Clone, Copy)]
 pub struct OptionAt {
     pub value: OptionTerm,
     pub next: usize,
 }
 
 // A side of a rule that was read, and the next place.
-#[derive(Drop)]
+#[derive(Clone, Copy)]
 pub struct SideAt {
     pub value: SideTerms,
     pub next: usize,

@@ -15,28 +15,28 @@ use model::{
 };
 
 // A number, if one is known.
-#[derive(Drop)]
+#[derive(Clone, Copy)]
 pub struct KnownNumber {
     pub known: bool,
     pub value: u32,
 }
 
 // A number or a star, if one is known.
-#[derive(Drop)]
+#[derive(Clone, Copy)]
 pub struct KnownTerm {
     pub known: bool,
     pub value: Term,
 }
 
 // An option or a sign, if one is known.
-#[derive(Drop)]
+#[derive(Clone, Copy)]
 pub struct KnownFlag {
     pub known: bool,
     pub value: bool,
 }
 
 // A rule's option, if one is known.
-#[derive(Drop)]
+#[derive(Clone, Copy)]
 pub struct KnownOption {
     pub known: bool,
     pub value: OptionTerm,

@@ -9,7 +9,7 @@ mod page;
 use model::Reply;
 
 // The heading of a base, and its five bodies.
-#[derive(Drop)]
+#[derive(Clone, Copy)]
 pub enum Body {
     Heading,
     Objects,
@@ -21,7 +21,7 @@ pub enum Body {
 
 // Where the records of a body stand: how many, from which byte on, how many bytes each; and how many numbers
 // a record is.
-#[derive(Drop)]
+#[derive(Clone, Copy)]
 pub struct Layout {
     pub count: usize,
     pub at: usize,

@@ -14,7 +14,7 @@ pub use table::early_refusal;
 
 // The first of the rows before 13 that applies: none; its number; or row 9, with the earliest uncovered
 // instant.
-#[derive(Drop)]
+#[derive(Clone, Copy)]
 pub enum Early {
     Passed,
     Number(u32),

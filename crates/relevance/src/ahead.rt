@@ -16,14 +16,14 @@ use crate::distance::{nearest_line, nearest_rule};
 use fields::lesser;
 
 // The next start, and the next instant behind an end; 2^32 where there is none.
-#[derive(Drop)]
+#[derive(Clone, Copy)]
 pub struct Edges {
     pub starts: u64,
     pub ends: u64,
 }
 
 // Those of the authorizations and of the rules that matter.
-#[derive(Drop)]
+#[derive(Clone, Copy)]
 pub struct Near {
     pub lines: Edges,
     pub rules: Edges,

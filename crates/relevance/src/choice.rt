@@ -31,7 +31,7 @@ fn coordinate_of(entry: u8, own: bool) -> u32
 }
 
 // The coordinates of a subject and an object.
-#[derive(Drop)]
+#[derive(Clone, Copy)]
 pub struct Cell {
     pub subject: u32,
     pub object: u32,

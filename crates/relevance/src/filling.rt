@@ -7,7 +7,7 @@ use crate::Chosen;
 use crate::ahead::{near_at, next_of, nothing_near};
 
 // How many instants a window has, and the next behind it.
-#[derive(Drop)]
+#[derive(Clone, Copy)]
 pub struct Filled {
     pub count: usize,
     pub next: u64,

@@ -10,7 +10,7 @@ pub use filling::{Filled, fill};
 
 // How many authorizations matter, their numbers standing in a list; of how many rules, and which of them
 // matter, a bit a rule.
-#[derive(Drop)]
+#[derive(Clone, Copy)]
 pub struct Chosen {
     pub authorizations: usize,
     pub rules: usize,

@@ -5,7 +5,7 @@ pub use runs::{finish_runs, note, note_word};
 
 // What is known of the intervals while they are written down: how many are done, whether the instants are
 // inside one, and where that began.
-#[derive(Drop)]
+#[derive(Clone, Copy)]
 pub struct Track {
     pub count: usize,
     pub inside: bool,

@@ -10,7 +10,7 @@ use crate::turns::serve_line;
 
 // Where a step has come to: how many bytes it printed, how many of the line are kept, and the place in the
 // piece.
-#[derive(Drop)]
+#[derive(Clone, Copy)]
 pub struct Stepped {
     pub n: usize,
     pub len: usize,

@@ -5,7 +5,7 @@ ghost use Rattle.serving.specs.Pieces.{Took};
 
 // Where a piece has come to: how many bytes of the line are kept, the place in the piece, and whether a line
 // has ended there.
-#[derive(Drop)]
+#[derive(Clone, Copy)]
 pub struct Reached {
     pub len: usize,
     pub at: usize,

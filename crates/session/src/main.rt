@@ -18,7 +18,7 @@ use channel::Channel;
 use model::BASE_BYTES;
 
 // How many bytes are kept of the line that is not ended yet, and the channel so far.
-#[derive(Drop)]
+#[derive(Clone, Copy)]
 struct InputState {
     len: usize,
     channel: Channel,

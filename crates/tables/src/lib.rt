@@ -17,7 +17,7 @@ use words::{field_at, join_at, next_bit};
 
 // The grid, the width of fields (2^width bits), how many fields there are, the rules that look at the table
 // of a rule, those that have a table, and whether these tables have all places.
-#[derive(Drop)]
+#[derive(Clone, Copy)]
 pub struct Frame {
     pub grid: Grid,
     pub width: u32,
@@ -28,7 +28,7 @@ pub struct Frame {
 }
 
 // A place, with the number of its pair.
-#[derive(Drop)]
+#[derive(Clone, Copy)]
 pub struct Place {
     pub pair: u32,
     pub point: Point,

@@ -12,7 +12,7 @@ use model::{Access, Question, Reply, Request};
 use reading::{Asked, Parsed};
 
 // 0 or the refusal's number, and how many bytes were written.
-#[derive(Drop)]
+#[derive(Clone, Copy)]
 pub struct TextReply {
     pub refusal: u32,
     pub count: u32,

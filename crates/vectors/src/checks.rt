@@ -11,7 +11,7 @@ use model::BASE_BYTES;
 // Whether a transcript agrees, and how many of its lines stand before the first that does not. For the
 // message: how many bytes of `out` are the reply that is owed there, where that line begins, and where the
 // last title line before it begins (the end of the text, if none).
-#[derive(Drop)]
+#[derive(Clone, Copy)]
 pub struct Checked {
     pub good: bool,
     pub lines: usize,

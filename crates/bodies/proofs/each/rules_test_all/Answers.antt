@@ -1,0 +1,29 @@
+use Rattle.foundation.specs.RecordLoops.{all-loop}
+use Rattle.bodies.proofs.each.rules_test_all.Goals as goal
+
+pub loop-i-init : goal.loop-i-init
+loop-i-init = λ c. search all-loop
+
+pub overflow_mul-i : goal.overflow_mul-i
+overflow_mul-i = λ c. search all-loop
+
+pub rule_at-requires : goal.rule_at-requires
+rule_at-requires = λ c. search all-loop
+
+pub rule_test-requires : goal.rule_test-requires
+rule_test-requires = λ c. search all-loop
+
+pub returns-then-not-rule_test : goal.returns-then-not-rule_test
+returns-then-not-rule_test = λ c. search all-loop
+
+pub overflow_add-i : goal.overflow_add-i
+overflow_add-i = λ c. search all-loop
+
+pub loop-i-smaller : goal.loop-i-smaller
+loop-i-smaller = λ c. search all-loop
+
+pub loop-i-preserved : goal.loop-i-preserved
+loop-i-preserved = λ c. search all-loop
+
+pub returns : goal.returns
+returns = λ c. search all-loop

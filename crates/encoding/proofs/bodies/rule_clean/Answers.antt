@@ -1,0 +1,10 @@
+use Rattle.foundation.specs.BytesFacts.{le_at}
+use Rattle.encoding.proofs.RecordFields.{byte_at}
+use Rattle.encoding.proofs.bodies.rule_clean.Goals as goal
+
+pub returns : goal.returns
+returns c =
+    let a = c.args in
+    let s = a.s.now in
+    rw (c.rule_flags_known.ensures, c.le16.ensures)
+    (rw (byte_at s a.at 16, byte_at s a.at 17, le_at 2 s a.at 18))

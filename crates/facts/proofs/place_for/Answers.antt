@@ -1,0 +1,43 @@
+use native.Mathlib.Omega.{arith}
+use mathlib.Core.Path.{ap}
+use Prim.Native.Nat.{◌-◌, ◌<◌}
+use lib.ListN.{length, get_or}
+use Rattle.places.specs.ReachedNumbers.{pair_index}
+use Rattle.relevance.specs.declared.choice.Cell.{Cell}
+use Rattle.facts.proofs.place_for.Goals as goal
+
+-- where the pair lies
+placed : (c : goal.After-cell_of-c) →
+    (let r = c.cell_of-c.result in
+    let a = c.args in
+    pair_index a.g.subjects r.object r.subject < length a.number.now)
+placed c =
+    let s = c in
+    omega (
+      arith,
+      ap (λ (r : Cell). pair_index s.args.g.subjects r.object r.subject) c.cell_of-c.ensures.0,
+      s.requires.1,
+    )
+
+pub offset_bounds-number-j : goal.offset_bounds-number-j
+offset_bounds-number-j c = omega (arith, c.pair_index-j.ensures, placed c)
+
+pub bounds-number-j : goal.bounds-number-j
+bounds-number-j c =
+    omega (arith, c.pair_index-j.ensures, placed c)
+
+pub overflow_cast-result : goal.overflow_cast-result
+overflow_cast-result c = omega (arith, c.shared_slice_known-3-1.given c.pair_index-j.result)
+
+pub returns : goal.returns
+returns c =
+    let e = c in
+    let a = e.args in
+    let i = c.pair_index-j.ensures in
+    rw i (ap (λ (r : Cell). record {
+      pair = get_or a.number.now (pair_index a.g.subjects r.object r.subject) 0;
+      point = record { subject = r.subject; mode = a.h.mode - 1; object = r.object };
+    }) e.cell_of-c.ensures.0)
+
+pub pair_index-j-requires : goal.pair_index-j-requires
+pair_index-j-requires = λ c. omega (arith, placed c)

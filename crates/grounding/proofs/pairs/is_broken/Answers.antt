@@ -1,0 +1,59 @@
+use native.Mathlib.Omega.{arith}
+use mathlib.Core.Path.{◌≡◌, sym, ap, ◌∙◌}
+use mathlib.Core.Bool.{true, false, not}
+use Prim.Native.Nat.{ℕ, ◌+◌}
+use lib.Dec.{eqb}
+use lib.ListN.{length}
+use Rattle.foundation.specs.Tests.{not-true, not-false}
+use Rattle.words.specs.Fields.{field_of}
+use Rattle.model.specs.Stratification.{lasting}
+use Rattle.grounding.proofs.StepBits.{bit-number, bit-room}
+use Rattle.grounding.proofs.pairs.is_broken.Goals as goal
+
+-- the rule looks back
+lasts : (b : goal.After-is_lasting) → not b.is_lasting.result ≡ false →
+    lasting b.args.t.operator ≡ true
+lasts b e = sym b.is_lasting.ensures ∙ not-false b.is_lasting.result e
+
+pub returns-then-not-is_lasting : goal.returns-then-not-is_lasting
+returns-then-not-is_lasting c =
+    let b = c.is_lasting in
+    let e : lasting c.args.t.operator ≡ false =
+    sym b.ensures ∙ not-true b.result c.if-not-is_lasting.true in
+    rw e
+
+pub overflow_cast-t : goal.overflow_cast-t
+overflow_cast-t c =
+    let d = c in
+    omega (arith, d.requires.number (lasts d d.if-not-is_lasting.false))
+
+pub overflow_add-t : goal.overflow_add-t
+overflow_add-t c =
+    let d = c in
+    let s = d in
+    let a = s.args in
+    omega (
+      arith,
+      c.index_in.ensures,
+      bit-number a.t a.g (length a.bits.now) a.p s.requires (lasts d d.if-not-is_lasting.false),
+    )
+
+pub field_at-requires : goal.field_at-requires
+field_at-requires c =
+    let d = c in
+    let s = d in
+    let a = s.args in (
+      omega arith,
+      omega (
+        arith,
+        c.index_in.ensures,
+        bit-room a.t a.g (length a.bits.now) a.p s.requires (lasts d d.if-not-is_lasting.false),
+      ),
+    )
+
+pub returns : goal.returns
+returns c =
+    let d = c in
+    let a = d.args in
+    rw (lasts d d.if-not-is_lasting.false) (ap (λ (n : ℕ). eqb n 1) (c.field_at.ensures
+    ∙ ap (λ (i : ℕ). field_of 0 a.bits.now (a.t.bits + i)) c.index_in.ensures))

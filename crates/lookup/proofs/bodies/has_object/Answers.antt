@@ -1,0 +1,29 @@
+use Rattle.foundation.specs.RecordLoops.{any-loop}
+use Rattle.lookup.proofs.bodies.has_object.Goals as goal
+
+pub loop-i-init : goal.loop-i-init
+loop-i-init = λ c. search any-loop
+
+pub overflow_mul-i : goal.overflow_mul-i
+overflow_mul-i = λ c. search any-loop
+
+pub privilege_at-requires : goal.privilege_at-requires
+privilege_at-requires = λ c. search any-loop
+
+pub is_of_object-requires : goal.is_of_object-requires
+is_of_object-requires = λ c. search any-loop
+
+pub returns-then-is_of_object : goal.returns-then-is_of_object
+returns-then-is_of_object = λ c. search any-loop
+
+pub overflow_add-i : goal.overflow_add-i
+overflow_add-i = λ c. search any-loop
+
+pub loop-i-smaller : goal.loop-i-smaller
+loop-i-smaller = λ c. search any-loop
+
+pub loop-i-preserved : goal.loop-i-preserved
+loop-i-preserved = λ c. search any-loop
+
+pub returns : goal.returns
+returns = λ c. search any-loop

@@ -1,0 +1,21 @@
+use mathlib.Core.Path.{◌≡◌, sym, ap, ◌∙◌}
+use Prim.Native.Nat.{ℕ, ◌+◌, ◌*◌, ◌/◌}
+use lib.ListN.{get_or}
+use Rattle.foundation.specs.Tests.{eq_true, ne_false}
+use Rattle.outlines.specs.Feed.{linkers_word}
+use Rattle.outlines.proofs.feed.linkers.Goals as goal
+
+pub returns-then-usize_of-eq0 : goal.returns-then-usize_of-eq0
+unfolding linkers_word
+returns-then-usize_of-eq0 c =
+    let a = c.args in
+    let s : get_or a.sides.now (4 * a.i + 3) 0 / 2 ≡ 0 =
+    ap (λ (k : ℕ). k / 2) (sym c.usize_of.ensures.0) ∙ c.if-usize_of-eq0.true in
+    rw (eq_true (get_or a.sides.now (4 * a.i + 3) 0 / 2) 0 s) c.meeting.ensures
+
+pub returns : goal.returns
+unfolding linkers_word
+returns c =
+    let a = c.args in
+    rw (ne_false (get_or a.sides.now (4 * a.i + 3) 0 / 2) 0
+    (λ z. c.if-usize_of-eq0.false (ap (λ (k : ℕ). k / 2) c.usize_of.ensures.0 ∙ z)))

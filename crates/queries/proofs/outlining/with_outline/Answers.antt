@@ -1,0 +1,57 @@
+use borrow.Author.Rules.{rules}
+use native.Mathlib.Omega.{arith}
+use mathlib.Core.Path.{refl, sym, subst}
+use mathlib.Core.List.{List}
+use Prim.Native.Nat.{ℕ, ◌*◌}
+use Rattle.model.specs.Encoding.{decode}
+use Rattle.sections.specs.Sections.{left_of, feed_of, sides_of, rights_of, subjects_of, objects_of}
+use Rattle.foundation.specs.Lists.{lent_rest}
+use Rattle.outlines.specs.Coordinates.{WellFormed}
+use Rattle.queries.specs.Drawing.{RulesDrawn, chart_for}
+use Rattle.queries.proofs.AskingFacts.{zeros-blank}
+use Rattle.queries.proofs.outlining.with_outline.Goals as goal
+
+pub overflow_mul-from : goal.overflow_mul-from
+overflow_mul-from c =
+    let s = c in
+    omega (arith, s.requires.3.1.few)
+
+pub slice_bounds-draw-start : goal.slice_bounds-draw-start
+slice_bounds-draw-start c =
+    let s = c in
+    s.requires.0
+
+pub draw-e-requires : goal.draw-e-requires
+draw-e-requires c =
+    let s = c in (
+      subst (λ (b : List ℕ). WellFormed s.args.n.rules b)
+          (sym (lent_rest (s.args.n.authorizations * 24) s.args.records.now))
+          s.requires.3.1.well_formed,
+      zeros-blank 536,
+      zeros-blank 1666,
+      search rules,
+      refl {a = 1666},
+      s.requires.2,
+    )
+
+pub with_drawn-requires : goal.with_drawn-requires
+with_drawn-requires c =
+    let p = c in
+    let s = p in
+    let d = p.draw in
+    let o : List ℕ = d.new.body.1.1.0 in
+    let p : List ℕ = d.new.body.1.1.1.0 in (
+      record { recorded = s.requires.0; outlined = d.auto.body.1.1.0; placed = d.auto.body.1.1.1.0 },
+      subst (λ (b : List ℕ). RulesDrawn (decode s.args.bytes.now) s.args.n.rules
+          (chart_for (subjects_of p) (objects_of p) d.result) b (left_of o) (feed_of o) (sides_of p) (rights_of p)
+          d.result.choosy) (lent_rest (s.args.n.authorizations * 24) s.args.records.now)
+          d.ensures,
+      s.requires.1,
+      s.requires.2,
+      s.requires.3,
+    )
+
+pub returns : goal.returns
+returns c =
+    let w = c in
+    w.with_drawn.ensures

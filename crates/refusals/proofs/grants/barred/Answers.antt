@@ -1,0 +1,31 @@
+use borrow.Author.Tests.{not-true, not-false}
+use mathlib.Core.Path.{◌≡◌, sym, ◌∙◌}
+use mathlib.Core.Bool.{true}
+use Rattle.model.specs.Encoding.{decode}
+use Rattle.model.specs.Requests.{grants}
+use Rattle.refusals.proofs.AskedFacts.{other_unbarred, exempt, barred_is}
+use Rattle.refusals.proofs.grants.barred.Goals as goal
+
+-- behind the test of the kind
+granting : (c : goal.Else-not-is_grant) → grants c.args.q ≡ true
+granting c = sym c.is_grant.ensures ∙ not-false _ c.if-not-is_grant.false
+
+pub returns-then-not-is_grant : goal.returns-then-not-is_grant
+returns-then-not-is_grant c =
+    let a = c.args in
+    sym (other_unbarred (decode a.s.now) a.q
+    (sym c.is_grant.ensures ∙ not-true _ c.if-not-is_grant.true))
+
+pub returns-then-controls : goal.returns-then-controls
+returns-then-controls c =
+    let a = c.args in
+    sym (exempt (decode a.s.now) a.q (granting c)
+    (sym c.controls.ensures ∙ c.if-controls.true))
+
+pub returns : goal.returns
+returns c =
+    let e = c in
+    let a = e.args in
+    c.is_denied.ensures
+    ∙ sym (barred_is (decode a.s.now) a.q (granting e)
+    (sym e.controls.ensures ∙ e.if-controls.false))

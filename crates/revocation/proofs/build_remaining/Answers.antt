@@ -1,0 +1,107 @@
+use native.Mathlib.Omega.{arith}
+use mathlib.Core.Path.{refl, subst}
+use mathlib.Core.Logic.{inl, inr}
+use mathlib.Core.List.{List}
+use Rattle.model.specs.declared.Authorization.{Authorization}
+use Rattle.encoding.specs.Format.{administrators_at, authorizations_at}
+use Rattle.edits.proofs.Written.{written-sound}
+use Rattle.pieces.specs.Building.{Built}
+use Rattle.encoding.proofs.SoundBodies.{Fitting, there}
+use Rattle.revocation.proofs.CarriedFacts.{passed_row}
+use Rattle.revocation.proofs.Revoking.{passed_sound, written_fitting, lent_sorted, remains}
+use Rattle.revocation.proofs.build_remaining.Goals as goal
+
+-- behind the last place that is asked for, the counts of both bases
+abbrev start : goal.After-authorizations_at-at → goal.Start
+start c = c
+
+roots-fit : (c : goal.After-authorizations_at-at) →
+    Fitting (start c).args.roots.now c.counts_of-k.result
+roots-fit c = written_fitting _ (start c).requires.0.2 _ c.counts_of-k.ensures
+
+base-fit : (c : goal.After-authorizations_at-at) →
+    Fitting (start c).args.s.now c.counts_of-n.result
+base-fit c = written_fitting _ (written-sound _ (start c).requires.0.0.sound) _
+    c.counts_of-n.ensures
+
+pub cut_of-c-requires : goal.cut_of-c-requires
+cut_of-c-requires c =
+    let d = c in
+    let row = passed_row d.args.s.now d.args.q d.requires.0.0 in
+    (row _ (inl refl), row _ (inr (inr (inl refl))), d.requires.0.1)
+
+pub counts_of-k-requires : goal.counts_of-k-requires
+counts_of-k-requires c =
+    let d = c in
+    omega (arith, (written_fitting d.args.roots.now d.requires.0.2 _ refl).long)
+
+pub counts_of-n-requires : goal.counts_of-n-requires
+counts_of-n-requires c =
+    let d = c in
+    omega (arith, (written_fitting d.args.s.now (written-sound _ d.requires.0.0.sound) _ refl).long)
+
+pub slice_bounds-withdraw-start : goal.slice_bounds-withdraw-start
+slice_bounds-withdraw-start c = omega (arith, (roots-fit c).long)
+
+pub slice_bounds-withdraw-count : goal.slice_bounds-withdraw-count
+slice_bounds-withdraw-count c = omega (arith, (roots-fit c).long)
+
+pub slice_bounds-withdraw-start-2 : goal.slice_bounds-withdraw-start-2
+slice_bounds-withdraw-start-2 c =
+    let p = c in
+    omega (arith, roots-fit p, p.administrators_at-administrators.ensures)
+
+pub slice_bounds-withdraw-count-2 : goal.slice_bounds-withdraw-count-2
+slice_bounds-withdraw-count-2 c =
+    let p = c in
+    omega (arith, roots-fit p, p.administrators_at-administrators.ensures)
+
+pub slice_bounds-withdraw-start-3 : goal.slice_bounds-withdraw-start-3
+slice_bounds-withdraw-start-3 c =
+    let p = c in
+    omega (arith, base-fit p, p.authorizations_at-at.ensures)
+
+pub slice_bounds-withdraw-count-3 : goal.slice_bounds-withdraw-count-3
+slice_bounds-withdraw-count-3 c =
+    let p = c in
+    omega (arith, base-fit p, p.authorizations_at-at.ensures)
+
+pub withdraw-requires : goal.withdraw-requires
+withdraw-requires c =
+    let p = c in
+    let d = start p in
+    let k = p.counts_of-k in
+    let n = p.counts_of-n in
+    let r = roots-fit p in
+    let b = base-fit p in (
+      (
+        there d.args.roots.now 32 32 _ refl (omega (arith, r)),
+        there d.args.roots.now _ (administrators_at k.result) _
+            p.administrators_at-administrators.ensures (omega (arith, r)),
+        there d.args.s.now _ (authorizations_at n.result) _ p.authorizations_at-at.ensures
+            (omega (arith, b)),
+        d.requires.0.3,
+      ),
+      (
+        p.cut_of-c.ensures.1,
+        lent_sorted d.args.s.now d.args.q (passed_sound _ _ d.requires.0.0) n.result
+            n.ensures _
+            p.authorizations_at-at.ensures,
+      ),
+    )
+
+pub returns : goal.returns
+returns c =
+    let w = c in
+    let p = w in
+    let d = start p in
+    let k = p.counts_of-k in
+    let n = p.counts_of-n in
+    let cut = p.cut_of-c in
+    subst (λ (ys : List Authorization). Built ys w.withdraw.result
+    w.withdraw.new.no.1.1.1.1.1.1.0)
+    (remains d.args.s.now d.args.q (passed_sound _ _ d.requires.0.0) n.result n.ensures _
+    p.authorizations_at-at.ensures d.requires.0.1 cut.result cut.ensures.0 d.args.roots.now
+    k.result
+    k.ensures _ p.administrators_at-administrators.ensures d.requires.1.0 d.requires.1.1)
+    w.withdraw.ensures

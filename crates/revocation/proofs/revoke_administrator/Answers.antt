@@ -1,0 +1,154 @@
+use borrow.Author.Rules.{rules}
+use mathlib.Core.Path.{◌≡◌, refl, ap, ◌∙◌}
+use mathlib.Core.List.{List}
+use Prim.Native.Nat.{ℕ}
+use native.Mathlib.Omega.{arith}
+use Rattle.model.specs.Base.{refers}
+use Rattle.model.specs.Encoding.{encode, decode}
+use Rattle.model.specs.Requests.{without}
+use Rattle.edits.specs.Edits.{Written}
+use Rattle.edits.proofs.Written.{written-sound}
+use Rattle.model.specs.Effects.{with_administrators}
+use Rattle.edits.proofs.EditedBytes.{written-length}
+use Rattle.revocation.proofs.Revoking.{AuthorizationsLeft, carried_full, lines_left_lem, carried_done}
+use Rattle.revocation.proofs.Revoking.{replace_ready}
+use Rattle.revocation.proofs.Revoking.{replaced_holds, clocked, administrator_withdraws, copied}
+use Rattle.revocation.proofs.Revoking.{remove_ready, removed_holds, roots_objects}
+use Rattle.revocation.proofs.Revoking.{roots_administrators, dropped, administrator_done}
+use Rattle.revocation.proofs.revoke_administrator.Goals as goal
+
+-- the copy is the base
+copy_is : (c : goal.After-copy) → c.copy.new.s ≡ c.args.s.now
+copy_is c =
+    let d = c in
+    c.copy.ensures
+    ∙ copied d.args.s.now _ 27936 (written-length _ (written-sound _ d.requires.0.sound)) (search rules)
+
+-- the copy without the privilege
+copy-left : (c : goal.After-remove_administrator) →
+    let a = c.args in
+    let b = decode a.s.now in
+    c.remove_administrator.new.s
+    ≡ encode (with_administrators (without a.q.object a.q.subject b.administrators) b)
+copy-left c =
+    let y = c in
+    let q = y.args.q in
+    c.remove_administrator.ensures
+    ∙ ap (λ (l : List ℕ). encode (with_administrators
+    (without q.object q.subject (decode l).administrators) (decode l))) (copy_is y)
+
+-- ---- where the number of what remains is known
+abbrev start : goal.In-Lines-2 → goal.Start
+start c =
+    c
+
+left : (c : goal.In-Lines-2) →
+    let r = c in
+    AuthorizationsLeft (start c).args.s.now (start c).args.q c.n-1.given.0.0
+    r.build_remaining.new.s.1.1.0
+left c =
+    let d = start c in
+    lines_left_lem d.args.s.now d.args.q d.requires.0
+    (administrator_withdraws d.args.q d.requires.1) _ _
+    c.build_remaining.ensures _ c.n-1.given.1
+
+-- behind the rules
+abbrev known : goal.After-drop_rules → goal.In-Lines-2
+known w = w
+
+-- what is known of who refers
+refers-is : (w : goal.After-drop_rules) →
+    let d = start (known w) in
+    w.refers-refers.result
+    ≡ refers (decode d.args.s.now) d.args.q.object d.args.q.subject
+refers-is w = w.refers-refers.ensures
+
+rules-left : (w : goal.After-drop_rules) → Written w.drop_rules.new.s
+rules-left w =
+    let v = w in
+    let d = start (known w) in
+    (dropped d.args.s.now d.args.q d.requires.0 d.requires.1 _ v.remove_administrator-2.ensures _
+    (refers-is w) _ w.drop_rules.ensures).written
+
+pub copy-requires : goal.copy-requires
+copy-requires c =
+    let d = c in
+    (search rules, omega (arith, written-length _ (written-sound _ d.requires.0.sound)))
+
+pub remove_administrator-requires : goal.remove_administrator-requires
+remove_administrator-requires c =
+    let y = c in
+    let d = y in
+    remove_ready d.args.s.now d.args.q d.requires.0 d.requires.1 _ (copy_is y)
+
+pub build_remaining-requires : goal.build_remaining-requires
+build_remaining-requires c =
+    let y = c in
+    let d = y in
+    let s = d.args.s.now in
+    let q = d.args.q in
+    let e = copy-left y in (
+      (
+        d.requires.0,
+        administrator_withdraws q d.requires.1,
+        (removed_holds s q d.requires.0 d.requires.1 _ e).written,
+        (search rules, search rules),
+      ),
+      (roots_objects s q d.requires.0 d.requires.1 _ e, roots_administrators s q d.requires.0 d.requires.1 _ e),
+    )
+
+pub returns-in_default : goal.returns-in_default
+returns-in_default c =
+    let r = c in
+    let d = r in
+    carried_full d.args.s.now d.args.q d.requires.0
+    (administrator_withdraws d.args.q d.requires.1) _ _
+    r.build_remaining.ensures c.enum_told-1.given.1
+
+pub refers-refers-requires : goal.refers-refers-requires
+refers-refers-requires c = let d = start c in d.requires.0.sound
+
+pub remove_administrator-requires-2 : goal.remove_administrator-requires-2
+remove_administrator-requires-2 c =
+    let d = start c in
+    remove_ready d.args.s.now d.args.q d.requires.0 d.requires.1 _ refl
+
+pub drop_rules-requires : goal.drop_rules-requires
+drop_rules-requires c =
+    let v = c in
+    let d = start v in
+    (removed_holds d.args.s.now d.args.q d.requires.0 d.requires.1 _
+    v.remove_administrator-2.ensures
+    ).written
+
+pub replace_authorizations-requires : goal.replace_authorizations-requires
+replace_authorizations-requires c =
+    let w = c in
+    replace_ready _ (rules-left w) _ _ _ _ (left (known w)) (search rules)
+
+pub set_clock-requires : goal.set_clock-requires
+set_clock-requires c =
+    let x = c in
+    let w = x in
+    (replaced_holds _ (rules-left w) _ _ _ _ (left (known w)) _ x.replace_authorizations.ensures).written
+
+pub overflow_cast-result : goal.overflow_cast-result
+overflow_cast-result c =
+    let x = c in
+    omega (arith, (left (known x)).result.fits)
+
+pub returns : goal.returns
+returns c =
+    let z = c in
+    let x = z in
+    let w = x in
+    let v = w in
+    let p = known w in
+    let d = start p in
+    let s = d.args.s.now in
+    let q = d.args.q in
+    carried_done s q (administrator_withdraws q d.requires.1) _ _ (left p) _
+    (administrator_done s q d.requires.0 d.requires.1 _ v.remove_administrator-2.ensures _ (refers-is w) _
+    w.drop_rules.ensures _
+    (clocked _ (rules-left w) _ _ _ _ (left p) _ x.replace_authorizations.ensures _ _
+    z.set_clock.ensures))

@@ -1,0 +1,32 @@
+use mathlib.Core.Path.{◌≡◌, sym, ◌∙◌}
+use mathlib.Core.Bool.{false, beq}
+use Rattle.foundation.specs.Tests.{and-false, not-true}
+use Rattle.model.specs.declared.Rule.{Rule}
+use Rattle.model.specs.Stratification.{meets, feeds}
+use Rattle.model.specs.SideFacts.{feeds_eq}
+use Rattle.rules.proofs.feeds.Goals as goal
+
+other_object : (q r : Rule) → meets q.left.object r.right.object ≡ false → false ≡ feeds q r
+other_object q r n = rw (feeds_eq q r, n, and-false (beq q.left.negative r.right.negative))
+
+pub returns-then-not-object : goal.returns-then-not-object
+returns-then-not-object c =
+    let m = c.meets-object in
+    let a = c.args in
+    other_object a.q a.r (sym m.ensures ∙ not-true m.result c.if-not-object.true)
+
+pub returns : goal.returns
+returns c =
+    let d = c in
+    let w = d in
+    let a = w in
+    rw (
+      feeds_eq _ _,
+      a.alike.ensures,
+      a.meets.ensures,
+      w.meets-subject.ensures,
+      d.meets-mode.ensures,
+      w.u16_of.ensures.0,
+      w.u16_of-2.ensures.0,
+      d.fits_option-option.ensures,
+    )

@@ -1,0 +1,28 @@
+use borrow.Author.Tests.{not-true, not-false}
+use mathlib.Core.Path.{◌≡◌, sym, ◌∙◌}
+use mathlib.Core.Bool.{true, ◌&&◌}
+use native.Mathlib.Omega.{arith}
+use Rattle.model.specs.Encoding.{decode}
+use Rattle.model.specs.Soundness.{sound}
+use Rattle.encoding.specs.Format.{format_fits}
+use Rattle.encoding.proofs.FormatFacts.{format_is}
+use Rattle.soundness.proofs.is_sound.Goals as goal
+
+-- behind the test of the format
+fits : (c : goal.Else-not-format_fits) → format_fits c.args.s.now ≡ true
+fits c = sym c.format_fits.ensures ∙ not-false _ c.if-not-format_fits.false
+
+pub returns-then-not-format_fits : goal.returns-then-not-format_fits
+returns-then-not-format_fits c =
+    let s = c.args.s.now in
+    (λ k. (sym (not-true _ c.if-not-format_fits.true) ∙ c.format_fits.ensures) k && sound (decode s))
+    ∙ sym (format_is s (λ i. omega (arith, c.shared_slice_known-1.given i)))
+
+pub parts_hold-requires : goal.parts_hold-requires
+parts_hold-requires c = fits c
+
+pub returns : goal.returns
+returns c =
+    let s = c.args.s.now in
+    (λ k. sym (fits c) k && c.parts_hold.ensures k)
+    ∙ sym (format_is s (λ i. omega (arith, c.shared_slice_known-1.given i)))
