@@ -13,11 +13,6 @@ use Rattle.batch.proofs.batch_refusal.Goals as goal
 abbrev of_rows : Bool → Bool → ℕ
 of_rows g h = first_number (row 2 g ∷ row 13 h ∷ [])
 
--- behind row 2
-passes-2 : (c : goal.Else-not-is_sound) → (let a = c.args in
-    false ≡ not (sound_bytes a.base.now))
-passes-2 c = sym c.if-not-is_sound.false ∙ ap not c.is_sound.ensures
-
 pub returns-then-not-is_sound : goal.returns-then-not-is_sound
 unfolding batch_refusal
 returns-then-not-is_sound c =
@@ -27,8 +22,12 @@ returns-then-not-is_sound c =
 
 pub returns-then-room-questions : goal.returns-then-room-questions
 unfolding batch_refusal
-returns-then-room-questions c = λ k. of_rows (passes-2 c k) (sym (lt-ltb _ _ c.if-room-questions.true) k)
+returns-then-room-questions c =
+    let passes-2 : (let a = c.args in false ≡ not (sound_bytes a.base.now)) = sym c.if-not-is_sound.false ∙ ap not c.is_sound.ensures in
+    λ k. of_rows (passes-2 k) (sym (lt-ltb _ _ c.if-room-questions.true) k)
 
 pub returns : goal.returns
 unfolding batch_refusal
-returns c = λ k. of_rows (passes-2 c k) (sym (le-ltb _ _ c.if-room-questions.false) k)
+returns c =
+    let passes-2 : (let a = c.args in false ≡ not (sound_bytes a.base.now)) = sym c.if-not-is_sound.false ∙ ap not c.is_sound.ensures in
+    λ k. of_rows (passes-2 k) (sym (le-ltb _ _ c.if-room-questions.false) k)

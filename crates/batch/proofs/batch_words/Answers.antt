@@ -12,20 +12,6 @@ use Rattle.batch.proofs.AnswerBytes.{bytes_filled, filled_none, filled_next, Kno
 use Rattle.batch.proofs.batch_words.Invariants.{decreases-loop-i, invariant-loop-i}
 use Rattle.batch.proofs.batch_words.Goals as goal
 
--- what the two calls before the loop say
-known : (c : goal.After-answered-n invariant-loop-i decreases-loop-i) →
-    (let a = c.args in
-    Known a.base.now (questions_in a.words.now) a.replies.now c.batch_refusal-r.result
-    c.answered-n.result)
-known c =
-    let a = c.args in
-    let l = sym (length_questions a.words.now) in
-    let r = c.batch_refusal-r.result in
-    know a.base.now (questions_in a.words.now) a.replies.now r c.answered-n.result
-    (c.batch_refusal-r.ensures ∙ ap (λ (k : ℕ). batch_refusal a.base.now k
-    (length a.replies.now)) l)
-    (c.answered-n.ensures ∙ ap (λ (k : ℕ). pick (eqb r 0) k 0) l)
-
 pub loop-i-init : goal.loop-i-init
 loop-i-init c =
     let a = c.args in (
@@ -36,29 +22,71 @@ loop-i-init c =
     )
 
 pub prepare-table-requires : goal.prepare-table-requires
-prepare-table-requires c = (known c).sound
+prepare-table-requires c =
+    let known : (let a = c.args in Known a.base.now (questions_in a.words.now) a.replies.now c.batch_refusal-r.result c.answered-n.result) =
+    let a = c.args in
+    let l = sym (length_questions a.words.now) in
+    let r = c.batch_refusal-r.result in
+    know a.base.now (questions_in a.words.now) a.replies.now r c.answered-n.result
+    (c.batch_refusal-r.ensures ∙ ap (λ (k : ℕ). batch_refusal a.base.now k
+    (length a.replies.now)) l)
+    (c.answered-n.ensures ∙ ap (λ (k : ℕ). pick (eqb r 0) k 0) l) in
+    (known).sound
 
 pub question_at-requires : goal.question_at-requires
 question_at-requires c =
+    let known : (let a = c.args in Known a.base.now (questions_in a.words.now) a.replies.now c.batch_refusal-r.result c.answered-n.result) =
+    let a = c.args in
+    let l = sym (length_questions a.words.now) in
+    let r = c.batch_refusal-r.result in
+    know a.base.now (questions_in a.words.now) a.replies.now r c.answered-n.result
+    (c.batch_refusal-r.ensures ∙ ap (λ (k : ℕ). batch_refusal a.base.now k
+    (length a.replies.now)) l)
+    (c.answered-n.ensures ∙ ap (λ (k : ℕ). pick (eqb r 0) k 0) l) in
     let d = c in
     let w = d.args.words.now in
-    omega (arith, (known d).in_questions, length_questions w)
+    omega (arith, (known).in_questions, length_questions w)
 
 pub byte_for-requires : goal.byte_for-requires
 byte_for-requires c =
+    let known : (let a = c.args in Known a.base.now (questions_in a.words.now) a.replies.now c.batch_refusal-r.result c.answered-n.result) =
+    let a = c.args in
+    let l = sym (length_questions a.words.now) in
+    let r = c.batch_refusal-r.result in
+    know a.base.now (questions_in a.words.now) a.replies.now r c.answered-n.result
+    (c.batch_refusal-r.ensures ∙ ap (λ (k : ℕ). batch_refusal a.base.now k
+    (length a.replies.now)) l)
+    (c.answered-n.ensures ∙ ap (λ (k : ℕ). pick (eqb r 0) k 0) l) in
     let p = c in
-    ((known p).sound (omega arith), p.prepare-table.ensures (omega arith))
+    ((known).sound (omega arith), p.prepare-table.ensures (omega arith))
 
 pub bounds-replies-i : goal.bounds-replies-i
-bounds-replies-i c = omega (arith, (known c).in_room)
+bounds-replies-i c =
+    let known : (let a = c.args in Known a.base.now (questions_in a.words.now) a.replies.now c.batch_refusal-r.result c.answered-n.result) =
+    let a = c.args in
+    let l = sym (length_questions a.words.now) in
+    let r = c.batch_refusal-r.result in
+    know a.base.now (questions_in a.words.now) a.replies.now r c.answered-n.result
+    (c.batch_refusal-r.ensures ∙ ap (λ (k : ℕ). batch_refusal a.base.now k
+    (length a.replies.now)) l)
+    (c.answered-n.ensures ∙ ap (λ (k : ℕ). pick (eqb r 0) k 0) l) in
+    omega (arith, (known).in_room)
 
 pub loop-i-preserved : goal.loop-i-preserved
 loop-i-preserved c =
+    let known : (let a = c.args in Known a.base.now (questions_in a.words.now) a.replies.now c.batch_refusal-r.result c.answered-n.result) =
+    let a = c.args in
+    let l = sym (length_questions a.words.now) in
+    let r = c.batch_refusal-r.result in
+    know a.base.now (questions_in a.words.now) a.replies.now r c.answered-n.result
+    (c.batch_refusal-r.ensures ∙ ap (λ (k : ℕ). batch_refusal a.base.now k
+    (length a.replies.now)) l)
+    (c.answered-n.ensures ∙ ap (λ (k : ℕ). pick (eqb r 0) k 0) l) in
     let l = c.loop-i in
     let d = c in
     let a = d.args in
     let w = a.words.now in
-    let k = known d in
+    let k = known in
     let in_words : l.i < length w / 4 = omega (arith, k.in_questions, length_questions w) in
     let x = question 0 0 0 0 in
     let byte : c.byte_for.result ≡ byte_for a.base.now (get_or (questions_in w) l.i x) =
@@ -76,10 +104,18 @@ loop-i-preserved c =
 
 pub returns : goal.returns
 returns c =
+    let known : (let a = c.args in Known a.base.now (questions_in a.words.now) a.replies.now c.batch_refusal-r.result c.answered-n.result) =
+    let a = c.args in
+    let l = sym (length_questions a.words.now) in
+    let r = c.batch_refusal-r.result in
+    know a.base.now (questions_in a.words.now) a.replies.now r c.answered-n.result
+    (c.batch_refusal-r.ensures ∙ ap (λ (k : ℕ). batch_refusal a.base.now k
+    (length a.replies.now)) l)
+    (c.answered-n.ensures ∙ ap (λ (k : ℕ). pick (eqb r 0) k 0) l) in
     let l = c.loop-i in
     let d = c in
     let a = d.args in
-    let k = known d in
+    let k = known in
     let e : l.i ≡ d.answered-n.result = omega arith in
     record {
       refusal = k.refusal;

@@ -28,29 +28,30 @@ turn w b n s i u r h e =
     ap (pass_over w b u) (rest_step 24 authorization_of n s i h)
     ∙ ap (λ (v : ℕ). pick (leb b v) v (sweep_of w b (authorizations_from n s (i + 1)) v)) (sym e)
 
-turned : (c : goal.After-end_from-u invariant-loop-i decreases-loop-i) →
-    (let a = c.args in
-    let i = c.loop-i.i in
-    let r = c.end_from-u.result in
-    sweep_of a.w a.b (authorizations_in a.n a.s.now) a.t
-    ≡ pick (leb a.b r) r (sweep_of a.w a.b (authorizations_from a.n a.s.now (i + 1)) r))
-turned c =
-    let a = c.args in
-    let l = c.loop-i in
-    l.invariant.1
-    ∙ turn a.w a.b a.n a.s.now l.i l.u c.end_from-u.result (search rules)
-    c.end_from-u.ensures
-
 pub loop-i-init : goal.loop-i-init
 loop-i-init c =
     let a = c.args in
     (search rules, ap (pass_over a.w a.b a.t) (sym (rest_all 24 authorization_of a.n a.s.now)))
 
 pub returns-then-b-u : goal.returns-then-b-u
-returns-then-b-u c = sym (turned c ∙ rw (le-leb _ _ c.if-b-u.true))
+returns-then-b-u c =
+    let turned : (let a = c.args in let i = c.loop-i.i in let r = c.end_from-u.result in sweep_of a.w a.b (authorizations_in a.n a.s.now) a.t ≡ pick (leb a.b r) r (sweep_of a.w a.b (authorizations_from a.n a.s.now (i + 1)) r)) =
+    let a = c.args in
+    let l = c.loop-i in
+    l.invariant.1
+    ∙ turn a.w a.b a.n a.s.now l.i l.u c.end_from-u.result (search rules)
+    c.end_from-u.ensures in
+    sym (turned ∙ rw (le-leb _ _ c.if-b-u.true))
 
 pub loop-i-preserved : goal.loop-i-preserved
-loop-i-preserved c = (search rules, turned c ∙ rw (lt-leb _ _ c.if-b-u.false))
+loop-i-preserved c =
+    let turned : (let a = c.args in let i = c.loop-i.i in let r = c.end_from-u.result in sweep_of a.w a.b (authorizations_in a.n a.s.now) a.t ≡ pick (leb a.b r) r (sweep_of a.w a.b (authorizations_from a.n a.s.now (i + 1)) r)) =
+    let a = c.args in
+    let l = c.loop-i in
+    l.invariant.1
+    ∙ turn a.w a.b a.n a.s.now l.i l.u c.end_from-u.result (search rules)
+    c.end_from-u.ensures in
+    (search rules, turned ∙ rw (lt-leb _ _ c.if-b-u.false))
 
 pub returns : goal.returns
 unfolding sweep_of

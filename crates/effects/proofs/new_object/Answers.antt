@@ -10,22 +10,6 @@ use Rattle.effects.proofs.AllowedEffects.{allowed-written, effect-object}
 use Rattle.effects.proofs.Changes.{owner_fits, put-room, put-done}
 use Rattle.effects.proofs.new_object.Goals as goal
 
--- the effect, with the privilege as it was made
-effects : (c : goal.After-owner_of) →
-    effect plainly (decode c.args.s.now)
-    c.args.q
-    ≡ with_privileges Objects (insert c.owner_of.result
-    (privileges_of Objects (decode c.args.s.now)))
-    (with_stamp c.args.q.now
-    (decode c.args.s.now).last
-    (decode c.args.s.now))
-effects c =
-    let d = c in
-    let b = decode d.args.s.now in
-    effect-object b d.args.q d.requires.kind
-    ∙ (λ j. with_privileges Objects (insert (sym c.owner_of.ensures j) (privileges_of Objects b))
-    (with_stamp d.args.q.now b.last b))
-
 pub set_clock-requires : goal.set_clock-requires
 set_clock-requires c = allowed-written (NEW ∷ []) _ _ c.requires
 
@@ -35,17 +19,29 @@ owner_of-requires c = owner_fits (NEW ∷ []) _ _
 
 pub insert_in_order-requires : goal.insert_in_order-requires
 insert_in_order-requires c =
+    let effects : effect plainly (decode c.args.s.now) c.args.q ≡ with_privileges Objects (insert c.owner_of.result (privileges_of Objects (decode c.args.s.now))) (with_stamp c.args.q.now (decode c.args.s.now).last (decode c.args.s.now)) =
+    let d = c in
+    let b = decode d.args.s.now in
+    effect-object b d.args.q d.requires.kind
+    ∙ (λ j. with_privileges Objects (insert (sym c.owner_of.ensures j) (privileges_of Objects b))
+    (with_stamp d.args.q.now b.last b)) in
     let p = c in
     let d = p in
     put-room (NEW ∷ []) d.args.s.now d.args.q d.requires _ p.set_clock.ensures Objects _
-    (effects c)
+    (effects)
 
 pub returns : goal.returns
 returns c =
+    let effects : effect plainly (decode c.args.s.now) c.args.q ≡ with_privileges Objects (insert c.owner_of.result (privileges_of Objects (decode c.args.s.now))) (with_stamp c.args.q.now (decode c.args.s.now).last (decode c.args.s.now)) =
+    let d = c in
+    let b = decode d.args.s.now in
+    effect-object b d.args.q d.requires.kind
+    ∙ (λ j. with_privileges Objects (insert (sym c.owner_of.ensures j) (privileges_of Objects b))
+    (with_stamp d.args.q.now b.last b)) in
     let r = c in
     let o = r in
     let p = o in
     let d = p in
     put-done (NEW ∷ []) d.args.s.now d.args.q d.requires _ p.set_clock.ensures Objects _
-    (effects o) _
+    (effects) _
     r.insert_in_order.ensures

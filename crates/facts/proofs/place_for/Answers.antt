@@ -6,25 +6,27 @@ use Rattle.places.specs.ReachedNumbers.{pair_index}
 use Rattle.relevance.specs.declared.choice.Cell.{Cell}
 use Rattle.facts.proofs.place_for.Goals as goal
 
--- where the pair lies
-placed : (c : goal.After-cell_of-c) →
-    (let r = c.cell_of-c.result in
-    let a = c.args in
-    pair_index a.g.subjects r.object r.subject < length a.number.now)
-placed c =
+pub offset_bounds-number-j : goal.offset_bounds-number-j
+offset_bounds-number-j c =
+    let placed : (let r = c.cell_of-c.result in let a = c.args in pair_index a.g.subjects r.object r.subject < length a.number.now) =
     let s = c in
     omega (
       arith,
       ap (λ (r : Cell). pair_index s.args.g.subjects r.object r.subject) c.cell_of-c.ensures.0,
       s.requires.1,
-    )
-
-pub offset_bounds-number-j : goal.offset_bounds-number-j
-offset_bounds-number-j c = omega (arith, c.pair_index-j.ensures, placed c)
+    ) in
+    omega (arith, c.pair_index-j.ensures, placed)
 
 pub bounds-number-j : goal.bounds-number-j
 bounds-number-j c =
-    omega (arith, c.pair_index-j.ensures, placed c)
+    let placed : (let r = c.cell_of-c.result in let a = c.args in pair_index a.g.subjects r.object r.subject < length a.number.now) =
+    let s = c in
+    omega (
+      arith,
+      ap (λ (r : Cell). pair_index s.args.g.subjects r.object r.subject) c.cell_of-c.ensures.0,
+      s.requires.1,
+    ) in
+    omega (arith, c.pair_index-j.ensures, placed)
 
 pub overflow_cast-result : goal.overflow_cast-result
 overflow_cast-result c = omega (arith, c.shared_slice_known-3-1.given c.pair_index-j.result)
@@ -40,4 +42,12 @@ returns c =
     }) e.cell_of-c.ensures.0)
 
 pub pair_index-j-requires : goal.pair_index-j-requires
-pair_index-j-requires = λ c. omega (arith, placed c)
+pair_index-j-requires c =
+    let placed : (let r = c.cell_of-c.result in let a = c.args in pair_index a.g.subjects r.object r.subject < length a.number.now) =
+    let s = c in
+    omega (
+      arith,
+      ap (λ (r : Cell). pair_index s.args.g.subjects r.object r.subject) c.cell_of-c.ensures.0,
+      s.requires.1,
+    ) in
+    omega (arith, placed)

@@ -9,11 +9,6 @@ use Rattle.printing.proofs.Digits.{below_next, digits-start, digits-turn, digits
 use Rattle.printing.proofs.decimal_text.Invariants.{decreases-loop-rest, invariant-loop-rest}
 use Rattle.printing.proofs.decimal_text.Goals as goal
 
--- a turn is taken where there is more than one digit
-turn : (c : goal.In-loop-rest invariant-loop-rest decreases-loop-rest) →
-    (1 ≤ c.loop-rest.i) × (c.loop-rest.rest / 10 < 10 ^ c.loop-rest.i)
-turn c = let l = c.loop-rest in below_next l.i l.rest (omega arith) l.invariant.1
-
 pub loop-rest-init : goal.loop-rest-init
 loop-rest-init c = (
   search rules,
@@ -23,12 +18,15 @@ loop-rest-init c = (
 )
 
 pub overflow_sub-i : goal.overflow_sub-i
-overflow_sub-i c = (turn c).0
+overflow_sub-i c =
+    let turn : (1 ≤ c.loop-rest.i) × (c.loop-rest.rest / 10 < 10 ^ c.loop-rest.i) = let l = c.loop-rest in below_next l.i l.rest (omega arith) l.invariant.1 in
+    (turn).0
 
 pub loop-rest-preserved : goal.loop-rest-preserved
 loop-rest-preserved c =
+    let turn : (1 ≤ c.loop-rest.i) × (c.loop-rest.rest / 10 < 10 ^ c.loop-rest.i) = let l = c.loop-rest in below_next l.i l.rest (omega arith) l.invariant.1 in
     let l = c.loop-rest in
-    let w = turn c in
+    let w = turn in
     let e : suc (l.i - 1) ≡ l.i = omega arith in (
       search rules,
       rw e w.1,

@@ -25,35 +25,48 @@ record Room (c : goal.In-loop-i invariant-loop-i decreases-loop-i) : Type 0 wher
       + length (print_run (pair_at c.loop-i.i c.args.list.now))
       ≤ length c.loop-i.out-1
 
-room : (c : goal.In-loop-i invariant-loop-i decreases-loop-i) → Room c
-room c =
+pub loop-i-init : goal.loop-i-init
+loop-i-init c = (search rules, printed_none _ _)
+
+pub put_bytes-run-requires : goal.put_bytes-run-requires
+put_bytes-run-requires c =
+    let room : Room c =
     let l = c.loop-i in
     let a = c.args in
     let m = more_last-length l.i a.list.now in
     let r = more_rises (l.i + 1) a.n a.list.now (omega arith) in
     let e = printed-room l.invariant.1 (omega arith) in
-    record { same = e; fits = omega arith; next = omega (arith, l.invariant.1.ends) }
-
-pub loop-i-init : goal.loop-i-init
-loop-i-init c = (search rules, printed_none _ _)
-
-pub put_bytes-run-requires : goal.put_bytes-run-requires
-put_bytes-run-requires c = omega (arith, (room c).next)
+    record { same = e; fits = omega arith; next = omega (arith, l.invariant.1.ends) } in
+    omega (arith, (room).next)
 
 pub put_run-end-requires : goal.put_run-end-requires
 put_run-end-requires c =
+    let room : Room c =
+    let l = c.loop-i in
+    let a = c.args in
+    let m = more_last-length l.i a.list.now in
+    let r = more_rises (l.i + 1) a.n a.list.now (omega arith) in
+    let e = printed-room l.invariant.1 (omega arith) in
+    record { same = e; fits = omega arith; next = omega (arith, l.invariant.1.ends) } in
     let c₁ = c in
-    let w = room c₁ in
+    let w = room in
     let r = printed-room c₁.put_bytes-run.ensures (omega (arith, w.next)) in
     omega (arith, w.next, c₁.put_bytes-run.ensures.ends)
 
 pub loop-i-preserved : goal.loop-i-preserved
 loop-i-preserved c =
+    let room : Room c =
+    let l = c.loop-i in
+    let a = c.args in
+    let m = more_last-length l.i a.list.now in
+    let r = more_rises (l.i + 1) a.n a.list.now (omega arith) in
+    let e = printed-room l.invariant.1 (omega arith) in
+    record { same = e; fits = omega arith; next = omega (arith, l.invariant.1.ends) } in
     let c₂ = c in
     let c₁ = c₂ in
     let c₀ = c₁ in
     let l = c₀.loop-i in
-    let w = room c₀ in
+    let w = room in
     let list = c₀.args.list.now in
     let e = sym (ap (λ (j : ℕ). print_more (pairs_of j list)) (add-one l.i) ∙ more_last l.i list) in (
       search rules,

@@ -6,19 +6,17 @@ use Rattle.requests.proofs.EarlyReplies.{number_answered, uncovered_answered}
 use Rattle.revocation.proofs.CarriedFacts.{passed_answered}
 use Rattle.requests.proofs.step.Goals as goal
 
-passed : (c : goal.In-Passed) →
-    (let d = c in PassesEarly d.args.s.now d.args.q)
-passed c =
+pub carry_out-requires : goal.carry_out-requires
+carry_out-requires c =
+    let passed : (let d = c in PassesEarly d.args.s.now d.args.q) =
     let r = c in
     let d = r in
     record {
       sound = d.requires;
       early = subst (early_is (decode d.args.s.now) d.args.q) c.enum_told-1.given.1
           r.early_refusal-early.ensures;
-    }
-
-pub carry_out-requires : goal.carry_out-requires
-carry_out-requires c = passed c
+    } in
+    passed
 
 pub returns-in-Number : goal.returns-in-Number
 returns-in-Number c =
@@ -38,8 +36,16 @@ returns-in-Uncovered c =
 
 pub returns-in-Passed : goal.returns-in-Passed
 returns-in-Passed c =
+    let passed : (let d = c in PassesEarly d.args.s.now d.args.q) =
+    let r = c in
+    let d = r in
+    record {
+      sound = d.requires;
+      early = subst (early_is (decode d.args.s.now) d.args.q) c.enum_told-1.given.1
+          r.early_refusal-early.ensures;
+    } in
     let o = c in
     let e = o in
     let d = e in
-    passed_answered d.args.s.now d.args.q (passed e) o.carry_out.result o.carry_out.new.s
+    passed_answered d.args.s.now d.args.q (passed) o.carry_out.result o.carry_out.new.s
     o.carry_out.ensures

@@ -11,19 +11,6 @@ use Rattle.revocation.proofs.CarriedFacts.{passed_row}
 use Rattle.revocation.proofs.Revoking.{passed_sound, written_fitting, lent_sorted, remains}
 use Rattle.revocation.proofs.build_remaining.Goals as goal
 
--- behind the last place that is asked for, the counts of both bases
-abbrev start : goal.After-authorizations_at-at → goal.Start
-start c = c
-
-roots-fit : (c : goal.After-authorizations_at-at) →
-    Fitting (start c).args.roots.now c.counts_of-k.result
-roots-fit c = written_fitting _ (start c).requires.0.2 _ c.counts_of-k.ensures
-
-base-fit : (c : goal.After-authorizations_at-at) →
-    Fitting (start c).args.s.now c.counts_of-n.result
-base-fit c = written_fitting _ (written-sound _ (start c).requires.0.0.sound) _
-    c.counts_of-n.ensures
-
 pub cut_of-c-requires : goal.cut_of-c-requires
 cut_of-c-requires c =
     let d = c in
@@ -41,39 +28,52 @@ counts_of-n-requires c =
     omega (arith, (written_fitting d.args.s.now (written-sound _ d.requires.0.0.sound) _ refl).long)
 
 pub slice_bounds-withdraw-start : goal.slice_bounds-withdraw-start
-slice_bounds-withdraw-start c = omega (arith, (roots-fit c).long)
+slice_bounds-withdraw-start c =
+    let roots-fit : Fitting (c).args.roots.now c.counts_of-k.result = written_fitting _ (c).requires.0.2 _ c.counts_of-k.ensures in
+    omega (arith, (roots-fit).long)
 
 pub slice_bounds-withdraw-count : goal.slice_bounds-withdraw-count
-slice_bounds-withdraw-count c = omega (arith, (roots-fit c).long)
+slice_bounds-withdraw-count c =
+    let roots-fit : Fitting (c).args.roots.now c.counts_of-k.result = written_fitting _ (c).requires.0.2 _ c.counts_of-k.ensures in
+    omega (arith, (roots-fit).long)
 
 pub slice_bounds-withdraw-start-2 : goal.slice_bounds-withdraw-start-2
 slice_bounds-withdraw-start-2 c =
+    let roots-fit : Fitting (c).args.roots.now c.counts_of-k.result = written_fitting _ (c).requires.0.2 _ c.counts_of-k.ensures in
     let p = c in
-    omega (arith, roots-fit p, p.administrators_at-administrators.ensures)
+    omega (arith, roots-fit, p.administrators_at-administrators.ensures)
 
 pub slice_bounds-withdraw-count-2 : goal.slice_bounds-withdraw-count-2
 slice_bounds-withdraw-count-2 c =
+    let roots-fit : Fitting (c).args.roots.now c.counts_of-k.result = written_fitting _ (c).requires.0.2 _ c.counts_of-k.ensures in
     let p = c in
-    omega (arith, roots-fit p, p.administrators_at-administrators.ensures)
+    omega (arith, roots-fit, p.administrators_at-administrators.ensures)
 
 pub slice_bounds-withdraw-start-3 : goal.slice_bounds-withdraw-start-3
 slice_bounds-withdraw-start-3 c =
+    let base-fit : Fitting (c).args.s.now c.counts_of-n.result = written_fitting _ (written-sound _ (c).requires.0.0.sound) _
+    c.counts_of-n.ensures in
     let p = c in
-    omega (arith, base-fit p, p.authorizations_at-at.ensures)
+    omega (arith, base-fit, p.authorizations_at-at.ensures)
 
 pub slice_bounds-withdraw-count-3 : goal.slice_bounds-withdraw-count-3
 slice_bounds-withdraw-count-3 c =
+    let base-fit : Fitting (c).args.s.now c.counts_of-n.result = written_fitting _ (written-sound _ (c).requires.0.0.sound) _
+    c.counts_of-n.ensures in
     let p = c in
-    omega (arith, base-fit p, p.authorizations_at-at.ensures)
+    omega (arith, base-fit, p.authorizations_at-at.ensures)
 
 pub withdraw-requires : goal.withdraw-requires
 withdraw-requires c =
+    let roots-fit : Fitting (c).args.roots.now c.counts_of-k.result = written_fitting _ (c).requires.0.2 _ c.counts_of-k.ensures in
+    let base-fit : Fitting (c).args.s.now c.counts_of-n.result = written_fitting _ (written-sound _ (c).requires.0.0.sound) _
+    c.counts_of-n.ensures in
     let p = c in
-    let d = start p in
+    let d = p in
     let k = p.counts_of-k in
     let n = p.counts_of-n in
-    let r = roots-fit p in
-    let b = base-fit p in (
+    let r = roots-fit in
+    let b = base-fit in (
       (
         there d.args.roots.now 32 32 _ refl (omega (arith, r)),
         there d.args.roots.now _ (administrators_at k.result) _
@@ -94,7 +94,7 @@ pub returns : goal.returns
 returns c =
     let w = c in
     let p = w in
-    let d = start p in
+    let d = p in
     let k = p.counts_of-k in
     let n = p.counts_of-n in
     let cut = p.cut_of-c in

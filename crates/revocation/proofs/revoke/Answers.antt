@@ -10,22 +10,6 @@ use Rattle.revocation.proofs.Revoking.{replaced_holds, clocked, named-withdraws,
 use Rattle.revocation.proofs.Revoking.{named-objects, named_administrators}
 use Rattle.revocation.proofs.revoke.Goals as goal
 
--- ---- where the number of what remains is known
-abbrev start : goal.In-Lines-2 → goal.Start
-start c = c
-
-base-written : (c : goal.In-Lines-2) → Written (start c).args.s.now
-base-written c = written-sound _ (start c).requires.0.sound
-
-left : (c : goal.In-Lines-2) →
-    let r = c in
-    AuthorizationsLeft (start c).args.s.now (start c).args.q c.m-1.given.0.0
-    r.build_remaining.new.s.1.1.0
-left c =
-    let d = start c in
-    lines_left_lem d.args.s.now d.args.q d.requires.0 (named-withdraws d.args.q d.requires.1) _ _
-    c.build_remaining.ensures _ c.m-1.given.1
-
 pub build_remaining-requires : goal.build_remaining-requires
 build_remaining-requires c =
     let d = c in
@@ -44,28 +28,47 @@ returns-in_default c =
 
 pub replace_authorizations-requires : goal.replace_authorizations-requires
 replace_authorizations-requires c =
+    let base-written : Written (c).args.s.now = written-sound _ (c).requires.0.sound in
+    let left : let r = c in AuthorizationsLeft (c).args.s.now (c).args.q c.m-1.given.0.0 r.build_remaining.new.s.1.1.0 =
+    let d = c in
+    lines_left_lem d.args.s.now d.args.q d.requires.0 (named-withdraws d.args.q d.requires.1) _ _
+    c.build_remaining.ensures _ c.m-1.given.1 in
     let p = c in
-    replace_ready _ (base-written p) _ _ _ _ (left p) (search rules)
+    replace_ready _ (base-written) _ _ _ _ (left) (search rules)
 
 pub set_clock-requires : goal.set_clock-requires
 set_clock-requires c =
+    let base-written : Written (c).args.s.now = written-sound _ (c).requires.0.sound in
+    let left : let r = c in AuthorizationsLeft (c).args.s.now (c).args.q c.m-1.given.0.0 r.build_remaining.new.s.1.1.0 =
+    let d = c in
+    lines_left_lem d.args.s.now d.args.q d.requires.0 (named-withdraws d.args.q d.requires.1) _ _
+    c.build_remaining.ensures _ c.m-1.given.1 in
     let r = c in
     let p = r in
-    (replaced_holds _ (base-written p) _ _ _ _ (left p) _ r.replace_authorizations.ensures).written
+    (replaced_holds _ (base-written) _ _ _ _ (left) _ r.replace_authorizations.ensures).written
 
 pub overflow_cast-result : goal.overflow_cast-result
 overflow_cast-result c =
+    let left : let r = c in AuthorizationsLeft (c).args.s.now (c).args.q c.m-1.given.0.0 r.build_remaining.new.s.1.1.0 =
+    let d = c in
+    lines_left_lem d.args.s.now d.args.q d.requires.0 (named-withdraws d.args.q d.requires.1) _ _
+    c.build_remaining.ensures _ c.m-1.given.1 in
     let p = c in
-    omega (arith, (left p).result.ranges)
+    omega (arith, (left).result.ranges)
 
 pub returns : goal.returns
 returns c =
+    let base-written : Written (c).args.s.now = written-sound _ (c).requires.0.sound in
+    let left : let r = c in AuthorizationsLeft (c).args.s.now (c).args.q c.m-1.given.0.0 r.build_remaining.new.s.1.1.0 =
+    let d = c in
+    lines_left_lem d.args.s.now d.args.q d.requires.0 (named-withdraws d.args.q d.requires.1) _ _
+    c.build_remaining.ensures _ c.m-1.given.1 in
     let t = c in
     let r = t in
     let p = r in
-    let d = start p in
+    let d = p in
     let q = d.args.q in
-    carried_done d.args.s.now q (named-withdraws q d.requires.1) _ _ (left p) _
-    (clocked _ (base-written p) _ _ _ _ (left p) _ r.replace_authorizations.ensures _ _
+    carried_done d.args.s.now q (named-withdraws q d.requires.1) _ _ (left) _
+    (clocked _ (base-written) _ _ _ _ (left) _ r.replace_authorizations.ensures _ _
     t.set_clock.ensures
     ∙ ap encode (sym (effect-named (decode d.args.s.now) q d.requires.1)))

@@ -17,59 +17,6 @@ use Rattle.revocation.proofs.Revoking.{remove_ready, removed_holds, roots_object
 use Rattle.revocation.proofs.Revoking.{roots_administrators, dropped, administrator_done}
 use Rattle.revocation.proofs.revoke_administrator.Goals as goal
 
--- the copy is the base
-copy_is : (c : goal.After-copy) → c.copy.new.s ≡ c.args.s.now
-copy_is c =
-    let d = c in
-    c.copy.ensures
-    ∙ copied d.args.s.now _ 27936 (written-length _ (written-sound _ d.requires.0.sound)) (search rules)
-
--- the copy without the privilege
-copy-left : (c : goal.After-remove_administrator) →
-    let a = c.args in
-    let b = decode a.s.now in
-    c.remove_administrator.new.s
-    ≡ encode (with_administrators (without a.q.object a.q.subject b.administrators) b)
-copy-left c =
-    let y = c in
-    let q = y.args.q in
-    c.remove_administrator.ensures
-    ∙ ap (λ (l : List ℕ). encode (with_administrators
-    (without q.object q.subject (decode l).administrators) (decode l))) (copy_is y)
-
--- ---- where the number of what remains is known
-abbrev start : goal.In-Lines-2 → goal.Start
-start c =
-    c
-
-left : (c : goal.In-Lines-2) →
-    let r = c in
-    AuthorizationsLeft (start c).args.s.now (start c).args.q c.n-1.given.0.0
-    r.build_remaining.new.s.1.1.0
-left c =
-    let d = start c in
-    lines_left_lem d.args.s.now d.args.q d.requires.0
-    (administrator_withdraws d.args.q d.requires.1) _ _
-    c.build_remaining.ensures _ c.n-1.given.1
-
--- behind the rules
-abbrev known : goal.After-drop_rules → goal.In-Lines-2
-known w = w
-
--- what is known of who refers
-refers-is : (w : goal.After-drop_rules) →
-    let d = start (known w) in
-    w.refers-refers.result
-    ≡ refers (decode d.args.s.now) d.args.q.object d.args.q.subject
-refers-is w = w.refers-refers.ensures
-
-rules-left : (w : goal.After-drop_rules) → Written w.drop_rules.new.s
-rules-left w =
-    let v = w in
-    let d = start (known w) in
-    (dropped d.args.s.now d.args.q d.requires.0 d.requires.1 _ v.remove_administrator-2.ensures _
-    (refers-is w) _ w.drop_rules.ensures).written
-
 pub copy-requires : goal.copy-requires
 copy-requires c =
     let d = c in
@@ -77,17 +24,31 @@ copy-requires c =
 
 pub remove_administrator-requires : goal.remove_administrator-requires
 remove_administrator-requires c =
+    let copy_is : c.copy.new.s ≡ c.args.s.now =
+    let d = c in
+    c.copy.ensures
+    ∙ copied d.args.s.now _ 27936 (written-length _ (written-sound _ d.requires.0.sound)) (search rules) in
     let y = c in
     let d = y in
-    remove_ready d.args.s.now d.args.q d.requires.0 d.requires.1 _ (copy_is y)
+    remove_ready d.args.s.now d.args.q d.requires.0 d.requires.1 _ (copy_is)
 
 pub build_remaining-requires : goal.build_remaining-requires
 build_remaining-requires c =
+    let copy_is : c.copy.new.s ≡ c.args.s.now =
+    let d = c in
+    c.copy.ensures
+    ∙ copied d.args.s.now _ 27936 (written-length _ (written-sound _ d.requires.0.sound)) (search rules) in
+    let copy-left : let a = c.args in let b = decode a.s.now in c.remove_administrator.new.s ≡ encode (with_administrators (without a.q.object a.q.subject b.administrators) b) =
+    let y = c in
+    let q = y.args.q in
+    c.remove_administrator.ensures
+    ∙ ap (λ (l : List ℕ). encode (with_administrators
+    (without q.object q.subject (decode l).administrators) (decode l))) (copy_is) in
     let y = c in
     let d = y in
     let s = d.args.s.now in
     let q = d.args.q in
-    let e = copy-left y in (
+    let e = copy-left in (
       (
         d.requires.0,
         administrator_withdraws q d.requires.1,
@@ -106,49 +67,88 @@ returns-in_default c =
     r.build_remaining.ensures c.enum_told-1.given.1
 
 pub refers-refers-requires : goal.refers-refers-requires
-refers-refers-requires c = let d = start c in d.requires.0.sound
+refers-refers-requires c =
+    let d = c in d.requires.0.sound
 
 pub remove_administrator-requires-2 : goal.remove_administrator-requires-2
 remove_administrator-requires-2 c =
-    let d = start c in
+    let d = c in
     remove_ready d.args.s.now d.args.q d.requires.0 d.requires.1 _ refl
 
 pub drop_rules-requires : goal.drop_rules-requires
 drop_rules-requires c =
     let v = c in
-    let d = start v in
+    let d = v in
     (removed_holds d.args.s.now d.args.q d.requires.0 d.requires.1 _
     v.remove_administrator-2.ensures
     ).written
 
 pub replace_authorizations-requires : goal.replace_authorizations-requires
 replace_authorizations-requires c =
+    let left : let r = c in AuthorizationsLeft (c).args.s.now (c).args.q c.n-1.given.0.0 r.build_remaining.new.s.1.1.0 =
+    let d = c in
+    lines_left_lem d.args.s.now d.args.q d.requires.0
+    (administrator_withdraws d.args.q d.requires.1) _ _
+    c.build_remaining.ensures _ c.n-1.given.1 in
+    let refers-is : let d = (c) in c.refers-refers.result ≡ refers (decode d.args.s.now) d.args.q.object d.args.q.subject = c.refers-refers.ensures in
+    let rules-left : Written c.drop_rules.new.s =
+    let v = c in
+    let d = (c) in
+    (dropped d.args.s.now d.args.q d.requires.0 d.requires.1 _ v.remove_administrator-2.ensures _
+    (refers-is) _ c.drop_rules.ensures).written in
     let w = c in
-    replace_ready _ (rules-left w) _ _ _ _ (left (known w)) (search rules)
+    replace_ready _ (rules-left) _ _ _ _ (left) (search rules)
 
 pub set_clock-requires : goal.set_clock-requires
 set_clock-requires c =
+    let left : let r = c in AuthorizationsLeft (c).args.s.now (c).args.q c.n-1.given.0.0 r.build_remaining.new.s.1.1.0 =
+    let d = c in
+    lines_left_lem d.args.s.now d.args.q d.requires.0
+    (administrator_withdraws d.args.q d.requires.1) _ _
+    c.build_remaining.ensures _ c.n-1.given.1 in
+    let refers-is : let d = (c) in c.refers-refers.result ≡ refers (decode d.args.s.now) d.args.q.object d.args.q.subject = c.refers-refers.ensures in
+    let rules-left : Written c.drop_rules.new.s =
+    let v = c in
+    let d = (c) in
+    (dropped d.args.s.now d.args.q d.requires.0 d.requires.1 _ v.remove_administrator-2.ensures _
+    (refers-is) _ c.drop_rules.ensures).written in
     let x = c in
     let w = x in
-    (replaced_holds _ (rules-left w) _ _ _ _ (left (known w)) _ x.replace_authorizations.ensures).written
+    (replaced_holds _ (rules-left) _ _ _ _ (left) _ x.replace_authorizations.ensures).written
 
 pub overflow_cast-result : goal.overflow_cast-result
 overflow_cast-result c =
+    let left : let r = c in AuthorizationsLeft (c).args.s.now (c).args.q c.n-1.given.0.0 r.build_remaining.new.s.1.1.0 =
+    let d = c in
+    lines_left_lem d.args.s.now d.args.q d.requires.0
+    (administrator_withdraws d.args.q d.requires.1) _ _
+    c.build_remaining.ensures _ c.n-1.given.1 in
     let x = c in
-    omega (arith, (left (known x)).result.fits)
+    omega (arith, (left).result.fits)
 
 pub returns : goal.returns
 returns c =
+    let left : let r = c in AuthorizationsLeft (c).args.s.now (c).args.q c.n-1.given.0.0 r.build_remaining.new.s.1.1.0 =
+    let d = c in
+    lines_left_lem d.args.s.now d.args.q d.requires.0
+    (administrator_withdraws d.args.q d.requires.1) _ _
+    c.build_remaining.ensures _ c.n-1.given.1 in
+    let refers-is : let d = (c) in c.refers-refers.result ≡ refers (decode d.args.s.now) d.args.q.object d.args.q.subject = c.refers-refers.ensures in
+    let rules-left : Written c.drop_rules.new.s =
+    let v = c in
+    let d = (c) in
+    (dropped d.args.s.now d.args.q d.requires.0 d.requires.1 _ v.remove_administrator-2.ensures _
+    (refers-is) _ c.drop_rules.ensures).written in
     let z = c in
     let x = z in
     let w = x in
     let v = w in
-    let p = known w in
-    let d = start p in
+    let p = w in
+    let d = p in
     let s = d.args.s.now in
     let q = d.args.q in
-    carried_done s q (administrator_withdraws q d.requires.1) _ _ (left p) _
-    (administrator_done s q d.requires.0 d.requires.1 _ v.remove_administrator-2.ensures _ (refers-is w) _
+    carried_done s q (administrator_withdraws q d.requires.1) _ _ (left) _
+    (administrator_done s q d.requires.0 d.requires.1 _ v.remove_administrator-2.ensures _ (refers-is) _
     w.drop_rules.ensures _
-    (clocked _ (rules-left w) _ _ _ _ (left p) _ x.replace_authorizations.ensures _ _
+    (clocked _ (rules-left) _ _ _ _ (left) _ x.replace_authorizations.ensures _ _
     z.set_clock.ensures))

@@ -49,41 +49,6 @@ module _ (s : List ℕ) (q : Question) where
   by_tests a b c d e f p q r u v w =
       λ k. replied (sym p k) (sym q k) (sym r k) (sym u k) (sym v k) (sym w k)
 
--- ---- what each test says, and what those passed say
-abbrev start : goal.After-is_sound → goal.Start
-start c = c
-
-abbrev bytes : goal.After-is_sound → List ℕ
-bytes c = (start c).args.s.now
-
-abbrev question : goal.After-is_sound → Question
-question c = (start c).args.q
-
-sound : (c : goal.Else-not-is_sound) → sound_bytes (bytes c) ≡ true
-sound c = sym c.is_sound.ensures ∙ not-false _ c.if-not-is_sound.false
-
--- each number of 32 bits is an instant
-said_in : (c : goal.After-access_in) →
-    in_range (bytes c) (question c) ≡ c.access_in.result
-said_in c =
-    let t = (question c).instant in
-    (λ k. sym c.access_in.ensures k && le-true t last_instant (omega arith) k)
-    ∙ and-true c.access_in.result
-
-ranged : (c : goal.Else-not-access_in) →
-    in_range (bytes c) (question c) ≡ true
-ranged c = said_in c ∙ not-false _ c.if-not-access_in.false
-
-existing : (c : goal.Else-not-exists) →
-    (let e = c in there (bytes e) (question e) ≡ true)
-existing c = sym c.exists.ensures ∙ not-false _ c.if-not-exists.false
-
-served : (c : goal.Else-has_circle) → ServedRules (bytes c)
-served c = record {
-  sound = sound c;
-  uncircular = sym c.has_circle.ensures ∙ c.if-has_circle.false;
-}
-
 -- behind the rows, `denied?` being left open where nothing is held
 answered : (c : goal.Else-has_circle) (held? denied? : Bool) →
     (let e = c in
@@ -96,81 +61,136 @@ answered c held? denied? p d =
     by_tests (bytes e) (question e) true true true false held? denied? (sound x)
     (ranged x) (existing h) (served c).uncircular p d
 
--- what is asked about
-abbrev place : goal.After-held → goal.After-is_sound
-place c = c
-
-said-held : (c : goal.After-held) → positive (bytes (place c)) (question (place c)) ≡ c.held.result
-said-held c =
-    let e = place c in
-    let at = holds always (decode (bytes e)) (question e).instant in
-    sym (c.held.ensures ∙ ap at c.asked.ensures)
-
-said-denied : (c : goal.After-held-2) →
-    (let e = place c in denial (bytes e) (question e) ≡ c.held-2.result)
-said-denied c =
-    let e = place c in
-    let at = holds always (decode (bytes e)) (question e).instant in
-    sym (c.held-2.ensures ∙ ap at c.asked-2.ensures)
-
 -- ---- the replies
 pub returns-then-not-is_sound : goal.returns-then-not-is_sound
 returns-then-not-is_sound c =
+    let bytes : List ℕ = (c).args.s.now in
+    let question : Question = (c).args.q in
     let e = c in
-    by_tests (bytes e) (question e) false _ _ _ _ _
+    by_tests (bytes) (question) false _ _ _ _ _
     (sym e.is_sound.ensures ∙ not-true _ c.if-not-is_sound.true) refl refl refl refl refl
 
 pub returns-then-not-access_in : goal.returns-then-not-access_in
 returns-then-not-access_in c =
+    let bytes : List ℕ = (c).args.s.now in
+    let question : Question = (c).args.q in
+    let sound : sound_bytes (bytes) ≡ true = sym c.is_sound.ensures ∙ not-false _ c.if-not-is_sound.false in
+    let said_in : in_range (bytes) (question) ≡ c.access_in.result =
+    let t = (question).instant in
+    (λ k. sym c.access_in.ensures k && le-true t last_instant (omega arith) k)
+    ∙ and-true c.access_in.result in
     let i = c in
     let e = i in
-    by_tests (bytes e) (question e) true false _ _ _ _ (sound i)
-    (said_in i ∙ not-true _ c.if-not-access_in.true) refl refl refl refl
+    by_tests (bytes) (question) true false _ _ _ _ (sound)
+    (said_in ∙ not-true _ c.if-not-access_in.true) refl refl refl refl
 
 pub exists-requires : goal.exists-requires
-exists-requires c = sound c
+exists-requires c =
+    let bytes : List ℕ = (c).args.s.now in
+    let sound : sound_bytes (bytes) ≡ true = sym c.is_sound.ensures ∙ not-false _ c.if-not-is_sound.false in
+    sound
 
 pub returns-then-not-exists : goal.returns-then-not-exists
 returns-then-not-exists c =
+    let bytes : List ℕ = (c).args.s.now in
+    let question : Question = (c).args.q in
+    let sound : sound_bytes (bytes) ≡ true = sym c.is_sound.ensures ∙ not-false _ c.if-not-is_sound.false in
+    let said_in : in_range (bytes) (question) ≡ c.access_in.result =
+    let t = (question).instant in
+    (λ k. sym c.access_in.ensures k && le-true t last_instant (omega arith) k)
+    ∙ and-true c.access_in.result in
+    let ranged : in_range (bytes) (question) ≡ true = said_in ∙ not-false _ c.if-not-access_in.false in
     let x = c in
     let e = x in
-    by_tests (bytes e) (question e) true true false _ _ _ (sound x)
-    (ranged x)
+    by_tests (bytes) (question) true true false _ _ _ (sound)
+    (ranged)
     (sym x.exists.ensures ∙ not-true _ c.if-not-exists.true) refl refl refl
 
 pub has_circle-requires : goal.has_circle-requires
-has_circle-requires c = sound c
+has_circle-requires c =
+    let bytes : List ℕ = (c).args.s.now in
+    let sound : sound_bytes (bytes) ≡ true = sym c.is_sound.ensures ∙ not-false _ c.if-not-is_sound.false in
+    sound
 
 pub returns-then-has_circle : goal.returns-then-has_circle
 returns-then-has_circle c =
+    let bytes : List ℕ = (c).args.s.now in
+    let question : Question = (c).args.q in
+    let sound : sound_bytes (bytes) ≡ true = sym c.is_sound.ensures ∙ not-false _ c.if-not-is_sound.false in
+    let said_in : in_range (bytes) (question) ≡ c.access_in.result =
+    let t = (question).instant in
+    (λ k. sym c.access_in.ensures k && le-true t last_instant (omega arith) k)
+    ∙ and-true c.access_in.result in
+    let ranged : in_range (bytes) (question) ≡ true = said_in ∙ not-false _ c.if-not-access_in.false in
+    let existing : (let e = c in there (bytes) (question) ≡ true) = sym c.exists.ensures ∙ not-false _ c.if-not-exists.false in
     let h = c in
     let x = h in
     let e = x in
-    by_tests (bytes e) (question e) true true true true _ _ (sound x)
-    (ranged x)
-    (existing h) (sym h.has_circle.ensures ∙ c.if-has_circle.true) refl refl
+    by_tests (bytes) (question) true true true true _ _ (sound)
+    (ranged)
+    (existing) (sym h.has_circle.ensures ∙ c.if-has_circle.true) refl refl
 
 pub held-requires : goal.held-requires
-held-requires c = served c
+held-requires c =
+    let bytes : List ℕ = (c).args.s.now in
+    let sound : sound_bytes (bytes) ≡ true = sym c.is_sound.ensures ∙ not-false _ c.if-not-is_sound.false in
+    let served : ServedRules (bytes) = record {
+  sound = sound;
+  uncircular = sym c.has_circle.ensures ∙ c.if-has_circle.false;
+} in
+    served
 
 pub held-requires-2 : goal.held-requires-2
-held-requires-2 c = served c
+held-requires-2 c =
+    let bytes : List ℕ = (c).args.s.now in
+    let sound : sound_bytes (bytes) ≡ true = sym c.is_sound.ensures ∙ not-false _ c.if-not-is_sound.false in
+    let served : ServedRules (bytes) = record {
+  sound = sound;
+  uncircular = sym c.has_circle.ensures ∙ c.if-has_circle.false;
+} in
+    served
 
 pub returns-then-not-held : goal.returns-then-not-held
 returns-then-not-held c =
+    let bytes : List ℕ = (c).args.s.now in
+    let question : Question = (c).args.q in
+    let said-held : positive (bytes) (question) ≡ c.held.result =
+    let e = c in
+    let at = holds always (decode (bytes)) (question).instant in
+    sym (c.held.ensures ∙ ap at c.asked.ensures) in
     let h = c in
-    answered h false _ (said-held h ∙ not-true _ c.if-not-held.true) refl
+    answered h false _ (said-held ∙ not-true _ c.if-not-held.true) refl
 
 pub returns-then-held : goal.returns-then-held
 returns-then-held c =
+    let bytes : List ℕ = (c).args.s.now in
+    let question : Question = (c).args.q in
+    let said-held : positive (bytes) (question) ≡ c.held.result =
+    let e = c in
+    let at = holds always (decode (bytes)) (question).instant in
+    sym (c.held.ensures ∙ ap at c.asked.ensures) in
+    let said-denied : (let e = c in denial (bytes) (question) ≡ c.held-2.result) =
+    let e = c in
+    let at = holds always (decode (bytes)) (question).instant in
+    sym (c.held-2.ensures ∙ ap at c.asked-2.ensures) in
     let d = c in
     let p = d in
-    answered p true true (said-held p ∙ not-false _ p.if-not-held.false)
-    (said-denied d ∙ c.if-held.true)
+    answered p true true (said-held ∙ not-false _ p.if-not-held.false)
+    (said-denied ∙ c.if-held.true)
 
 pub returns : goal.returns
 returns c =
+    let bytes : List ℕ = (c).args.s.now in
+    let question : Question = (c).args.q in
+    let said-held : positive (bytes) (question) ≡ c.held.result =
+    let e = c in
+    let at = holds always (decode (bytes)) (question).instant in
+    sym (c.held.ensures ∙ ap at c.asked.ensures) in
+    let said-denied : (let e = c in denial (bytes) (question) ≡ c.held-2.result) =
+    let e = c in
+    let at = holds always (decode (bytes)) (question).instant in
+    sym (c.held-2.ensures ∙ ap at c.asked-2.ensures) in
     let d = c in
     let p = d in
-    answered p true false (said-held p ∙ not-false _ p.if-not-held.false)
-    (said-denied d ∙ c.if-held.false)
+    answered p true false (said-held ∙ not-false _ p.if-not-held.false)
+    (said-denied ∙ c.if-held.false)

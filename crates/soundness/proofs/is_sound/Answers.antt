@@ -8,10 +8,6 @@ use Rattle.encoding.specs.Format.{format_fits}
 use Rattle.encoding.proofs.FormatFacts.{format_is}
 use Rattle.soundness.proofs.is_sound.Goals as goal
 
--- behind the test of the format
-fits : (c : goal.Else-not-format_fits) → format_fits c.args.s.now ≡ true
-fits c = sym c.format_fits.ensures ∙ not-false _ c.if-not-format_fits.false
-
 pub returns-then-not-format_fits : goal.returns-then-not-format_fits
 returns-then-not-format_fits c =
     let s = c.args.s.now in
@@ -19,10 +15,13 @@ returns-then-not-format_fits c =
     ∙ sym (format_is s (λ i. omega (arith, c.shared_slice_known-1.given i)))
 
 pub parts_hold-requires : goal.parts_hold-requires
-parts_hold-requires c = fits c
+parts_hold-requires c =
+    let fits : format_fits c.args.s.now ≡ true = sym c.format_fits.ensures ∙ not-false _ c.if-not-format_fits.false in
+    fits
 
 pub returns : goal.returns
 returns c =
+    let fits : format_fits c.args.s.now ≡ true = sym c.format_fits.ensures ∙ not-false _ c.if-not-format_fits.false in
     let s = c.args.s.now in
-    (λ k. sym (fits c) k && c.parts_hold.ensures k)
+    (λ k. sym (fits) k && c.parts_hold.ensures k)
     ∙ sym (format_is s (λ i. omega (arith, c.shared_slice_known-1.given i)))

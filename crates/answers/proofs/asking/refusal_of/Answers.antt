@@ -12,10 +12,6 @@ use Rattle.answers.proofs.asking.refusal_of.Goals as goal
 abbrev of_rows : Bool → Bool → ℕ
 of_rows g h = first_number (row 3 g ∷ row 6 h ∷ [])
 
--- behind row 3
-passes-3 : (c : goal.Else-not-access_in) → (let a = c.args in false ≡ not (access_in a.x))
-passes-3 c = sym c.if-not-access_in.false ∙ ap not c.access_in.ensures
-
 pub returns-then-not-access_in : goal.returns-then-not-access_in
 returns-then-not-access_in c =
     let a = c.args in
@@ -24,10 +20,12 @@ returns-then-not-access_in c =
 
 pub returns-then-not-exists : goal.returns-then-not-exists
 returns-then-not-exists c =
+    let passes-3 : (let a = c.args in false ≡ not (access_in a.x)) = sym c.if-not-access_in.false ∙ ap not c.access_in.ensures in
     let t = sym c.if-not-exists.true ∙ ap not c.exists.ensures in
-    λ k. of_rows (passes-3 c k) (t k)
+    λ k. of_rows (passes-3 k) (t k)
 
 pub returns : goal.returns
 returns c =
+    let passes-3 : (let a = c.args in false ≡ not (access_in a.x)) = sym c.if-not-access_in.false ∙ ap not c.access_in.ensures in
     let t = sym c.if-not-exists.false ∙ ap not c.exists.ensures in
-    λ k. of_rows (passes-3 c k) (t k)
+    λ k. of_rows (passes-3 k) (t k)

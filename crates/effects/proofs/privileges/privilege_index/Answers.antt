@@ -11,15 +11,6 @@ use Rattle.effects.proofs.PrivilegePlaces.{first_ends}
 use Rattle.effects.proofs.privileges.privilege_index.Invariants.{decreases-loop-i, invariant-loop-i}
 use Rattle.effects.proofs.privileges.privilege_index.Goals as goal
 
--- how many they are
-count : (c : goal.After-privilege_count-n invariant-loop-i decreases-loop-i) →
-    c.privilege_count-n.result ≡ length (privileges_of c.args.k
-    (decode c.args.s.now))
-count c =
-    let d = c in
-    c.privilege_count-n.ensures ∙ ap (privilege_count d.args.k) c.counts_of.ensures
-    ∙ sym (privileges-body d.args.k d.args.s.now d.requires).count
-
 pub counts_of-requires : goal.counts_of-requires
 counts_of-requires c = omega (arith, written-length c.args.s.now c.requires)
 
@@ -30,35 +21,51 @@ loop-i-init c =
 
 pub nth_privilege-requires : goal.nth_privilege-requires
 nth_privilege-requires c =
+    let count : c.privilege_count-n.result ≡ length (privileges_of c.args.k (decode c.args.s.now)) =
+    let d = c in
+    c.privilege_count-n.ensures ∙ ap (privilege_count d.args.k) c.counts_of.ensures
+    ∙ sym (privileges-body d.args.k d.args.s.now d.requires).count in
     let n = c in
-    (n.requires, omega (arith, count n))
+    (n.requires, omega (arith, count))
 
 pub returns-then-is_before : goal.returns-then-is_before
 returns-then-is_before c =
+    let count : c.privilege_count-n.result ≡ length (privileges_of c.args.k (decode c.args.s.now)) =
+    let d = c in
+    c.privilege_count-n.ensures ∙ ap (privilege_count d.args.k) c.counts_of.ensures
+    ∙ sym (privileges-body d.args.k d.args.s.now d.requires).count in
     let r = c in
     let l = r in
     let n = l in
     let d = n in
     first_found (before d.args.p) (privileges_of d.args.k (decode d.args.s.now)) l.loop-i.i
     r.nth_privilege.result
-    (omega (arith, count n)) r.nth_privilege.ensures (sym c.is_before.ensures ∙ c.if-is_before.true)
+    (omega (arith, count)) r.nth_privilege.ensures (sym c.is_before.ensures ∙ c.if-is_before.true)
     l.loop-i.invariant
 
 pub loop-i-preserved : goal.loop-i-preserved
 loop-i-preserved c =
+    let count : c.privilege_count-n.result ≡ length (privileges_of c.args.k (decode c.args.s.now)) =
+    let d = c in
+    c.privilege_count-n.ensures ∙ ap (privilege_count d.args.k) c.counts_of.ensures
+    ∙ sym (privileges-body d.args.k d.args.s.now d.requires).count in
     let r = c in
     let l = r in
     let n = l in
     let d = n in
     first-later (before d.args.p) (privileges_of d.args.k (decode d.args.s.now)) l.loop-i.i
     r.nth_privilege.result
-    (omega (arith, count n)) r.nth_privilege.ensures (sym c.is_before.ensures ∙ c.if-is_before.false)
+    (omega (arith, count)) r.nth_privilege.ensures (sym c.is_before.ensures ∙ c.if-is_before.false)
     l.loop-i.invariant
 
 pub returns : goal.returns
 returns c =
+    let count : c.privilege_count-n.result ≡ length (privileges_of c.args.k (decode c.args.s.now)) =
+    let d = c in
+    c.privilege_count-n.ensures ∙ ap (privilege_count d.args.k) c.counts_of.ensures
+    ∙ sym (privileges-body d.args.k d.args.s.now d.requires).count in
     let l = c in
     let n = l in
     let d = n in
     first_ends (before d.args.p) (privileges_of d.args.k (decode d.args.s.now)) l.loop-i.i
-    (omega (arith, count n)) l.loop-i.invariant
+    (omega (arith, count)) l.loop-i.invariant

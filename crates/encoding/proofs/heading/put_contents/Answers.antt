@@ -6,34 +6,25 @@ use Rattle.fields.proofs.ByteLaws.{splice-then}
 use Rattle.encoding.proofs.Contents.{CountsWithin, fit_within}
 use Rattle.encoding.proofs.heading.put_contents.Goals as goal
 
--- the function's entry, seen from behind each offset that is asked for
-abbrev start₁ : goal.After-administrators_at → goal.Start
-start₁ c = c
-
-abbrev start₂ : goal.After-referrers_at → goal.Start
-start₂ c = start₁ c
-
-abbrev start₃ : goal.After-authorizations_at → goal.Start
-start₃ c = start₂ c
-
-abbrev start₄ : goal.After-rules_at → goal.Start
-start₄ c = start₃ c
-
--- the counts' bounds, by which each offset fits 16 bits
-within : (c : goal.Start) → CountsWithin c.args.c
-within c = fit_within c.args.c c.requires.1
-
 pub overflow_cast-administrators_at : goal.overflow_cast-administrators_at
-overflow_cast-administrators_at c = let m = within (start₁ c) in omega arith
+overflow_cast-administrators_at c =
+    let within : CountsWithin c.args.c = fit_within c.args.c c.requires.1 in
+    let m = within in omega arith
 
 pub overflow_cast-referrers_at : goal.overflow_cast-referrers_at
-overflow_cast-referrers_at c = let m = within (start₂ c) in omega arith
+overflow_cast-referrers_at c =
+    let within : CountsWithin c.args.c = fit_within c.args.c c.requires.1 in
+    let m = within in omega arith
 
 pub overflow_cast-authorizations_at : goal.overflow_cast-authorizations_at
-overflow_cast-authorizations_at c = let m = within (start₃ c) in omega arith
+overflow_cast-authorizations_at c =
+    let within : CountsWithin c.args.c = fit_within c.args.c c.requires.1 in
+    let m = within in omega arith
 
 pub overflow_cast-rules_at : goal.overflow_cast-rules_at
-overflow_cast-rules_at c = let m = within (start₄ c) in omega arith
+overflow_cast-rules_at c =
+    let within : CountsWithin c.args.c = fit_within c.args.c c.requires.1 in
+    let m = within in omega arith
 
 pub returns : goal.returns
 returns c =
@@ -42,7 +33,7 @@ returns c =
     let c₃ = c₄ in
     let c₂ = c₃ in
     let c₁ = c₂ in
-    let c₀ = start₄ c₅ in
+    let c₀ = c₅ in
     let at = c₀.args.at in
     let s = c₀.args.s.now in
     let p : at + 20 ≤ length s = c₀.requires.0 in

@@ -81,9 +81,6 @@ module _ (h : goal.After-words_for-k) where
   few : f.fill-filled.result.count ≤ 63
   few = omega (arith, f.fill-filled.ensures.few, f.instants.ensures.1)
 
-numbers-room : (h : goal.After-words_for-k) → 2 * length (N h) ≤ length (M h)
-numbers-room h = (roomy h).held.numbered
-
 pub fill-filled-requires : goal.fill-filled-requires
 fill-filled-requires c =
     let s = c in
@@ -184,15 +181,18 @@ mark_broken-requires c =
 
 pub offset_bounds-numbers-at-then-next-q : goal.offset_bounds-numbers-at-then-next-q
 offset_bounds-numbers-at-then-next-q c =
-    let h = c in omega (arith, numbers-room h, (s h).good)
+    let numbers-room : 2 * length (N c) ≤ length (M c) = (roomy c).held.numbered in
+    let h = c in omega (arith, numbers-room, (s h).good)
 
 pub slice_bounds-forget-count : goal.slice_bounds-forget-count
 slice_bounds-forget-count c =
-    numbers-room c
+    let numbers-room : 2 * length (N c) ≤ length (M c) = (roomy c).held.numbered in
+    numbers-room
 
 pub slice_bounds-forget-start : goal.slice_bounds-forget-start
 slice_bounds-forget-start c =
-    numbers-room c
+    let numbers-room : 2 * length (N c) ≤ length (M c) = (roomy c).held.numbered in
+    numbers-room
 
 pub forget-left-requires : goal.forget-left-requires
 forget-left-requires c =
@@ -209,6 +209,7 @@ shape_of-work-then-next-q c =
 
 pub returns-then-next-q : goal.returns-then-next-q
 returns-then-next-q c =
+    let numbers-room : 2 * length (N c) ≤ length (M c) = (roomy c).held.numbered in
     let h = c in
     let i = (f h).instants.ensures in
     let before = (s h).pre.1 in
@@ -224,8 +225,8 @@ returns-then-next-q c =
     let m = fills_as (R h) (U h) (C h) (N h) (M h) (W h) (w h) (here g) (f h).fill.ensures in (
       further g before i.1 i.2 m,
       going_as (R h) (U h) (C h) (N h) (M h) (W h) (w h) (U' h) (W' h) (front h) (long h)
-          (bits_back (2 * length (N h)) (M h) (numbers-room h) y)
-          (bits_rest (2 * length (N h)) (M h) (numbers-room h) y) d.ensures.1 refl
+          (bits_back (2 * length (N h)) (M h) (numbers-room) y)
+          (bits_rest (2 * length (N h)) (M h) (numbers-room) y) d.ensures.1 refl
           (goes g before i.1 i.2 m done word read (part_alike n (W' h) (W h) (long h))
           k.noted-track.result b.has_bit-yes.result b.has_bit-yes.ensures _
           (λ l. k.noted-track.ensures l (may o.base o.access) _ o.list-1 _
@@ -236,7 +237,7 @@ returns-then-next-q c =
           (marked_as (R h) (U h) (C h) (N h) (M h) (W h) (w h) (U' h) (W' h) (front h) (long h)
           (e h).evaluate.ensures.1 d.ensures.0)
           (rest_alike n _ (W h) (c.work-then-next-q-1.given ∙ long h))
-          (forgets_as (R h) (U h) (C h) (N h) (M h) (W h) (w h) y (numbers-room h)
+          (forgets_as (R h) (U h) (C h) (N h) (M h) (W h) (w h) y (numbers-room)
           c.forget-left.ensures)),
     ))
 

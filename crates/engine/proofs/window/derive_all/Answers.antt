@@ -6,15 +6,11 @@ use Rattle.grounding.specs.RuleTurns.{words_for}
 use Rattle.engine.proofs.Sectioned.{part_alike}
 use Rattle.engine.proofs.window.derive_all.Goals as goal
 
--- where the code starts
-abbrev start : goal.After-derive_rules-rest → goal.Start
-start d = d
-
 pub derive_rest-requires : goal.derive_rest-requires
 derive_rest-requires c =
     let k = c in
     let d = k in
-    let s = start d in
+    let s = d in
     let f = s.args.w.frame in
     let n = words_for f.fields f.width in
     let held = s.requires.0.1 in
@@ -64,6 +60,6 @@ returns c =
         closed = inl ((λ q h e. none_set q (ap (bit q) (sym c.if-rest-ne0.false) ∙ e)), refl);
       },
       d.derive_rules-rest.ensures.1,
-      (start d).requires.1.4,
+      (d).requires.1.4,
       refl,
     )

@@ -51,13 +51,6 @@ module _ (t : goal.After-outline-1 invariant-loop-todo decreases-loop-todo) wher
   strata_long : length (strata_of new) ≡ 64
   strata_long = part_long 472 64 new (omega (arith, long, s.requires.0.1.outlined))
 
--- the loop's test
-low : (c : goal.In-loop-todo invariant-loop-todo decreases-loop-todo) → c.loop-todo.k + 1 ≤ 129
-low c =
-    let l = c.loop-todo in
-    let w = and-true (not (eqb l.todo 0)) (leb l.k 128) c.loop-todo-test.true in
-    omega (arith, true-le l.k 128 w.1)
-
 pub put_strata-requires : goal.put_strata-requires
 put_strata-requires c =
     let s = c in
@@ -105,10 +98,19 @@ overflow_sub-todo c =
     and_le_l o.loop-todo.todo o.of_stratum-now.result
 
 pub loop-todo-smaller : goal.loop-todo-smaller
-loop-todo-smaller c = let h = low c in omega arith
+loop-todo-smaller c =
+    let low : c.loop-todo.k + 1 ≤ 129 =
+    let l = c.loop-todo in
+    let w = and-true (not (eqb l.todo 0)) (leb l.k 128) c.loop-todo-test.true in
+    omega (arith, true-le l.k 128 w.1) in
+    let h = low in omega arith
 
 pub loop-todo-preserved : goal.loop-todo-preserved
 loop-todo-preserved c =
+    let low : c.loop-todo.k + 1 ≤ 129 =
+    let l = c.loop-todo in
+    let w = and-true (not (eqb l.todo 0)) (leb l.k 128) c.loop-todo-test.true in
+    omega (arith, true-le l.k 128 w.1) in
     let d = c in
     let o = d.of_stratum-now in
     let t = d in
@@ -127,7 +129,7 @@ loop-todo-preserved c =
       (λ q e. i.1 q (less_in l.todo o.result q e)),
       d.close.ensures.1 ∙ i.2,
       search rules,
-      low d,
+      low,
     )
 
 pub shape_of-outline : goal.shape_of-outline

@@ -10,11 +10,6 @@ use Rattle.model.specs.Stratification.{lasting}
 use Rattle.grounding.proofs.StepBits.{bit-number, bit-room}
 use Rattle.grounding.proofs.pairs.is_broken.Goals as goal
 
--- the rule looks back
-lasts : (b : goal.After-is_lasting) → not b.is_lasting.result ≡ false →
-    lasting b.args.t.operator ≡ true
-lasts b e = sym b.is_lasting.ensures ∙ not-false b.is_lasting.result e
-
 pub returns-then-not-is_lasting : goal.returns-then-not-is_lasting
 returns-then-not-is_lasting c =
     let b = c.is_lasting in
@@ -24,22 +19,25 @@ returns-then-not-is_lasting c =
 
 pub overflow_cast-t : goal.overflow_cast-t
 overflow_cast-t c =
+    let lasts : not c.is_lasting.result ≡ false → lasting c.args.t.operator ≡ true = λ e. sym c.is_lasting.ensures ∙ not-false c.is_lasting.result e in
     let d = c in
-    omega (arith, d.requires.number (lasts d d.if-not-is_lasting.false))
+    omega (arith, d.requires.number (lasts d.if-not-is_lasting.false))
 
 pub overflow_add-t : goal.overflow_add-t
 overflow_add-t c =
+    let lasts : not c.is_lasting.result ≡ false → lasting c.args.t.operator ≡ true = λ e. sym c.is_lasting.ensures ∙ not-false c.is_lasting.result e in
     let d = c in
     let s = d in
     let a = s.args in
     omega (
       arith,
       c.index_in.ensures,
-      bit-number a.t a.g (length a.bits.now) a.p s.requires (lasts d d.if-not-is_lasting.false),
+      bit-number a.t a.g (length a.bits.now) a.p s.requires (lasts d.if-not-is_lasting.false),
     )
 
 pub field_at-requires : goal.field_at-requires
 field_at-requires c =
+    let lasts : not c.is_lasting.result ≡ false → lasting c.args.t.operator ≡ true = λ e. sym c.is_lasting.ensures ∙ not-false c.is_lasting.result e in
     let d = c in
     let s = d in
     let a = s.args in (
@@ -47,13 +45,14 @@ field_at-requires c =
       omega (
         arith,
         c.index_in.ensures,
-        bit-room a.t a.g (length a.bits.now) a.p s.requires (lasts d d.if-not-is_lasting.false),
+        bit-room a.t a.g (length a.bits.now) a.p s.requires (lasts d.if-not-is_lasting.false),
       ),
     )
 
 pub returns : goal.returns
 returns c =
+    let lasts : not c.is_lasting.result ≡ false → lasting c.args.t.operator ≡ true = λ e. sym c.is_lasting.ensures ∙ not-false c.is_lasting.result e in
     let d = c in
     let a = d.args in
-    rw (lasts d d.if-not-is_lasting.false) (ap (λ (n : ℕ). eqb n 1) (c.field_at.ensures
+    rw (lasts d.if-not-is_lasting.false) (ap (λ (n : ℕ). eqb n 1) (c.field_at.ensures
     ∙ ap (λ (i : ℕ). field_of 0 a.bits.now (a.t.bits + i)) c.index_in.ensures))

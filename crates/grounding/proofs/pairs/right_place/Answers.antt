@@ -6,20 +6,19 @@ use Rattle.places.specs.declared.Point.{Point}
 use Rattle.grounding.specs.RuleSteps.{pair_in}
 use Rattle.grounding.proofs.pairs.right_place.Goals as goal
 
--- where the pair lies
-placed : (c : goal.After-right_point-y) →
-    (let a = c.args in
-    pair_in a.g c.right_point-y.result < length a.number.now)
-placed c =
-    let s = c in
-    omega (arith, ap (pair_in s.args.g) c.right_point-y.ensures, s.requires)
-
 pub offset_bounds-number-j : goal.offset_bounds-number-j
-offset_bounds-number-j c = omega (arith, c.pair_index-j.ensures, placed c)
+offset_bounds-number-j c =
+    let placed : (let a = c.args in pair_in a.g c.right_point-y.result < length a.number.now) =
+    let s = c in
+    omega (arith, ap (pair_in s.args.g) c.right_point-y.ensures, s.requires) in
+    omega (arith, c.pair_index-j.ensures, placed)
 
 pub bounds-number-j : goal.bounds-number-j
 bounds-number-j c =
-    omega (arith, c.pair_index-j.ensures, placed c)
+    let placed : (let a = c.args in pair_in a.g c.right_point-y.result < length a.number.now) =
+    let s = c in
+    omega (arith, ap (pair_in s.args.g) c.right_point-y.ensures, s.requires) in
+    omega (arith, c.pair_index-j.ensures, placed)
 
 pub overflow_cast-result : goal.overflow_cast-result
 overflow_cast-result c = omega (arith, c.shared_slice_known-2-1.given c.pair_index-j.result)
@@ -33,4 +32,8 @@ returns c =
     e.right_point-y.ensures)
 
 pub pair_index-j-requires : goal.pair_index-j-requires
-pair_index-j-requires = λ c. omega (arith, placed c)
+pair_index-j-requires c =
+    let placed : (let a = c.args in pair_in a.g c.right_point-y.result < length a.number.now) =
+    let s = c in
+    omega (arith, ap (pair_in s.args.g) c.right_point-y.ensures, s.requires) in
+    omega (arith, placed)

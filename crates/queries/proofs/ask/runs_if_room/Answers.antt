@@ -9,16 +9,6 @@ use Rattle.queries.specs.Asking.{BodiesIn}
 use Rattle.queries.proofs.QuestionBodies.{most, listing, listing_short}
 use Rattle.queries.proofs.ask.runs_if_room.Goals as goal
 
--- behind the test there is room
-room : (c : goal.Joined-pairs-n) → (let a = c.args in
-    (base : Base) → BodiesIn a.records.now a.n (decode a.s.now) base →
-    length (when base a.x) ≤ length a.list.now / 2)
-room c base b =
-    let a = c.args in
-    ⊎_elim (λ w. omega (arith, (w.2.ensures base b).count, w.4.left))
-    (λ w. omega (arith, w.left, most b a.x))
-    c.if-pairs-n.branch
-
 pub returns-then-pairs-r : goal.returns-then-pairs-r
 returns-then-pairs-r c =
     let r = c.runs_in-r in
@@ -28,7 +18,11 @@ returns-then-pairs-r c =
 
 pub returns : goal.returns
 returns c =
+    let room : (let a = c.args in (base : Base) → BodiesIn a.records.now a.n (decode a.s.now) base → length (when base a.x) ≤ length a.list.now / 2) = λ base b.    let a = c.args in
+    ⊎_elim (λ w. omega (arith, (w.2.ensures base b).count, w.4.left))
+    (λ w. omega (arith, w.left, most b a.x))
+    c.if-pairs-n.branch in
     let r = c.runs_in in
     let j = c in
     let a = c.args in
-    λ base b. listing b a.x r.result a.list.now _ (room j base b) (r.ensures base b)
+    λ base b. listing b a.x r.result a.list.now _ (room base b) (r.ensures base b)

@@ -12,69 +12,10 @@ use Rattle.places.proofs.NumberFacts.{used_before-le}
 use Rattle.queries.proofs.Sectioning.{map_moved, twice-number, twice-listed}
 use Rattle.queries.proofs.outlining.map_pairs.Goals as goal
 
--- where the code starts
-abbrev start : (c : goal.After-reach) → goal.Start
-start c = c
-
 few : (right : List ℕ) (subjects size : ℕ) → Formed right subjects size → size ≤ 4225
 few right subjects size f =
     let h : f.objects * subjects ≤ 4225 = mul-le-mul f.few f.low in
     omega (arith, f.rows)
-
--- the numbers once places were reached, and once pairs were numbered
-abbrev reached : (c : goal.After-reach) → List ℕ
-reached c =
-    let s = start c in
-    put_back s.args.numbers.now 0 (length s.args.need.now)
-    c.reach.new.right.1.1.1.1.1.0
-
-reached-long : (c : goal.After-reach) →
-    (let s = start c in
-    2 * length s.args.need.now ≤ length (reached c))
-reached-long c =
-    let s = start c in
-    let size : ℕ = length s.args.need.now in
-    let numbers : List ℕ = s.args.numbers.now in
-    let y = c.reach in
-    let room : size ≤ length numbers = omega (arith, s.requires.4) in
-    omega (
-      arith,
-      s.requires.4,
-      back-length numbers 0 size y.new.right.1.1.1.1.1.0 (omega arith)
-          (y.auto.right.1.1.1.1.1.0 ∙ length-take-le size numbers room),
-    )
-
-number-long : (c : goal.After-number_pairs-pairs) →
-    (let s = start c in
-    length c.number_pairs-pairs.new.number.0 ≡ length s.args.need.now)
-number-long c =
-    let w = c in
-    let s = start w in
-    c.number_pairs-pairs.auto.number.0
-    ∙ length-take-le (length s.args.need.now) (reached w)
-    (omega (arith, reached-long w))
-
-abbrev numbered : (c : goal.After-number_pairs-pairs) → List ℕ
-numbered c =
-    let w = c in
-    let s = start w in
-    put_back (reached w) 0 (length s.args.need.now)
-    c.number_pairs-pairs.new.number.0
-
-numbered-long : (c : goal.After-number_pairs-pairs) →
-    (let s = start c in
-    2 * length s.args.need.now ≤ length (numbered c))
-numbered-long c =
-    let w = c in
-    let s = start w in
-    let size : ℕ = length s.args.need.now in
-    let room = reached-long w in
-    omega (
-      arith,
-      room,
-      back-length (reached w) 0 size c.number_pairs-pairs.new.number.0 (omega (arith, room))
-          (number-long c),
-    )
 
 pub overflow_mul-end : goal.overflow_mul-end
 overflow_mul-end c =
@@ -101,34 +42,142 @@ reach-requires c =
 
 pub slice_bounds-number_pairs-end-2 : goal.slice_bounds-number_pairs-end-2
 slice_bounds-number_pairs-end-2 c =
+    let reached : List ℕ =
+    let s = c in
+    put_back s.args.numbers.now 0 (length s.args.need.now)
+    c.reach.new.right.1.1.1.1.1.0 in
+    let reached-long : (let s = c in 2 * length s.args.need.now ≤ length (reached)) =
+    let s = c in
+    let size : ℕ = length s.args.need.now in
+    let numbers : List ℕ = s.args.numbers.now in
+    let y = c.reach in
+    let room : size ≤ length numbers = omega (arith, s.requires.4) in
+    omega (
+      arith,
+      s.requires.4,
+      back-length numbers 0 size y.new.right.1.1.1.1.1.0 (omega arith)
+          (y.auto.right.1.1.1.1.1.0 ∙ length-take-le size numbers room),
+    ) in
     let y = c in
-    let s = start y in
-    sym (length-take-le (length s.args.need.now) (reached y) (omega (arith, reached-long y)))
+    let s = y in
+    sym (length-take-le (length s.args.need.now) (reached) (omega (arith, reached-long)))
 
 pub number_pairs-pairs-requires : goal.number_pairs-pairs-requires
 number_pairs-pairs-requires c =
+    let reached : List ℕ =
+    let s = c in
+    put_back s.args.numbers.now 0 (length s.args.need.now)
+    c.reach.new.right.1.1.1.1.1.0 in
+    let reached-long : (let s = c in 2 * length s.args.need.now ≤ length (reached)) =
+    let s = c in
+    let size : ℕ = length s.args.need.now in
+    let numbers : List ℕ = s.args.numbers.now in
+    let y = c.reach in
+    let room : size ≤ length numbers = omega (arith, s.requires.4) in
+    omega (
+      arith,
+      s.requires.4,
+      back-length numbers 0 size y.new.right.1.1.1.1.1.0 (omega arith)
+          (y.auto.right.1.1.1.1.1.0 ∙ length-take-le size numbers room),
+    ) in
     let y = c in
-    let s = start y in (
+    let s = y in (
       omega (arith, few _ _ _ s.requires.7, y.reach.ensures.2),
-      length-take-le (length s.args.need.now) (reached y) (omega (arith, reached-long y))
+      length-take-le (length s.args.need.now) (reached) (omega (arith, reached-long))
           ∙ sym y.reach.ensures.2,
     )
 
 pub offset_bounds-numbers-size : goal.offset_bounds-numbers-size
 offset_bounds-numbers-size c =
-    let s = start c in
+    let s = c in
     omega (arith, few _ _ _ s.requires.7)
 
 pub slice_bounds-list_pairs-end : goal.slice_bounds-list_pairs-end
 slice_bounds-list_pairs-end c =
+    let reached : List ℕ =
+    let s = c in
+    put_back s.args.numbers.now 0 (length s.args.need.now)
+    c.reach.new.right.1.1.1.1.1.0 in
+    let reached-long : (let s = c in 2 * length s.args.need.now ≤ length (reached)) =
+    let s = c in
+    let size : ℕ = length s.args.need.now in
+    let numbers : List ℕ = s.args.numbers.now in
+    let y = c.reach in
+    let room : size ≤ length numbers = omega (arith, s.requires.4) in
+    omega (
+      arith,
+      s.requires.4,
+      back-length numbers 0 size y.new.right.1.1.1.1.1.0 (omega arith)
+          (y.auto.right.1.1.1.1.1.0 ∙ length-take-le size numbers room),
+    ) in
+    let number-long : (let s = c in length c.number_pairs-pairs.new.number.0 ≡ length s.args.need.now) =
+    let w = c in
+    let s = w in
+    c.number_pairs-pairs.auto.number.0
+    ∙ length-take-le (length s.args.need.now) (reached)
+    (omega (arith, reached-long)) in
+    let numbered : List ℕ =
+    let w = c in
+    let s = w in
+    put_back (reached) 0 (length s.args.need.now)
+    c.number_pairs-pairs.new.number.0 in
+    let numbered-long : (let s = c in 2 * length s.args.need.now ≤ length (numbered)) =
+    let w = c in
+    let s = w in
+    let size : ℕ = length s.args.need.now in
+    let room = reached-long in
+    omega (
+      arith,
+      room,
+      back-length (reached) 0 size c.number_pairs-pairs.new.number.0 (omega (arith, room))
+          (number-long),
+    ) in
     let n = c in
-    omega (arith, numbered-long n)
+    omega (arith, numbered-long)
 
 pub list_pairs-requires : goal.list_pairs-requires
 list_pairs-requires c =
+    let reached : List ℕ =
+    let s = c in
+    put_back s.args.numbers.now 0 (length s.args.need.now)
+    c.reach.new.right.1.1.1.1.1.0 in
+    let reached-long : (let s = c in 2 * length s.args.need.now ≤ length (reached)) =
+    let s = c in
+    let size : ℕ = length s.args.need.now in
+    let numbers : List ℕ = s.args.numbers.now in
+    let y = c.reach in
+    let room : size ≤ length numbers = omega (arith, s.requires.4) in
+    omega (
+      arith,
+      s.requires.4,
+      back-length numbers 0 size y.new.right.1.1.1.1.1.0 (omega arith)
+          (y.auto.right.1.1.1.1.1.0 ∙ length-take-le size numbers room),
+    ) in
+    let number-long : (let s = c in length c.number_pairs-pairs.new.number.0 ≡ length s.args.need.now) =
+    let w = c in
+    let s = w in
+    c.number_pairs-pairs.auto.number.0
+    ∙ length-take-le (length s.args.need.now) (reached)
+    (omega (arith, reached-long)) in
+    let numbered : List ℕ =
+    let w = c in
+    let s = w in
+    put_back (reached) 0 (length s.args.need.now)
+    c.number_pairs-pairs.new.number.0 in
+    let numbered-long : (let s = c in 2 * length s.args.need.now ≤ length (numbered)) =
+    let w = c in
+    let s = w in
+    let size : ℕ = length s.args.need.now in
+    let room = reached-long in
+    omega (
+      arith,
+      room,
+      back-length (reached) 0 size c.number_pairs-pairs.new.number.0 (omega (arith, room))
+          (number-long),
+    ) in
     let n = c in
     let w = n in
-    let s = start w in
+    let s = w in
     let y = w.reach in
     let size : ℕ = length s.args.need.now in
     let f = s.requires.7 in
@@ -138,8 +187,8 @@ list_pairs-requires c =
       f.some,
       omega (arith, f.low),
       omega (arith, s.requires.2, l, y.ensures.2),
-      part_long size (2 * size - size) (numbered n)
-          (omega (arith, numbered-long n))
+      part_long size (2 * size - size) (numbered)
+          (omega (arith, numbered-long))
           ∙ v ∙ sym y.ensures.2,
     )
 
@@ -147,7 +196,7 @@ pub overflow_cast-result : goal.overflow_cast-result
 overflow_cast-result c =
     let n = c in
     let w = n in
-    let s = start w in
+    let s = w in
     let y = w.reach in
     let need : List ℕ = y.new.right.1.1.1.1.0 in
     omega (
@@ -160,6 +209,44 @@ overflow_cast-result c =
 
 pub returns : goal.returns
 returns c =
+    let reached : List ℕ =
+    let s = c in
+    put_back s.args.numbers.now 0 (length s.args.need.now)
+    c.reach.new.right.1.1.1.1.1.0 in
+    let reached-long : (let s = c in 2 * length s.args.need.now ≤ length (reached)) =
+    let s = c in
+    let size : ℕ = length s.args.need.now in
+    let numbers : List ℕ = s.args.numbers.now in
+    let y = c.reach in
+    let room : size ≤ length numbers = omega (arith, s.requires.4) in
+    omega (
+      arith,
+      s.requires.4,
+      back-length numbers 0 size y.new.right.1.1.1.1.1.0 (omega arith)
+          (y.auto.right.1.1.1.1.1.0 ∙ length-take-le size numbers room),
+    ) in
+    let number-long : (let s = c in length c.number_pairs-pairs.new.number.0 ≡ length s.args.need.now) =
+    let w = c in
+    let s = w in
+    c.number_pairs-pairs.auto.number.0
+    ∙ length-take-le (length s.args.need.now) (reached)
+    (omega (arith, reached-long)) in
+    let numbered : List ℕ =
+    let w = c in
+    let s = w in
+    put_back (reached) 0 (length s.args.need.now)
+    c.number_pairs-pairs.new.number.0 in
+    let numbered-long : (let s = c in 2 * length s.args.need.now ≤ length (numbered)) =
+    let w = c in
+    let s = w in
+    let size : ℕ = length s.args.need.now in
+    let room = reached-long in
+    omega (
+      arith,
+      room,
+      back-length (reached) 0 size c.number_pairs-pairs.new.number.0 (omega (arith, room))
+          (number-long),
+    ) in
     let l = c in
     let n = l in
     let w = n in
@@ -172,19 +259,19 @@ returns c =
     let number : List ℕ = n.number_pairs-pairs.new.number.0 in
     let codes : List ℕ = l.new.codes.1.0 in
     let v : 2 * size - size ≡ size = omega arith in
-    let room = reached-long w in
+    let room = reached-long in
     let long : length codes ≡ size = l.auto.codes.1.0
-    ∙ part_long size (2 * size - size) (numbered n) (omega (arith, numbered-long n)) ∙ v in (
+    ∙ part_long size (2 * size - size) (numbered) (omega (arith, numbered-long)) ∙ v in (
       (λ U O. map_moved
-          (twice-number (reached w) number codes size size (2 * size - size) refl v room
-          (number-long n) long (length need) y.ensures.2)
-          (twice-listed (reached w) number codes size size (2 * size - size) refl v room
-          (number-long n) long (length need) y.ensures.2)
+          (twice-number (reached) number codes size size (2 * size - size) refl v room
+          (number-long) long (length need) y.ensures.2)
+          (twice-listed (reached) number codes size size (2 * size - size) refl v room
+          (number-long) long (length need) y.ensures.2)
           (record {
             closed = y.ensures.0;
             size = y.ensures.2 ∙ s.requires.2;
             only = (s.args.pair, omega (arith, s.requires.5, y.ensures.2), y.ensures.3);
-            numbers = (number-long n ∙ sym y.ensures.2, n.number_pairs-pairs.ensures.1);
+            numbers = (number-long ∙ sym y.ensures.2, n.number_pairs-pairs.ensures.1);
             codes_are = (long ∙ sym y.ensures.2, l.ensures);
             grid = (refl, refl, n.number_pairs-pairs.ensures.0);
             modes = c.modes_in.ensures;

@@ -20,114 +20,6 @@ use Rattle.queries.proofs.AskingFacts.{access_ranges, asked_outlined}
 use Rattle.queries.proofs.Sectioning.{left_long, left_back, left_feed, outline_moved, outline_at}
 use Rattle.queries.proofs.outlining.with_drawn.Goals as goal
 
--- where the code starts
-abbrev start : (c : goal.After-own_of-2) → goal.Start
-start c = c
-
--- the coordinates of what is asked
-subject-at : (c : goal.Start) →
-    get_or (subjects_of c.args.coordinates.now) c.args.a.access.subject 0
-    ≡ get_or c.args.coordinates.now (512 + c.args.a.access.subject) 0
-subject-at c = in_part 512 1024 c.args.coordinates.now c.args.a.access.subject
-    (omega (arith, (access_ranges c.args.a.access c.requires.2).0))
-
-object-at : (c : goal.Start) →
-    get_or (objects_of c.args.coordinates.now) c.args.a.access.object 0
-    ≡ get_or c.args.coordinates.now (1536 + c.args.a.access.object) 0
-object-at c = in_part 1536 130 c.args.coordinates.now c.args.a.access.object
-    (omega (arith, (access_ranges c.args.a.access c.requires.2).3))
-
-abbrev own : (c : goal.After-own_of-2) → Access
-own c =
-    let f = c in
-    let s = f in
-    record {
-      subject = f.own_of.result;
-      mode = s.args.a.access.mode;
-      object = c.own_of-2.result;
-    }
-
-own_is : (c : goal.After-own_of-2) →
-    (let s = start c in
-    own c ≡ own_of (chart_for (subjects_of s.args.coordinates.now) (objects_of s.args.coordinates.now)
-    s.args.e) s.args.a.access)
-own_is c =
-    let f = c in
-    let s = f in
-    let x = s.args.a.access in
-    let u = f.own_of.ensures
-    ∙ ap (λ (k : ℕ). pick (eqb k 0) x.subject 0) (sym (subject-at s)) in
-    let v = c.own_of-2.ensures ∙ ap (λ (k : ℕ). pick (eqb k 0) x.object 0) (sym (object-at s)) in
-    λ i. record { subject = u i; mode = x.mode; object = v i }
-
--- the masks of the asked access, and the outline with them
-abbrev left : (c : goal.After-own_masks) → List ℕ
-left c = c.own_masks.new.left.1.1.1.0
-
-room : (s : goal.Start) → 152 ≤ length s.args.outline.now
-room s = omega (arith, s.requires.0.outlined)
-
-left_is : (c : goal.After-own_masks) → length (left c) ≡ 152
-left_is c =
-    let s = start c in
-    c.own_masks.auto.left.1.1.1.0
-    ∙ part_long 0 152 s.args.outline.now (omega (arith, s.requires.0.outlined))
-
-owned : (c : goal.After-own_masks) →
-    (let g = c in
-    let s = start g in
-    Owned (decode s.args.bytes.now) s.args.n.rules
-    (drop (s.args.n.authorizations * 24) s.args.records.now) (own g)
-    (left_of s.args.outline.now) (left c))
-owned c =
-    let g = c in
-    let s = start g in
-    subst (λ (b : List ℕ). Owned (decode s.args.bytes.now) s.args.n.rules b
-    (own g) (left_of s.args.outline.now) (left c))
-    (lent_rest (s.args.n.authorizations * 24) s.args.records.now) c.own_masks.ensures
-
-abbrev outlined : (c : goal.After-own_masks) → List ℕ
-outlined c =
-    let s = start c in
-    put_back s.args.outline.now 0 152 (left c)
-
-abbrev inquiry : (c : goal.After-own_masks) → Inquiry
-inquiry c =
-    let g = c in
-    let s = start g in
-    record {
-      asked = s.args.a;
-      own = own g;
-      subject = get_or s.args.coordinates.now (512 + s.args.a.access.subject) 0;
-      object = get_or s.args.coordinates.now (1536 + s.args.a.access.object) 0;
-      totals = s.args.n;
-      extent = s.args.e;
-    }
-
-task : (c : goal.After-own_masks) →
-    (let s = start c in
-    (base : Base) →
-    BodiesIn s.args.records.now s.args.n (decode s.args.bytes.now) base →
-    TaskIn s.args.records.now (outlined c) s.args.coordinates.now (inquiry c) base)
-task c base b =
-    let g = c in
-    let s = start g in
-    let o : List ℕ = s.args.outline.now in
-    record {
-      holder = decode s.args.bytes.now;
-      asked_outline = outline_at (sym (subject-at s)) (sym (object-at s))
-          (outline_moved (left_back o (left c) (room s) (left_is c))
-          (left_feed o (left c) (room s) (left_is c))
-          (asked_outlined s.requires.1 s.args.a.access (own g) s.requires.2 (own_is g)
-          (owned c)));
-      bodies = b;
-    }
-
-outlined-long : (c : goal.After-own_masks) → length (outlined c) ≡ 536
-outlined-long c =
-    let s = start c in
-    left_long s.args.outline.now (left c) (room s) (left_is c) ∙ s.requires.0.outlined
-
 pub overflow_add-s : goal.overflow_add-s
 overflow_add-s c =
     let s = c in
@@ -150,22 +42,30 @@ bounds-coordinates-x-2 c =
 
 pub overflow_mul-from : goal.overflow_mul-from
 overflow_mul-from c =
-    let s = start c in
+    let s = c in
     omega (arith, s.requires.4.1.few)
 
 pub slice_bounds-own_masks-start : goal.slice_bounds-own_masks-start
 slice_bounds-own_masks-start c =
-    let s = start c in
+    let s = c in
     s.requires.0.recorded
 
 pub slice_bounds-own_masks-end-2 : goal.slice_bounds-own_masks-end-2
 slice_bounds-own_masks-end-2 c =
-    let s = start c in
+    let left : List ℕ = c.own_masks.new.left.1.1.1.0 in
+    let outlined : List ℕ =
+    let s = c in
+    put_back s.args.outline.now 0 152 (left) in
+    let s = c in
     omega (arith, s.requires.0.outlined)
 
 pub own_masks-requires : goal.own_masks-requires
 own_masks-requires c =
-    let s = start c in
+    let left : List ℕ = c.own_masks.new.left.1.1.1.0 in
+    let outlined : List ℕ =
+    let s = c in
+    put_back s.args.outline.now 0 152 (left) in
+    let s = c in
     let d = s.requires.1 in
     let from : ℕ = s.args.n.authorizations * 24 in (
       s.requires.3,
@@ -176,50 +76,185 @@ own_masks-requires c =
 
 pub overflow_cast-k : goal.overflow_cast-k
 overflow_cast-k c =
-    let s = start c in
+    let subject-at : get_or (subjects_of c.args.coordinates.now) c.args.a.access.subject 0 ≡ get_or c.args.coordinates.now (512 + c.args.a.access.subject) 0 = in_part 512 1024 c.args.coordinates.now c.args.a.access.subject
+    (omega (arith, (access_ranges c.args.a.access c.requires.2).0)) in
+    let s = c in
     let d = s.requires.1 in
     omega (
       arith,
       d.charted.subjects.below s.args.a.access.subject,
-      subject-at s,
+      subject-at,
       d.charted.subjects.few,
       d.well_formed.few,
     )
 
 pub overflow_cast-k-2 : goal.overflow_cast-k-2
 overflow_cast-k-2 c =
-    let s = start c in
+    let object-at : get_or (objects_of c.args.coordinates.now) c.args.a.access.object 0 ≡ get_or c.args.coordinates.now (1536 + c.args.a.access.object) 0 = in_part 1536 130 c.args.coordinates.now c.args.a.access.object
+    (omega (arith, (access_ranges c.args.a.access c.requires.2).3)) in
+    let s = c in
     let d = s.requires.1 in
     omega (
       arith,
       d.charted.objects.below s.args.a.access.object,
-      object-at s,
+      object-at,
       d.charted.objects.few,
       d.well_formed.few,
     )
 
 pub with_sizes-requires : goal.with_sizes-requires
 with_sizes-requires c =
+    let subject-at : get_or (subjects_of c.args.coordinates.now) c.args.a.access.subject 0 ≡ get_or c.args.coordinates.now (512 + c.args.a.access.subject) 0 = in_part 512 1024 c.args.coordinates.now c.args.a.access.subject
+    (omega (arith, (access_ranges c.args.a.access c.requires.2).0)) in
+    let object-at : get_or (objects_of c.args.coordinates.now) c.args.a.access.object 0 ≡ get_or c.args.coordinates.now (1536 + c.args.a.access.object) 0 = in_part 1536 130 c.args.coordinates.now c.args.a.access.object
+    (omega (arith, (access_ranges c.args.a.access c.requires.2).3)) in
+    let own : Access =
+    let f = c in
+    let s = f in
+    record {
+      subject = f.own_of.result;
+      mode = s.args.a.access.mode;
+      object = c.own_of-2.result;
+    } in
+    let own_is : (let s = c in own ≡ own_of (chart_for (subjects_of s.args.coordinates.now) (objects_of s.args.coordinates.now) s.args.e) s.args.a.access) =
+    let f = c in
+    let s = f in
+    let x = s.args.a.access in
+    let u = f.own_of.ensures
+    ∙ ap (λ (k : ℕ). pick (eqb k 0) x.subject 0) (sym (subject-at)) in
+    let v = c.own_of-2.ensures ∙ ap (λ (k : ℕ). pick (eqb k 0) x.object 0) (sym (object-at)) in
+    λ i. record { subject = u i; mode = x.mode; object = v i } in
+    let left : List ℕ = c.own_masks.new.left.1.1.1.0 in
+    let room : 152 ≤ length c.args.outline.now = omega (arith, c.requires.0.outlined) in
+    let left_is : length (left) ≡ 152 =
+    let s = c in
+    c.own_masks.auto.left.1.1.1.0
+    ∙ part_long 0 152 s.args.outline.now (omega (arith, s.requires.0.outlined)) in
+    let owned : (let g = c in let s = g in Owned (decode s.args.bytes.now) s.args.n.rules (drop (s.args.n.authorizations * 24) s.args.records.now) (own) (left_of s.args.outline.now) (left)) =
+    let g = c in
+    let s = g in
+    subst (λ (b : List ℕ). Owned (decode s.args.bytes.now) s.args.n.rules b
+    (own) (left_of s.args.outline.now) (left))
+    (lent_rest (s.args.n.authorizations * 24) s.args.records.now) c.own_masks.ensures in
+    let outlined : List ℕ =
+    let s = c in
+    put_back s.args.outline.now 0 152 (left) in
+    let inquiry : Inquiry =
+    let g = c in
+    let s = g in
+    record {
+      asked = s.args.a;
+      own = own;
+      subject = get_or s.args.coordinates.now (512 + s.args.a.access.subject) 0;
+      object = get_or s.args.coordinates.now (1536 + s.args.a.access.object) 0;
+      totals = s.args.n;
+      extent = s.args.e;
+    } in
+    let task : (let s = c in (base : Base) → BodiesIn s.args.records.now s.args.n (decode s.args.bytes.now) base → TaskIn s.args.records.now (outlined) s.args.coordinates.now (inquiry) base) = λ base b.    let g = c in
+    let s = g in
+    let o : List ℕ = s.args.outline.now in
+    record {
+      holder = decode s.args.bytes.now;
+      asked_outline = outline_at (sym (subject-at)) (sym (object-at))
+          (outline_moved (left_back o (left) (room) (left_is))
+          (left_feed o (left) (room) (left_is))
+          (asked_outlined s.requires.1 s.args.a.access (own) s.requires.2 (own_is)
+          (owned)));
+      bodies = b;
+    } in
+    let outlined-long : length (outlined) ≡ 536 =
+    let s = c in
+    left_long s.args.outline.now (left) (room) (left_is) ∙ s.requires.0.outlined in
     let m = c in
-    let s = start m in (
+    let s = m in (
       record {
         recorded = s.requires.0.recorded;
-        outlined = outlined-long m;
+        outlined = outlined-long;
         placed = s.requires.0.placed;
       },
-      (s.requires.4.0, task m s.requires.4.0 s.requires.4.1),
+      (s.requires.4.0, task s.requires.4.0 s.requires.4.1),
     )
 
 pub shape_of-outline : goal.shape_of-outline
 shape_of-outline c =
+    let left : List ℕ = c.own_masks.new.left.1.1.1.0 in
+    let room : 152 ≤ length c.args.outline.now = omega (arith, c.requires.0.outlined) in
+    let left_is : length (left) ≡ 152 =
+    let s = c in
+    c.own_masks.auto.left.1.1.1.0
+    ∙ part_long 0 152 s.args.outline.now (omega (arith, s.requires.0.outlined)) in
+    let outlined : List ℕ =
+    let s = c in
+    put_back s.args.outline.now 0 152 (left) in
+    let outlined-long : length (outlined) ≡ 536 =
+    let s = c in
+    left_long s.args.outline.now (left) (room) (left_is) ∙ s.requires.0.outlined in
     let z = c in
     let m = z in
-    let s = start m in
-    z.with_sizes.auto.k.1.0 ∙ outlined-long m
+    let s = m in
+    z.with_sizes.auto.k.1.0 ∙ outlined-long
     ∙ sym s.requires.0.outlined
 
 pub returns : goal.returns
 returns c =
+    let subject-at : get_or (subjects_of c.args.coordinates.now) c.args.a.access.subject 0 ≡ get_or c.args.coordinates.now (512 + c.args.a.access.subject) 0 = in_part 512 1024 c.args.coordinates.now c.args.a.access.subject
+    (omega (arith, (access_ranges c.args.a.access c.requires.2).0)) in
+    let object-at : get_or (objects_of c.args.coordinates.now) c.args.a.access.object 0 ≡ get_or c.args.coordinates.now (1536 + c.args.a.access.object) 0 = in_part 1536 130 c.args.coordinates.now c.args.a.access.object
+    (omega (arith, (access_ranges c.args.a.access c.requires.2).3)) in
+    let own : Access =
+    let f = c in
+    let s = f in
+    record {
+      subject = f.own_of.result;
+      mode = s.args.a.access.mode;
+      object = c.own_of-2.result;
+    } in
+    let own_is : (let s = c in own ≡ own_of (chart_for (subjects_of s.args.coordinates.now) (objects_of s.args.coordinates.now) s.args.e) s.args.a.access) =
+    let f = c in
+    let s = f in
+    let x = s.args.a.access in
+    let u = f.own_of.ensures
+    ∙ ap (λ (k : ℕ). pick (eqb k 0) x.subject 0) (sym (subject-at)) in
+    let v = c.own_of-2.ensures ∙ ap (λ (k : ℕ). pick (eqb k 0) x.object 0) (sym (object-at)) in
+    λ i. record { subject = u i; mode = x.mode; object = v i } in
+    let left : List ℕ = c.own_masks.new.left.1.1.1.0 in
+    let room : 152 ≤ length c.args.outline.now = omega (arith, c.requires.0.outlined) in
+    let left_is : length (left) ≡ 152 =
+    let s = c in
+    c.own_masks.auto.left.1.1.1.0
+    ∙ part_long 0 152 s.args.outline.now (omega (arith, s.requires.0.outlined)) in
+    let owned : (let g = c in let s = g in Owned (decode s.args.bytes.now) s.args.n.rules (drop (s.args.n.authorizations * 24) s.args.records.now) (own) (left_of s.args.outline.now) (left)) =
+    let g = c in
+    let s = g in
+    subst (λ (b : List ℕ). Owned (decode s.args.bytes.now) s.args.n.rules b
+    (own) (left_of s.args.outline.now) (left))
+    (lent_rest (s.args.n.authorizations * 24) s.args.records.now) c.own_masks.ensures in
+    let outlined : List ℕ =
+    let s = c in
+    put_back s.args.outline.now 0 152 (left) in
+    let inquiry : Inquiry =
+    let g = c in
+    let s = g in
+    record {
+      asked = s.args.a;
+      own = own;
+      subject = get_or s.args.coordinates.now (512 + s.args.a.access.subject) 0;
+      object = get_or s.args.coordinates.now (1536 + s.args.a.access.object) 0;
+      totals = s.args.n;
+      extent = s.args.e;
+    } in
+    let task : (let s = c in (base : Base) → BodiesIn s.args.records.now s.args.n (decode s.args.bytes.now) base → TaskIn s.args.records.now (outlined) s.args.coordinates.now (inquiry) base) = λ base b.    let g = c in
+    let s = g in
+    let o : List ℕ = s.args.outline.now in
+    record {
+      holder = decode s.args.bytes.now;
+      asked_outline = outline_at (sym (subject-at)) (sym (object-at))
+          (outline_moved (left_back o (left) (room) (left_is))
+          (left_feed o (left) (room) (left_is))
+          (asked_outlined s.requires.1 s.args.a.access (own) s.requires.2 (own_is)
+          (owned)));
+      bodies = b;
+    } in
     let z = c in
     let m = z in
-    λ base b. z.with_sizes.ensures base (task m base b)
+    λ base b. z.with_sizes.ensures base (task base b)

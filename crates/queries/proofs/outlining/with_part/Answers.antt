@@ -6,12 +6,6 @@ use lib.Seq.{length-take-le}
 use Rattle.queries.proofs.AskingFacts.{part-blank, outline_few}
 use Rattle.queries.proofs.outlining.with_part.Goals as goal
 
-abbrev size : (c : goal.Start) → ℕ
-size c = c.args.k.extent.objects * c.args.k.extent.subjects
-
-taken : (c : goal.Start) → length (take (size c) c.args.need.now) ≡ size c
-taken c = length-take-le (size c) c.args.need.now c.requires.2
-
 pub overflow_mul-size : goal.overflow_mul-size
 overflow_mul-size c =
     let s = c in
@@ -24,15 +18,19 @@ overflow_cast-size c =
 
 pub slice_bounds-with_pairs-end-2 : goal.slice_bounds-with_pairs-end-2
 slice_bounds-with_pairs-end-2 c =
+    let size : ℕ = c.args.k.extent.objects * c.args.k.extent.subjects in
+    let taken : length (take (size) c.args.need.now) ≡ size = length-take-le (size) c.args.need.now c.requires.2 in
     let s = c in
-    sym (taken s)
+    sym (taken)
 
 pub with_pairs-requires : goal.with_pairs-requires
 with_pairs-requires c =
+    let size : ℕ = c.args.k.extent.objects * c.args.k.extent.subjects in
+    let taken : length (take (size) c.args.need.now) ≡ size = length-take-le (size) c.args.need.now c.requires.2 in
     let s = c in (
       s.requires.0,
-      (λ i. (part-blank (size s) s.args.need.now (λ j. (s.requires.1 j).0) i, (s.requires.1 i).1)),
-      taken s,
-      omega (arith, taken s, s.requires.3),
+      (λ i. (part-blank (size) s.args.need.now (λ j. (s.requires.1 j).0) i, (s.requires.1 i).1)),
+      taken,
+      omega (arith, taken, s.requires.3),
       s.requires.4,
     )

@@ -14,20 +14,6 @@ use Rattle.records.proofs.StoredRows.{width_is}
 use Rattle.records.proofs.page.fill.Invariants.{decreases-loop-i, invariant-loop-i}
 use Rattle.records.proofs.page.fill.Goals as goal
 
--- the next record stands in the bytes, and has room in the list
-ahead : (c : goal.In-loop-i invariant-loop-i decreases-loop-i) →
-    (let a = c.args in
-    let l = c.loop-i in
-    (l.at + record_bytes a.source ≤ length a.s.now)
-    × (l.to + width_of a.source ≤ length l.list-1))
-ahead c =
-    let a = c.args in
-    let l = c.loop-i in
-    let h : l.i < a.k = omega arith in (
-      omega (arith, fits_next (record_bytes a.source) l.i a.k h),
-      omega (arith, fits_next (width_of a.source) l.i a.k h),
-    )
-
 pub loop-i-init : goal.loop-i-init
 loop-i-init c =
     let a = c.args in
@@ -36,27 +22,63 @@ loop-i-init c =
     (search rules, search rules, omega arith, sym z, ap (λ (n : ℕ). drop n a.list.now) (sym z))
 
 pub numbers_at-numbers-requires : goal.numbers_at-numbers-requires
-numbers_at-numbers-requires c = (ahead c).0
+numbers_at-numbers-requires c =
+    let ahead : (let a = c.args in let l = c.loop-i in (l.at + record_bytes a.source ≤ length a.s.now) × (l.to + width_of a.source ≤ length l.list-1)) =
+    let a = c.args in
+    let l = c.loop-i in
+    let h : l.i < a.k = omega arith in (
+      omega (arith, fits_next (record_bytes a.source) l.i a.k h),
+      omega (arith, fits_next (width_of a.source) l.i a.k h),
+    ) in
+    (ahead).0
 
 pub put-requires : goal.put-requires
 put-requires c =
+    let ahead : (let a = c.args in let l = c.loop-i in (l.at + record_bytes a.source ≤ length a.s.now) × (l.to + width_of a.source ≤ length l.list-1)) =
+    let a = c.args in
+    let l = c.loop-i in
+    let h : l.i < a.k = omega arith in (
+      omega (arith, fits_next (record_bytes a.source) l.i a.k h),
+      omega (arith, fits_next (width_of a.source) l.i a.k h),
+    ) in
     let d = c in
     let m = width-most d.args.source in
-    let r = (ahead d).1 in
+    let r = (ahead).1 in
     (omega arith, omega arith, search rules)
 
 pub overflow_add-at : goal.overflow_add-at
 overflow_add-at c =
-    let r = (ahead c).0 in
+    let ahead : (let a = c.args in let l = c.loop-i in (l.at + record_bytes a.source ≤ length a.s.now) × (l.to + width_of a.source ≤ length l.list-1)) =
+    let a = c.args in
+    let l = c.loop-i in
+    let h : l.i < a.k = omega arith in (
+      omega (arith, fits_next (record_bytes a.source) l.i a.k h),
+      omega (arith, fits_next (width_of a.source) l.i a.k h),
+    ) in
+    let r = (ahead).0 in
     omega arith
 
 pub overflow_add-to : goal.overflow_add-to
 overflow_add-to c =
-    let r = (ahead c).1 in
+    let ahead : (let a = c.args in let l = c.loop-i in (l.at + record_bytes a.source ≤ length a.s.now) × (l.to + width_of a.source ≤ length l.list-1)) =
+    let a = c.args in
+    let l = c.loop-i in
+    let h : l.i < a.k = omega arith in (
+      omega (arith, fits_next (record_bytes a.source) l.i a.k h),
+      omega (arith, fits_next (width_of a.source) l.i a.k h),
+    ) in
+    let r = (ahead).1 in
     omega arith
 
 pub loop-i-preserved : goal.loop-i-preserved
 loop-i-preserved c =
+    let ahead : (let a = c.args in let l = c.loop-i in (l.at + record_bytes a.source ≤ length a.s.now) × (l.to + width_of a.source ≤ length l.list-1)) =
+    let a = c.args in
+    let l = c.loop-i in
+    let h : l.i < a.k = omega arith in (
+      omega (arith, fits_next (record_bytes a.source) l.i a.k h),
+      omega (arith, fits_next (width_of a.source) l.i a.k h),
+    ) in
     let d = c in
     let a = d.args in
     let pre = d.requires in
@@ -64,7 +86,7 @@ loop-i-preserved c =
     let b = a.source in
     let n = c.numbers_at-numbers in
     let p = c.put in
-    let r = (ahead d).1 in
+    let r = (ahead).1 in
     let m = width-most b in
     let long : length n.result ≡ 15 = search rules in (
       search rules,

@@ -17,20 +17,6 @@ use Rattle.records.proofs.StoredRows.{count_most, page_fits}
 use Rattle.records.proofs.Paged.{beyond, short, written}
 use Rattle.records.proofs.page.page.Goals as goal
 
--- where the body stands
-placed : (c : goal.After-layout_of-p) →
-    (let a = c.args in
-    c.layout_of-p.result ≡ layout_of (counts_of a.s.now) a.source)
-placed c =
-    let b = c.args.source in
-    c.layout_of-p.ensures ∙ ap (λ (n : Counts). layout_of n b) c.counts_of.ensures
-
--- how many records it has
-counted : (c : goal.After-layout_of-p) →
-    (let a = c.args in
-    c.layout_of-p.result.count ≡ record_count (counts_of a.s.now) a.source)
-counted c = ap (λ (p : Layout). p.count) (placed c)
-
 -- k records from the first on stand in the bytes
 within-bytes : (c : goal.Else-p-first) (k : ℕ) →
     (let a = c.args in
@@ -46,22 +32,6 @@ within-bytes c k h =
     let f = page_fits (counts_of s) w a.source a.first k (omega arith) in
     omega (arith, ap (λ (p : Layout). p.at) e, ap (λ (p : Layout). p.bytes * a.first) e)
 
--- the page has room
-page-room : (c : goal.After-least_of-k) →
-    (let d = c in
-    let a = d.args in
-    (a.first + c.least_of-k.result ≤ d.layout_of-p.result.count)
-    × (width_of a.source * c.least_of-k.result ≤ length a.list.now))
-page-room c =
-    let d = c in
-    let a = d.args in
-    let p = d.layout_of-p.result in
-    let q = length a.list.now / p.width in
-    let e = c.least_of-k.ensures in
-    let m : p.width * c.least_of-k.result ≤ p.width * q = mul-le-mul_left p.width (omega arith) in
-    let w = ap (λ (x : Layout). x.width * c.least_of-k.result) (placed d) in
-    (omega arith, omega (arith, mul-div-le (length a.list.now) p.width))
-
 pub counts_of-requires : goal.counts_of-requires
 counts_of-requires c =
     let d = c in
@@ -69,24 +39,35 @@ counts_of-requires c =
 
 pub returns-then-p-first : goal.returns-then-p-first
 returns-then-p-first c =
+    let placed : (let a = c.args in c.layout_of-p.result ≡ layout_of (counts_of a.s.now) a.source) =
+    let b = c.args.source in
+    c.layout_of-p.ensures ∙ ap (λ (n : Counts). layout_of n b) c.counts_of.ensures in
+    let counted : (let a = c.args in c.layout_of-p.result.count ≡ record_count (counts_of a.s.now) a.source) = ap (λ (p : Layout). p.count) (placed) in
     let d = c in
     let a = d.args in
-    let n = counted d in
+    let n = counted in
     sym (beyond a.s.now a.source a.first a.list.now (omega arith))
 
 pub returns-then-list-width : goal.returns-then-list-width
 returns-then-list-width c =
+    let placed : (let a = c.args in c.layout_of-p.result ≡ layout_of (counts_of a.s.now) a.source) =
+    let b = c.args.source in
+    c.layout_of-p.ensures ∙ ap (λ (n : Counts). layout_of n b) c.counts_of.ensures in
+    let counted : (let a = c.args in c.layout_of-p.result.count ≡ record_count (counts_of a.s.now) a.source) = ap (λ (p : Layout). p.count) (placed) in
     let d = c in
     let a = d.args in
-    let n = counted d in
-    let w = ap (λ (p : Layout). p.width) (placed d) in
+    let n = counted in
+    let w = ap (λ (p : Layout). p.width) (placed) in
     sym (short a.s.now a.source a.first a.list.now (omega arith) (omega arith))
 
 pub nonzero_div-list : goal.nonzero_div-list
 nonzero_div-list c =
+    let placed : (let a = c.args in c.layout_of-p.result ≡ layout_of (counts_of a.s.now) a.source) =
+    let b = c.args.source in
+    c.layout_of-p.ensures ∙ ap (λ (n : Counts). layout_of n b) c.counts_of.ensures in
     let d = c in
     let b = d.args.source in
-    omega (arith, ap (λ (p : Layout). p.width) (placed d), width_least b)
+    omega (arith, ap (λ (p : Layout). p.width) (placed), width_least b)
 
 pub overflow_mul-bytes : goal.overflow_mul-bytes
 overflow_mul-bytes c = omega (arith, within-bytes c 0 (omega arith))
@@ -96,35 +77,64 @@ overflow_add-p c = omega (arith, within-bytes c 0 (omega arith))
 
 pub fill-requires : goal.fill-requires
 fill-requires c =
+    let placed : (let a = c.args in c.layout_of-p.result ≡ layout_of (counts_of a.s.now) a.source) =
+    let b = c.args.source in
+    c.layout_of-p.ensures ∙ ap (λ (n : Counts). layout_of n b) c.counts_of.ensures in
+    let page-room : (let d = c in let a = d.args in (a.first + c.least_of-k.result ≤ d.layout_of-p.result.count) × (width_of a.source * c.least_of-k.result ≤ length a.list.now)) =
+    let d = c in
+    let a = d.args in
+    let p = d.layout_of-p.result in
+    let q = length a.list.now / p.width in
+    let e = c.least_of-k.ensures in
+    let m : p.width * c.least_of-k.result ≤ p.width * q = mul-le-mul_left p.width (omega arith) in
+    let w = ap (λ (x : Layout). x.width * c.least_of-k.result) (placed) in
+    (omega arith, omega (arith, mul-div-le (length a.list.now) p.width)) in
     let u = c in
     let d = u in
     let a = d.args in
-    let r = page-room u in
+    let r = page-room in
     let l = sound-length a.s.now d.requires in (
-      ap (λ (p : Layout). p.bytes) (placed d),
-      ap (λ (p : Layout). p.width) (placed d),
+      ap (λ (p : Layout). p.bytes) (placed),
+      ap (λ (p : Layout). p.width) (placed),
       omega (arith, within-bytes u u.least_of-k.result r.0),
       r.1,
     )
 
 pub overflow_cast-result : goal.overflow_cast-result
 overflow_cast-result c =
+    let placed : (let a = c.args in c.layout_of-p.result ≡ layout_of (counts_of a.s.now) a.source) =
+    let b = c.args.source in
+    c.layout_of-p.ensures ∙ ap (λ (n : Counts). layout_of n b) c.counts_of.ensures in
+    let counted : (let a = c.args in c.layout_of-p.result.count ≡ record_count (counts_of a.s.now) a.source) = ap (λ (p : Layout). p.count) (placed) in
+    let page-room : (let d = c in let a = d.args in (a.first + c.least_of-k.result ≤ d.layout_of-p.result.count) × (width_of a.source * c.least_of-k.result ≤ length a.list.now)) =
+    let d = c in
+    let a = d.args in
+    let p = d.layout_of-p.result in
+    let q = length a.list.now / p.width in
+    let e = c.least_of-k.ensures in
+    let m : p.width * c.least_of-k.result ≤ p.width * q = mul-le-mul_left p.width (omega arith) in
+    let w = ap (λ (x : Layout). x.width * c.least_of-k.result) (placed) in
+    (omega arith, omega (arith, mul-div-le (length a.list.now) p.width)) in
     let u = c in
     let d = u in
     let a = d.args in
     let s = a.s.now in
-    let r = (page-room u).0 in
-    let n = counted d in
+    let r = (page-room).0 in
+    let n = counted in
     let w = (fitting s d.requires (counts_of s) refl).counts in
     omega (arith, count_most (counts_of s) w a.source)
 
 pub returns : goal.returns
 returns c =
+    let placed : (let a = c.args in c.layout_of-p.result ≡ layout_of (counts_of a.s.now) a.source) =
+    let b = c.args.source in
+    c.layout_of-p.ensures ∙ ap (λ (n : Counts). layout_of n b) c.counts_of.ensures in
+    let counted : (let a = c.args in c.layout_of-p.result.count ≡ record_count (counts_of a.s.now) a.source) = ap (λ (p : Layout). p.count) (placed) in
     let u = c in
     let d = u in
     let a = d.args in
-    let e = placed d in
-    let n = counted d in
+    let e = placed in
+    let n = counted in
     let w = ap (λ (p : Layout). p.width) e in
     ap (answering (Runs u.least_of-k.result)) c.fill.ensures
     ∙ written a.s.now a.source a.first a.list.now (omega arith) (omega arith)

@@ -18,22 +18,6 @@ use Rattle.refusals.proofs.ByKind.{strata-rule, strata_none}
 use Rattle.refusals.proofs.Added.{added_rules}
 use Rattle.refusals.proofs.circles.not_stratified.Goals as goal
 
--- behind the counts: the bodies fit
-fits : (c : goal.After-counts_of-c) → Fitting c.args.s.now
-    c.counts_of-c.result
-fits c =
-    let d = c in
-    fitting d.args.s.now d.requires.0 c.counts_of-c.result c.counts_of-c.ensures
-
--- the rules lie in what is lent from their place on
-long : (c : goal.After-rules_at-at) → c.counts_of-c.result.rules * 28
-    ≤ length (lent c.args.s.now c.rules_at-at.result)
-long c =
-    let n = c in
-    there n.args.s.now c.rules_at-at.result
-    (rules_at n.counts_of-c.result) _
-    c.rules_at-at.ensures (omega (arith, fits n))
-
 pub returns-then-q-ne-ADDRULE : goal.returns-then-q-ne-ADDRULE
 returns-then-q-ne-ADDRULE c =
     let a = c.args in
@@ -46,16 +30,27 @@ counts_of-c-requires c =
 
 pub slice_bounds-copy-count : goal.slice_bounds-copy-count
 slice_bounds-copy-count c =
+    let fits : Fitting c.args.s.now c.counts_of-c.result =
+    let d = c in
+    fitting d.args.s.now d.requires.0 c.counts_of-c.result c.counts_of-c.ensures in
     let l = c in
-    omega (arith, fits l, l.rules_at-at.ensures)
+    omega (arith, fits, l.rules_at-at.ensures)
 
 pub slice_bounds-copy-start : goal.slice_bounds-copy-start
 slice_bounds-copy-start c = sub-copy c
 
 pub copy-requires : goal.copy-requires
 copy-requires c =
+    let fits : Fitting c.args.s.now c.counts_of-c.result =
+    let d = c in
+    fitting d.args.s.now d.requires.0 c.counts_of-c.result c.counts_of-c.ensures in
+    let long : c.counts_of-c.result.rules * 28 ≤ length (lent c.args.s.now c.rules_at-at.result) =
+    let n = c in
+    there n.args.s.now c.rules_at-at.result
+    (rules_at n.counts_of-c.result) _
+    c.rules_at-at.ensures (omega (arith, fits)) in
     let l = c in
-    (omega (arith, (fits l).counts), long l)
+    (omega (arith, (fits).counts), long)
 
 pub new_rule-requires : goal.new_rule-requires
 new_rule-requires c =
@@ -66,23 +61,40 @@ new_rule-requires c =
 
 pub put_rule-requires : goal.put_rule-requires
 put_rule-requires c =
+    let fits : Fitting c.args.s.now c.counts_of-c.result =
+    let d = c in
+    fitting d.args.s.now d.requires.0 c.counts_of-c.result c.counts_of-c.ensures in
     let n = c in
     let l : length c.copy.new.s ≡ 1820 = search rules in
-    omega (arith, (fits n).counts, l)
+    omega (arith, (fits).counts, l)
 
 pub overflow_add-n : goal.overflow_add-n
 overflow_add-n c =
+    let fits : Fitting c.args.s.now c.counts_of-c.result =
+    let d = c in
+    fitting d.args.s.now d.requires.0 c.counts_of-c.result c.counts_of-c.ensures in
     let n = c in
-    omega (arith, (fits n).counts)
+    omega (arith, (fits).counts)
 
 pub is_stratified-requires : goal.is_stratified-requires
 is_stratified-requires c =
+    let fits : Fitting c.args.s.now c.counts_of-c.result =
+    let d = c in
+    fitting d.args.s.now d.requires.0 c.counts_of-c.result c.counts_of-c.ensures in
     let n = c in
     let l : length c.put_rule.new.s ≡ 1820 = search rules in
-    (omega (arith, (fits n).counts, l), omega (arith, (fits n).counts))
+    (omega (arith, (fits).counts, l), omega (arith, (fits).counts))
 
 pub returns : goal.returns
 returns c =
+    let fits : Fitting c.args.s.now c.counts_of-c.result =
+    let d = c in
+    fitting d.args.s.now d.requires.0 c.counts_of-c.result c.counts_of-c.ensures in
+    let long : c.counts_of-c.result.rules * 28 ≤ length (lent c.args.s.now c.rules_at-at.result) =
+    let n = c in
+    there n.args.s.now c.rules_at-at.result
+    (rules_at n.counts_of-c.result) _
+    c.rules_at-at.ensures (omega (arith, fits)) in
     let p = c in
     let r = p in
     let y = r in
@@ -97,7 +109,7 @@ returns c =
     ≡ rules_in n.counts_of-c.result.rules (lent s l.rules_at-at.result) ++ (new_rule 1 q ∷ []) =
     added_rules n.counts_of-c.result.rules (lent s l.rules_at-at.result) (replicate 1820 0)
     y.copy.new.s
-    p.put_rule.new.s (new_rule 1 q) w.rule (long l) (omega (arith, (fits n).counts)) y.copy.ensures
+    p.put_rule.new.s (new_rule 1 q) w.rule (long) (omega (arith, (fits).counts)) y.copy.ensures
     (p.put_rule.ensures
     ∙ ap (λ (x : Rule). splice (n.counts_of-c.result.rules * 28) (rule_bytes x) y.copy.new.s)
     r.new_rule.ensures) in

@@ -6,10 +6,6 @@ use Rattle.model.specs.Requests.{grants}
 use Rattle.refusals.proofs.AskedFacts.{other_unbarred, exempt, barred_is}
 use Rattle.refusals.proofs.grants.barred.Goals as goal
 
--- behind the test of the kind
-granting : (c : goal.Else-not-is_grant) → grants c.args.q ≡ true
-granting c = sym c.is_grant.ensures ∙ not-false _ c.if-not-is_grant.false
-
 pub returns-then-not-is_grant : goal.returns-then-not-is_grant
 returns-then-not-is_grant c =
     let a = c.args in
@@ -18,14 +14,16 @@ returns-then-not-is_grant c =
 
 pub returns-then-controls : goal.returns-then-controls
 returns-then-controls c =
+    let granting : grants c.args.q ≡ true = sym c.is_grant.ensures ∙ not-false _ c.if-not-is_grant.false in
     let a = c.args in
-    sym (exempt (decode a.s.now) a.q (granting c)
+    sym (exempt (decode a.s.now) a.q (granting)
     (sym c.controls.ensures ∙ c.if-controls.true))
 
 pub returns : goal.returns
 returns c =
+    let granting : grants c.args.q ≡ true = sym c.is_grant.ensures ∙ not-false _ c.if-not-is_grant.false in
     let e = c in
     let a = e.args in
     c.is_denied.ensures
-    ∙ sym (barred_is (decode a.s.now) a.q (granting e)
+    ∙ sym (barred_is (decode a.s.now) a.q (granting)
     (sym e.controls.ensures ∙ e.if-controls.false))

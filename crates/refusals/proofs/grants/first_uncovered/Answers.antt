@@ -16,13 +16,6 @@ use Rattle.refusals.proofs.AskedFacts.{GrantIn, grant_in, no_grant, in_control, 
 use Rattle.encoding.proofs.SoundBodies.{fitting, there, authorizations-lent}
 use Rattle.refusals.proofs.grants.first_uncovered.Goals as goal
 
--- behind the test of the kind
-granting : (c : goal.Else-not-is_grant) → grants c.args.q ≡ true
-granting c = sym c.is_grant.ensures ∙ not-false _ c.if-not-is_grant.false
-
-fields_in : (c : goal.Else-not-is_grant) → GrantIn c.args.q
-fields_in c = let d = c in grant_in d.args.q d.requires.1 (granting c)
-
 pub returns-then-not-is_grant : goal.returns-then-not-is_grant
 returns-then-not-is_grant c =
     let a = c.args in
@@ -30,8 +23,9 @@ returns-then-not-is_grant c =
 
 pub returns-then-controls : goal.returns-then-controls
 returns-then-controls c =
+    let granting : grants c.args.q ≡ true = sym c.is_grant.ensures ∙ not-false _ c.if-not-is_grant.false in
     let a = c.args in
-    in_control (decode a.s.now) a.q (granting c) (sym c.controls.ensures
+    in_control (decode a.s.now) a.q (granting) (sym c.controls.ensures
     ∙ c.if-controls.true)
 
 pub counts_of-c-requires : goal.counts_of-c-requires
@@ -40,16 +34,24 @@ counts_of-c-requires c =
     omega (arith, sound-length d.args.s.now d.requires.0)
 
 pub overflow_cast-object : goal.overflow_cast-object
-overflow_cast-object c = omega (arith, (fields_in c).object)
+overflow_cast-object c =
+    let granting : grants c.args.q ≡ true = sym c.is_grant.ensures ∙ not-false _ c.if-not-is_grant.false in
+    let fields_in : GrantIn c.args.q = let d = c in grant_in d.args.q d.requires.1 (granting) in
+    omega (arith, (fields_in).object)
 
 pub overflow_cast-mode : goal.overflow_cast-mode
-overflow_cast-mode c = omega (arith, (fields_in c).mode)
+overflow_cast-mode c =
+    let granting : grants c.args.q ≡ true = sym c.is_grant.ensures ∙ not-false _ c.if-not-is_grant.false in
+    let fields_in : GrantIn c.args.q = let d = c in grant_in d.args.q d.requires.1 (granting) in
+    omega (arith, (fields_in).mode)
 
 pub overflow_cast-grantor : goal.overflow_cast-grantor
-overflow_cast-grantor c = omega (
+overflow_cast-grantor c =
+    let granting : grants c.args.q ≡ true = sym c.is_grant.ensures ∙ not-false _ c.if-not-is_grant.false in
+    let fields_in : GrantIn c.args.q = let d = c in grant_in d.args.q d.requires.1 (granting) in
+    omega (
   arith,
-  (fields_in
-      c).requester,
+  (fields_in).requester,
 )
 
 pub slice_bounds-first_gap-count : goal.slice_bounds-first_gap-count
@@ -78,6 +80,7 @@ first_gap-requires c =
 
 pub returns : goal.returns
 returns c =
+    let granting : grants c.args.q ≡ true = sym c.is_grant.ensures ∙ not-false _ c.if-not-is_grant.false in
     let l = c in
     let n = l in
     let e = n in
@@ -86,7 +89,7 @@ returns c =
     let b = decode s in
     let q = d.args.q in
     let h = new_head (suc b.last) q in
-    uncovered_is b q (granting e) (sym e.controls.ensures ∙ e.if-controls.false)
+    uncovered_is b q (granting) (sym e.controls.ensures ∙ e.if-controls.false)
     c.first_gap.result
     (subst (λ (xs : List Authorization). GapIs xs h q.interval c.first_gap.result)
     (authorizations-lent s n.counts_of-c.result n.counts_of-c.ensures l.authorizations_at-at.result

@@ -8,29 +8,31 @@ use Rattle.refusals.specs.Early.{rows_before_strata, says_of}
 use Rattle.refusals.proofs.EarlyFacts.{early_stands, early_last, passed_range}
 use Rattle.refusals.proofs.table.early_refusal.Goals as goal
 
--- none of rows 3 to 11 applies
-none : (c : goal.In-Passed) →
-    (let d = c in
-    first_number (rows_before_strata (decode d.args.s.now) d.args.q) ≡ 0)
-none c =
+pub not_stratified-requires : goal.not_stratified-requires
+not_stratified-requires c =
+    let none : (let d = c in first_number (rows_before_strata (decode d.args.s.now) d.args.q) ≡ 0) =
     let m = c in
     let d = m in
     let b = decode d.args.s.now in
     let q = d.args.q in
     subst (says_of b q (first_number (rows_before_strata b q))) c.enum_told-1.given.1
-    m.before_strata-e.ensures
-
-pub not_stratified-requires : goal.not_stratified-requires
-not_stratified-requires c =
+    m.before_strata-e.ensures in
     let d = c in
-    (d.requires, passed_range (decode d.args.s.now) d.args.q (none c))
+    (d.requires, passed_range (decode d.args.s.now) d.args.q (none))
 
 pub returns-then-not_stratified : goal.returns-then-not_stratified
 returns-then-not_stratified c =
+    let none : (let d = c in first_number (rows_before_strata (decode d.args.s.now) d.args.q) ≡ 0) =
+    let m = c in
+    let d = m in
+    let b = decode d.args.s.now in
+    let q = d.args.q in
+    subst (says_of b q (first_number (rows_before_strata b q))) c.enum_told-1.given.1
+    m.before_strata-e.ensures in
     let d = c in
     let b = decode d.args.s.now in
     let e = sym c.not_stratified.ensures ∙ c.if-not_stratified.true in
-    (early_last b d.args.q true (none c) e, (λ z. omega arith), (λ z. omega arith))
+    (early_last b d.args.q true (none) e, (λ z. omega arith), (λ z. omega arith))
 
 pub returns-in-Number : goal.returns-in-Number
 returns-in-Number c =
@@ -56,7 +58,14 @@ returns-in-Uncovered c =
 
 pub returns-else-not_stratified : goal.returns-else-not_stratified
 returns-else-not_stratified c =
+    let none : (let d = c in first_number (rows_before_strata (decode d.args.s.now) d.args.q) ≡ 0) =
+    let m = c in
+    let d = m in
+    let b = decode d.args.s.now in
+    let q = d.args.q in
+    subst (says_of b q (first_number (rows_before_strata b q))) c.enum_told-1.given.1
+    m.before_strata-e.ensures in
     let d = c in
     let b = decode d.args.s.now in
     let e = sym c.not_stratified.ensures ∙ c.if-not_stratified.false in
-    early_last b d.args.q false (none c) e
+    early_last b d.args.q false (none) e

@@ -13,10 +13,6 @@ use Rattle.report.specs.Sheet.{sheet_filled}
 use Rattle.report.proofs.SheetByRows.{report_range, report_unknown, report_filled}
 use Rattle.report.proofs.sheet.report_sound.Goals as goal
 
--- row 3 does not apply
-in_range : (c : goal.Else-not-object_in) → is_object c.args.object ≡ true
-in_range c = sym c.object_in.ensures ∙ not-false _ c.if-not-object_in.false
-
 pub returns-then-not-object_in : goal.returns-then-not-object_in
 returns-then-not-object_in c =
     let start = c in
@@ -26,10 +22,11 @@ returns-then-not-object_in c =
 
 pub returns-then-not-exists : goal.returns-then-not-exists
 returns-then-not-exists c =
+    let in_range : is_object c.args.object ≡ true = sym c.object_in.ensures ∙ not-false _ c.if-not-object_in.false in
     let d = c in
     let start = d in
     let a = start.args in
-    sym (report_unknown a.base.now a.object a.page.now start.requires (in_range d)
+    sym (report_unknown a.base.now a.object a.page.now start.requires (in_range)
     (sym c.exists.ensures ∙ not-true _ c.if-not-exists.true))
 
 pub counts_of-c-requires : goal.counts_of-c-requires
@@ -65,6 +62,7 @@ fill_page-requires c =
 
 pub returns : goal.returns
 returns c =
+    let in_range : is_object c.args.object ≡ true = sym c.object_in.ensures ∙ not-false _ c.if-not-object_in.false in
     let p = c in
     let at = p in
     let n = at in
@@ -76,5 +74,5 @@ returns c =
     ∙ ap (λ (xs : List Authorization). sheet_filled (rows_on a.object xs) a.page.now)
     (authorizations-lent s n.counts_of-c.result n.counts_of-c.ensures at.authorizations_at-at.result
     at.authorizations_at-at.ensures)
-    ∙ sym (report_filled s a.object a.page.now start.requires (in_range d)
+    ∙ sym (report_filled s a.object a.page.now start.requires (in_range)
     (sym d.exists.ensures ∙ not-false _ d.if-not-exists.false))

@@ -5,14 +5,6 @@ use Rattle.foundation.specs.Tests.{and-true, not-true}
 use Rattle.scan.proofs.RunFacts.{same, opens, closed_run}
 use Rattle.scan.proofs.runs.note.Goals as goal
 
--- an interval ends: it is open, and the answer is no
-ends : (c : goal.Then-yes-w-2) →
-    (let a = c.args in (a.yes ≡ false) × (a.w.inside ≡ true))
-ends c =
-    let a = c.args in
-    let z = and-true (not a.yes) a.w.inside c.if-yes-w-2.true in
-    (not-true a.yes z.0, z.1)
-
 -- where neither test passes the answer is as before
 as_before : (a b : Bool) → a && not b ≡ false → not a && b ≡ false → b ≡ a
 as_before true true p q = refl
@@ -29,26 +21,42 @@ returns-then-yes-w c =
 
 pub overflow_sub-t : goal.overflow_sub-t
 overflow_sub-t c =
-    let e = ends c in
+    let ends : (let a = c.args in (a.yes ≡ false) × (a.w.inside ≡ true)) =
+    let a = c.args in
+    let z = and-true (not a.yes) a.w.inside c.if-yes-w-2.true in
+    (not-true a.yes z.0, z.1) in
+    let e = ends in
     (c.requires e.1 e.0).0
 
 pub put_run-requires : goal.put_run-requires
 put_run-requires c =
-    let e = ends c in
+    let ends : (let a = c.args in (a.yes ≡ false) × (a.w.inside ≡ true)) =
+    let a = c.args in
+    let z = and-true (not a.yes) a.w.inside c.if-yes-w-2.true in
+    (not-true a.yes z.0, z.1) in
+    let e = ends in
     (c.requires e.1 e.0).1
 
 pub overflow_add-result : goal.overflow_add-result
 overflow_add-result c =
+    let ends : (let a = c.args in (a.yes ≡ false) × (a.w.inside ≡ true)) =
+    let a = c.args in
+    let z = and-true (not a.yes) a.w.inside c.if-yes-w-2.true in
+    (not-true a.yes z.0, z.1) in
     let d = c in
-    let e = ends d in
+    let e = ends in
     let z = (d.requires e.1 e.0).1 in
     search rules
 
 pub returns-then-yes-w-2 : goal.returns-then-yes-w-2
 returns-then-yes-w-2 c =
+    let ends : (let a = c.args in (a.yes ≡ false) × (a.w.inside ≡ true)) =
+    let a = c.args in
+    let z = and-true (not a.yes) a.w.inside c.if-yes-w-2.true in
+    (not-true a.yes z.0, z.1) in
     let d = c in
     let a = d.args in
-    let z = ends d in (
+    let z = ends in (
       λ f e lent r q h. closed_run f e lent a.t a.w a.list.now r z.1 h (sym q ∙ z.0) _
           c.put_run.ensures,
       search rules,

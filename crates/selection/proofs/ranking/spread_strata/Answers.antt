@@ -9,12 +9,6 @@ use Rattle.selection.proofs.SelectedLoop.{position-le, position-start, position-
 use Rattle.selection.proofs.ranking.spread_strata.Invariants.{Given, decreases-loop-r, invariant-loop-r}
 use Rattle.selection.proofs.ranking.spread_strata.Goals as goal
 
--- no more ranks are given than rules passed
-few : (c : goal.In-loop-r invariant-loop-r decreases-loop-r) → c.loop-r.k < 65
-few c =
-    let l = c.loop-r in
-    omega (arith, l.invariant.3, position-le c.args.needed l.r)
-
 pub loop-r-init : goal.loop-r-init
 loop-r-init c =
     let s = c in
@@ -57,10 +51,22 @@ returns c =
     λ r h e. l.invariant.4 r (omega (arith, l.invariant.0)) e
 
 pub offset_bounds-ranks-k : goal.offset_bounds-ranks-k
-offset_bounds-ranks-k = λ c. omega (arith, few c)
+offset_bounds-ranks-k c =
+    let few : c.loop-r.k < 65 =
+    let l = c.loop-r in
+    omega (arith, l.invariant.3, position-le c.args.needed l.r) in
+    omega (arith, few)
 
 pub bounds-ranks-k : goal.bounds-ranks-k
-bounds-ranks-k = λ c. few c
+bounds-ranks-k c =
+    let few : c.loop-r.k < 65 =
+    let l = c.loop-r in
+    omega (arith, l.invariant.3, position-le c.args.needed l.r) in
+    few
 
 pub overflow_add-k : goal.overflow_add-k
-overflow_add-k = λ c. omega (arith, few c)
+overflow_add-k c =
+    let few : c.loop-r.k < 65 =
+    let l = c.loop-r in
+    omega (arith, l.invariant.3, position-le c.args.needed l.r) in
+    omega (arith, few)

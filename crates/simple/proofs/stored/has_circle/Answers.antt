@@ -8,11 +8,6 @@ use Rattle.encoding.specs.Format.{counts_of, rules_at, rules_in}
 use Rattle.encoding.proofs.SoundBodies.{lent, fitting, there, rules_lent}
 use Rattle.simple.proofs.stored.has_circle.Goals as goal
 
--- where the rules start
-at : (c : goal.After-rules_at-at) →
-    c.rules_at-at.result ≡ rules_at (counts_of c.args.s.now)
-at c = c.rules_at-at.ensures ∙ ap rules_at c.counts_of.ensures
-
 pub counts_of-requires : goal.counts_of-requires
 counts_of-requires c = omega (arith, sound-length c.args.s.now c.requires)
 
@@ -31,20 +26,22 @@ rule_count-requires c = c.requires
 
 pub is_circular-requires : goal.is_circular-requires
 is_circular-requires c =
+    let at : c.rules_at-at.result ≡ rules_at (counts_of c.args.s.now) = c.rules_at-at.ensures ∙ ap rules_at c.counts_of.ensures in
     let a = c in
     let d = a in
     let s = d.args.s.now in
     let f = fitting s d.requires (counts_of s) refl in
     let e = c.rule_count.ensures in (
-      there s a.rules_at-at.result (rules_at (counts_of s)) _ (at a) (omega (arith, f, e)),
+      there s a.rules_at-at.result (rules_at (counts_of s)) _ (at) (omega (arith, f, e)),
       omega (arith, f, e),
     )
 
 pub returns : goal.returns
 returns c =
+    let at : c.rules_at-at.result ≡ rules_at (counts_of c.args.s.now) = c.rules_at-at.ensures ∙ ap rules_at c.counts_of.ensures in
     let n = c in
     let a = n in
     let s = a.args.s.now in
     c.is_circular.ensures
     ∙ ap (λ (k : ℕ). circular (rules_in k (lent s a.rules_at-at.result))) n.rule_count.ensures
-    ∙ ap circular (rules_lent s (counts_of s) refl a.rules_at-at.result (at a))
+    ∙ ap circular (rules_lent s (counts_of s) refl a.rules_at-at.result (at))

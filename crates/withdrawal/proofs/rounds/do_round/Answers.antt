@@ -17,28 +17,6 @@ use Rattle.withdrawal.proofs.Instants.{end_below}
 use Rattle.withdrawal.proofs.rounds.do_round.Invariants.{decreases-loop-i, invariant-loop-i}
 use Rattle.withdrawal.proofs.rounds.do_round.Goals as goal
 
--- the authorization that was read is the next of those still to come, and ends in time
-next : (c : goal.After-authorization_at-a invariant-loop-i decreases-loop-i) →
-    (let a = c.args in
-    let l = c.loop-i in
-    let x = c.authorization_at-a.result in
-    (authorizations_from a.n a.s.now l.i ≡ x ∷ authorizations_from a.n a.s.now (l.i + 1))
-    × (x.interval.end < behind_all))
-next c =
-    let start = c in
-    let s = start.args.s.now in
-    let i = c.loop-i.i in
-    let e = c.authorization_at-a.ensures in
-    let known = c.shared_slice_known-3-1.given in (
-      rest_step 24 authorization_of start.args.n s i (search rules)
-          ∙ ap (λ (y : Authorization). y ∷ authorizations_from start.args.n s (i + 1)) (sym e),
-      omega (
-        arith,
-        ap (λ (y : Authorization). y.interval.end) e,
-        end_below (drop (i * 24) s) (bytes_drop (i * 24) s (λ j. omega (arith, known j))),
-      ),
-    )
-
 pub loop-i-init : goal.loop-i-init
 loop-i-init c =
     let start = c in
@@ -63,21 +41,49 @@ take_turn-requires c =
 
 pub returns-in_default : goal.returns-in_default
 returns-in_default c =
+    let next : (let a = c.args in let l = c.loop-i in let x = c.authorization_at-a.result in (authorizations_from a.n a.s.now l.i ≡ x ∷ authorizations_from a.n a.s.now (l.i + 1)) × (x.interval.end < behind_all)) =
+    let start = c in
+    let s = start.args.s.now in
+    let i = c.loop-i.i in
+    let e = c.authorization_at-a.ensures in
+    let known = c.shared_slice_known-3-1.given in (
+      rest_step 24 authorization_of start.args.n s i (search rules)
+          ∙ ap (λ (y : Authorization). y ∷ authorizations_from start.args.n s (i + 1)) (sym e),
+      omega (
+        arith,
+        ap (λ (y : Authorization). y.interval.end) e,
+        end_below (drop (i * 24) s) (bytes_drop (i * 24) s (λ j. omega (arith, known j))),
+      ),
+    ) in
     let c₁ = c in
     let cₐ = c₁ in
     let pre = cₐ.requires in
-    let n = next cₐ in
+    let n = next in
     walk-full _ _ _ _ _ _ _ _ _ _ cₐ.loop-i.invariant.3 pre.0.3 pre.1.0.0 _ n.1 _
     n.0
     (turns-full _ _ _ _ _ _ _ c.enum_told-1.given.1 c₁.take_turn.ensures)
 
 pub loop-i-preserved : goal.loop-i-preserved
 loop-i-preserved c =
+    let next : (let a = c.args in let l = c.loop-i in let x = c.authorization_at-a.result in (authorizations_from a.n a.s.now l.i ≡ x ∷ authorizations_from a.n a.s.now (l.i + 1)) × (x.interval.end < behind_all)) =
+    let start = c in
+    let s = start.args.s.now in
+    let i = c.loop-i.i in
+    let e = c.authorization_at-a.ensures in
+    let known = c.shared_slice_known-3-1.given in (
+      rest_step 24 authorization_of start.args.n s i (search rules)
+          ∙ ap (λ (y : Authorization). y ∷ authorizations_from start.args.n s (i + 1)) (sym e),
+      omega (
+        arith,
+        ap (λ (y : Authorization). y.interval.end) e,
+        end_below (drop (i * 24) s) (bytes_drop (i * 24) s (λ j. omega (arith, known j))),
+      ),
+    ) in
     let c₁ = c in
     let cₐ = c₁ in
     let l = cₐ.loop-i in
     let pre = cₐ.requires in
-    let n = next cₐ in (
+    let n = next in (
       search rules,
       c₁.take_turn.auto.no.1.1.1.1.1.1.1.0 ∙ l.invariant.1,
       c₁.take_turn.auto.no.1.1.1.1.1.1.1.1.0 ∙ l.invariant.2,

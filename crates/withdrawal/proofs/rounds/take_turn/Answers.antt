@@ -8,19 +8,6 @@ use Rattle.pieces.specs.CutParts.{parts_of}
 use Rattle.withdrawal.proofs.TurnFacts.{turn-full, turn_in_lem, turn_by, turn_out}
 use Rattle.withdrawal.proofs.rounds.take_turn.Goals as goal
 
--- the pieces went in
-went-in : (c : goal.In-Lines-2) →
-    (let c₁ = c in
-    let cₜ = c₁ in
-    let a = cₜ.args in
-    let os = authorizations_in a.m a.out.now in
-    BuiltBody c.k-1.given.0.0
-    (placed a.pos (parts_of cₜ.taken_stretch-cut.result cₜ.is_root-root.result os a.a) os)
-    c₁.put_pieces.new.out c₁.put_pieces.new.sorted.0)
-went-in c =
-    let c₁ = c in
-    makes_lines _ _ _ _ _ c.k-1.given.1 c₁.put_pieces.ensures
-
 pub returns-in_default : goal.returns-in_default
 returns-in_default c =
     let c₁ = c in
@@ -32,6 +19,9 @@ returns-in_default c =
 
 pub returns-then-from-g : goal.returns-then-from-g
 returns-then-from-g c =
+    let went-in : (let c₁ = c in let cₜ = c₁ in let a = cₜ.args in let os = authorizations_in a.m a.out.now in BuiltBody c.k-1.given.0.0 (placed a.pos (parts_of cₜ.taken_stretch-cut.result cₜ.is_root-root.result os a.a) os) c₁.put_pieces.new.out c₁.put_pieces.new.sorted.0) =
+    let c₁ = c in
+    makes_lines _ _ _ _ _ c.k-1.given.1 c₁.put_pieces.ensures in
     let ck = c in
     let c₁ = ck in
     let cₜ = c₁ in
@@ -39,7 +29,7 @@ returns-then-from-g c =
     turn_in_lem a.c a.from a.to _ (authorizations_in a.m a.out.now) a.a a.pos
     cₜ.if-from-g.true _ cₜ.taken_stretch-cut.ensures _ cₜ.is_root-root.ensures
     a.m _ _ _
-    (length-records 24 authorization_of a.m a.out.now) (went-in ck)
+    (length-records 24 authorization_of a.m a.out.now) (went-in)
 
 pub returns-then-g-from : goal.returns-then-g-from
 returns-then-g-from c =
@@ -57,4 +47,8 @@ returns c =
     c.if-from-g.false a.m _ _ start.requires.1 c.if-g-from.false
 
 pub overflow_sub-result : goal.overflow_sub-result
-overflow_sub-result = λ c. placed_more _ _ _ _ (went-in c)
+overflow_sub-result c =
+    let went-in : (let c₁ = c in let cₜ = c₁ in let a = cₜ.args in let os = authorizations_in a.m a.out.now in BuiltBody c.k-1.given.0.0 (placed a.pos (parts_of cₜ.taken_stretch-cut.result cₜ.is_root-root.result os a.a) os) c₁.put_pieces.new.out c₁.put_pieces.new.sorted.0) =
+    let c₁ = c in
+    makes_lines _ _ _ _ _ c.k-1.given.1 c₁.put_pieces.ensures in
+    placed_more _ _ _ _ (went-in)
