@@ -114,6 +114,6 @@ arranged {body} {right} {rules} {g} wide {codes} same {tables} {fields} {to} {fi
       some = some;
       shared = subst (λ (u : List ℕ). TablesShared body u first' rules tables) same shared;
       laid = subst (λ (u : List ℕ). TablesLaid (all_tables g u tables first') 0 fields) same
-          (subst (λ (n : ℕ). TablesLaid (all_tables g codes tables first') 0 n) (sym e) (laid_as still laid));
+          (subst (λ (n : ℕ). TablesLaid (all_tables g codes tables first') 0 n) (sym e) (laid_as codes tables first first' still laid));
       few = few;
     }
