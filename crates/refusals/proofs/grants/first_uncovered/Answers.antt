@@ -1,4 +1,3 @@
-use borrow.Author.Tests.{not-true, not-false}
 use mathlib.Core.Path.{◌≡◌, sym, ◌∙◌, subst}
 use mathlib.Core.Bool.{true, ◌&&◌}
 use mathlib.Core.List.{List}
@@ -19,11 +18,11 @@ use Rattle.refusals.proofs.grants.first_uncovered.Goals as goal
 pub returns-then-not-is_grant : goal.returns-then-not-is_grant
 returns-then-not-is_grant c =
     let a = c.args in
-    no_grant (decode a.s.now) a.q (sym c.is_grant.ensures ∙ not-true _ c.if-not-is_grant.true)
+    no_grant (decode a.s.now) a.q (sym c.is_grant.ensures ∙ c.if-not-is_grant.true)
 
 pub returns-then-controls : goal.returns-then-controls
 returns-then-controls c =
-    let granting : grants c.args.q ≡ true = sym c.is_grant.ensures ∙ not-false _ c.if-not-is_grant.false in
+    let granting : grants c.args.q ≡ true = sym c.is_grant.ensures ∙ c.if-not-is_grant.false in
     let a = c.args in
     in_control (decode a.s.now) a.q (granting) (sym c.controls.ensures
     ∙ c.if-controls.true)
@@ -35,19 +34,19 @@ counts_of-c-requires c =
 
 pub overflow_cast-object : goal.overflow_cast-object
 overflow_cast-object c =
-    let granting : grants c.args.q ≡ true = sym c.is_grant.ensures ∙ not-false _ c.if-not-is_grant.false in
+    let granting : grants c.args.q ≡ true = sym c.is_grant.ensures ∙ c.if-not-is_grant.false in
     let fields_in : GrantIn c.args.q = let d = c in grant_in d.args.q d.requires.1 (granting) in
     omega (arith, (fields_in).object)
 
 pub overflow_cast-mode : goal.overflow_cast-mode
 overflow_cast-mode c =
-    let granting : grants c.args.q ≡ true = sym c.is_grant.ensures ∙ not-false _ c.if-not-is_grant.false in
+    let granting : grants c.args.q ≡ true = sym c.is_grant.ensures ∙ c.if-not-is_grant.false in
     let fields_in : GrantIn c.args.q = let d = c in grant_in d.args.q d.requires.1 (granting) in
     omega (arith, (fields_in).mode)
 
 pub overflow_cast-grantor : goal.overflow_cast-grantor
 overflow_cast-grantor c =
-    let granting : grants c.args.q ≡ true = sym c.is_grant.ensures ∙ not-false _ c.if-not-is_grant.false in
+    let granting : grants c.args.q ≡ true = sym c.is_grant.ensures ∙ c.if-not-is_grant.false in
     let fields_in : GrantIn c.args.q = let d = c in grant_in d.args.q d.requires.1 (granting) in
     omega (
   arith,
@@ -80,7 +79,7 @@ first_gap-requires c =
 
 pub returns : goal.returns
 returns c =
-    let granting : grants c.args.q ≡ true = sym c.is_grant.ensures ∙ not-false _ c.if-not-is_grant.false in
+    let granting : grants c.args.q ≡ true = sym c.is_grant.ensures ∙ c.if-not-is_grant.false in
     let l = c in
     let n = l in
     let e = n in

@@ -1,5 +1,4 @@
 use borrow.Author.Rules.{rules}
-use borrow.Author.Tests.{not-true, not-false}
 use mathlib.Core.Path.{◌≡◌, sym, ◌∙◌}
 use mathlib.Core.Bool.{◌&&◌}
 use Rattle.model.specs.Base.{Base}
@@ -26,7 +25,7 @@ returns-then-not-hold c =
     && c.privileges_hold-2.ensures k
     && c.authorizations_hold.ensures k && c.rules_hold.ensures k in
     let b = base in
-    λ k. (sym (not-true _ c.if-not-hold.true) ∙ held) k && all_supported b && stratified b.rules
+    λ k. (sym c.if-not-hold.true ∙ held) k && all_supported b && stratified b.rules
 
 pub all_supported-supported-requires : goal.all_supported-supported-requires
 all_supported-supported-requires c =
@@ -48,5 +47,5 @@ returns c =
     && c.privileges_hold-2.ensures k
     && c.authorizations_hold.ensures k && c.rules_hold.ensures k in
     let d = c in
-    λ k. (sym (not-false _ d.if-not-hold.false) ∙ held) k
+    λ k. (sym d.if-not-hold.false ∙ held) k
     && c.all_supported-supported.ensures k && c.stratify.ensures.test k
