@@ -17,16 +17,13 @@ returns-then-not-object c =
 
 pub returns : goal.returns
 returns c =
-    let d = c in
-    let w = d in
-    let a = w in
     rw (
       feeds_eq _ _,
-      a.alike.ensures,
-      a.meets.ensures,
-      w.meets-subject.ensures,
-      d.meets-mode.ensures,
-      w.u16_of.ensures.0,
-      w.u16_of-2.ensures.0,
-      d.fits_option-option.ensures,
+      c.alike-sign.ensures,
+      c.meets-object.ensures,
+      c.meets-subject.ensures,
+      c.meets-mode.ensures,
+      c.u16_of.ensures.0,
+      c.u16_of-2.ensures.0,
+      c.fits_option-option.ensures,
     )
