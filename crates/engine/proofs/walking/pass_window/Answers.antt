@@ -229,7 +229,7 @@ returns-then-next-q c =
           (bits_rest (2 * length (N h)) (M h) (numbers-room) y) d.ensures.1 refl
           (goes g before i.1 i.2 m done word read (part_alike n (W' h) (W h) (long h))
           k.noted-track.result b.has_bit-yes.result b.has_bit-yes.ensures _
-          (λ l. k.noted-track.ensures l (may o.base o.access) _ o.list-1 _
+          (λ l. k.noted-track.ensures l (may o.base o.access) _ o.list _
           (listed-first g before i.1 i.2 m l)
           (answered g before i.1 i.2 m done word read))
           (e h).evaluate.result (e h).evaluate.ensures.3
@@ -260,7 +260,7 @@ returns-else-next-q c =
           (e h).evaluate.ensures.1
           (ends g before i.1 i.2 m done word read (part_alike n (W' h) (W h) (long h))
           k.noted-track.result b.has_bit-yes.result b.has_bit-yes.ensures _
-          (λ l. k.noted-track.ensures l (may o.base o.access) _ o.list-1 _
+          (λ l. k.noted-track.ensures l (may o.base o.access) _ o.list _
           (listed-first g before i.1 i.2 m l)
           (answered g before i.1 i.2 m done word read))
           (e h).evaluate.result (e h).evaluate.ensures.3

@@ -80,7 +80,7 @@ close-requires c =
       (λ q e. rw (
         prepared r,
         active r,
-        part_alike k l.work-1 (s r).args.work.now v.3,
+        part_alike k l.work (s r).args.work.now v.3,
         v.2,
       ) ((s r).requires.0.0 q (v.1 q (passed (λ i. eqb (get_or (strata_of (new r)) i 0) l.k) l.todo
           o.of_stratum-now.result o.of_stratum-now.ensures q e).0))),
