@@ -17,17 +17,17 @@ pub returns-then-not-is_sound : goal.returns-then-not-is_sound
 unfolding batch_refusal
 returns-then-not-is_sound c =
     let a = c.args in
-    let t = sym c.if-not-is_sound.true ∙ ap not c.is_sound.ensures in
+    let t = sym (ap not c.if-not-is_sound.true) ∙ ap not c.is_sound.ensures in
     λ k. of_rows (t k) (ltb a.room a.questions)
 
 pub returns-then-room-questions : goal.returns-then-room-questions
 unfolding batch_refusal
 returns-then-room-questions c =
-    let passes-2 : (let a = c.args in false ≡ not (sound_bytes a.base.now)) = sym c.if-not-is_sound.false ∙ ap not c.is_sound.ensures in
+    let passes-2 : (let a = c.args in false ≡ not (sound_bytes a.base.now)) = sym (ap not c.if-not-is_sound.false) ∙ ap not c.is_sound.ensures in
     λ k. of_rows (passes-2 k) (sym (lt-ltb _ _ c.if-room-questions.true) k)
 
 pub returns : goal.returns
 unfolding batch_refusal
 returns c =
-    let passes-2 : (let a = c.args in false ≡ not (sound_bytes a.base.now)) = sym c.if-not-is_sound.false ∙ ap not c.is_sound.ensures in
+    let passes-2 : (let a = c.args in false ≡ not (sound_bytes a.base.now)) = sym (ap not c.if-not-is_sound.false) ∙ ap not c.is_sound.ensures in
     λ k. of_rows (passes-2 k) (sym (le-ltb _ _ c.if-room-questions.false) k)
