@@ -1,4 +1,6 @@
 // Soundness of each body by itself, beside the others: the order of its records, and every record.
+#![tactic(auto)]
+
 ghost use Rattle.std.specs.Prelude.{◌≡◌, ◌*◌, ◌≤◌, length};
 ghost use Rattle.encoding.specs.Format.{privileges_in, authorizations_in, rules_in};
 ghost use Rattle.bodies.specs.BodyTests.{objects_part, privileges_part, authorizations_part, rules_part};

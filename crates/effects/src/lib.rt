@@ -1,5 +1,7 @@
 // What an accepted request does to the bytes of a sound base, for the requests that withdraw no instants, and
 // of REVOKEADM what is not about authorizations.
+#![tactic(auto)]
+
 ghost use Rattle.std.specs.Prelude.{◌≡◌, true, ◌∷◌, [], ◌+◌, ◌<◌};
 ghost use Rattle.model.specs.Ranges.{last_label};
 ghost use Rattle.model.specs.Base.{privilege, listed};

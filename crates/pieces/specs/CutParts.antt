@@ -1,7 +1,6 @@
 -- What a cut leaves of one authorization: the maximal intervals of the instants that it spares and at which
 -- the grantor may grant, as two parts around what is taken.
 use Rattle.std.specs.Prelude.{ℕ, ◌+◌, min, max, Bool, ◌||◌, List, ◌++◌}
-use Rattle.foundation.specs.Intervals.{interval}
 use Rattle.model.specs.declared.Head.{Head}
 use Rattle.model.specs.declared.Authorization.{Authorization}
 use Rattle.model.specs.Withdrawal.{pieces}

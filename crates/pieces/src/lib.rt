@@ -1,5 +1,7 @@
 // What a withdrawal takes out of an authorization, and the pieces that are left of it, put into the body
 // under construction.
+#![tactic(auto)]
+
 ghost use Rattle.std.specs.Prelude.{◌∷◌, [], ◌+◌, ◌≤◌, ◌<◌};
 ghost use Rattle.encoding.specs.Format.{authorizations_in};
 ghost use Rattle.foundation.specs.Lists.{placed};

@@ -1,4 +1,6 @@
 // The requests that withdraw instants: REVOKE, REVOKEP, REVOKEN and REVOKEADM.
+#![tactic(auto)]
+
 ghost use Rattle.std.specs.Prelude.{◌≡◌, true, false, ◌∷◌, []};
 ghost use Rattle.model.specs.Encoding.{decode};
 ghost use Rattle.model.specs.Requests.{REVOKE, REVOKEP, REVOKEN, REVOKEADM, is, withdraws};

@@ -10,7 +10,7 @@ use lib.Dec.{ltb}
 use lib.ListN.{length, length-append}
 use Rattle.foundation.specs.Tests.{cases, le-true, le-false, true-le, false-le, and-false}
 use Rattle.foundation.specs.Lists.{anyb, keep_if, Mem, any_cong}
-use Rattle.foundation.specs.Intervals.{interval, in_interval, maximal, maximal_unique}
+use Rattle.foundation.specs.Intervals.{in_interval, maximal, maximal_unique}
 use Rattle.model.specs.declared.Head.{Head}
 use Rattle.model.specs.declared.Authorization.{Authorization}
 use Rattle.model.specs.Support.{supports, supported, supported-step, live}

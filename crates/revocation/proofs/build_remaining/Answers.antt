@@ -13,95 +13,83 @@ use Rattle.revocation.proofs.build_remaining.Goals as goal
 
 pub cut_of-c-requires : goal.cut_of-c-requires
 cut_of-c-requires c =
-    let d = c in
-    let row = passed_row d.args.s.now d.args.q d.requires.0.0 in
-    (row _ (inl refl), row _ (inr (inr (inl refl))), d.requires.0.1)
+    let row = passed_row c.args.s.now c.args.q c.requires.passes_early.0 in
+    (row _ (inl refl), row _ (inr (inr (inl refl))), c.requires.passes_early.1)
 
 pub counts_of-k-requires : goal.counts_of-k-requires
 counts_of-k-requires c =
-    let d = c in
-    omega (arith, (written_fitting d.args.roots.now d.requires.0.2 _ refl).long)
+    omega (arith, (written_fitting c.args.roots.now c.requires.passes_early.2 _ refl).long)
 
 pub counts_of-n-requires : goal.counts_of-n-requires
 counts_of-n-requires c =
-    let d = c in
-    omega (arith, (written_fitting d.args.s.now (written-sound _ d.requires.0.0.sound) _ refl).long)
+    omega (arith, (written_fitting c.args.s.now (written-sound _ c.requires.passes_early.0.sound) _ refl).long)
 
 pub slice_bounds-withdraw-start : goal.slice_bounds-withdraw-start
 slice_bounds-withdraw-start c =
-    let roots-fit : Fitting (c).args.roots.now c.counts_of-k.result = written_fitting _ (c).requires.0.2 _ c.counts_of-k.ensures in
+    let roots-fit : Fitting c.args.roots.now c.counts_of-k.result = written_fitting _ c.requires.passes_early.2 _ c.counts_of-k.ensures in
     omega (arith, (roots-fit).long)
 
 pub slice_bounds-withdraw-count : goal.slice_bounds-withdraw-count
 slice_bounds-withdraw-count c =
-    let roots-fit : Fitting (c).args.roots.now c.counts_of-k.result = written_fitting _ (c).requires.0.2 _ c.counts_of-k.ensures in
+    let roots-fit : Fitting c.args.roots.now c.counts_of-k.result = written_fitting _ c.requires.passes_early.2 _ c.counts_of-k.ensures in
     omega (arith, (roots-fit).long)
 
 pub slice_bounds-withdraw-start-2 : goal.slice_bounds-withdraw-start-2
 slice_bounds-withdraw-start-2 c =
-    let roots-fit : Fitting (c).args.roots.now c.counts_of-k.result = written_fitting _ (c).requires.0.2 _ c.counts_of-k.ensures in
-    let p = c in
-    omega (arith, roots-fit, p.administrators_at-administrators.ensures)
+    let roots-fit : Fitting c.args.roots.now c.counts_of-k.result = written_fitting _ c.requires.passes_early.2 _ c.counts_of-k.ensures in
+    omega (arith, roots-fit, c.administrators_at-administrators.ensures)
 
 pub slice_bounds-withdraw-count-2 : goal.slice_bounds-withdraw-count-2
 slice_bounds-withdraw-count-2 c =
-    let roots-fit : Fitting (c).args.roots.now c.counts_of-k.result = written_fitting _ (c).requires.0.2 _ c.counts_of-k.ensures in
-    let p = c in
-    omega (arith, roots-fit, p.administrators_at-administrators.ensures)
+    let roots-fit : Fitting c.args.roots.now c.counts_of-k.result = written_fitting _ c.requires.passes_early.2 _ c.counts_of-k.ensures in
+    omega (arith, roots-fit, c.administrators_at-administrators.ensures)
 
 pub slice_bounds-withdraw-start-3 : goal.slice_bounds-withdraw-start-3
 slice_bounds-withdraw-start-3 c =
-    let base-fit : Fitting (c).args.s.now c.counts_of-n.result = written_fitting _ (written-sound _ (c).requires.0.0.sound) _
+    let base-fit : Fitting c.args.s.now c.counts_of-n.result = written_fitting _ (written-sound _ c.requires.passes_early.0.sound) _
     c.counts_of-n.ensures in
-    let p = c in
-    omega (arith, base-fit, p.authorizations_at-at.ensures)
+    omega (arith, base-fit, c.authorizations_at-at.ensures)
 
 pub slice_bounds-withdraw-count-3 : goal.slice_bounds-withdraw-count-3
 slice_bounds-withdraw-count-3 c =
-    let base-fit : Fitting (c).args.s.now c.counts_of-n.result = written_fitting _ (written-sound _ (c).requires.0.0.sound) _
+    let base-fit : Fitting c.args.s.now c.counts_of-n.result = written_fitting _ (written-sound _ c.requires.passes_early.0.sound) _
     c.counts_of-n.ensures in
-    let p = c in
-    omega (arith, base-fit, p.authorizations_at-at.ensures)
+    omega (arith, base-fit, c.authorizations_at-at.ensures)
 
 pub withdraw-requires : goal.withdraw-requires
 withdraw-requires c =
-    let roots-fit : Fitting (c).args.roots.now c.counts_of-k.result = written_fitting _ (c).requires.0.2 _ c.counts_of-k.ensures in
-    let base-fit : Fitting (c).args.s.now c.counts_of-n.result = written_fitting _ (written-sound _ (c).requires.0.0.sound) _
+    let roots-fit : Fitting c.args.roots.now c.counts_of-k.result = written_fitting _ c.requires.passes_early.2 _ c.counts_of-k.ensures in
+    let base-fit : Fitting c.args.s.now c.counts_of-n.result = written_fitting _ (written-sound _ c.requires.passes_early.0.sound) _
     c.counts_of-n.ensures in
-    let p = c in
-    let d = p in
-    let k = p.counts_of-k in
-    let n = p.counts_of-n in
+    let k = c.counts_of-k in
+    let n = c.counts_of-n in
     let r = roots-fit in
-    let b = base-fit in (
-      (
-        there d.args.roots.now 32 32 _ refl (omega (arith, r)),
-        there d.args.roots.now _ (administrators_at k.result) _
-            p.administrators_at-administrators.ensures (omega (arith, r)),
-        there d.args.s.now _ (authorizations_at n.result) _ p.authorizations_at-at.ensures
+    let b = base-fit in record {
+      no_in_bounds = (
+        there c.args.roots.now 32 32 _ refl (omega (arith, r)),
+        there c.args.roots.now _ (administrators_at k.result) _
+            c.administrators_at-administrators.ensures (omega (arith, r)),
+        there c.args.s.now _ (authorizations_at n.result) _ c.authorizations_at-at.ensures
             (omega (arith, b)),
-        d.requires.0.3,
-      ),
-      (
-        p.cut_of-c.ensures.1,
-        lent_sorted d.args.s.now d.args.q (passed_sound _ _ d.requires.0.0) n.result
+        c.requires.passes_early.3,
+      );
+      cut_ordered = (
+        c.cut_of-c.ensures.1,
+        lent_sorted c.args.s.now c.args.q (passed_sound _ _ c.requires.passes_early.0) n.result
             n.ensures _
-            p.authorizations_at-at.ensures,
-      ),
-    )
+            c.authorizations_at-at.ensures,
+      );
+    }
 
 pub returns : goal.returns
 returns c =
-    let w = c in
-    let p = w in
-    let d = p in
-    let k = p.counts_of-k in
-    let n = p.counts_of-n in
-    let cut = p.cut_of-c in
-    subst (λ (ys : List Authorization). Built ys w.withdraw.result
-    w.withdraw.new.no.1.1.1.1.1.1.0)
-    (remains d.args.s.now d.args.q (passed_sound _ _ d.requires.0.0) n.result n.ensures _
-    p.authorizations_at-at.ensures d.requires.0.1 cut.result cut.ensures.0 d.args.roots.now
+    let k = c.counts_of-k in
+    let n = c.counts_of-n in
+    let cut = c.cut_of-c in
+    subst (λ (ys : List Authorization). Built ys c.withdraw.result
+    c.withdraw.new.out)
+    (remains c.args.s.now c.args.q (passed_sound _ _ c.requires.passes_early.0) n.result n.ensures _
+    c.authorizations_at-at.ensures c.requires.passes_early.1 cut.result cut.ensures.0 c.args.roots.now
     k.result
-    k.ensures _ p.administrators_at-administrators.ensures d.requires.1.0 d.requires.1.1)
-    w.withdraw.ensures
+    k.ensures _ c.administrators_at-administrators.ensures c.requires.roots_value.0 c.requires.roots_value.1)
+    c.withdraw.ensures

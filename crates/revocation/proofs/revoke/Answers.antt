@@ -12,63 +12,48 @@ use Rattle.revocation.proofs.revoke.Goals as goal
 
 pub build_remaining-requires : goal.build_remaining-requires
 build_remaining-requires c =
-    let d = c in
-    let q = d.args.q in
-    let k = d.requires.1 in (
-      (d.requires.0, named-withdraws q k, written-sound _ d.requires.0.sound, (search rules, search rules)),
-      (named-objects q _ k, named_administrators q _ k),
-    )
+    let q = c.args.q in
+    let k = c.requires.1 in record {
+      passes_early = (c.requires.0, named-withdraws q k, written-sound _ c.requires.0.sound, (search rules, search rules));
+      roots_value = (named-objects q _ k, named_administrators q _ k);
+    }
 
 pub returns-in_default : goal.returns-in_default
 returns-in_default c =
-    let r = c in
-    let d = r in
-    carried_full d.args.s.now d.args.q d.requires.0 (named-withdraws d.args.q d.requires.1) _ _
-    r.build_remaining.ensures c.enum_told-1.given.1
+    carried_full c.args.s.now c.args.q c.requires.0 (named-withdraws c.args.q c.requires.1) _ _
+    c.build_remaining.ensures c.in_default.is
 
 pub replace_authorizations-requires : goal.replace_authorizations-requires
 replace_authorizations-requires c =
-    let base-written : Written (c).args.s.now = written-sound _ (c).requires.0.sound in
-    let left : let r = c in AuthorizationsLeft (c).args.s.now (c).args.q c.m-1.given.0.0 r.build_remaining.new.s.1.1.0 =
-    let d = c in
-    lines_left_lem d.args.s.now d.args.q d.requires.0 (named-withdraws d.args.q d.requires.1) _ _
-    c.build_remaining.ensures _ c.m-1.given.1 in
-    let p = c in
+    let base-written : Written c.args.s.now = written-sound _ c.requires.0.sound in
+    let left : AuthorizationsLeft c.args.s.now c.args.q c.in-Lines.m c.build_remaining.new.out =
+    lines_left_lem c.args.s.now c.args.q c.requires.0 (named-withdraws c.args.q c.requires.1) _ _
+    c.build_remaining.ensures _ c.in-Lines.is in
     replace_ready _ (base-written) _ _ _ _ (left) (search rules)
 
 pub set_clock-requires : goal.set_clock-requires
 set_clock-requires c =
-    let base-written : Written (c).args.s.now = written-sound _ (c).requires.0.sound in
-    let left : let r = c in AuthorizationsLeft (c).args.s.now (c).args.q c.m-1.given.0.0 r.build_remaining.new.s.1.1.0 =
-    let d = c in
-    lines_left_lem d.args.s.now d.args.q d.requires.0 (named-withdraws d.args.q d.requires.1) _ _
-    c.build_remaining.ensures _ c.m-1.given.1 in
-    let r = c in
-    let p = r in
-    (replaced_holds _ (base-written) _ _ _ _ (left) _ r.replace_authorizations.ensures).written
+    let base-written : Written c.args.s.now = written-sound _ c.requires.0.sound in
+    let left : AuthorizationsLeft c.args.s.now c.args.q c.in-Lines.m c.build_remaining.new.out =
+    lines_left_lem c.args.s.now c.args.q c.requires.0 (named-withdraws c.args.q c.requires.1) _ _
+    c.build_remaining.ensures _ c.in-Lines.is in
+    (replaced_holds _ (base-written) _ _ _ _ (left) _ c.replace_authorizations.ensures).written
 
 pub overflow_cast-result : goal.overflow_cast-result
 overflow_cast-result c =
-    let left : let r = c in AuthorizationsLeft (c).args.s.now (c).args.q c.m-1.given.0.0 r.build_remaining.new.s.1.1.0 =
-    let d = c in
-    lines_left_lem d.args.s.now d.args.q d.requires.0 (named-withdraws d.args.q d.requires.1) _ _
-    c.build_remaining.ensures _ c.m-1.given.1 in
-    let p = c in
-    omega (arith, (left).result.ranges)
+    let left : AuthorizationsLeft c.args.s.now c.args.q c.in-Lines.m c.build_remaining.new.out =
+    lines_left_lem c.args.s.now c.args.q c.requires.0 (named-withdraws c.args.q c.requires.1) _ _
+    c.build_remaining.ensures _ c.in-Lines.is in
+    omega (arith, (left).result.fits)
 
 pub returns : goal.returns
 returns c =
-    let base-written : Written (c).args.s.now = written-sound _ (c).requires.0.sound in
-    let left : let r = c in AuthorizationsLeft (c).args.s.now (c).args.q c.m-1.given.0.0 r.build_remaining.new.s.1.1.0 =
-    let d = c in
-    lines_left_lem d.args.s.now d.args.q d.requires.0 (named-withdraws d.args.q d.requires.1) _ _
-    c.build_remaining.ensures _ c.m-1.given.1 in
-    let t = c in
-    let r = t in
-    let p = r in
-    let d = p in
-    let q = d.args.q in
-    carried_done d.args.s.now q (named-withdraws q d.requires.1) _ _ (left) _
-    (clocked _ (base-written) _ _ _ _ (left) _ r.replace_authorizations.ensures _ _
-    t.set_clock.ensures
-    ∙ ap encode (sym (effect-named (decode d.args.s.now) q d.requires.1)))
+    let base-written : Written c.args.s.now = written-sound _ c.requires.0.sound in
+    let left : AuthorizationsLeft c.args.s.now c.args.q c.in-Lines.m c.build_remaining.new.out =
+    lines_left_lem c.args.s.now c.args.q c.requires.0 (named-withdraws c.args.q c.requires.1) _ _
+    c.build_remaining.ensures _ c.in-Lines.is in
+    let q = c.args.q in
+    carried_done c.args.s.now q (named-withdraws q c.requires.1) _ _ (left) _
+    (clocked _ (base-written) _ _ _ _ (left) _ c.replace_authorizations.ensures _ _
+    c.set_clock.ensures
+    ∙ ap encode (sym (effect-named (decode c.args.s.now) q c.requires.1)))

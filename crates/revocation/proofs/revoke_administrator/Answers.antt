@@ -19,136 +19,103 @@ use Rattle.revocation.proofs.revoke_administrator.Goals as goal
 
 pub copy-requires : goal.copy-requires
 copy-requires c =
-    let d = c in
-    (search rules, omega (arith, written-length _ (written-sound _ d.requires.0.sound)))
+    (search rules, omega (arith, written-length _ (written-sound _ c.requires.0.sound)))
 
 pub remove_administrator-requires : goal.remove_administrator-requires
 remove_administrator-requires c =
     let copy_is : c.copy.new.s ≡ c.args.s.now =
-    let d = c in
     c.copy.ensures
-    ∙ copied d.args.s.now _ 27936 (written-length _ (written-sound _ d.requires.0.sound)) (search rules) in
-    let y = c in
-    let d = y in
-    remove_ready d.args.s.now d.args.q d.requires.0 d.requires.1 _ (copy_is)
+    ∙ copied c.args.s.now _ 27936 (written-length _ (written-sound _ c.requires.0.sound)) (search rules) in
+    remove_ready c.args.s.now c.args.q c.requires.0 c.requires.1 _ (copy_is)
 
 pub build_remaining-requires : goal.build_remaining-requires
 build_remaining-requires c =
     let copy_is : c.copy.new.s ≡ c.args.s.now =
-    let d = c in
     c.copy.ensures
-    ∙ copied d.args.s.now _ 27936 (written-length _ (written-sound _ d.requires.0.sound)) (search rules) in
+    ∙ copied c.args.s.now _ 27936 (written-length _ (written-sound _ c.requires.0.sound)) (search rules) in
     let copy-left : let a = c.args in let b = decode a.s.now in c.remove_administrator.new.s ≡ encode (with_administrators (without a.q.object a.q.subject b.administrators) b) =
-    let y = c in
-    let q = y.args.q in
+    let q = c.args.q in
     c.remove_administrator.ensures
     ∙ ap (λ (l : List ℕ). encode (with_administrators
     (without q.object q.subject (decode l).administrators) (decode l))) (copy_is) in
-    let y = c in
-    let d = y in
-    let s = d.args.s.now in
-    let q = d.args.q in
-    let e = copy-left in (
-      (
-        d.requires.0,
-        administrator_withdraws q d.requires.1,
-        (removed_holds s q d.requires.0 d.requires.1 _ e).written,
+    let s = c.args.s.now in
+    let q = c.args.q in
+    let e = copy-left in record {
+      passes_early = (
+        c.requires.0,
+        administrator_withdraws q c.requires.1,
+        (removed_holds s q c.requires.0 c.requires.1 _ e).written,
         (search rules, search rules),
-      ),
-      (roots_objects s q d.requires.0 d.requires.1 _ e, roots_administrators s q d.requires.0 d.requires.1 _ e),
-    )
+      );
+      roots_value = (roots_objects s q c.requires.0 c.requires.1 _ e, roots_administrators s q c.requires.0 c.requires.1 _ e);
+    }
 
 pub returns-in_default : goal.returns-in_default
 returns-in_default c =
-    let r = c in
-    let d = r in
-    carried_full d.args.s.now d.args.q d.requires.0
-    (administrator_withdraws d.args.q d.requires.1) _ _
-    r.build_remaining.ensures c.enum_told-1.given.1
+    carried_full c.args.s.now c.args.q c.requires.0
+    (administrator_withdraws c.args.q c.requires.1) _ _
+    c.build_remaining.ensures c.in_default.is
 
 pub refers-refers-requires : goal.refers-refers-requires
 refers-refers-requires c =
-    let d = c in d.requires.0.sound
+    c.requires.0.sound
 
 pub remove_administrator-requires-2 : goal.remove_administrator-requires-2
 remove_administrator-requires-2 c =
-    let d = c in
-    remove_ready d.args.s.now d.args.q d.requires.0 d.requires.1 _ refl
+    remove_ready c.args.s.now c.args.q c.requires.0 c.requires.1 _ refl
 
 pub drop_rules-requires : goal.drop_rules-requires
 drop_rules-requires c =
-    let v = c in
-    let d = v in
-    (removed_holds d.args.s.now d.args.q d.requires.0 d.requires.1 _
-    v.remove_administrator-2.ensures
+    (removed_holds c.args.s.now c.args.q c.requires.0 c.requires.1 _
+    c.remove_administrator-2.ensures
     ).written
 
 pub replace_authorizations-requires : goal.replace_authorizations-requires
 replace_authorizations-requires c =
-    let left : let r = c in AuthorizationsLeft (c).args.s.now (c).args.q c.n-1.given.0.0 r.build_remaining.new.s.1.1.0 =
-    let d = c in
-    lines_left_lem d.args.s.now d.args.q d.requires.0
-    (administrator_withdraws d.args.q d.requires.1) _ _
-    c.build_remaining.ensures _ c.n-1.given.1 in
-    let refers-is : let d = (c) in c.refers-refers.result ≡ refers (decode d.args.s.now) d.args.q.object d.args.q.subject = c.refers-refers.ensures in
+    let left : AuthorizationsLeft c.args.s.now c.args.q c.in-Lines.n c.build_remaining.new.out =
+    lines_left_lem c.args.s.now c.args.q c.requires.0
+    (administrator_withdraws c.args.q c.requires.1) _ _
+    c.build_remaining.ensures _ c.in-Lines.is in
+    let refers-is : c.refers-refers.result ≡ refers (decode c.args.s.now) c.args.q.object c.args.q.subject = c.refers-refers.ensures in
     let rules-left : Written c.drop_rules.new.s =
-    let v = c in
-    let d = (c) in
-    (dropped d.args.s.now d.args.q d.requires.0 d.requires.1 _ v.remove_administrator-2.ensures _
+    (dropped c.args.s.now c.args.q c.requires.0 c.requires.1 _ c.remove_administrator-2.ensures _
     (refers-is) _ c.drop_rules.ensures).written in
-    let w = c in
     replace_ready _ (rules-left) _ _ _ _ (left) (search rules)
 
 pub set_clock-requires : goal.set_clock-requires
 set_clock-requires c =
-    let left : let r = c in AuthorizationsLeft (c).args.s.now (c).args.q c.n-1.given.0.0 r.build_remaining.new.s.1.1.0 =
-    let d = c in
-    lines_left_lem d.args.s.now d.args.q d.requires.0
-    (administrator_withdraws d.args.q d.requires.1) _ _
-    c.build_remaining.ensures _ c.n-1.given.1 in
-    let refers-is : let d = (c) in c.refers-refers.result ≡ refers (decode d.args.s.now) d.args.q.object d.args.q.subject = c.refers-refers.ensures in
+    let left : AuthorizationsLeft c.args.s.now c.args.q c.in-Lines.n c.build_remaining.new.out =
+    lines_left_lem c.args.s.now c.args.q c.requires.0
+    (administrator_withdraws c.args.q c.requires.1) _ _
+    c.build_remaining.ensures _ c.in-Lines.is in
+    let refers-is : c.refers-refers.result ≡ refers (decode c.args.s.now) c.args.q.object c.args.q.subject = c.refers-refers.ensures in
     let rules-left : Written c.drop_rules.new.s =
-    let v = c in
-    let d = (c) in
-    (dropped d.args.s.now d.args.q d.requires.0 d.requires.1 _ v.remove_administrator-2.ensures _
+    (dropped c.args.s.now c.args.q c.requires.0 c.requires.1 _ c.remove_administrator-2.ensures _
     (refers-is) _ c.drop_rules.ensures).written in
-    let x = c in
-    let w = x in
-    (replaced_holds _ (rules-left) _ _ _ _ (left) _ x.replace_authorizations.ensures).written
+    (replaced_holds _ (rules-left) _ _ _ _ (left) _ c.replace_authorizations.ensures).written
 
 pub overflow_cast-result : goal.overflow_cast-result
 overflow_cast-result c =
-    let left : let r = c in AuthorizationsLeft (c).args.s.now (c).args.q c.n-1.given.0.0 r.build_remaining.new.s.1.1.0 =
-    let d = c in
-    lines_left_lem d.args.s.now d.args.q d.requires.0
-    (administrator_withdraws d.args.q d.requires.1) _ _
-    c.build_remaining.ensures _ c.n-1.given.1 in
-    let x = c in
+    let left : AuthorizationsLeft c.args.s.now c.args.q c.in-Lines.n c.build_remaining.new.out =
+    lines_left_lem c.args.s.now c.args.q c.requires.0
+    (administrator_withdraws c.args.q c.requires.1) _ _
+    c.build_remaining.ensures _ c.in-Lines.is in
     omega (arith, (left).result.fits)
 
 pub returns : goal.returns
 returns c =
-    let left : let r = c in AuthorizationsLeft (c).args.s.now (c).args.q c.n-1.given.0.0 r.build_remaining.new.s.1.1.0 =
-    let d = c in
-    lines_left_lem d.args.s.now d.args.q d.requires.0
-    (administrator_withdraws d.args.q d.requires.1) _ _
-    c.build_remaining.ensures _ c.n-1.given.1 in
-    let refers-is : let d = (c) in c.refers-refers.result ≡ refers (decode d.args.s.now) d.args.q.object d.args.q.subject = c.refers-refers.ensures in
+    let left : AuthorizationsLeft c.args.s.now c.args.q c.in-Lines.n c.build_remaining.new.out =
+    lines_left_lem c.args.s.now c.args.q c.requires.0
+    (administrator_withdraws c.args.q c.requires.1) _ _
+    c.build_remaining.ensures _ c.in-Lines.is in
+    let refers-is : c.refers-refers.result ≡ refers (decode c.args.s.now) c.args.q.object c.args.q.subject = c.refers-refers.ensures in
     let rules-left : Written c.drop_rules.new.s =
-    let v = c in
-    let d = (c) in
-    (dropped d.args.s.now d.args.q d.requires.0 d.requires.1 _ v.remove_administrator-2.ensures _
+    (dropped c.args.s.now c.args.q c.requires.0 c.requires.1 _ c.remove_administrator-2.ensures _
     (refers-is) _ c.drop_rules.ensures).written in
-    let z = c in
-    let x = z in
-    let w = x in
-    let v = w in
-    let p = w in
-    let d = p in
-    let s = d.args.s.now in
-    let q = d.args.q in
-    carried_done s q (administrator_withdraws q d.requires.1) _ _ (left) _
-    (administrator_done s q d.requires.0 d.requires.1 _ v.remove_administrator-2.ensures _ (refers-is) _
-    w.drop_rules.ensures _
-    (clocked _ (rules-left) _ _ _ _ (left) _ x.replace_authorizations.ensures _ _
-    z.set_clock.ensures))
+    let s = c.args.s.now in
+    let q = c.args.q in
+    carried_done s q (administrator_withdraws q c.requires.1) _ _ (left) _
+    (administrator_done s q c.requires.0 c.requires.1 _ c.remove_administrator-2.ensures _ (refers-is) _
+    c.drop_rules.ensures _
+    (clocked _ (rules-left) _ _ _ _ (left) _ c.replace_authorizations.ensures _ _
+    c.set_clock.ensures))

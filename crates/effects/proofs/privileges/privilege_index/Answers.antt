@@ -8,7 +8,6 @@ use Rattle.edits.proofs.EditedBytes.{written-length}
 use Rattle.effects.proofs.BodiesRead.{privileges-body}
 use Rattle.effects.proofs.PrivilegePlaces.{first-starts, first_found, first-later}
 use Rattle.effects.proofs.PrivilegePlaces.{first_ends}
-use Rattle.effects.proofs.privileges.privilege_index.Invariants.{decreases-loop-i, invariant-loop-i}
 use Rattle.effects.proofs.privileges.privilege_index.Goals as goal
 
 pub counts_of-requires : goal.counts_of-requires

@@ -12,7 +12,6 @@ use Rattle.cover.specs.Cover.{covered_by}
 use Rattle.encoding.specs.Format.{authorizations_in, authorizations_from}
 use Rattle.foundation.specs.ByteRecords.{rest_all, rest_step, rest_end}
 use Rattle.pieces.proofs.NearestFacts.{near_low, near_step, nearest_none}
-use Rattle.pieces.proofs.granting.cover_from.Invariants.{decreases-loop-i, invariant-loop-i}
 use Rattle.pieces.proofs.granting.cover_from.Goals as goal
 
 pub loop-i-init : goal.loop-i-init

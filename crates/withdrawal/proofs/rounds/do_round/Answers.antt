@@ -54,7 +54,7 @@ pub returns-in_default : goal.returns-in_default
 returns-in_default c =
     let pre = c.requires in
     let n = next c.args.n c.args.s.now c.loop-i.i _ (search rules)
-        (λ j. omega (arith, c.type_inv.s j)) c.authorization_at-a.ensures in
+    (λ j. omega (arith, c.type_inv.s j)) c.authorization_at-a.ensures in
     walk-full _ _ _ _ _ _ _ _ _ _ c.loop-i.invariant.3 pre.no_in_bounds.3 pre.cut_ordered.0 _ n.1 _
     n.0 c.in_default.ensures
 
@@ -63,7 +63,7 @@ loop-i-preserved c =
     let l = c.loop-i in
     let pre = c.requires in
     let n = next c.args.n c.args.s.now l.i _ (search rules)
-        (λ j. omega (arith, c.type_inv.s j)) c.authorization_at-a.ensures in (
+    (λ j. omega (arith, c.type_inv.s j)) c.authorization_at-a.ensures in (
       search rules,
       c.take_turn.auto.out ∙ l.invariant.1,
       c.take_turn.auto.sorted ∙ l.invariant.2,

@@ -7,7 +7,6 @@ use Prim.Native.Nat.{ℕ, ◌≤◌, ◌<◌}
 use Rattle.model.specs.declared.Authorization.{Authorization}
 use Rattle.model.specs.declared.Head.{Head}
 use Rattle.support.specs.Hops.{roots_in}
-use Rattle.encoding.specs.Format.{authorizations_in}
 use Rattle.withdrawal.specs.Times.{end_of}
 use Rattle.withdrawal.proofs.TimeFacts.{end-le, end-above, end_ordered}
 use Rattle.withdrawal.proofs.Walks.{rounds-start, rounds-end, rounds-full}
