@@ -1,11 +1,11 @@
-use borrow.Author.Rules.{rules}
 use native.Mathlib.Omega.{arith}
 use mathlib.Core.Path.{◌≡◌, refl, sym, ap, ◌∙◌}
 use mathlib.Core.Bool.{Bool, true, false, not, ◌&&◌, and-true}
 use mathlib.Core.List.{List, [], ◌∷◌}
-use Prim.Native.Nat.{ℕ}
-use Rattle.foundation.specs.Tests.{le-true, not-true, not-false}
+use Prim.Native.Nat.{ℕ, ◌≤◌}
+use Rattle.foundation.specs.Tests.{le-true}
 use Rattle.foundation.specs.Intervals.{always}
+use Rattle.model.specs.declared.Pattern.{Pattern}
 use Rattle.model.specs.declared.Question.{Question}
 use Rattle.model.specs.declared.Reply.{Reply}
 use Rattle.model.specs.declared.Reply.TheVariants.{Refused}
@@ -18,8 +18,9 @@ use Rattle.model.specs.Encoding.{decode}
 use Rattle.model.specs.Soundness.{sound_bytes}
 use Rattle.model.specs.Answers.{access_in, may_reply}
 use Rattle.model.specs.Simple.{simple_answer}
-use Rattle.simple.specs.Engine.{ServedRules}
+use Rattle.simple.specs.Engine.{held_at}
 use Rattle.simple.proofs.simple_may.Goals as goal
+use Rattle.simple.proofs.simple_may.Goals.{Else-has_circle}
 
 -- the reply by what is asked of the base, in this order
 abbrev replied : (sound? in? there? circle? held? denied? : Bool) → Reply
@@ -49,148 +50,87 @@ module _ (s : List ℕ) (q : Question) where
   by_tests a b c d e f p q r u v w =
       λ k. replied (sym p k) (sym q k) (sym r k) (sym u k) (sym v k) (sym w k)
 
+-- each number of 32 bits is an instant
+said_in : (q : Question) (in? : Bool) → in? ≡ access_in q.access → q.instant ≤ 4294967295 →
+    access_in q.access && is_instant q.instant ≡ in?
+said_in q in? e h = (λ k. sym e k && le-true q.instant last_instant h k) ∙ and-true in?
+
 -- behind the rows, `denied?` being left open where nothing is held
-answered : (c : goal.Else-has_circle) (held? denied? : Bool) →
-    (let e = c in
-    positive (bytes e) (question e) ≡ held? → denial (bytes e) (question e) ≡ denied? →
-    replied true true true false held? denied? ≡ simple_answer (bytes e) (question e))
+answered : (c : Else-has_circle) (held? denied? : Bool) →
+    positive c.args.s.now c.args.q ≡ held? → denial c.args.s.now c.args.q ≡ denied? →
+    replied true true true false held? denied? ≡ simple_answer c.args.s.now c.args.q
 answered c held? denied? p d =
-    let h = c in
-    let x = h in
-    let e = x in
-    by_tests (bytes e) (question e) true true true false held? denied? (sound x)
-    (ranged x) (existing h) (served c).uncircular p d
+    by_tests c.args.s.now c.args.q true true true false held? denied?
+    (sym c.is_sound.ensures ∙ c.if-not-is_sound.false)
+    (said_in c.args.q c.access_in.result c.access_in.ensures (omega arith) ∙ c.if-not-access_in.false)
+    (sym c.exists.ensures ∙ c.if-not-exists.false) (sym c.has_circle.ensures ∙ c.if-has_circle.false) p d
+
+-- what is asked about
+said : (s : List ℕ) (q : Question) (negative held? : Bool) (p : Pattern) → p ≡ asked q.access negative →
+    held? ≡ held_at s p q.instant → holds always (decode s) q.instant (asked q.access negative) ≡ held?
+said s q negative held? p e h = sym (h ∙ ap (holds always (decode s) q.instant) e)
 
 -- ---- the replies
+
 pub returns-then-not-is_sound : goal.returns-then-not-is_sound
 returns-then-not-is_sound c =
-    let bytes : List ℕ = (c).args.s.now in
-    let question : Question = (c).args.q in
-    let e = c in
-    by_tests (bytes) (question) false _ _ _ _ _
-    (sym e.is_sound.ensures ∙ c.if-not-is_sound.true) refl refl refl refl refl
+    by_tests c.args.s.now c.args.q false _ _ _ _ _
+    (sym c.is_sound.ensures ∙ c.if-not-is_sound.true) refl refl refl refl refl
 
 pub returns-then-not-access_in : goal.returns-then-not-access_in
 returns-then-not-access_in c =
-    let bytes : List ℕ = (c).args.s.now in
-    let question : Question = (c).args.q in
-    let sound : sound_bytes (bytes) ≡ true = sym c.is_sound.ensures ∙ c.if-not-is_sound.false in
-    let said_in : in_range (bytes) (question) ≡ c.access_in.result =
-    let t = (question).instant in
-    (λ k. sym c.access_in.ensures k && le-true t last_instant (omega arith) k)
-    ∙ and-true c.access_in.result in
-    let i = c in
-    let e = i in
-    by_tests (bytes) (question) true false _ _ _ _ (sound)
-    (said_in ∙ c.if-not-access_in.true) refl refl refl refl
+    by_tests c.args.s.now c.args.q true false _ _ _ _ (sym c.is_sound.ensures ∙ c.if-not-is_sound.false)
+    (said_in c.args.q c.access_in.result c.access_in.ensures (omega arith) ∙ c.if-not-access_in.true)
+    refl refl refl refl
 
 pub exists-requires : goal.exists-requires
-exists-requires c =
-    let bytes : List ℕ = (c).args.s.now in
-    let sound : sound_bytes (bytes) ≡ true = sym c.is_sound.ensures ∙ c.if-not-is_sound.false in
-    sound
+exists-requires c = sym c.is_sound.ensures ∙ c.if-not-is_sound.false
 
 pub returns-then-not-exists : goal.returns-then-not-exists
 returns-then-not-exists c =
-    let bytes : List ℕ = (c).args.s.now in
-    let question : Question = (c).args.q in
-    let sound : sound_bytes (bytes) ≡ true = sym c.is_sound.ensures ∙ c.if-not-is_sound.false in
-    let said_in : in_range (bytes) (question) ≡ c.access_in.result =
-    let t = (question).instant in
-    (λ k. sym c.access_in.ensures k && le-true t last_instant (omega arith) k)
-    ∙ and-true c.access_in.result in
-    let ranged : in_range (bytes) (question) ≡ true = said_in ∙ c.if-not-access_in.false in
-    let x = c in
-    let e = x in
-    by_tests (bytes) (question) true true false _ _ _ (sound)
-    (ranged)
-    (sym x.exists.ensures ∙ c.if-not-exists.true) refl refl refl
+    by_tests c.args.s.now c.args.q true true false _ _ _ (sym c.is_sound.ensures ∙ c.if-not-is_sound.false)
+    (said_in c.args.q c.access_in.result c.access_in.ensures (omega arith) ∙ c.if-not-access_in.false)
+    (sym c.exists.ensures ∙ c.if-not-exists.true) refl refl refl
 
 pub has_circle-requires : goal.has_circle-requires
-has_circle-requires c =
-    let bytes : List ℕ = (c).args.s.now in
-    let sound : sound_bytes (bytes) ≡ true = sym c.is_sound.ensures ∙ c.if-not-is_sound.false in
-    sound
+has_circle-requires c = sym c.is_sound.ensures ∙ c.if-not-is_sound.false
 
 pub returns-then-has_circle : goal.returns-then-has_circle
 returns-then-has_circle c =
-    let bytes : List ℕ = (c).args.s.now in
-    let question : Question = (c).args.q in
-    let sound : sound_bytes (bytes) ≡ true = sym c.is_sound.ensures ∙ c.if-not-is_sound.false in
-    let said_in : in_range (bytes) (question) ≡ c.access_in.result =
-    let t = (question).instant in
-    (λ k. sym c.access_in.ensures k && le-true t last_instant (omega arith) k)
-    ∙ and-true c.access_in.result in
-    let ranged : in_range (bytes) (question) ≡ true = said_in ∙ c.if-not-access_in.false in
-    let existing : (let e = c in there (bytes) (question) ≡ true) = sym c.exists.ensures ∙ c.if-not-exists.false in
-    let h = c in
-    let x = h in
-    let e = x in
-    by_tests (bytes) (question) true true true true _ _ (sound)
-    (ranged)
-    (existing) (sym h.has_circle.ensures ∙ c.if-has_circle.true) refl refl
+    by_tests c.args.s.now c.args.q true true true true _ _ (sym c.is_sound.ensures ∙ c.if-not-is_sound.false)
+    (said_in c.args.q c.access_in.result c.access_in.ensures (omega arith) ∙ c.if-not-access_in.false)
+    (sym c.exists.ensures ∙ c.if-not-exists.false) (sym c.has_circle.ensures ∙ c.if-has_circle.true) refl refl
 
 pub held-requires : goal.held-requires
-held-requires c =
-    let bytes : List ℕ = (c).args.s.now in
-    let sound : sound_bytes (bytes) ≡ true = sym c.is_sound.ensures ∙ c.if-not-is_sound.false in
-    let served : ServedRules (bytes) = record {
-  sound = sound;
+held-requires c = record {
+  sound = sym c.is_sound.ensures ∙ c.if-not-is_sound.false;
   uncircular = sym c.has_circle.ensures ∙ c.if-has_circle.false;
-} in
-    served
+}
 
 pub held-requires-2 : goal.held-requires-2
-held-requires-2 c =
-    let bytes : List ℕ = (c).args.s.now in
-    let sound : sound_bytes (bytes) ≡ true = sym c.is_sound.ensures ∙ c.if-not-is_sound.false in
-    let served : ServedRules (bytes) = record {
-  sound = sound;
+held-requires-2 c = record {
+  sound = sym c.is_sound.ensures ∙ c.if-not-is_sound.false;
   uncircular = sym c.has_circle.ensures ∙ c.if-has_circle.false;
-} in
-    served
+}
 
 pub returns-then-not-held : goal.returns-then-not-held
 returns-then-not-held c =
-    let bytes : List ℕ = (c).args.s.now in
-    let question : Question = (c).args.q in
-    let said-held : positive (bytes) (question) ≡ c.held.result =
-    let e = c in
-    let at = holds always (decode (bytes)) (question).instant in
-    sym (c.held.ensures ∙ ap at c.asked.ensures) in
-    let h = c in
-    answered h false _ (said-held ∙ c.if-not-held.true) refl
+    answered (goal.at.returns-then-not-held c).Else-has_circle false _
+    (said c.args.s.now c.args.q false c.held.result c.asked.result c.asked.ensures c.held.ensures
+    ∙ c.if-not-held.true) refl
 
 pub returns-then-held : goal.returns-then-held
 returns-then-held c =
-    let bytes : List ℕ = (c).args.s.now in
-    let question : Question = (c).args.q in
-    let said-held : positive (bytes) (question) ≡ c.held.result =
-    let e = c in
-    let at = holds always (decode (bytes)) (question).instant in
-    sym (c.held.ensures ∙ ap at c.asked.ensures) in
-    let said-denied : (let e = c in denial (bytes) (question) ≡ c.held-2.result) =
-    let e = c in
-    let at = holds always (decode (bytes)) (question).instant in
-    sym (c.held-2.ensures ∙ ap at c.asked-2.ensures) in
-    let d = c in
-    let p = d in
-    answered p true true (said-held ∙ p.if-not-held.false)
-    (said-denied ∙ c.if-held.true)
+    answered (goal.at.returns-then-held c).Else-has_circle true true
+    (said c.args.s.now c.args.q false c.held.result c.asked.result c.asked.ensures c.held.ensures
+    ∙ c.if-not-held.false)
+    (said c.args.s.now c.args.q true c.held-2.result c.asked-2.result c.asked-2.ensures c.held-2.ensures
+    ∙ c.if-held.true)
 
 pub returns : goal.returns
 returns c =
-    let bytes : List ℕ = (c).args.s.now in
-    let question : Question = (c).args.q in
-    let said-held : positive (bytes) (question) ≡ c.held.result =
-    let e = c in
-    let at = holds always (decode (bytes)) (question).instant in
-    sym (c.held.ensures ∙ ap at c.asked.ensures) in
-    let said-denied : (let e = c in denial (bytes) (question) ≡ c.held-2.result) =
-    let e = c in
-    let at = holds always (decode (bytes)) (question).instant in
-    sym (c.held-2.ensures ∙ ap at c.asked-2.ensures) in
-    let d = c in
-    let p = d in
-    answered p true false (said-held ∙ p.if-not-held.false)
-    (said-denied ∙ c.if-held.false)
+    answered (goal.at.returns c).Else-has_circle true false
+    (said c.args.s.now c.args.q false c.held.result c.asked.result c.asked.ensures c.held.ensures
+    ∙ c.if-not-held.false)
+    (said c.args.s.now c.args.q true c.held-2.result c.asked-2.result c.asked-2.ensures c.held-2.ensures
+    ∙ c.if-held.false)

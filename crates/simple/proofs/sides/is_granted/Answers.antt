@@ -53,7 +53,7 @@ returns-then-has_instant-fits c =
     let a = l.args in
     let i = l.loop-i.invariant in
     any_passes 24 authorization_of (gives a.p a.t) _ (lines_from a.s.now) l.loop-i.i _ _
-    (search rules) (λ k. h.has_instant.ensures k && h.fits2.ensures k)
+    (search rules) (λ k. h.has_instant.ensures k && h.fits.ensures k)
     h.stored_authorization-a.ensures
     c.if-has_instant-fits.true i.1
     ∙ given_is a.s.now a.p a.t _ i.0
@@ -68,7 +68,7 @@ loop-i-preserved c =
       (
         search rules,
         any_fails 24 authorization_of (gives a.p a.t) _ (lines_from a.s.now) l.loop-i.i _ _
-            (search rules) (λ k. h.has_instant.ensures k && h.fits2.ensures k)
+            (search rules) (λ k. h.has_instant.ensures k && h.fits.ensures k)
             h.stored_authorization-a.ensures
             c.if-has_instant-fits.false i.1,
       ),

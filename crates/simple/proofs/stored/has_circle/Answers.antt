@@ -13,13 +13,13 @@ counts_of-requires c = omega (arith, sound-length c.args.s.now c.requires)
 
 pub slice_bounds-is_circular-count : goal.slice_bounds-is_circular-count
 slice_bounds-is_circular-count c =
-    let n = c in
-    let d = n in
-    let f = fitting d.args.s.now d.requires n.counts_of.result n.counts_of.ensures in
+    let f = fitting c.args.s.now c.requires c.counts_of.result c.counts_of.ensures in
     omega (arith, f, c.rules_at-at.ensures)
 
 pub slice_bounds-is_circular-start : goal.slice_bounds-is_circular-start
-slice_bounds-is_circular-start c = sub-is-circular c
+slice_bounds-is_circular-start c =
+    let f = fitting c.args.s.now c.requires c.counts_of.result c.counts_of.ensures in
+    omega (arith, f, c.rules_at-at.ensures)
 
 pub rule_count-requires : goal.rule_count-requires
 rule_count-requires c = c.requires
