@@ -7,7 +7,7 @@ use Rattle.model.specs.Rules.{when}
 use Rattle.queries.specs.Asking.{BodiesIn}
 use Rattle.queries.proofs.QuestionBodies.{most, listing, listing_short}
 use Rattle.queries.proofs.ask.runs_if_room.Goals as goal
-use Rattle.queries.proofs.ask.runs_if_room.Goals.{then-pairs-n, else-pairs-n}
+use Rattle.queries.proofs.ask.runs_if_room.Goals.{then-pairs-n+else-pairs-r, else-pairs-n}
 
 pub returns-then-pairs-r : goal.returns-then-pairs-r
 returns-then-pairs-r c =
@@ -20,7 +20,7 @@ pub returns : goal.returns
 returns c =
     let room : (let a = c.args in (base : Base) → BodiesIn a.records.now a.n (decode a.s.now) base → length (when base a.x) ≤ length a.list.now / 2) = λ base b.    let a = c.args in
     elim c.if-pairs-n.branch [
-      then-pairs-n w ↦ omega (arith, (w.runs_in-r.ensures base b).count)
+      then-pairs-n+else-pairs-r w ↦ omega (arith, (w.runs_in-r.ensures base b).count)
       | else-pairs-n w ↦ omega (arith, most b a.x)
     ] in
     let r = c.runs_in in
