@@ -15,7 +15,11 @@ slice_bounds-holds_in-count c =
     records_in d.args.s.now d.requires.0 n.result n.ensures l.result l.ensures
 
 pub slice_bounds-holds_in-start : goal.slice_bounds-holds_in-start
-slice_bounds-holds_in-start c = sub-holds-in c
+slice_bounds-holds_in-start c =
+    let d = c in
+    let n = c.counts_of-c in
+    let l = c.authorizations_at-at in
+    records_in d.args.s.now d.requires.0 n.result n.ensures l.result l.ensures
 
 pub holds_in-requires : goal.holds_in-requires
 holds_in-requires c =

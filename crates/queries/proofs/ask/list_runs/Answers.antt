@@ -18,7 +18,11 @@ slice_bounds-runs_narrowed-count c =
     records_in d.args.s.now d.requires.0 n.result n.ensures l.result l.ensures
 
 pub slice_bounds-runs_narrowed-start : goal.slice_bounds-runs_narrowed-start
-slice_bounds-runs_narrowed-start c = sub-runs-narrowed c
+slice_bounds-runs_narrowed-start c =
+    let d = c in
+    let n = c.counts_of-c in
+    let l = c.authorizations_at-at in
+    records_in d.args.s.now d.requires.0 n.result n.ensures l.result l.ensures
 
 pub runs_narrowed-requires : goal.runs_narrowed-requires
 runs_narrowed-requires c =

@@ -1,5 +1,4 @@
 use native.Mathlib.Omega.{arith}
-use mathlib.Core.Logic.{⊎_elim}
 use Prim.Native.Nat.{◌/◌, ◌≤◌}
 use lib.ListN.{length}
 use Rattle.model.specs.Base.{Base}
@@ -8,6 +7,7 @@ use Rattle.model.specs.Rules.{when}
 use Rattle.queries.specs.Asking.{BodiesIn}
 use Rattle.queries.proofs.QuestionBodies.{most, listing, listing_short}
 use Rattle.queries.proofs.ask.runs_if_room.Goals as goal
+use Rattle.queries.proofs.ask.runs_if_room.Goals.{then-pairs-n+else-pairs-r, else-pairs-n}
 
 pub returns-then-pairs-r : goal.returns-then-pairs-r
 returns-then-pairs-r c =
@@ -19,9 +19,10 @@ returns-then-pairs-r c =
 pub returns : goal.returns
 returns c =
     let room : (let a = c.args in (base : Base) → BodiesIn a.records.now a.n (decode a.s.now) base → length (when base a.x) ≤ length a.list.now / 2) = λ base b.    let a = c.args in
-    ⊎_elim (λ w. omega (arith, (w.2.ensures base b).count, w.4.left))
-    (λ w. omega (arith, w.left, most b a.x))
-    c.if-pairs-n.branch in
+    elim c.if-pairs-n.branch [
+      then-pairs-n+else-pairs-r w ↦ omega (arith, (w.runs_in-r.ensures base b).count)
+      | else-pairs-n w ↦ omega (arith, most b a.x)
+    ] in
     let r = c.runs_in in
     let j = c in
     let a = c.args in

@@ -45,7 +45,7 @@ returns-then-n c =
     let none = true_eq a.n.rules 0 (and-true (eqb a.n.rules 0) (leb a.n.authorizations 64)
     c.if-n.true).0 in
     λ base b. subst (λ (f : ℕ → Bool). ScannedTo f 4294967295 a.list.now 4294967296
-    w.walk_directly.result w.walk_directly.new.list.1.1.0) (ruleless b none a.x)
+    w.walk_directly.result w.walk_directly.new.list) (ruleless b none a.x)
     w.walk_directly.ensures
 
 pub returns : goal.returns

@@ -24,42 +24,42 @@ number_sides-sizes-requires c =
 
 pub draw_right-requires : goal.draw_right-requires
 draw_right-requires c =
-    let one : List ℕ = c.number_sides-sizes.new.coordinates.1.0 in
+    let one : List ℕ = c.number_sides-sizes.new.coordinates in
     let one-long : length (one) ≡ 1666 =
     let s = c in
-    c.number_sides-sizes.auto.coordinates.1.0 ∙ s.requires.4 in
+    c.number_sides-sizes.auto.coordinates ∙ s.requires.4 in
     let u = c in
     let s = u in
     (s.requires.0, one-long)
 
 pub draw_left-requires : goal.draw_left-requires
 draw_left-requires c =
-    let one : List ℕ = c.number_sides-sizes.new.coordinates.1.0 in
+    let one : List ℕ = c.number_sides-sizes.new.coordinates in
     let one-long : length (one) ≡ 1666 =
     let s = c in
-    c.number_sides-sizes.auto.coordinates.1.0 ∙ s.requires.4 in
-    let two : List ℕ = c.draw_right.new.coordinates.1.0 in
+    c.number_sides-sizes.auto.coordinates ∙ s.requires.4 in
+    let two : List ℕ = c.draw_right.new.coordinates in
     let two-long : length (two) ≡ 1666 =
     let u = c in
-    c.draw_right.auto.coordinates.1.0 ∙ one-long in
+    c.draw_right.auto.coordinates ∙ one-long in
     let r = c in
     let s = r in
     (s.requires.0, two-long)
 
 pub slice_bounds-draw_masks-end : goal.slice_bounds-draw_masks-end
 slice_bounds-draw_masks-end c =
-    let one : List ℕ = c.number_sides-sizes.new.coordinates.1.0 in
+    let one : List ℕ = c.number_sides-sizes.new.coordinates in
     let one-long : length (one) ≡ 1666 =
     let s = c in
-    c.number_sides-sizes.auto.coordinates.1.0 ∙ s.requires.4 in
-    let two : List ℕ = c.draw_right.new.coordinates.1.0 in
+    c.number_sides-sizes.auto.coordinates ∙ s.requires.4 in
+    let two : List ℕ = c.draw_right.new.coordinates in
     let two-long : length (two) ≡ 1666 =
     let u = c in
-    c.draw_right.auto.coordinates.1.0 ∙ one-long in
-    let three : List ℕ = c.draw_left.new.coordinates.1.0 in
+    c.draw_right.auto.coordinates ∙ one-long in
+    let three : List ℕ = c.draw_left.new.coordinates in
     let three-long : length (three) ≡ 1666 =
     let r = c in
-    c.draw_left.auto.coordinates.1.0 ∙ two-long in
+    c.draw_left.auto.coordinates ∙ two-long in
     let l = c in
     omega (arith, three-long)
 
@@ -70,18 +70,18 @@ slice_bounds-draw_masks-end-2 c =
 
 pub draw_masks-requires : goal.draw_masks-requires
 draw_masks-requires c =
-    let one : List ℕ = c.number_sides-sizes.new.coordinates.1.0 in
+    let one : List ℕ = c.number_sides-sizes.new.coordinates in
     let one-long : length (one) ≡ 1666 =
     let s = c in
-    c.number_sides-sizes.auto.coordinates.1.0 ∙ s.requires.4 in
-    let two : List ℕ = c.draw_right.new.coordinates.1.0 in
+    c.number_sides-sizes.auto.coordinates ∙ s.requires.4 in
+    let two : List ℕ = c.draw_right.new.coordinates in
     let two-long : length (two) ≡ 1666 =
     let u = c in
-    c.draw_right.auto.coordinates.1.0 ∙ one-long in
-    let three : List ℕ = c.draw_left.new.coordinates.1.0 in
+    c.draw_right.auto.coordinates ∙ one-long in
+    let three : List ℕ = c.draw_left.new.coordinates in
     let three-long : length (three) ≡ 1666 =
     let r = c in
-    c.draw_left.auto.coordinates.1.0 ∙ two-long in
+    c.draw_left.auto.coordinates ∙ two-long in
     let chart : Chart =
     let u = c in
     record {
@@ -120,18 +120,18 @@ choosy_of-choosy-requires c =
 
 pub draw_feed-requires : goal.draw_feed-requires
 draw_feed-requires c =
-    let one : List ℕ = c.number_sides-sizes.new.coordinates.1.0 in
+    let one : List ℕ = c.number_sides-sizes.new.coordinates in
     let one-long : length (one) ≡ 1666 =
     let s = c in
-    c.number_sides-sizes.auto.coordinates.1.0 ∙ s.requires.4 in
-    let two : List ℕ = c.draw_right.new.coordinates.1.0 in
+    c.number_sides-sizes.auto.coordinates ∙ s.requires.4 in
+    let two : List ℕ = c.draw_right.new.coordinates in
     let two-long : length (two) ≡ 1666 =
     let u = c in
-    c.draw_right.auto.coordinates.1.0 ∙ one-long in
-    let three : List ℕ = c.draw_left.new.coordinates.1.0 in
+    c.draw_right.auto.coordinates ∙ one-long in
+    let three : List ℕ = c.draw_left.new.coordinates in
     let three-long : length (three) ≡ 1666 =
     let r = c in
-    c.draw_left.auto.coordinates.1.0 ∙ two-long in
+    c.draw_left.auto.coordinates ∙ two-long in
     let chart : Chart =
     let u = c in
     record {
@@ -155,20 +155,20 @@ draw_feed-requires c =
     s.args.n s.args.body.now c.draw_left.ensures.0 in
     let masks-in : List ℕ =
     let s = c in
-    put_back s.args.outline.now 0 152 c.draw_masks.new.left.1.1.0 in
+    put_back s.args.outline.now 0 152 c.draw_masks.new.left in
     let room : 152 ≤ length c.args.outline.now = omega (arith, c.requires.3) in
-    let mask-long : length c.draw_masks.new.left.1.1.0 ≡ 152 =
+    let mask-long : length c.draw_masks.new.left ≡ 152 =
     let s = c in
-    c.draw_masks.auto.left.1.1.0
+    c.draw_masks.auto.left
     ∙ part_long 0 152 s.args.outline.now (omega (arith, s.requires.3)) in
-    let masked-left : left_of (masks-in) ≡ c.draw_masks.new.left.1.1.0 =
+    let masked-left : left_of (masks-in) ≡ c.draw_masks.new.left =
     let s = c in
-    left_back s.args.outline.now c.draw_masks.new.left.1.1.0 (room) (mask-long) in
+    left_back s.args.outline.now c.draw_masks.new.left (room) (mask-long) in
     let masks-long : 280 ≤ length (masks-in) =
     let s = c in
     omega (
       arith,
-      left_long s.args.outline.now c.draw_masks.new.left.1.1.0 (room) (mask-long),
+      left_long s.args.outline.now c.draw_masks.new.left (room) (mask-long),
       s.requires.3,
     ) in
     let written : (let l = c in let s = l in WrittenMasks s.args.n (chart).width (sides_of (three)) (left_of (masks-in))) =
@@ -193,24 +193,24 @@ draw_feed-requires c =
       masks-long,
       three-long,
       λ k. ap (λ (f : List ℕ). get_or f k 0)
-          (left_feed s.args.outline.now m.draw_masks.new.left.1.1.0 (room) (mask-long))
+          (left_feed s.args.outline.now m.draw_masks.new.left (room) (mask-long))
           ∙ zero-part 152 128 s.args.outline.now s.requires.1 k,
     )
 
 pub slice_bounds-draw_controlled-end : goal.slice_bounds-draw_controlled-end
 slice_bounds-draw_controlled-end c =
-    let one : List ℕ = c.number_sides-sizes.new.coordinates.1.0 in
+    let one : List ℕ = c.number_sides-sizes.new.coordinates in
     let one-long : length (one) ≡ 1666 =
     let s = c in
-    c.number_sides-sizes.auto.coordinates.1.0 ∙ s.requires.4 in
-    let two : List ℕ = c.draw_right.new.coordinates.1.0 in
+    c.number_sides-sizes.auto.coordinates ∙ s.requires.4 in
+    let two : List ℕ = c.draw_right.new.coordinates in
     let two-long : length (two) ≡ 1666 =
     let u = c in
-    c.draw_right.auto.coordinates.1.0 ∙ one-long in
-    let three : List ℕ = c.draw_left.new.coordinates.1.0 in
+    c.draw_right.auto.coordinates ∙ one-long in
+    let three : List ℕ = c.draw_left.new.coordinates in
     let three-long : length (three) ≡ 1666 =
     let r = c in
-    c.draw_left.auto.coordinates.1.0 ∙ two-long in
+    c.draw_left.auto.coordinates ∙ two-long in
     let l = c in
     omega (arith, three-long)
 
@@ -218,41 +218,41 @@ pub slice_bounds-draw_controlled-end-2 : goal.slice_bounds-draw_controlled-end-2
 slice_bounds-draw_controlled-end-2 c =
     let masks-in : List ℕ =
     let s = c in
-    put_back s.args.outline.now 0 152 c.draw_masks.new.left.1.1.0 in
+    put_back s.args.outline.now 0 152 c.draw_masks.new.left in
     let room : 152 ≤ length c.args.outline.now = omega (arith, c.requires.3) in
-    let mask-long : length c.draw_masks.new.left.1.1.0 ≡ 152 =
+    let mask-long : length c.draw_masks.new.left ≡ 152 =
     let s = c in
-    c.draw_masks.auto.left.1.1.0
+    c.draw_masks.auto.left
     ∙ part_long 0 152 s.args.outline.now (omega (arith, s.requires.3)) in
     let masks-long : 280 ≤ length (masks-in) =
     let s = c in
     omega (
       arith,
-      left_long s.args.outline.now c.draw_masks.new.left.1.1.0 (room) (mask-long),
+      left_long s.args.outline.now c.draw_masks.new.left (room) (mask-long),
       s.requires.3,
     ) in
-    let fed : List ℕ = c.draw_feed.new.outline.1.1.1.0 in
+    let fed : List ℕ = c.draw_feed.new.outline in
     let fed-long : 280 ≤ length (fed) =
     let m = c in
-    omega (arith, c.draw_feed.auto.outline.1.1.1.0, masks-long) in
+    omega (arith, c.draw_feed.auto.outline, masks-long) in
     let f = c in
     omega (arith, fed-long)
 
 -- behind the feeders
 pub draw_controlled-requires : goal.draw_controlled-requires
 draw_controlled-requires c =
-    let one : List ℕ = c.number_sides-sizes.new.coordinates.1.0 in
+    let one : List ℕ = c.number_sides-sizes.new.coordinates in
     let one-long : length (one) ≡ 1666 =
     let s = c in
-    c.number_sides-sizes.auto.coordinates.1.0 ∙ s.requires.4 in
-    let two : List ℕ = c.draw_right.new.coordinates.1.0 in
+    c.number_sides-sizes.auto.coordinates ∙ s.requires.4 in
+    let two : List ℕ = c.draw_right.new.coordinates in
     let two-long : length (two) ≡ 1666 =
     let u = c in
-    c.draw_right.auto.coordinates.1.0 ∙ one-long in
-    let three : List ℕ = c.draw_left.new.coordinates.1.0 in
+    c.draw_right.auto.coordinates ∙ one-long in
+    let three : List ℕ = c.draw_left.new.coordinates in
     let three-long : length (three) ≡ 1666 =
     let r = c in
-    c.draw_left.auto.coordinates.1.0 ∙ two-long in
+    c.draw_left.auto.coordinates ∙ two-long in
     let chart : Chart =
     let u = c in
     record {
@@ -270,27 +270,27 @@ draw_controlled-requires c =
     u.number_sides-sizes.ensures.0 u.number_sides-sizes.ensures.1 in
     let masks-in : List ℕ =
     let s = c in
-    put_back s.args.outline.now 0 152 c.draw_masks.new.left.1.1.0 in
+    put_back s.args.outline.now 0 152 c.draw_masks.new.left in
     let room : 152 ≤ length c.args.outline.now = omega (arith, c.requires.3) in
-    let mask-long : length c.draw_masks.new.left.1.1.0 ≡ 152 =
+    let mask-long : length c.draw_masks.new.left ≡ 152 =
     let s = c in
-    c.draw_masks.auto.left.1.1.0
+    c.draw_masks.auto.left
     ∙ part_long 0 152 s.args.outline.now (omega (arith, s.requires.3)) in
-    let masked-left : left_of (masks-in) ≡ c.draw_masks.new.left.1.1.0 =
+    let masked-left : left_of (masks-in) ≡ c.draw_masks.new.left =
     let s = c in
-    left_back s.args.outline.now c.draw_masks.new.left.1.1.0 (room) (mask-long) in
+    left_back s.args.outline.now c.draw_masks.new.left (room) (mask-long) in
     let masks-long : 280 ≤ length (masks-in) =
     let s = c in
     omega (
       arith,
-      left_long s.args.outline.now c.draw_masks.new.left.1.1.0 (room) (mask-long),
+      left_long s.args.outline.now c.draw_masks.new.left (room) (mask-long),
       s.requires.3,
     ) in
-    let fed : List ℕ = c.draw_feed.new.outline.1.1.1.0 in
+    let fed : List ℕ = c.draw_feed.new.outline in
     let fed-long : 280 ≤ length (fed) =
     let m = c in
-    omega (arith, c.draw_feed.auto.outline.1.1.1.0, masks-long) in
-    let fed-left : (let m = c in left_of (fed) ≡ m.draw_masks.new.left.1.1.0) =
+    omega (arith, c.draw_feed.auto.outline, masks-long) in
+    let fed-left : (let m = c in left_of (fed) ≡ m.draw_masks.new.left) =
     let m = c in
     c.draw_feed.ensures.1 ∙ masked-left in
     let f = c in
@@ -308,27 +308,27 @@ draw_controlled-requires c =
 
 pub shape_of-coordinates : goal.shape_of-coordinates
 shape_of-coordinates c =
-    let one : List ℕ = c.number_sides-sizes.new.coordinates.1.0 in
+    let one : List ℕ = c.number_sides-sizes.new.coordinates in
     let one-long : length (one) ≡ 1666 =
     let s = c in
-    c.number_sides-sizes.auto.coordinates.1.0 ∙ s.requires.4 in
-    let two : List ℕ = c.draw_right.new.coordinates.1.0 in
+    c.number_sides-sizes.auto.coordinates ∙ s.requires.4 in
+    let two : List ℕ = c.draw_right.new.coordinates in
     let two-long : length (two) ≡ 1666 =
     let u = c in
-    c.draw_right.auto.coordinates.1.0 ∙ one-long in
-    let three : List ℕ = c.draw_left.new.coordinates.1.0 in
+    c.draw_right.auto.coordinates ∙ one-long in
+    let three : List ℕ = c.draw_left.new.coordinates in
     let three-long : length (three) ≡ 1666 =
     let r = c in
-    c.draw_left.auto.coordinates.1.0 ∙ two-long in
+    c.draw_left.auto.coordinates ∙ two-long in
     let l = c in
     let s = l in
     three-long ∙ sym s.requires.4
 
 pub returns : goal.returns
 returns c =
-    let one : List ℕ = c.number_sides-sizes.new.coordinates.1.0 in
-    let two : List ℕ = c.draw_right.new.coordinates.1.0 in
-    let three : List ℕ = c.draw_left.new.coordinates.1.0 in
+    let one : List ℕ = c.number_sides-sizes.new.coordinates in
+    let two : List ℕ = c.draw_right.new.coordinates in
+    let three : List ℕ = c.draw_left.new.coordinates in
     let chart : Chart =
     let u = c in
     record {
@@ -352,27 +352,27 @@ returns c =
     s.args.n s.args.body.now c.draw_left.ensures.0 in
     let masks-in : List ℕ =
     let s = c in
-    put_back s.args.outline.now 0 152 c.draw_masks.new.left.1.1.0 in
+    put_back s.args.outline.now 0 152 c.draw_masks.new.left in
     let room : 152 ≤ length c.args.outline.now = omega (arith, c.requires.3) in
-    let mask-long : length c.draw_masks.new.left.1.1.0 ≡ 152 =
+    let mask-long : length c.draw_masks.new.left ≡ 152 =
     let s = c in
-    c.draw_masks.auto.left.1.1.0
+    c.draw_masks.auto.left
     ∙ part_long 0 152 s.args.outline.now (omega (arith, s.requires.3)) in
-    let masked-left : left_of (masks-in) ≡ c.draw_masks.new.left.1.1.0 =
+    let masked-left : left_of (masks-in) ≡ c.draw_masks.new.left =
     let s = c in
-    left_back s.args.outline.now c.draw_masks.new.left.1.1.0 (room) (mask-long) in
+    left_back s.args.outline.now c.draw_masks.new.left (room) (mask-long) in
     let masks-long : 280 ≤ length (masks-in) =
     let s = c in
     omega (
       arith,
-      left_long s.args.outline.now c.draw_masks.new.left.1.1.0 (room) (mask-long),
+      left_long s.args.outline.now c.draw_masks.new.left (room) (mask-long),
       s.requires.3,
     ) in
-    let fed : List ℕ = c.draw_feed.new.outline.1.1.1.0 in
+    let fed : List ℕ = c.draw_feed.new.outline in
     let fed-long : 280 ≤ length (fed) =
     let m = c in
-    omega (arith, c.draw_feed.auto.outline.1.1.1.0, masks-long) in
-    let fed-left : (let m = c in left_of (fed) ≡ m.draw_masks.new.left.1.1.0) =
+    omega (arith, c.draw_feed.auto.outline, masks-long) in
+    let fed-left : (let m = c in left_of (fed) ≡ m.draw_masks.new.left) =
     let m = c in
     c.draw_feed.ensures.1 ∙ masked-left in
     let d = c in
@@ -386,10 +386,10 @@ returns c =
     let k = d.draw_controlled in
     let bytes : List ℕ = s.args.bytes.now in
     let body : List ℕ = s.args.body.now in
-    let left : List ℕ = k.new.left.1.1.1.0 in
-    let long : length left ≡ 152 = k.auto.left.1.1.1.0
+    let left : List ℕ = k.new.left in
+    let long : length left ≡ 152 = k.auto.left
     ∙ part_long 0 152 (fed) (omega (arith, fed-long)) in
-    let controlled : Controlled bytes body (objects_of (three)) m.draw_masks.new.left.1.1.0 left =
+    let controlled : Controlled bytes body (objects_of (three)) m.draw_masks.new.left left =
     subst (λ (w : List ℕ). Controlled bytes body (objects_of (three)) w left) (fed-left) k.ensures in
     let drawn : RulesDrawn (decode bytes) s.args.n (chart) body left (feed_of (fed))
     (sides_of (three)) (rights_of (three)) h.choosy_of-choosy.result = record {
@@ -401,7 +401,7 @@ returns c =
           s.args.n body u.number_sides-sizes.ensures.2 r.draw_right.ensures.1;
       lefts = lefts;
       masks = masked s.requires.0 (chart) (charted) (sides_of (three)) (lefts) bytes
-          m.draw_masks.new.left.1.1.0 left m.draw_masks.ensures controlled;
+          m.draw_masks.new.left left m.draw_masks.ensures controlled;
       fed = f.draw_feed.ensures.0;
       choosy_is = h.choosy_of-choosy.ensures;
     } in

@@ -45,7 +45,7 @@ slice_bounds-number_pairs-end-2 c =
     let reached : List ℕ =
     let s = c in
     put_back s.args.numbers.now 0 (length s.args.need.now)
-    c.reach.new.right.1.1.1.1.1.0 in
+    c.reach.new.todo in
     let reached-long : (let s = c in 2 * length s.args.need.now ≤ length (reached)) =
     let s = c in
     let size : ℕ = length s.args.need.now in
@@ -55,8 +55,8 @@ slice_bounds-number_pairs-end-2 c =
     omega (
       arith,
       s.requires.4,
-      back-length numbers 0 size y.new.right.1.1.1.1.1.0 (omega arith)
-          (y.auto.right.1.1.1.1.1.0 ∙ length-take-le size numbers room),
+      back-length numbers 0 size y.new.todo (omega arith)
+          (y.auto.todo ∙ length-take-le size numbers room),
     ) in
     let y = c in
     let s = y in
@@ -67,7 +67,7 @@ number_pairs-pairs-requires c =
     let reached : List ℕ =
     let s = c in
     put_back s.args.numbers.now 0 (length s.args.need.now)
-    c.reach.new.right.1.1.1.1.1.0 in
+    c.reach.new.todo in
     let reached-long : (let s = c in 2 * length s.args.need.now ≤ length (reached)) =
     let s = c in
     let size : ℕ = length s.args.need.now in
@@ -77,8 +77,8 @@ number_pairs-pairs-requires c =
     omega (
       arith,
       s.requires.4,
-      back-length numbers 0 size y.new.right.1.1.1.1.1.0 (omega arith)
-          (y.auto.right.1.1.1.1.1.0 ∙ length-take-le size numbers room),
+      back-length numbers 0 size y.new.todo (omega arith)
+          (y.auto.todo ∙ length-take-le size numbers room),
     ) in
     let y = c in
     let s = y in (
@@ -97,7 +97,7 @@ slice_bounds-list_pairs-end c =
     let reached : List ℕ =
     let s = c in
     put_back s.args.numbers.now 0 (length s.args.need.now)
-    c.reach.new.right.1.1.1.1.1.0 in
+    c.reach.new.todo in
     let reached-long : (let s = c in 2 * length s.args.need.now ≤ length (reached)) =
     let s = c in
     let size : ℕ = length s.args.need.now in
@@ -107,20 +107,20 @@ slice_bounds-list_pairs-end c =
     omega (
       arith,
       s.requires.4,
-      back-length numbers 0 size y.new.right.1.1.1.1.1.0 (omega arith)
-          (y.auto.right.1.1.1.1.1.0 ∙ length-take-le size numbers room),
+      back-length numbers 0 size y.new.todo (omega arith)
+          (y.auto.todo ∙ length-take-le size numbers room),
     ) in
-    let number-long : (let s = c in length c.number_pairs-pairs.new.number.0 ≡ length s.args.need.now) =
+    let number-long : (let s = c in length c.number_pairs-pairs.new.number ≡ length s.args.need.now) =
     let w = c in
     let s = w in
-    c.number_pairs-pairs.auto.number.0
+    c.number_pairs-pairs.auto.number
     ∙ length-take-le (length s.args.need.now) (reached)
     (omega (arith, reached-long)) in
     let numbered : List ℕ =
     let w = c in
     let s = w in
     put_back (reached) 0 (length s.args.need.now)
-    c.number_pairs-pairs.new.number.0 in
+    c.number_pairs-pairs.new.number in
     let numbered-long : (let s = c in 2 * length s.args.need.now ≤ length (numbered)) =
     let w = c in
     let s = w in
@@ -129,7 +129,7 @@ slice_bounds-list_pairs-end c =
     omega (
       arith,
       room,
-      back-length (reached) 0 size c.number_pairs-pairs.new.number.0 (omega (arith, room))
+      back-length (reached) 0 size c.number_pairs-pairs.new.number (omega (arith, room))
           (number-long),
     ) in
     let n = c in
@@ -140,7 +140,7 @@ list_pairs-requires c =
     let reached : List ℕ =
     let s = c in
     put_back s.args.numbers.now 0 (length s.args.need.now)
-    c.reach.new.right.1.1.1.1.1.0 in
+    c.reach.new.todo in
     let reached-long : (let s = c in 2 * length s.args.need.now ≤ length (reached)) =
     let s = c in
     let size : ℕ = length s.args.need.now in
@@ -150,20 +150,20 @@ list_pairs-requires c =
     omega (
       arith,
       s.requires.4,
-      back-length numbers 0 size y.new.right.1.1.1.1.1.0 (omega arith)
-          (y.auto.right.1.1.1.1.1.0 ∙ length-take-le size numbers room),
+      back-length numbers 0 size y.new.todo (omega arith)
+          (y.auto.todo ∙ length-take-le size numbers room),
     ) in
-    let number-long : (let s = c in length c.number_pairs-pairs.new.number.0 ≡ length s.args.need.now) =
+    let number-long : (let s = c in length c.number_pairs-pairs.new.number ≡ length s.args.need.now) =
     let w = c in
     let s = w in
-    c.number_pairs-pairs.auto.number.0
+    c.number_pairs-pairs.auto.number
     ∙ length-take-le (length s.args.need.now) (reached)
     (omega (arith, reached-long)) in
     let numbered : List ℕ =
     let w = c in
     let s = w in
     put_back (reached) 0 (length s.args.need.now)
-    c.number_pairs-pairs.new.number.0 in
+    c.number_pairs-pairs.new.number in
     let numbered-long : (let s = c in 2 * length s.args.need.now ≤ length (numbered)) =
     let w = c in
     let s = w in
@@ -172,7 +172,7 @@ list_pairs-requires c =
     omega (
       arith,
       room,
-      back-length (reached) 0 size c.number_pairs-pairs.new.number.0 (omega (arith, room))
+      back-length (reached) 0 size c.number_pairs-pairs.new.number (omega (arith, room))
           (number-long),
     ) in
     let n = c in
@@ -198,7 +198,7 @@ overflow_cast-result c =
     let w = n in
     let s = w in
     let y = w.reach in
-    let need : List ℕ = y.new.right.1.1.1.1.0 in
+    let need : List ℕ = y.new.need in
     omega (
       arith,
       n.number_pairs-pairs.ensures.0,
@@ -212,7 +212,7 @@ returns c =
     let reached : List ℕ =
     let s = c in
     put_back s.args.numbers.now 0 (length s.args.need.now)
-    c.reach.new.right.1.1.1.1.1.0 in
+    c.reach.new.todo in
     let reached-long : (let s = c in 2 * length s.args.need.now ≤ length (reached)) =
     let s = c in
     let size : ℕ = length s.args.need.now in
@@ -222,20 +222,20 @@ returns c =
     omega (
       arith,
       s.requires.4,
-      back-length numbers 0 size y.new.right.1.1.1.1.1.0 (omega arith)
-          (y.auto.right.1.1.1.1.1.0 ∙ length-take-le size numbers room),
+      back-length numbers 0 size y.new.todo (omega arith)
+          (y.auto.todo ∙ length-take-le size numbers room),
     ) in
-    let number-long : (let s = c in length c.number_pairs-pairs.new.number.0 ≡ length s.args.need.now) =
+    let number-long : (let s = c in length c.number_pairs-pairs.new.number ≡ length s.args.need.now) =
     let w = c in
     let s = w in
-    c.number_pairs-pairs.auto.number.0
+    c.number_pairs-pairs.auto.number
     ∙ length-take-le (length s.args.need.now) (reached)
     (omega (arith, reached-long)) in
     let numbered : List ℕ =
     let w = c in
     let s = w in
     put_back (reached) 0 (length s.args.need.now)
-    c.number_pairs-pairs.new.number.0 in
+    c.number_pairs-pairs.new.number in
     let numbered-long : (let s = c in 2 * length s.args.need.now ≤ length (numbered)) =
     let w = c in
     let s = w in
@@ -244,7 +244,7 @@ returns c =
     omega (
       arith,
       room,
-      back-length (reached) 0 size c.number_pairs-pairs.new.number.0 (omega (arith, room))
+      back-length (reached) 0 size c.number_pairs-pairs.new.number (omega (arith, room))
           (number-long),
     ) in
     let l = c in
@@ -255,12 +255,12 @@ returns c =
     let y = w.reach in
     let l = l.list_pairs in
     let size : ℕ = length s.args.need.now in
-    let need : List ℕ = y.new.right.1.1.1.1.0 in
-    let number : List ℕ = n.number_pairs-pairs.new.number.0 in
-    let codes : List ℕ = l.new.codes.1.0 in
+    let need : List ℕ = y.new.need in
+    let number : List ℕ = n.number_pairs-pairs.new.number in
+    let codes : List ℕ = l.new.codes in
     let v : 2 * size - size ≡ size = omega arith in
     let room = reached-long in
-    let long : length codes ≡ size = l.auto.codes.1.0
+    let long : length codes ≡ size = l.auto.codes
     ∙ part_long size (2 * size - size) (numbered) (omega (arith, numbered-long)) ∙ v in (
       (λ U O. map_moved
           (twice-number (reached) number codes size size (2 * size - size) refl v room

@@ -52,19 +52,11 @@ slice_bounds-own_masks-start c =
 
 pub slice_bounds-own_masks-end-2 : goal.slice_bounds-own_masks-end-2
 slice_bounds-own_masks-end-2 c =
-    let left : List ℕ = c.own_masks.new.left.1.1.1.0 in
-    let outlined : List ℕ =
-    let s = c in
-    put_back s.args.outline.now 0 152 (left) in
     let s = c in
     omega (arith, s.requires.0.outlined)
 
 pub own_masks-requires : goal.own_masks-requires
 own_masks-requires c =
-    let left : List ℕ = c.own_masks.new.left.1.1.1.0 in
-    let outlined : List ℕ =
-    let s = c in
-    put_back s.args.outline.now 0 152 (left) in
     let s = c in
     let d = s.requires.1 in
     let from : ℕ = s.args.n.authorizations * 24 in (
@@ -124,11 +116,11 @@ with_sizes-requires c =
     ∙ ap (λ (k : ℕ). pick (eqb k 0) x.subject 0) (sym (subject-at)) in
     let v = c.own_of-2.ensures ∙ ap (λ (k : ℕ). pick (eqb k 0) x.object 0) (sym (object-at)) in
     λ i. record { subject = u i; mode = x.mode; object = v i } in
-    let left : List ℕ = c.own_masks.new.left.1.1.1.0 in
+    let left : List ℕ = c.own_masks.new.left in
     let room : 152 ≤ length c.args.outline.now = omega (arith, c.requires.0.outlined) in
     let left_is : length (left) ≡ 152 =
     let s = c in
-    c.own_masks.auto.left.1.1.1.0
+    c.own_masks.auto.left
     ∙ part_long 0 152 s.args.outline.now (omega (arith, s.requires.0.outlined)) in
     let owned : (let g = c in let s = g in Owned (decode s.args.bytes.now) s.args.n.rules (drop (s.args.n.authorizations * 24) s.args.records.now) (own) (left_of s.args.outline.now) (left)) =
     let g = c in
@@ -177,11 +169,11 @@ with_sizes-requires c =
 
 pub shape_of-outline : goal.shape_of-outline
 shape_of-outline c =
-    let left : List ℕ = c.own_masks.new.left.1.1.1.0 in
+    let left : List ℕ = c.own_masks.new.left in
     let room : 152 ≤ length c.args.outline.now = omega (arith, c.requires.0.outlined) in
     let left_is : length (left) ≡ 152 =
     let s = c in
-    c.own_masks.auto.left.1.1.1.0
+    c.own_masks.auto.left
     ∙ part_long 0 152 s.args.outline.now (omega (arith, s.requires.0.outlined)) in
     let outlined : List ℕ =
     let s = c in
@@ -192,7 +184,7 @@ shape_of-outline c =
     let z = c in
     let m = z in
     let s = m in
-    z.with_sizes.auto.k.1.0 ∙ outlined-long
+    z.with_sizes.auto.outline ∙ outlined-long
     ∙ sym s.requires.0.outlined
 
 pub returns : goal.returns
@@ -217,11 +209,11 @@ returns c =
     ∙ ap (λ (k : ℕ). pick (eqb k 0) x.subject 0) (sym (subject-at)) in
     let v = c.own_of-2.ensures ∙ ap (λ (k : ℕ). pick (eqb k 0) x.object 0) (sym (object-at)) in
     λ i. record { subject = u i; mode = x.mode; object = v i } in
-    let left : List ℕ = c.own_masks.new.left.1.1.1.0 in
+    let left : List ℕ = c.own_masks.new.left in
     let room : 152 ≤ length c.args.outline.now = omega (arith, c.requires.0.outlined) in
     let left_is : length (left) ≡ 152 =
     let s = c in
-    c.own_masks.auto.left.1.1.1.0
+    c.own_masks.auto.left
     ∙ part_long 0 152 s.args.outline.now (omega (arith, s.requires.0.outlined)) in
     let owned : (let g = c in let s = g in Owned (decode s.args.bytes.now) s.args.n.rules (drop (s.args.n.authorizations * 24) s.args.records.now) (own) (left_of s.args.outline.now) (left)) =
     let g = c in

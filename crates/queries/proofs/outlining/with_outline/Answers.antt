@@ -38,10 +38,10 @@ pub with_drawn-requires : goal.with_drawn-requires
 with_drawn-requires c =
     let p = c in
     let s = p in
-    let d = p.draw in
-    let o : List ℕ = d.new.body.1.1.0 in
-    let p : List ℕ = d.new.body.1.1.1.0 in (
-      record { recorded = s.requires.0; outlined = d.auto.body.1.1.0; placed = d.auto.body.1.1.1.0 },
+    let d = p.draw-e in
+    let o : List ℕ = d.new.outline in
+    let p : List ℕ = d.new.coordinates in (
+      record { recorded = s.requires.0; outlined = d.auto.outline; placed = d.auto.coordinates },
       subst (λ (b : List ℕ). RulesDrawn (decode s.args.bytes.now) s.args.n.rules
           (chart_for (subjects_of p) (objects_of p) d.result) b (left_of o) (feed_of o) (sides_of p) (rights_of p)
           d.result.choosy) (lent_rest (s.args.n.authorizations * 24) s.args.records.now)

@@ -73,7 +73,7 @@ map_pairs-g-requires c =
       (λ i. (s.requires.1 i).0),
       part-blank (length need) s.args.numbers.now (λ i. (s.requires.1 i).1),
       s.requires.2,
-      (chart_small _ k.outline-1.rules.well_formed.few k.outline-1.rules.charted).2,
+      (chart_small _ k.outline.rules.well_formed.few k.outline.rules.charted).2,
       omega (arith, s.requires.3),
       omega (arith, i.pair_index-pair.ensures, pair_in_lem k need s.requires.2),
       omega (arith, k.some, k.few),
@@ -94,16 +94,16 @@ offset_bounds-numbers-size c =
 
 pub slice_bounds-needed_rules-count-2 : goal.slice_bounds-needed_rules-count-2
 slice_bounds-needed_rules-count-2 c =
-    let numbered : List ℕ = c.map_pairs-g.new.pair.1.1.1.1.1.0 in
-    let numbered-long : (let s = c in length (numbered) ≡ length s.args.numbers.now) = c.map_pairs-g.auto.pair.1.1.1.1.1.0 in
+    let numbered : List ℕ = c.map_pairs-g.new.numbers in
+    let numbered-long : (let s = c in length (numbered) ≡ length s.args.numbers.now) = c.map_pairs-g.auto.numbers in
     let y = c in
     let s = y in
     omega (arith, s.requires.3, numbered-long)
 
 pub slice_bounds-needed_rules-start-2 : goal.slice_bounds-needed_rules-start-2
 slice_bounds-needed_rules-start-2 c =
-    let numbered : List ℕ = c.map_pairs-g.new.pair.1.1.1.1.1.0 in
-    let numbered-long : (let s = c in length (numbered) ≡ length s.args.numbers.now) = c.map_pairs-g.auto.pair.1.1.1.1.1.0 in
+    let numbered : List ℕ = c.map_pairs-g.new.numbers in
+    let numbered-long : (let s = c in length (numbered) ≡ length s.args.numbers.now) = c.map_pairs-g.auto.numbers in
     let y = c in
     let s = y in
     omega (arith, s.requires.3, numbered-long)
@@ -111,10 +111,10 @@ slice_bounds-needed_rules-start-2 c =
 pub needed_rules-needed-requires : goal.needed_rules-needed-requires
 needed_rules-needed-requires c =
     let left-whole : length (left_of c.args.outline.now) ≡ 152 = part_long 0 152 c.args.outline.now (omega (arith, c.requires.0.outlined)) in
-    let needed : List ℕ = c.map_pairs-g.new.pair.1.1.1.1.0 in
-    let numbered : List ℕ = c.map_pairs-g.new.pair.1.1.1.1.1.0 in
-    let needed-long : (let s = c in length (needed) ≡ length s.args.need.now) = c.map_pairs-g.auto.pair.1.1.1.1.0 in
-    let numbered-long : (let s = c in length (numbered) ≡ length s.args.numbers.now) = c.map_pairs-g.auto.pair.1.1.1.1.1.0 in
+    let needed : List ℕ = c.map_pairs-g.new.need in
+    let numbered : List ℕ = c.map_pairs-g.new.numbers in
+    let needed-long : (let s = c in length (needed) ≡ length s.args.need.now) = c.map_pairs-g.auto.need in
+    let numbered-long : (let s = c in length (numbered) ≡ length s.args.numbers.now) = c.map_pairs-g.auto.numbers in
     let mapped : (let s = c in Mapped (chart_for (subjects_of s.args.coordinates.now) (objects_of s.args.coordinates.now) s.args.k.extent) (left_of s.args.outline.now) (rights_of s.args.coordinates.now) (needed) (numbered_of (length (needed)) (numbered)) (listed_of (length (needed)) (numbered)) c.map_pairs-g.result) =
     let s = c in
     c.map_pairs-g.ensures.0 (subjects_of s.args.coordinates.now)
@@ -138,9 +138,9 @@ needed_rules-needed-requires c =
 pub lasting_of-lasting-requires : goal.lasting_of-lasting-requires
 lasting_of-lasting-requires c =
     let body_is : (let from : ℕ = c.args.k.totals.authorizations * 24 in take (length c.args.records.now - from) (drop from c.args.records.now) ≡ drop from c.args.records.now) = lent_rest (c.args.k.totals.authorizations * 24) c.args.records.now in
-    let needed : List ℕ = c.map_pairs-g.new.pair.1.1.1.1.0 in
-    let numbered : List ℕ = c.map_pairs-g.new.pair.1.1.1.1.1.0 in
-    let needed-long : (let s = c in length (needed) ≡ length s.args.need.now) = c.map_pairs-g.auto.pair.1.1.1.1.0 in
+    let needed : List ℕ = c.map_pairs-g.new.need in
+    let numbered : List ℕ = c.map_pairs-g.new.numbers in
+    let needed-long : (let s = c in length (needed) ≡ length s.args.need.now) = c.map_pairs-g.auto.need in
     let mapped : (let s = c in Mapped (chart_for (subjects_of s.args.coordinates.now) (objects_of s.args.coordinates.now) s.args.k.extent) (left_of s.args.outline.now) (rights_of s.args.coordinates.now) (needed) (numbered_of (length (needed)) (numbered)) (listed_of (length (needed)) (numbered)) c.map_pairs-g.result) =
     let s = c in
     c.map_pairs-g.ensures.0 (subjects_of s.args.coordinates.now)
@@ -161,21 +161,21 @@ lasting_of-lasting-requires c =
 
 pub slice_bounds-lay_tables-end : goal.slice_bounds-lay_tables-end
 slice_bounds-lay_tables-end c =
-    let s = (c) in
+    let s = c in
     omega (arith, s.requires.0.placed)
 
 pub slice_bounds-lay_tables-end-2 : goal.slice_bounds-lay_tables-end-2
 slice_bounds-lay_tables-end-2 c =
-    let s = (c) in
+    let s = c in
     omega (arith, s.requires.0.outlined)
 
 pub lay_tables-t-requires : goal.lay_tables-t-requires
 lay_tables-t-requires c =
     let body_is : (let from : ℕ = c.args.k.totals.authorizations * 24 in take (length c.args.records.now - from) (drop from c.args.records.now) ≡ drop from c.args.records.now) = lent_rest (c.args.k.totals.authorizations * 24) c.args.records.now in
     let rights-whole : length (rights_of c.args.coordinates.now) ≡ 256 = part_long 256 256 c.args.coordinates.now (omega (arith, c.requires.0.placed)) in
-    let needed : List ℕ = c.map_pairs-g.new.pair.1.1.1.1.0 in
-    let numbered : List ℕ = c.map_pairs-g.new.pair.1.1.1.1.1.0 in
-    let needed-long : (let s = c in length (needed) ≡ length s.args.need.now) = c.map_pairs-g.auto.pair.1.1.1.1.0 in
+    let needed : List ℕ = c.map_pairs-g.new.need in
+    let numbered : List ℕ = c.map_pairs-g.new.numbers in
+    let needed-long : (let s = c in length (needed) ≡ length s.args.need.now) = c.map_pairs-g.auto.need in
     let mapped : (let s = c in Mapped (chart_for (subjects_of s.args.coordinates.now) (objects_of s.args.coordinates.now) s.args.k.extent) (left_of s.args.outline.now) (rights_of s.args.coordinates.now) (needed) (numbered_of (length (needed)) (numbered)) (listed_of (length (needed)) (numbered)) c.map_pairs-g.result) =
     let s = c in
     c.map_pairs-g.ensures.0 (subjects_of s.args.coordinates.now)
@@ -193,7 +193,7 @@ lay_tables-t-requires c =
     let n = c in
     let s = (n) in
     bit_and s.args.k.extent.choosy n.needed_rules-needed.result in
-    let choosy-in : (let s = (c) in RulesIn (choosy) (drop (s.args.k.totals.authorizations * 24) s.args.records.now)) = λ r e.    let n = c in
+    let choosy-in : (let s = c in RulesIn (choosy) (drop (s.args.k.totals.authorizations * 24) s.args.records.now)) = λ r e.    let n = c in
     let y = n in
     let s = y in
     let all : ℕ = s.args.k.extent.choosy in
@@ -212,21 +212,21 @@ lay_tables-t-requires c =
 
 pub slice_bounds-lay_out-end : goal.slice_bounds-lay_out-end
 slice_bounds-lay_out-end c =
-    let s = ((c)) in
+    let s = c in
     omega (arith, s.requires.0.placed)
 
 pub slice_bounds-lay_out-end-2 : goal.slice_bounds-lay_out-end-2
 slice_bounds-lay_out-end-2 c =
     let first-whole : length (take 64 (drop 280 c.args.outline.now)) ≡ 64 = part_long 280 64 c.args.outline.now (omega (arith, c.requires.0.outlined)) in
-    let first : List ℕ = c.lay_tables-t.new.first.1.1.1.0 in
+    let first : List ℕ = c.lay_tables-t.new.first in
     let half : List ℕ =
-    let s = ((c)) in
+    let s = c in
     put_back s.args.outline.now 280 64 (first) in
     let first-long : length (first) ≡ 64 =
-    let s = ((c)) in
-    c.lay_tables-t.auto.first.1.1.1.0 ∙ first-whole in
+    let s = c in
+    c.lay_tables-t.auto.first ∙ first-whole in
     let half_long : length (half) ≡ 536 =
-    let s = ((c)) in
+    let s = c in
     back-length s.args.outline.now 280 64 (first) (omega (arith, s.requires.0.outlined)) (first-long)
     ∙ s.requires.0.outlined in
     omega (arith, half_long)
@@ -234,9 +234,9 @@ slice_bounds-lay_out-end-2 c =
 pub lay_out-bits-requires : goal.lay_out-bits-requires
 lay_out-bits-requires c =
     let body_is : (let from : ℕ = c.args.k.totals.authorizations * 24 in take (length c.args.records.now - from) (drop from c.args.records.now) ≡ drop from c.args.records.now) = lent_rest (c.args.k.totals.authorizations * 24) c.args.records.now in
-    let needed : List ℕ = c.map_pairs-g.new.pair.1.1.1.1.0 in
-    let numbered : List ℕ = c.map_pairs-g.new.pair.1.1.1.1.1.0 in
-    let needed-long : (let s = c in length (needed) ≡ length s.args.need.now) = c.map_pairs-g.auto.pair.1.1.1.1.0 in
+    let needed : List ℕ = c.map_pairs-g.new.need in
+    let numbered : List ℕ = c.map_pairs-g.new.numbers in
+    let needed-long : (let s = c in length (needed) ≡ length s.args.need.now) = c.map_pairs-g.auto.need in
     let mapped : (let s = c in Mapped (chart_for (subjects_of s.args.coordinates.now) (objects_of s.args.coordinates.now) s.args.k.extent) (left_of s.args.outline.now) (rights_of s.args.coordinates.now) (needed) (numbered_of (length (needed)) (numbered)) (listed_of (length (needed)) (numbered)) c.map_pairs-g.result) =
     let s = c in
     c.map_pairs-g.ensures.0 (subjects_of s.args.coordinates.now)
@@ -256,15 +256,15 @@ lay_out-bits-requires c =
     ∙ ap (λ (b : List ℕ). bit r n.needed_rules-needed.result && lasting (rule_at b r).operator)
     (body_is) in
     let first-whole : length (take 64 (drop 280 c.args.outline.now)) ≡ 64 = part_long 280 64 c.args.outline.now (omega (arith, c.requires.0.outlined)) in
-    let first : List ℕ = c.lay_tables-t.new.first.1.1.1.0 in
+    let first : List ℕ = c.lay_tables-t.new.first in
     let half : List ℕ =
-    let s = ((c)) in
+    let s = c in
     put_back s.args.outline.now 280 64 (first) in
     let first-long : length (first) ≡ 64 =
-    let s = ((c)) in
-    c.lay_tables-t.auto.first.1.1.1.0 ∙ first-whole in
+    let s = c in
+    c.lay_tables-t.auto.first ∙ first-whole in
     let half_long : length (half) ≡ 536 =
-    let s = ((c)) in
+    let s = c in
     back-length s.args.outline.now 280 64 (first) (omega (arith, s.requires.0.outlined)) (first-long)
     ∙ s.requires.0.outlined in
     let starts-whole : length (take 64 (drop 344 (half))) ≡ 64 = part_long 344 64 (half) (omega (arith, half_long)) in
@@ -289,50 +289,50 @@ lay_out-bits-requires c =
 pub offset_bounds-numbers-pair : goal.offset_bounds-numbers-pair
 offset_bounds-numbers-pair c =
     let asked : ℕ =
-    let k = (c).args.k in
+    let k = c.args.k in
     pair_index k.extent.subjects k.object k.subject in
-    let asked_is : (c).pair-index.result ≡ asked = (c).pair-index.ensures in
-    let y = (c) in
+    let asked_is : c.pair_index-pair.result ≡ asked = c.pair_index-pair.ensures in
+    let y = c in
     let s = y in
     omega (arith, asked_is, pair_few s.requires.4.1.asked_outline)
 
 pub bounds-numbers-pair : goal.bounds-numbers-pair
 bounds-numbers-pair c =
-    let needed : List ℕ = c.map_pairs-g.new.pair.1.1.1.1.0 in
-    let numbered : List ℕ = c.map_pairs-g.new.pair.1.1.1.1.1.0 in
-    let needed-long : (let s = c in length (needed) ≡ length s.args.need.now) = c.map_pairs-g.auto.pair.1.1.1.1.0 in
-    let numbered-long : (let s = c in length (numbered) ≡ length s.args.numbers.now) = c.map_pairs-g.auto.pair.1.1.1.1.1.0 in
+    let needed : List ℕ = c.map_pairs-g.new.need in
+    let numbered : List ℕ = c.map_pairs-g.new.numbers in
+    let needed-long : (let s = c in length (needed) ≡ length s.args.need.now) = c.map_pairs-g.auto.need in
+    let numbered-long : (let s = c in length (numbered) ≡ length s.args.numbers.now) = c.map_pairs-g.auto.numbers in
     let mapped : (let s = c in Mapped (chart_for (subjects_of s.args.coordinates.now) (objects_of s.args.coordinates.now) s.args.k.extent) (left_of s.args.outline.now) (rights_of s.args.coordinates.now) (needed) (numbered_of (length (needed)) (numbered)) (listed_of (length (needed)) (numbered)) c.map_pairs-g.result) =
     let s = c in
     c.map_pairs-g.ensures.0 (subjects_of s.args.coordinates.now)
     (objects_of s.args.coordinates.now) in
     let asked : ℕ =
-    let k = (c).args.k in
+    let k = c.args.k in
     pair_index k.extent.subjects k.object k.subject in
-    let asked_is : (c).pair-index.result ≡ asked = (c).pair-index.ensures in
+    let asked_is : c.pair_index-pair.result ≡ asked = c.pair_index-pair.ensures in
     let pair-there : asked < length (needed) =
     let s = c in
     pair_in_lem s.requires.4.1.asked_outline (needed) (mapped).size in
-    let y = (c) in
+    let y = c in
     let s = y in
     omega (arith, asked_is, pair-there, needed-long, numbered-long, s.requires.3)
 
 pub overflow_cast-place : goal.overflow_cast-place
 overflow_cast-place c =
-    let needed : List ℕ = c.map_pairs-g.new.pair.1.1.1.1.0 in
-    let numbered : List ℕ = c.map_pairs-g.new.pair.1.1.1.1.1.0 in
+    let needed : List ℕ = c.map_pairs-g.new.need in
+    let numbered : List ℕ = c.map_pairs-g.new.numbers in
     let mapped : (let s = c in Mapped (chart_for (subjects_of s.args.coordinates.now) (objects_of s.args.coordinates.now) s.args.k.extent) (left_of s.args.outline.now) (rights_of s.args.coordinates.now) (needed) (numbered_of (length (needed)) (numbered)) (listed_of (length (needed)) (numbered)) c.map_pairs-g.result) =
     let s = c in
     c.map_pairs-g.ensures.0 (subjects_of s.args.coordinates.now)
     (objects_of s.args.coordinates.now) in
     let asked : ℕ =
-    let k = (c).args.k in
+    let k = c.args.k in
     pair_index k.extent.subjects k.object k.subject in
-    let asked_is : (c).pair-index.result ≡ asked = (c).pair-index.ensures in
+    let asked_is : c.pair_index-pair.result ≡ asked = c.pair_index-pair.ensures in
     let pair-there : asked < length (needed) =
     let s = c in
     pair_in_lem s.requires.4.1.asked_outline (needed) (mapped).size in
-    let y = (c) in
+    let y = c in
     let s = y in
     omega (
       arith,
@@ -346,9 +346,9 @@ overflow_cast-place c =
 pub walk_start-requires : goal.walk_start-requires
 walk_start-requires c =
     let body_is : (let from : ℕ = c.args.k.totals.authorizations * 24 in take (length c.args.records.now - from) (drop from c.args.records.now) ≡ drop from c.args.records.now) = lent_rest (c.args.k.totals.authorizations * 24) c.args.records.now in
-    let needed : List ℕ = c.map_pairs-g.new.pair.1.1.1.1.0 in
-    let numbered : List ℕ = c.map_pairs-g.new.pair.1.1.1.1.1.0 in
-    let needed-long : (let s = c in length (needed) ≡ length s.args.need.now) = c.map_pairs-g.auto.pair.1.1.1.1.0 in
+    let needed : List ℕ = c.map_pairs-g.new.need in
+    let numbered : List ℕ = c.map_pairs-g.new.numbers in
+    let needed-long : (let s = c in length (needed) ≡ length s.args.need.now) = c.map_pairs-g.auto.need in
     let mapped : (let s = c in Mapped (chart_for (subjects_of s.args.coordinates.now) (objects_of s.args.coordinates.now) s.args.k.extent) (left_of s.args.outline.now) (rights_of s.args.coordinates.now) (needed) (numbered_of (length (needed)) (numbered)) (listed_of (length (needed)) (numbered)) c.map_pairs-g.result) =
     let s = c in
     c.map_pairs-g.ensures.0 (subjects_of s.args.coordinates.now)
@@ -367,7 +367,7 @@ walk_start-requires c =
     c.lasting_of-lasting.ensures r
     ∙ ap (λ (b : List ℕ). bit r n.needed_rules-needed.result && lasting (rule_at b r).operator)
     (body_is) in
-    let f = (c) in
+    let f = c in
     let n = f in
     let y = n in
     let s = y in
@@ -379,10 +379,10 @@ walk_start-requires c =
 pub with_lines-requires : goal.with_lines-requires
 with_lines-requires c =
     let body_is : (let from : ℕ = c.args.k.totals.authorizations * 24 in take (length c.args.records.now - from) (drop from c.args.records.now) ≡ drop from c.args.records.now) = lent_rest (c.args.k.totals.authorizations * 24) c.args.records.now in
-    let needed : List ℕ = c.map_pairs-g.new.pair.1.1.1.1.0 in
-    let numbered : List ℕ = c.map_pairs-g.new.pair.1.1.1.1.1.0 in
-    let needed-long : (let s = c in length (needed) ≡ length s.args.need.now) = c.map_pairs-g.auto.pair.1.1.1.1.0 in
-    let numbered-long : (let s = c in length (numbered) ≡ length s.args.numbers.now) = c.map_pairs-g.auto.pair.1.1.1.1.1.0 in
+    let needed : List ℕ = c.map_pairs-g.new.need in
+    let numbered : List ℕ = c.map_pairs-g.new.numbers in
+    let needed-long : (let s = c in length (needed) ≡ length s.args.need.now) = c.map_pairs-g.auto.need in
+    let numbered-long : (let s = c in length (numbered) ≡ length s.args.numbers.now) = c.map_pairs-g.auto.numbers in
     let mapped : (let s = c in Mapped (chart_for (subjects_of s.args.coordinates.now) (objects_of s.args.coordinates.now) s.args.k.extent) (left_of s.args.outline.now) (rights_of s.args.coordinates.now) (needed) (numbered_of (length (needed)) (numbered)) (listed_of (length (needed)) (numbered)) c.map_pairs-g.result) =
     let s = c in
     c.map_pairs-g.ensures.0 (subjects_of s.args.coordinates.now)
@@ -406,15 +406,15 @@ with_lines-requires c =
     let s = (n) in
     bit_and s.args.k.extent.choosy n.needed_rules-needed.result in
     let first-whole : length (take 64 (drop 280 c.args.outline.now)) ≡ 64 = part_long 280 64 c.args.outline.now (omega (arith, c.requires.0.outlined)) in
-    let first : List ℕ = c.lay_tables-t.new.first.1.1.1.0 in
+    let first : List ℕ = c.lay_tables-t.new.first in
     let half : List ℕ =
-    let s = ((c)) in
+    let s = c in
     put_back s.args.outline.now 280 64 (first) in
     let first-long : length (first) ≡ 64 =
-    let s = ((c)) in
-    c.lay_tables-t.auto.first.1.1.1.0 ∙ first-whole in
+    let s = c in
+    c.lay_tables-t.auto.first ∙ first-whole in
     let half_long : length (half) ≡ 536 =
-    let s = ((c)) in
+    let s = c in
     back-length s.args.outline.now 280 64 (first) (omega (arith, s.requires.0.outlined)) (first-long)
     ∙ s.requires.0.outlined in
     let arranged : (let l = c in let y = l in let s = y in TablesArranged (drop (s.args.k.totals.authorizations * 24) s.args.records.now) (rights_of s.args.coordinates.now) (choosy) y.map_pairs-g.result (first) c.lay_tables-t.result) =
@@ -424,38 +424,38 @@ with_lines-requires c =
     subst (λ (b : List ℕ). TablesArranged b (rights_of s.args.coordinates.now) (choosy)
     y.map_pairs-g.result (first) c.lay_tables-t.result) (body_is) c.lay_tables-t.ensures.0 in
     let starts-whole : length (take 64 (drop 344 (half))) ≡ 64 = part_long 344 64 (half) (omega (arith, half_long)) in
-    let starts : List ℕ = c.lay_out-bits.new.first.1.1.1.0 in
-    let starts-long : length (starts) ≡ 64 = c.lay_out-bits.auto.first.1.1.1.0 ∙ starts-whole in
+    let starts : List ℕ = c.lay_out-bits.new.first in
+    let starts-long : length (starts) ≡ 64 = c.lay_out-bits.auto.first ∙ starts-whole in
     let full : List ℕ = put_back (half) 344 64 (starts) in
     let full-long : length (full) ≡ 536 =
     let u = c in
-    let s = ((c)) in
+    let s = c in
     laid_long s.args.outline.now (first) (starts) s.requires.0.outlined (first-long)
     (starts-long) in
-    let full-front : (let s = ((c)) in take 280 (full) ≡ take 280 s.args.outline.now) =
+    let full-front : (let s = c in take 280 (full) ≡ take 280 s.args.outline.now) =
     let u = c in
-    let s = ((c)) in
+    let s = c in
     laid_front s.args.outline.now (first) (starts) s.requires.0.outlined (first-long)
     (starts-long) in
     let full-first : first_of (full) ≡ first =
     let u = c in
-    let s = ((c)) in
+    let s = c in
     laid_first s.args.outline.now (first) (starts) s.requires.0.outlined (first-long)
     (starts-long) in
     let full-starts : starts_of (full) ≡ starts =
     let u = c in
-    let s = ((c)) in
+    let s = c in
     laid_starts s.args.outline.now (first) (starts) s.requires.0.outlined (first-long)
     (starts-long) in
     let asked : ℕ =
-    let k = (c).args.k in
+    let k = c.args.k in
     pair_index k.extent.subjects k.object k.subject in
-    let asked_is : (c).pair-index.result ≡ asked = (c).pair-index.ensures in
+    let asked_is : c.pair_index-pair.result ≡ asked = c.pair_index-pair.ensures in
     let pair-there : asked < length (needed) =
     let s = c in
     pair_in_lem s.requires.4.1.asked_outline (needed) (mapped).size in
-    let history : (let f = (c) in let s = (f) in WalkStart s.args.k.asked.one s.args.k.asked.instant (drop (s.args.k.totals.authorizations * 24) s.args.records.now) f.lasting_of-lasting.result c.walk_start.result) =
-    let f = (c) in
+    let history : (let f = c in let s = (f) in WalkStart s.args.k.asked.one s.args.k.asked.instant (drop (s.args.k.totals.authorizations * 24) s.args.records.now) f.lasting_of-lasting.result c.walk_start.result) =
+    let f = c in
     let s = (f) in
     subst (λ (b : List ℕ). WalkStart s.args.k.asked.one s.args.k.asked.instant b
     f.lasting_of-lasting.result c.walk_start.result) (body_is) c.walk_start.ensures in
@@ -481,7 +481,7 @@ with_lines-requires c =
       query = record {
         own = k.own;
         place = record {
-          pair = get_or (numbered) (y).pair-index.result 0;
+          pair = get_or (numbered) (y).pair_index-pair.result 0;
           point = record { subject = k.subject; mode = k.asked.access.mode - 1; object = k.object };
         };
         from = v.walk_start.result;
@@ -543,53 +543,53 @@ with_lines-requires c =
 pub shape_of-outline : goal.shape_of-outline
 shape_of-outline c =
     let first-whole : length (take 64 (drop 280 c.args.outline.now)) ≡ 64 = part_long 280 64 c.args.outline.now (omega (arith, c.requires.0.outlined)) in
-    let first : List ℕ = c.lay_tables-t.new.first.1.1.1.0 in
+    let first : List ℕ = c.lay_tables-t.new.first in
     let half : List ℕ =
-    let s = ((c)) in
+    let s = c in
     put_back s.args.outline.now 280 64 (first) in
     let first-long : length (first) ≡ 64 =
-    let s = ((c)) in
-    c.lay_tables-t.auto.first.1.1.1.0 ∙ first-whole in
+    let s = c in
+    c.lay_tables-t.auto.first ∙ first-whole in
     let half_long : length (half) ≡ 536 =
-    let s = ((c)) in
+    let s = c in
     back-length s.args.outline.now 280 64 (first) (omega (arith, s.requires.0.outlined)) (first-long)
     ∙ s.requires.0.outlined in
     let starts-whole : length (take 64 (drop 344 (half))) ≡ 64 = part_long 344 64 (half) (omega (arith, half_long)) in
-    let starts : List ℕ = c.lay_out-bits.new.first.1.1.1.0 in
-    let starts-long : length (starts) ≡ 64 = c.lay_out-bits.auto.first.1.1.1.0 ∙ starts-whole in
+    let starts : List ℕ = c.lay_out-bits.new.first in
+    let starts-long : length (starts) ≡ 64 = c.lay_out-bits.auto.first ∙ starts-whole in
     let full : List ℕ = put_back (half) 344 64 (starts) in
     let full-long : length (full) ≡ 536 =
     let u = c in
-    let s = ((c)) in
+    let s = c in
     laid_long s.args.outline.now (first) (starts) s.requires.0.outlined (first-long)
     (starts-long) in
     let t = c in
     let h = t in
-    let s = ((h)) in
-    t.with_lines.auto.w.1.0 ∙ full-long
+    let s = h in
+    t.with_lines.auto.outline ∙ full-long
     ∙ sym s.requires.0.outlined
 
 pub shape_of-need : goal.shape_of-need
 shape_of-need c =
-    let needed : List ℕ = c.map_pairs-g.new.pair.1.1.1.1.0 in
-    let needed-long : (let s = c in length (needed) ≡ length s.args.need.now) = c.map_pairs-g.auto.pair.1.1.1.1.0 in
-    let y = ((c)) in
+    let needed : List ℕ = c.map_pairs-g.new.need in
+    let needed-long : (let s = c in length (needed) ≡ length s.args.need.now) = c.map_pairs-g.auto.need in
+    let y = c in
     needed-long
 
 pub shape_of-numbers : goal.shape_of-numbers
 shape_of-numbers c =
-    let numbered : List ℕ = c.map_pairs-g.new.pair.1.1.1.1.1.0 in
-    let numbered-long : (let s = c in length (numbered) ≡ length s.args.numbers.now) = c.map_pairs-g.auto.pair.1.1.1.1.1.0 in
+    let numbered : List ℕ = c.map_pairs-g.new.numbers in
+    let numbered-long : (let s = c in length (numbered) ≡ length s.args.numbers.now) = c.map_pairs-g.auto.numbers in
     let t = c in
-    let y = ((t)) in
-    t.with_lines.auto.w.1.1.1.1.0 ∙ numbered-long
+    let y = t in
+    t.with_lines.auto.numbers ∙ numbered-long
 
 pub returns : goal.returns
 returns c =
     let body_is : (let from : ℕ = c.args.k.totals.authorizations * 24 in take (length c.args.records.now - from) (drop from c.args.records.now) ≡ drop from c.args.records.now) = lent_rest (c.args.k.totals.authorizations * 24) c.args.records.now in
-    let needed : List ℕ = c.map_pairs-g.new.pair.1.1.1.1.0 in
-    let numbered : List ℕ = c.map_pairs-g.new.pair.1.1.1.1.1.0 in
-    let needed-long : (let s = c in length (needed) ≡ length s.args.need.now) = c.map_pairs-g.auto.pair.1.1.1.1.0 in
+    let needed : List ℕ = c.map_pairs-g.new.need in
+    let numbered : List ℕ = c.map_pairs-g.new.numbers in
+    let needed-long : (let s = c in length (needed) ≡ length s.args.need.now) = c.map_pairs-g.auto.need in
     let mapped : (let s = c in Mapped (chart_for (subjects_of s.args.coordinates.now) (objects_of s.args.coordinates.now) s.args.k.extent) (left_of s.args.outline.now) (rights_of s.args.coordinates.now) (needed) (numbered_of (length (needed)) (numbered)) (listed_of (length (needed)) (numbered)) c.map_pairs-g.result) =
     let s = c in
     c.map_pairs-g.ensures.0 (subjects_of s.args.coordinates.now)
@@ -613,15 +613,15 @@ returns c =
     let s = (n) in
     bit_and s.args.k.extent.choosy n.needed_rules-needed.result in
     let first-whole : length (take 64 (drop 280 c.args.outline.now)) ≡ 64 = part_long 280 64 c.args.outline.now (omega (arith, c.requires.0.outlined)) in
-    let first : List ℕ = c.lay_tables-t.new.first.1.1.1.0 in
+    let first : List ℕ = c.lay_tables-t.new.first in
     let half : List ℕ =
-    let s = ((c)) in
+    let s = c in
     put_back s.args.outline.now 280 64 (first) in
     let first-long : length (first) ≡ 64 =
-    let s = ((c)) in
-    c.lay_tables-t.auto.first.1.1.1.0 ∙ first-whole in
+    let s = c in
+    c.lay_tables-t.auto.first ∙ first-whole in
     let half_long : length (half) ≡ 536 =
-    let s = ((c)) in
+    let s = c in
     back-length s.args.outline.now 280 64 (first) (omega (arith, s.requires.0.outlined)) (first-long)
     ∙ s.requires.0.outlined in
     let arranged : (let l = c in let y = l in let s = y in TablesArranged (drop (s.args.k.totals.authorizations * 24) s.args.records.now) (rights_of s.args.coordinates.now) (choosy) y.map_pairs-g.result (first) c.lay_tables-t.result) =
@@ -631,33 +631,33 @@ returns c =
     subst (λ (b : List ℕ). TablesArranged b (rights_of s.args.coordinates.now) (choosy)
     y.map_pairs-g.result (first) c.lay_tables-t.result) (body_is) c.lay_tables-t.ensures.0 in
     let starts-whole : length (take 64 (drop 344 (half))) ≡ 64 = part_long 344 64 (half) (omega (arith, half_long)) in
-    let starts : List ℕ = c.lay_out-bits.new.first.1.1.1.0 in
-    let starts-long : length (starts) ≡ 64 = c.lay_out-bits.auto.first.1.1.1.0 ∙ starts-whole in
+    let starts : List ℕ = c.lay_out-bits.new.first in
+    let starts-long : length (starts) ≡ 64 = c.lay_out-bits.auto.first ∙ starts-whole in
     let full : List ℕ = put_back (half) 344 64 (starts) in
-    let full-front : (let s = ((c)) in take 280 (full) ≡ take 280 s.args.outline.now) =
+    let full-front : (let s = c in take 280 (full) ≡ take 280 s.args.outline.now) =
     let u = c in
-    let s = ((c)) in
+    let s = c in
     laid_front s.args.outline.now (first) (starts) s.requires.0.outlined (first-long)
     (starts-long) in
     let full-first : first_of (full) ≡ first =
     let u = c in
-    let s = ((c)) in
+    let s = c in
     laid_first s.args.outline.now (first) (starts) s.requires.0.outlined (first-long)
     (starts-long) in
     let full-starts : starts_of (full) ≡ starts =
     let u = c in
-    let s = ((c)) in
+    let s = c in
     laid_starts s.args.outline.now (first) (starts) s.requires.0.outlined (first-long)
     (starts-long) in
     let asked : ℕ =
-    let k = (c).args.k in
+    let k = c.args.k in
     pair_index k.extent.subjects k.object k.subject in
-    let asked_is : (c).pair-index.result ≡ asked = (c).pair-index.ensures in
+    let asked_is : c.pair_index-pair.result ≡ asked = c.pair_index-pair.ensures in
     let pair-there : asked < length (needed) =
     let s = c in
     pair_in_lem s.requires.4.1.asked_outline (needed) (mapped).size in
-    let history : (let f = (c) in let s = (f) in WalkStart s.args.k.asked.one s.args.k.asked.instant (drop (s.args.k.totals.authorizations * 24) s.args.records.now) f.lasting_of-lasting.result c.walk_start.result) =
-    let f = (c) in
+    let history : (let f = c in let s = (f) in WalkStart s.args.k.asked.one s.args.k.asked.instant (drop (s.args.k.totals.authorizations * 24) s.args.records.now) f.lasting_of-lasting.result c.walk_start.result) =
+    let f = c in
     let s = (f) in
     subst (λ (b : List ℕ). WalkStart s.args.k.asked.one s.args.k.asked.instant b
     f.lasting_of-lasting.result c.walk_start.result) (body_is) c.walk_start.ensures in
@@ -683,7 +683,7 @@ returns c =
       query = record {
         own = k.own;
         place = record {
-          pair = get_or (numbered) (y).pair-index.result 0;
+          pair = get_or (numbered) (y).pair_index-pair.result 0;
           point = record { subject = k.subject; mode = k.asked.access.mode - 1; object = k.object };
         };
         from = v.walk_start.result;
@@ -733,7 +733,7 @@ returns c =
     let z = t in
     let v = z in
     let h = z in
-    let s = ((h)) in
+    let s = h in
     let k = s.args.k in
     let w = t.with_lines in
     λ base b. finds_answers k.asked.one k.asked.instant (going).query base

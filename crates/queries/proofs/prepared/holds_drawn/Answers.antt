@@ -15,27 +15,27 @@ blank = replicate 536 0
 
 pub slice_bounds-with_drawn-end : goal.slice_bounds-with_drawn-end
 slice_bounds-with_drawn-end c =
-    let words : List ℕ = c.copy_words.new.to.0 in
-    let outline : List ℕ = put_back blank 0 280 (words) in
-    let outline_long : length (outline) ≡ 536 = back-length blank 0 280 (words) (omega arith) c.copy_words.auto.to.0 in
+    let words : List ℕ = c.copy_words.new.to in
+    let outline : List ℕ = put_back blank 0 280 words in
+    let outline_long : length (outline) ≡ 536 = back-length blank 0 280 words (omega arith) c.copy_words.auto.to in
     let o = c in sym (outline_long)
 
 pub with_drawn-r-requires : goal.with_drawn-r-requires
 with_drawn-r-requires c =
-    let words : List ℕ = c.copy_words.new.to.0 in
-    let outline : List ℕ = put_back blank 0 280 (words) in
-    let outline-own : take 280 (outline) ≡ words = back_own blank 0 280 (words) (omega arith) c.copy_words.auto.to.0 in
-    let outline_long : length (outline) ≡ 536 = back-length blank 0 280 (words) (omega arith) c.copy_words.auto.to.0 in
+    let words : List ℕ = c.copy_words.new.to in
+    let outline : List ℕ = put_back blank 0 280 words in
+    let outline-own : take 280 (outline) ≡ words = back_own blank 0 280 words (omega arith) c.copy_words.auto.to in
+    let outline_long : length (outline) ≡ 536 = back-length blank 0 280 words (omega arith) c.copy_words.auto.to in
     let o = c in
     let s = o in
     let p = c.unpack in (
       record {
         recorded = s.requires.0;
         outlined = outline_long;
-        placed = length-take-le 1666 p.new.bytes.0 (omega (arith, p.auto.bytes.0));
+        placed = length-take-le 1666 p.new.bytes (omega (arith, p.auto.bytes));
       },
-      drawn_moved (drawn_left (outline) (words) (outline-own))
-          (drawn_feed (outline) (words) (outline-own))
+      drawn_moved (drawn_left (outline) words (outline-own))
+          (drawn_feed (outline) words (outline-own))
           (drawn_same refl refl (sym o.copy_words.ensures) (ap (take 1666) (sym p.ensures)) refl
           s.requires.2),
       s.requires.3,

@@ -17,7 +17,11 @@ slice_bounds-holds_handed-count c =
     records_in d.args.s.now d.requires.0 n.result n.ensures l.result l.ensures
 
 pub slice_bounds-holds_handed-start : goal.slice_bounds-holds_handed-start
-slice_bounds-holds_handed-start c = sub-holds-handed c
+slice_bounds-holds_handed-start c =
+    let d = c in
+    let n = c.counts_of-c in
+    let l = c.authorizations_at-at in
+    records_in d.args.s.now d.requires.0 n.result n.ensures l.result l.ensures
 
 pub holds_handed-requires : goal.holds_handed-requires
 holds_handed-requires c =

@@ -20,7 +20,11 @@ slice_bounds-draw_words-count c =
     rules_begin d.args.s.now n.result d.requires.0 n.ensures l.result l.ensures
 
 pub slice_bounds-draw_words-start : goal.slice_bounds-draw_words-start
-slice_bounds-draw_words-start c = sub-draw-words c
+slice_bounds-draw_words-start c =
+    let d = c in
+    let n = c.counts_of-c in
+    let l = c.rules_at-at in
+    rules_begin d.args.s.now n.result d.requires.0 n.ensures l.result l.ensures
 
 pub draw_words-requires : goal.draw_words-requires
 draw_words-requires c =
@@ -44,7 +48,7 @@ returns c =
     let w = c.draw_words in
     let s : List ℕ = d.args.s.now in
     record {
-      size = w.auto.body.1.1.1.0 ∙ d.requires.1;
-      drawn = handed_on s w.new.body.1.1.1.0 n.result n.ensures l.result l.ensures
+      size = w.auto.words ∙ d.requires.1;
+      drawn = handed_on s w.new.words n.result n.ensures l.result l.ensures
           w.ensures;
     }

@@ -3,7 +3,6 @@ use mathlib.Core.Path.{◌≡◌, sym, subst}
 use mathlib.Core.Bool.{false}
 use mathlib.Core.List.{List}
 use Prim.Native.Nat.{ℕ}
-use Rattle.foundation.specs.Tests.{not-true}
 use Rattle.foundation.specs.Lists.{lent_rest}
 use Rattle.model.specs.Stratification.{negates}
 use Rattle.encoding.specs.Format.{rule_at}
@@ -35,7 +34,7 @@ returns-then-not-counts_some c =
     let y = c.choose-k in
     let k = c.counts_some in
     let zero = c.if-k-eq0.true in
-    let none = not-true k.result c.if-not-counts_some.true in
+    let none = c.if-not-counts_some.true in
     let a = b.args in
     λ base x g. subst (λ (f : Found). Finds a.w.query base x f a.list.now a.list.now)
     (sym c.nothing_found.ensures)
