@@ -1,15 +1,13 @@
 use mathlib.Core.Path.{sym, ◌∙◌}
-use Rattle.foundation.specs.Tests.{not-true, not-false}
 use Rattle.answers.proofs.AnswersByRows.{when_unsound}
 use Rattle.answers.proofs.when.Goals as goal
 
 pub returns-then-not-is_sound : goal.returns-then-not-is_sound
 returns-then-not-is_sound c =
     let a = c.args in
-    let e = sym c.is_sound.ensures ∙ not-true _ c.if-not-is_sound.true in
+    let e = sym c.is_sound.ensures ∙ c.if-not-is_sound.true in
     sym (when_unsound a.s.now a.x a.list.now e)
 
 pub when_sound-requires : goal.when_sound-requires
 when_sound-requires c =
-    let e = c in
-    sym e.is_sound.ensures ∙ not-false _ e.if-not-is_sound.false
+    sym c.is_sound.ensures ∙ c.if-not-is_sound.false

@@ -10,13 +10,11 @@ use Rattle.serving.proofs.lines.serve_behind.Goals as goal
 
 pub returns : goal.returns
 returns c =
-    let t = c in
-    let d = t in
-    let n = d.args.g.n in
-    let out = d.args.out.now in
-    let ys = t.serve_piece_step.new.line in
-    let e = t.serve_piece_step.ensures in
-    let fits : n ≤ length out = omega (arith, d.requires.1) in
+    let n = c.args.g.n in
+    let out = c.args.out.now in
+    let ys = c.serve_piece_step.new.out in
+    let e = c.serve_piece_step.ensures in
+    let fits : n ≤ length out = omega (arith, c.requires.1) in
     let back = end_back out ys n fits in
     let front = length-take-le n out fits in
     let end : drop n (take n out ++ (ys ++ drop (length out - n) (drop n out))) ≡ ys =
