@@ -1,9 +1,6 @@
 -- The digest of two texts, of none, and of the rest of one.
-use mathlib.Core.Path.{◌≡◌, refl}
-use Prim.Native.Nat.{ℕ, suc, ◌<◌}
-use mathlib.Core.List.{List, [], ◌∷◌, ◌++◌}
-use lib.ListN.{length, drop, get_or}
-use lib.Seq.{drop-cons}
+use Rattle.std.specs.Prelude.{◌≡◌, refl, ℕ, suc, ◌<◌, List, [], ◌∷◌, ◌++◌, length, drop, get_or}
+use Rattle.std.proofs.Common.{drop-cons}
 use Rattle.channel.specs.Digests.{mixed, digest}
 
 -- two texts are one

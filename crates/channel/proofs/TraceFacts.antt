@@ -1,9 +1,6 @@
 -- What was read by the trace, one read or none at a time.
-use mathlib.Core.Path.{◌≡◌, refl, sym, ap, ◌∙◌}
-use mathlib.Core.List.{List, [], ◌++◌}
-use Prim.Native.Nat.{ℕ}
-use native.Mathlib.Omega.{arith}
-use lib.IntN.{ℤ}
+use Rattle.std.specs.Prelude.{◌≡◌, refl, List, [], ◌++◌, ℕ, ℤ}
+use Rattle.std.proofs.Common.{sym, ap, ◌∙◌, arith}
 use Rattle.channel.specs.Digests.{digest}
 use Rattle.channel.specs.declared.Channel.{Channel}
 use Rattle.channel.specs.Trace.{arrived, Opened, Fetched, Unread, Read}

@@ -3,7 +3,7 @@
 -- gives what was sent, and that what is handed over is written, is left to trust.
 use Rattle.std.specs.Prelude.{◌≡◌, ◌⊎◌, true, List, ℕ, ◌+◌, ◌≤◌, ◌<◌, ℤ, pos, negsuc, length, take}
 use Rattle.std.proofs.Common.{⊎_elim, arith}
-use Rattle.io.specs.Counts.{clamp_len}
+use Rattle.channel.specs.Counts.{clamp_len}
 use Rattle.channel.specs.Digests.{digest}
 use Rattle.channel.specs.declared.Channel.{Channel}
 

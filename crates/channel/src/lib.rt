@@ -1,16 +1,18 @@
 // Standard input and standard output, with a trace of what passed there. The fields are private: another
 // crate makes and changes a channel by `open`, `fetch` and `put` only.
+#![tactic(auto)]
+
 ghost use Rattle.std.specs.Prelude.{◌≡◌, true, false, ◌<◌, pos, length};
-ghost use Rattle.io.specs.Counts.{IsPrefixLen, clamp_len};
+ghost use Rattle.channel.specs.Counts.{IsPrefixLen, clamp_len};
 ghost use Rattle.channel.specs.Digests.{mixed, digest};
 ghost use Rattle.channel.specs.Trace.{Opened, Fetched, Unwritten, Handed, Stopped};
 
-use libc::{STDERR_FILENO, STDIN_FILENO, STDOUT_FILENO};
+use std::io::{Read, Write};
 
 // The digests of the bytes that were read and of those that were handed to be written, how many reads there
 // were, what the last one answered, and whether every write worked. The digests stand side by side: nothing
 // at run time looks at them, and then the compiler leaves them out.
-#[derive(Drop)]
+#[derive(Clone, Copy)]
 pub struct Channel {
     seen: u32,
     sent: u32,
@@ -53,13 +55,33 @@ pub fn open() -> Channel
     }
 }
 
-// Reads a piece of standard input into the front of `buf`.
-pub fn fetch(c: Channel, buf: &mut [u8]) -> Channel
+// How many bytes a read that answered `got` left at the front of `buf`.
+fn count(got: isize, buf: &[u8]) -> usize
+    ensures prefix_len { IsPrefixLen result buf.now }
+    ensures value { result ≡ clamp_len got (length buf.now) }
+{
+    if got <= 0 {
+        return 0;
+    }
+    let n = got as usize;
+    if buf.len() < n { buf.len() } else { n }
+}
+
+// Reads once into the front of `buf`: how many bytes, or -1 where the read failed.
+fn read_once<R: Read>(input: &mut R, buf: &mut [u8]) -> isize {
+    match input.read(buf) {
+        Ok(n) => n as isize,
+        Err(_) => -1,
+    }
+}
+
+// Reads a piece of the input into the front of `buf`.
+pub fn fetch<R: Read>(input: &mut R, c: Channel, buf: &mut [u8]) -> Channel
     requires { c.reads < 18446744073709551615 }
     ensures { Fetched c buf.new result × Unwritten c result }
 {
-    let got = libc::read(STDIN_FILENO, buf);
-    let n = io::count(got, buf);
+    let got = read_once(input, buf);
+    let n = count(got, buf);
     let seen = mix_all(c.seen, &buf[..n]);
     Channel {
         seen: seen,
@@ -75,15 +97,31 @@ pub fn last_read(c: Channel, buf: &[u8]) -> usize
     ensures prefix_len { IsPrefixLen result buf.now }
     ensures value { result ≡ clamp_len c.got (length buf.now) }
 {
-    io::count(c.got, buf)
+    count(c.got, buf)
 }
 
-// Hands bytes to be written to standard output.
-pub fn put(c: Channel, bytes: &[u8]) -> Channel
+// Writes all of the bytes. False where a write takes nothing or fails: then some of them may be written.
+fn write_whole<W: Write>(output: &mut W, bytes: &[u8]) -> bool {
+    let mut done = 0;
+    while done < bytes.len() {
+        let n = match output.write(&bytes[done..]) {
+            Ok(n) => n,
+            Err(_) => 0,
+        };
+        if n == 0 {
+            return false;
+        }
+        done += n;
+    }
+    true
+}
+
+// Hands bytes to be written to the output.
+pub fn put<W: Write>(output: &mut W, c: Channel, bytes: &[u8]) -> Channel
     ensures { Handed c bytes.now result }
 {
     let sent = mix_all(c.sent, bytes);
-    let ok = io::write_all(STDOUT_FILENO, bytes);
+    let ok = write_whole(output, bytes);
     Channel {
         seen: c.seen,
         sent: sent,
@@ -93,9 +131,9 @@ pub fn put(c: Channel, bytes: &[u8]) -> Channel
     }
 }
 
-// Hands a message to be written to standard error.
-pub fn warn(message: &[u8]) {
-    io::write_all(STDERR_FILENO, message);
+// Hands a message to be written, to standard error.
+pub fn warn<W: Write>(errors: &mut W, message: &[u8]) {
+    write_whole(errors, message);
 }
 
 // Every write worked.
