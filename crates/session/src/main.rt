@@ -6,6 +6,8 @@
 // It reads and writes through crate `channel`, and depends on no other crate that can. A channel is a value,
 // and could be copied: that `open` is called once, and that `fetch` and `put` each go on from the channel
 // that the last of them gave back, is to be read by eye.
+#![tactic(auto)]
+
 ghost use Rattle.std.specs.Prelude.{◌≡◌, true, List, ℕ, ◌≤◌, ◌<◌, length};
 ghost use Rattle.model.specs.Encoding.{size};
 ghost use Rattle.model.specs.Soundness.{sound_bytes};
@@ -16,6 +18,7 @@ ghost use Rattle.session.specs.Input.{BuffersReady, FrontAnswered, ProgramDone, 
 
 use channel::Channel;
 use model::BASE_BYTES;
+use std::io::{Read, Write};
 
 // How many bytes are kept of the line that is not ended yet, and the channel so far.
 #[derive(Clone, Copy)]
@@ -26,7 +29,8 @@ struct InputState {
 
 // Answers the lines that end in a piece of input, and writes the replies, as many at a time as there is room
 // for.
-fn serve_piece(
+fn serve_piece<W: Write>(
+    output: &mut W,
     s: &mut [u8],
     line: &mut [u8; 97],
     from: InputState,
@@ -43,7 +47,7 @@ fn serve_piece(
     let mut at = 0;
     while at < piece.len() {
         let r = serving::serve_lines(s, line, g.len, piece, at, out);
-        let c = channel::put(g.channel, &out[..r.n]);
+        let c = channel::put(output, g.channel, &out[..r.n]);
         g = InputState {
             len: r.len,
             channel: c,
@@ -58,7 +62,9 @@ fn serve_piece(
 
 // Reads a piece into `buf` and answers its lines. At the end of the input, and where the read fails, there is
 // none.
-fn serve_some(
+fn serve_some<R: Read, W: Write>(
+    input: &mut R,
+    output: &mut W,
     s: &mut [u8],
     line: &mut [u8; 97],
     g: InputState,
@@ -74,17 +80,23 @@ fn serve_some(
         × Fetched g.channel buf.new result.channel × (result.len ≤ 97)
         × (sound_bytes s.new ≡ true) }
 {
-    let c = channel::fetch(g.channel, buf);
+    let c = channel::fetch(input, g.channel, buf);
     let n = channel::last_read(c, buf);
     let h = InputState {
         len: g.len,
         channel: c,
     };
-    serve_piece(s, line, h, &buf[..n], out)
+    serve_piece(output, s, line, h, &buf[..n], out)
 }
 
 // Answers the line that the end of the input ends.
-fn serve_last(s: &mut [u8], line: &[u8; 97], g: InputState, out: &mut [u8]) -> Channel
+fn serve_last<W: Write>(
+    output: &mut W,
+    s: &mut [u8],
+    line: &[u8; 97],
+    g: InputState,
+    out: &mut [u8],
+) -> Channel
     requires { BuffersReady s.old line.now g.len out.old }
     ensures { ((pending : List ℕ) → LineKept pending g.len line.now →
         (s.new ≡ finish_bytes s.old pending)
@@ -92,13 +104,15 @@ fn serve_last(s: &mut [u8], line: &[u8; 97], g: InputState, out: &mut [u8]) -> C
         × (sound_bytes s.new ≡ true) }
 {
     let n = serving::serve_end(s, line, g.len, out);
-    channel::put(g.channel, &out[..n])
+    channel::put(output, g.channel, &out[..n])
 }
 
 // Answers line after line until the input ends, or a read or a write fails, and then the end of the input, if
 // it is one. A proved loop has to end, and nothing says that the input does: so it ends after a number of
 // reads that no run uses up.
-fn serve_input(
+fn serve_input<R: Read, W: Write>(
+    input: &mut R,
+    output: &mut W,
     s: &mut [u8],
     line: &mut [u8; 97],
     len: usize,
@@ -114,16 +128,16 @@ fn serve_input(
         channel: channel::open(),
     };
     while channel::goes_on(g.channel) {
-        g = serve_some(s, line, g, buf, out);
+        g = serve_some(input, output, s, line, g, buf, out);
     }
     if channel::has_ended(g.channel) {
-        return serve_last(s, line, g, out);
+        return serve_last(output, s, line, g, out);
     }
     g.channel
 }
 
 // Makes an empty base of the bytes that are lent, and serves the whole input on it.
-fn run(s: &mut [u8]) -> Channel
+fn run<R: Read, W: Write>(input: &mut R, output: &mut W, s: &mut [u8]) -> Channel
     requires { length s.old ≡ size }
     ensures { (input : List ℕ) × Ran input result s.new }
 {
@@ -131,20 +145,27 @@ fn run(s: &mut [u8]) -> Channel
     let mut line = [0u8; 97];
     let mut buf = [0u8; 4096];
     let mut out = [0u8; 32768];
-    serve_input(s, &mut line, 0, &mut buf, &mut out)
+    serve_input(input, output, s, &mut line, 0, &mut buf, &mut out)
 }
 
 // Says on standard error why the program ended before its input did, and what to do.
-fn tell(c: Channel) {
+fn tell<W: Write>(errors: &mut W, c: Channel) {
     if !channel::writes_work(c) {
-        channel::warn(b"session: a reply could not be written, run the session again\n");
+        channel::warn(
+            errors,
+            b"session: a reply could not be written, run the session again\n",
+        );
     } else if !channel::has_ended(c) {
-        channel::warn(b"session: reading failed, send again what has no reply\n");
+        channel::warn(
+            errors,
+            b"session: reading failed, send again what has no reply\n",
+        );
     }
 }
 
 // Lends the bytes: so that the contract of `run` can speak of them.
-fn main() {
+fn main(rt: HostRuntime) {
     let mut s = [0u8; BASE_BYTES];
-    tell(run(&mut s));
+    let c = run(&mut rt.stdin(), &mut rt.stdout(), &mut s);
+    tell(&mut rt.stderr(), c);
 }

@@ -1,69 +1,69 @@
-// What the program says of a file, on standard output.
+// What the program says of a file.
 ghost use Rattle.std.specs.Prelude.{◌≤◌, length};
 ghost use Rattle.vectors.specs.LinePlaces.{MessageBounds};
 
 use crate::checks::Checked;
 use crate::lines::line_at;
-use libc::STDOUT_FILENO;
+use std::io::Write;
 
 // Writes some bytes.
-pub fn put_text(b: &[u8]) {
-    io::write_all(STDOUT_FILENO, b);
+pub fn put_text<W: Write>(output: &mut W, b: &[u8]) {
+    let _ = output.write_all(b);
 }
 
 // Writes a number.
-pub fn put_number(n: usize) {
-    io::print_decimal(STDOUT_FILENO, n as u64);
+pub fn put_number<W: Write>(output: &mut W, n: usize) {
+    let _ = write!(output, "{n}");
 }
 
 // A line about a file: its name, and what there is to say.
-pub fn say(name: &[u8], what: &[u8]) {
-    put_text(name);
-    put_text(b": ");
-    put_text(what);
-    put_text(b"\n");
+pub fn say<W: Write>(output: &mut W, name: &[u8], what: &[u8]) {
+    put_text(output, name);
+    put_text(output, b": ");
+    put_text(output, what);
+    put_text(output, b"\n");
 }
 
 // Every line stands.
-pub fn say_stands(name: &[u8], lines: usize) {
-    put_text(name);
-    put_text(b": ");
-    put_number(lines);
-    put_text(b" lines stand\n");
+pub fn say_stands<W: Write>(output: &mut W, name: &[u8], lines: usize) {
+    put_text(output, name);
+    put_text(output, b": ");
+    put_number(output, lines);
+    put_text(output, b" lines stand\n");
 }
 
 // Writes the line of a text that begins at a place.
-fn put_line(text: &[u8], at: usize)
+fn put_line<W: Write>(output: &mut W, text: &[u8], at: usize)
     requires { at ≤ length text.now }
 {
     let p = line_at(text, at);
     let end = p.end;
-    put_text(&text[at..end]);
+    put_text(output, &text[at..end]);
 }
 
 // The case that a line belongs to, by its title.
-fn say_case(text: &[u8], title: usize)
+fn say_case<W: Write>(output: &mut W, text: &[u8], title: usize)
     requires { title ≤ length text.now }
 {
     if title == text.len() {
-        put_text(b"before any case\n");
+        put_text(output, b"before any case\n");
         return;
     }
-    put_text(b"case \"");
-    put_line(text, title);
-    put_text(b"\"\n");
+    put_text(output, b"case \"");
+    put_line(output, text, title);
+    put_text(output, b"\"\n");
 }
 
 // What the text says at the place, if it goes on there.
-fn say_line(text: &[u8], at: usize)
+fn say_line<W: Write>(output: &mut W, text: &[u8], at: usize)
     requires { at ≤ length text.now }
 {
-    put_text(b"  it says: ");
+    put_text(output, b"  it says: ");
     if at == text.len() {
-        put_text(b"nothing more");
+        put_text(output, b"nothing more");
     }
-    put_line(text, at);
-    put_text(b"\n");
+    put_line(output, text, at);
+    put_text(output, b"\n");
 }
 
 // Whether the text tells a reply at the place.
@@ -76,28 +76,28 @@ fn tells_at(text: &[u8], at: usize) -> bool {
 }
 
 // What was answered, newline and all, if a reply was owed; or that there was none, if the text tells one.
-fn say_answer(reply: &[u8], told: bool) {
+fn say_answer<W: Write>(output: &mut W, reply: &[u8], told: bool) {
     if 0 < reply.len() {
-        put_text(b"  answered: ");
-        put_text(reply);
+        put_text(output, b"  answered: ");
+        put_text(output, reply);
         return;
     }
     if told {
-        put_text(b"  answered: nothing\n");
+        put_text(output, b"  answered: nothing\n");
     }
 }
 
 // A line does not stand: which, in which case, what it says, and what was answered.
-pub fn say_wrong(name: &[u8], text: &[u8], out: &[u8], c: Checked)
+pub fn say_wrong<W: Write>(output: &mut W, name: &[u8], text: &[u8], out: &[u8], c: Checked)
     requires { MessageBounds text.now out.now c }
 {
     let at = c.at;
     let n = c.n;
-    put_text(name);
-    put_text(b": line ");
-    put_number(c.lines + 1);
-    put_text(b" does not stand, ");
-    say_case(text, c.title);
-    say_line(text, at);
-    say_answer(&out[..n], tells_at(text, at));
+    put_text(output, name);
+    put_text(output, b": line ");
+    put_number(output, c.lines + 1);
+    put_text(output, b" does not stand, ");
+    say_case(output, text, c.title);
+    say_line(output, text, at);
+    say_answer(output, &out[..n], tells_at(text, at));
 }
