@@ -1,6 +1,5 @@
 -- Of the piece all before the place `at` is answered.
 use Rattle.std.proofs.Common.{rules, arith, ◌≡◌, refl, sym, ◌∙◌, true, true≢false, length, drop, length-take-le, drop_of_length-le}
-use Rattle.foundation.specs.Tests.{not-true}
 use Rattle.model.specs.EncodingFacts.{sound-length}
 use Rattle.channel.proofs.TraceFacts.{unread_none, unread_then}
 use Rattle.serving.proofs.PieceFacts.{kept_front}
@@ -29,11 +28,17 @@ slice_bounds-put-end g c =
     let k = c.serve_lines-r.ensures.0 _ (kept_front i.few i.size) in
     omega (arith, k.few)
 
+pub slice_bounds-put-end-in-loop-at : goal.slice_bounds-put-end-in-loop-at
+slice_bounds-put-end-in-loop-at g c =
+    let i = c.loop-at.invariant in
+    let k = c.serve_lines-r.ensures.0 _ (kept_front i.few i.size) in
+    sym (length-take-le c.serve_lines-r.result.n c.serve_lines-r.new.out k.few)
+
 pub returns-then-not-writes_work : goal.returns-then-not-writes_work
 returns-then-not-writes_work g c =
     let i = c.loop-at.invariant in
     let e = c.serve_lines-r.ensures in
-    let failed = not-true c.writes_work.result c.if-not-writes_work.true in (
+    let failed = c.if-not-writes_work.true in (
       λ q h. let a = i.answers q h in record {
         rest = drop c.serve_lines-r.result.at c.args.piece.now;
         answers = answers-step a (e.0 a.left a.kept) c.put-c.ensures.sent;

@@ -20,7 +20,7 @@ pub record PieceLoop (s₀ line₀ piece out₀ : List ℕ) (from : InputState) 
 
 abbrev pub invariant-loop-at : goal.invariant-loop-at
 invariant-loop-at g l =
-    PieceLoop l.initial.s l.initial.line l.piece l.initial.out l.from l.s l.line l.out l.g l.at
+    PieceLoop l.initial.s l.initial.line l.piece l.initial.out l.fn.from l.s l.line l.out l.g l.at
 
 abbrev pub decreases-loop-at : goal.decreases-loop-at
 decreases-loop-at g l = length l.piece - l.at
