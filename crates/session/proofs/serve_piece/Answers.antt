@@ -75,8 +75,7 @@ loop-at-preserved g c =
 pub returns : goal.returns
 returns g c =
     let i = c.loop-at.invariant in
-    let piece = c.args.piece.now in
-    (
+    let piece = c.args.piece.now in (
       λ q h. record {
         rest = drop c.loop-at.at piece;
         answers = i.answers q h;

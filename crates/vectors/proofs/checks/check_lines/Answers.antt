@@ -1,13 +1,10 @@
 use Rattle.std.proofs.Common.{arith, length-take-le, refl, sym, ◌∙◌}
-use Rattle.foundation.specs.Tests.{not-true, not-false}
 use Rattle.model.specs.EncodingFacts.{sound-length}
 use Rattle.vectors.proofs.LineWalks.{goes_start, goes_on, goes_wrong, goes_end, line-here}
 use Rattle.vectors.proofs.checks.check_lines.Goals as goal
 
 pub loop-at-init : goal.loop-at-init
-loop-at-init c =
-    let d = c in
-    (goes_start d.args.text.now d.args.s.now d.args.out.now d.requires.0, refl, refl)
+loop-at-init c = (goes_start c.args.text.now c.args.s.now c.args.out.now c.requires.0, refl, refl)
 
 pub line_at-p-requires : goal.line_at-p-requires
 line_at-p-requires c = c.loop-at.invariant.0.within
@@ -25,10 +22,8 @@ slice_bounds-stands-end c =
 
 pub slice_bounds-stands-end-in-loop-at : goal.slice_bounds-stands-end-in-loop-at
 slice_bounds-stands-end-in-loop-at c =
-    let t = c in
-    let l = t.loop-at in
-    let d = t in
-    sym (length-take-le l.n l.out-1 (omega (arith, l.invariant.0.few, l.invariant.2, d.requires.1)))
+    let l = c.loop-at in
+    sym (length-take-le l.n l.out (omega (arith, l.invariant.0.few, l.invariant.2, c.requires.1)))
 
 pub shape_of-s-then-not-stands : goal.shape_of-s-then-not-stands
 shape_of-s-then-not-stands c = c.loop-at.invariant.1
@@ -38,45 +33,34 @@ shape_of-out-then-not-stands c = c.loop-at.invariant.2
 
 pub returns-then-not-stands : goal.returns-then-not-stands
 returns-then-not-stands c =
-    let k = c in
-    let l = k.loop-at in
-    let t = c.stands in
-    let text = k.args.text.now in
-    let h = line-here text l.at k.loop-at-test.true k.line_at-p.ensures in
-    let e = not-true t.result c.if-not-stands.true in
-    (goes_wrong l.invariant.0 k.line_at-p.result.next h (sym e ∙ t.ensures), l.invariant.2)
+    let l = c.loop-at in
+    let h = line-here c.args.text.now l.at c.loop-at-test.true c.line_at-p.ensures in
+    let e = c.if-not-stands.true in
+    (goes_wrong l.invariant.0 c.line_at-p.result.next h (sym e ∙ c.stands.ensures), l.invariant.2)
 
 pub advance-n-requires : goal.advance-n-requires
 advance-n-requires c =
-    let t = c in
-    (t.loop-at.invariant.0.sound, omega (arith, t.loop-at.invariant.2, t.requires.1))
+    let i = c.loop-at.invariant in
+    (i.0.sound, omega (arith, i.2, c.requires.1))
 
 pub overflow_add-lines : goal.overflow_add-lines
-overflow_add-lines c =
-    let k = c in
-    let t = k in
-    omega (arith, t.loop-at.invariant.0.bounded, t.loop-at-test.true)
+overflow_add-lines c = omega (arith, c.loop-at.invariant.0.bounded, c.loop-at-test.true)
 
 pub loop-at-smaller : goal.loop-at-smaller
 loop-at-smaller c =
-    let k = c in
-    let t = k in
-    let f = t.line_at-p.ensures in
-    omega (arith, f.further t.loop-at-test.true, f.within)
+    let f = c.line_at-p.ensures in
+    omega (arith, f.further c.loop-at-test.true, f.within)
 
 pub loop-at-preserved : goal.loop-at-preserved
 loop-at-preserved c =
-    let m = c in
-    let t = m.stands in
-    let k = m in
-    let l = k.loop-at in
-    let q = k.loop-at-test.true in
-    let f = k.line_at-p.ensures in
-    let e = not-false t.result m.if-not-stands.false in
+    let l = c.loop-at in
+    let q = c.loop-at-test.true in
+    let f = c.line_at-p.ensures in
+    let e = c.if-not-stands.false in
     let a = c.advance-n.ensures in
-    let h = line-here k.args.text.now l.at q f in (
-      goes_on l.invariant.0 k.line_at-p.result.next h (f.further q) f.within (sym e ∙ t.ensures) a.0
-          m.titled-title.ensures,
+    let h = line-here c.args.text.now l.at q f in (
+      goes_on l.invariant.0 c.line_at-p.result.next h (f.further q) f.within (sym e ∙ c.stands.ensures) a.0
+          c.titled-title.ensures,
       sound-length _ a.0.sound ∙ sym (sound-length _ l.invariant.0.sound) ∙ l.invariant.1,
       a.1 ∙ l.invariant.2,
     )
@@ -89,7 +73,5 @@ shape_of-out c = c.loop-at.invariant.2
 
 pub returns : goal.returns
 returns c =
-    let t = c in
-    let i = t.loop-at.invariant in
-    let d = t in
-    (goes_end i.0 (omega (arith, i.0.within)) (omega (arith, i.2, d.requires.1)), i.2)
+    let i = c.loop-at.invariant in
+    (goes_end i.0 (omega (arith, i.0.within)) (omega (arith, i.2, c.requires.1)), i.2)

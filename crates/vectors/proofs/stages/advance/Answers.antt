@@ -5,13 +5,11 @@ use Rattle.vectors.proofs.LineWalks.{marked_long, leads-opens, leads-asks, leads
 use Rattle.vectors.proofs.stages.advance.Goals as goal
 
 pub returns-then-marked : goal.returns-then-marked
-returns-then-marked c =
-    let m = c in
-    let d = m in (
-      leads-opens d.args.s.now d.args.line.now _ _ d.requires.0
-          (sym m.marked.ensures ∙ m.if-marked.true) c.create.ensures.1,
-      refl,
-    )
+returns-then-marked c = (
+  leads-opens c.args.s.now c.args.line.now _ _ c.requires.0
+      (sym c.marked.ensures ∙ c.if-marked.true) c.create.ensures.1,
+  refl,
+)
 
 pub slice_bounds-serve_line-count : goal.slice_bounds-serve_line-count
 slice_bounds-serve_line-count c = marked_long 62 _ (sym c.marked-2.ensures ∙ c.if-marked-2.true)
@@ -21,23 +19,20 @@ slice_bounds-serve_line-start c = marked_long 62 _ (sym c.marked-2.ensures ∙ c
 
 pub returns-then-marked-2 : goal.returns-then-marked-2
 returns-then-marked-2 c =
-    let m = c in
-    let d = m in
-    let line = d.args.line.now in
+    let line = c.args.line.now in
     let t = c.serve_line in (
-      leads-asks d.args.s.now line
-          (sym m.marked.ensures ∙ m.if-marked.false)
-          (sym m.marked-2.ensures ∙ m.if-marked-2.true)
-          (subst (λ (l : List ℕ). Turned d.args.s.now l t.result t.new.line.1.0 t.new.s)
+      leads-asks c.args.s.now line
+          (sym c.marked.ensures ∙ c.if-marked.false)
+          (sym c.marked-2.ensures ∙ c.if-marked-2.true)
+          (subst (λ (l : List ℕ). Turned c.args.s.now l t.result t.new.out t.new.s)
           (part_to_end line 2) t.ensures.0),
       t.ensures.1,
     )
 
 pub returns : goal.returns
-returns c =
-    let d = c in (
-      leads_other d.args.s.now d.args.line.now _ d.requires.0
-          (sym c.marked.ensures ∙ c.if-marked.false)
-          (sym c.marked-2.ensures ∙ c.if-marked-2.false),
-      refl,
-    )
+returns c = (
+  leads_other c.args.s.now c.args.line.now _ c.requires.0
+      (sym c.marked.ensures ∙ c.if-marked.false)
+      (sym c.marked-2.ensures ∙ c.if-marked-2.false),
+  refl,
+)
