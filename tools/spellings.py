@@ -8,6 +8,7 @@ import os, re, sys, collections
 
 root = sys.argv[-1]
 check = '--check' in sys.argv
+rest_alone = '--rest' in sys.argv  # only what is bound within a declaration, or named behind a module
 TOKEN = re.compile(r"[^\s(){}.;,@\"«»\[\]|\\]+")
 SIG = re.compile(r"^\s*((?:abbrev |unfoldable |pub )*)([^\s(){}:.;,|\[\]λ\\\"]+)((?: \{ℓ[^}]*\})?)\s+:(?:\s|$)")
 REC = re.compile(r"^\s*(?:abbrev |unfoldable |pub )*(?:record|data) (\S+)")
@@ -113,13 +114,13 @@ def turn(text, rust=False, dotted=True):
     return TOKEN.sub(one, text)
 RATTLE = re.compile(r"//[^\n]*|(?:requires|ensures|ghost)\b[^;{]*\{")
 changed = 0
-for p, t in texts.items():
+for p, t in ({} if rest_alone else texts).items():
     if p.endswith('.antt'): n = turn(t)
     else: n = turn(t, rust=True)
     if n != t:
         changed += 1
         with open(p, 'w', encoding='utf-8') as f: f.write(n)
-for d in ('README.md', 'docs'):
+for d in (() if rest_alone else ('README.md', 'docs')):
     at = os.path.join(root, d)
     for p in ([at] if os.path.isfile(at) else [os.path.join(at, x) for x in sorted(os.listdir(at)) if x.endswith('.md')] if os.path.isdir(at) else []):
         t = open(p, encoding='utf-8').read()
@@ -127,4 +128,12 @@ for d in ('README.md', 'docs'):
         if n != t:
             changed += 1
             with open(p, 'w', encoding='utf-8') as f: f.write(n)
+# names that are bound within a declaration, and names behind a module's
+CAMEL = re.compile(r"(?<![A-Za-z_-])[a-z][a-z0-9]*(?:[A-Z][a-z0-9]*)+(?![\w-])")
+for p in list(texts):
+    t = open(p, encoding='utf-8').read()
+    n = CAMEL.sub(lambda m: snake(m.group()), t)
+    if n != t:
+        changed += 1
+        with open(p, 'w', encoding='utf-8') as f: f.write(n)
 print(changed, 'files')

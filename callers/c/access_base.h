@@ -1,6 +1,6 @@
 /* The access base for submeters, for C: who may read, switch or configure a meter, from which instant to which.
  *
- * Link with target/staticlib/libffi.a, which `rt staticlib ffi` writes. Every function is proved against the
+ * Link with target/staticlib/libffi.a, which `tools/build ffi` writes. Every function is proved against the
  * definitions in crates/model/specs (Answers, Session, Report, Batch, Simple) and crates/records/specs (Records);
  * docs/LIBRARY.md has the contracts, docs/ASSURANCE.md what each rules out.
  *

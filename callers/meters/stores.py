@@ -86,7 +86,7 @@ class Sqlite:
         if not hasattr(self.db, "enable_load_extension"):
             raise Fault("this Python cannot load SQLite extensions: use /usr/bin/python3 of Debian")
         if not os.path.exists(EXTENSION + ".so"):
-            raise Fault(f"{EXTENSION}.so is not built: run 'rt staticlib ffi' and then 'make -C callers/sql'")
+            raise Fault(f"{EXTENSION}.so is not built: run 'tools/build ffi' and then 'make -C callers/sql'")
         self.db.enable_load_extension(True)
         self.db.load_extension(EXTENSION)
         self.db.enable_load_extension(False)

@@ -1,4 +1,4 @@
-//! Links the archive of proved functions that `rt staticlib ffi` writes.
+//! Links the archive of proved functions that `tools/build ffi` writes.
 use std::path::PathBuf;
 use std::{env, fs};
 
@@ -14,7 +14,7 @@ fn main() {
     // Its own name, since a system may have another library called ffi.
     if let Err(e) = fs::copy(&archive, out.join("libaccess_base.a")) {
         panic!(
-            "{}: {e}\nrun `rt staticlib ffi` in the repository's root, or name the archive in ACCESS_BASE_ARCHIVE",
+            "{}: {e}\nrun `tools/build ffi` in the repository's root, or name the archive in ACCESS_BASE_ARCHIVE",
             archive.display()
         );
     }

@@ -1,5 +1,7 @@
 // Which authorizations may stand directly before another in a chain, how far they cover from an instant on,
 // and the earliest instant that they do not cover.
+#![tactic(auto)]
+
 ghost use Rattle.std.specs.Prelude.{◌≡◌, ◌+◌, ◌*◌, ◌≤◌, length, drop};
 ghost use Rattle.foundation.specs.Intervals.{interval};
 ghost use Rattle.model.specs.Encoding.{authorization_of};

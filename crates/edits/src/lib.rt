@@ -1,6 +1,8 @@
 // Edits of a base in bytes: one record put into a body or taken out of it, the authorizations replaced, the
 // clock and the last label set. Each leaves the bytes of the base so edited. They start from the bytes of a
 // base that fits.
+#![tactic(auto)]
+
 ghost use Rattle.std.specs.Prelude.{◌≡◌, true, ◌+◌, ◌*◌, ◌≤◌, ◌<◌, length, take};
 ghost use Rattle.foundation.specs.Lists.{each, insert_at};
 ghost use Rattle.foundation.specs.Bytes.{records};

@@ -1,4 +1,6 @@
 // The base in bytes: its heading, and its records read and written by value.
+#![tactic(auto)]
+
 mod bodies;
 mod flags;
 mod heading;

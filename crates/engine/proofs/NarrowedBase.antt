@@ -229,26 +229,26 @@ module _ {holder : Base} {n : ℕ} {C : Chart} {asked : Access} {p : Prepared} {
 
     -- ---- the narrowed base
 
-    module _ (keepLine : Authorization → Bool)
+    module _ (keep_line : Authorization → Bool)
         (lines : (a : Authorization) →
-        (keepLine a ≡ true) ↔ Both C.width p.need (cell_in a.head) a.head) where
+        (keep_line a ≡ true) ↔ Both C.width p.need (cell_in a.head) a.head) where
       -- those of its authorizations that pass a further test are those that were chosen by both tests
       pub chosen_lines : (test : Authorization → Bool) (s : List ℕ) (total : ℕ) (entry exit : List ℕ)
           (k : ℕ) → base.authorizations ≡ authorizations_in total s →
-          Choice (λ a. test a && keepLine a) s total entry exit k →
-          picked s exit k ≡ keep_if test (narrowed base keepLine rule_matters).authorizations
+          Choice (λ a. test a && keep_line a) s total entry exit k →
+          picked s exit k ≡ keep_if test (narrowed base keep_line rule_matters).authorizations
       chosen_lines test s total entry exit k e c =
-          c.chosen ∙ keep-both test keepLine (authorizations_in total s)
-          ∙ ap (λ (xs : List Authorization). keep_if test (keep_if keepLine xs)) (sym e)
+          c.chosen ∙ keep-both test keep_line (authorizations_in total s)
+          ∙ ap (λ (xs : List Authorization). keep_if test (keep_if keep_line xs)) (sym e)
 
       -- they are on needed accesses
       pub kept_line : (a : Authorization) → is_mode a.head.mode ≡ true →
-          Mem a (narrowed base keepLine rule_matters).authorizations →
+          Mem a (narrowed base keep_line rule_matters).authorizations →
           needed C asked p.need (access_of a.head) ≡ true
-      kept_line a m l = line-needed a.head m ((lines a).0 (kept keepLine base.authorizations a l).1)
+      kept_line a m l = line-needed a.head m ((lines a).0 (kept keep_line base.authorizations a l).1)
 
       -- what it says about a needed access
       pub narrowed-may : stratified base.rules ≡ true → (x : Access) → needed C asked p.need x ≡ true →
-          (t : ℕ) → may base x t ≡ may (narrowed base keepLine rule_matters) x t
-      narrowed-may strata = needed-may base strata (needed C asked p.need) keepLine rule_matters
+          (t : ℕ) → may base x t ≡ may (narrowed base keep_line rule_matters) x t
+      narrowed-may strata = needed-may base strata (needed C asked p.need) keep_line rule_matters
           rules_inward rules_standing (λ a m l. (lines a).1 (needed_line_lem a.head l))

@@ -1,4 +1,4 @@
--- The tables of a question as they were drawn (`Drawn`), and the mapping that they stand for (`mappingOf`).
+-- The tables of a question as they were drawn (`Drawn`), and the mapping that they stand for (`mapping_of`).
 use Rattle.std.specs.Prelude.{◌≡◌, true, ◌&&◌, List, ℕ, ◌*◌, ◌≤◌, ◌<◌, length, get_or}
 use Rattle.foundation.specs.BitMasks.{bit}
 use Rattle.model.specs.declared.Access.{Access}

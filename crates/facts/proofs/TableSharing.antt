@@ -102,18 +102,18 @@ own_tables body right first rules c e =
     (c, record { there = e; shares = shares_self body right c; start = refl })
 
 pub arranged : {body right : List ℕ} {rules : ℕ} {g : Grid} (wide : Bool) {codes : List ℕ} →
-    codes ≡ shapes_by wide right → {tables fields to : ℕ} {first first' : List ℕ} →
+    codes ≡ shapes_by wide right → {tables fields to : ℕ} (first : List ℕ) {first' : List ℕ} →
     ((c : ℕ) → bit c tables ≡ true → bit c rules ≡ true) →
     TablesLaid (all_tables g codes tables first) 0 to → fields ≡ to →
     ((c : ℕ) → bit c tables ≡ true → get_or first' c 0 ≡ get_or first c 0) →
     TablesShared body codes first' rules tables →
     fields ≤ 2 * size_of g whole_region + room_of g right rules 64 →
     TablesArranged body right rules g first' (record { tables = tables; wide = wide; fields = fields })
-arranged {body} {right} {rules} {g} wide {codes} same {tables} {fields} {to} {first} {first'} some laid e
+arranged {body} {right} {rules} {g} wide {codes} same {tables} {fields} {to} first {first'} some laid e
     still shared few = record {
       some = some;
       shared = subst (λ (u : List ℕ). TablesShared body u first' rules tables) same shared;
       laid = subst (λ (u : List ℕ). TablesLaid (all_tables g u tables first') 0 fields) same
-          (subst (λ (n : ℕ). TablesLaid (all_tables g codes tables first') 0 n) (sym e) (laid_as still laid));
+          (subst (λ (n : ℕ). TablesLaid (all_tables g codes tables first') 0 n) (sym e) (laid_as codes tables first first' still laid));
       few = few;
     }

@@ -30,9 +30,9 @@ abbrev pub option_from : Bool → Bool → OptionTerm
 option_from any with = pick any Either (pick with With Without)
 
 abbrev pub side_from : Bool → ℕ → Bool → ℕ → Bool → ℕ → Bool → SideTerms
-side_from anySubject subject anyMode mode any_object object negative = record {
-  subject = term_of anySubject subject;
-  mode = term_of anyMode mode;
+side_from any_subject subject any_mode mode any_object object negative = record {
+  subject = term_of any_subject subject;
+  mode = term_of any_mode mode;
   object = term_of any_object object;
   negative = negative;
 }

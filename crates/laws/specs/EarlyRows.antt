@@ -1,5 +1,5 @@
 -- The rows of a table before one, by its number. Those of the table of refusals before 13, which is asked of
--- the effect, are `earlyRows`: what they leave to say is row 13 (`refusal-early`).
+-- the effect, are `early_rows`: what they leave to say is row 13 (`refusal-early`).
 use Rattle.std.specs.Prelude.{◌≡◌, refl, ℕ, List, [], ◌∷◌, eqb}
 use Rattle.foundation.specs.Tests.{pick}
 use Rattle.model.specs.declared.Request.{Request}

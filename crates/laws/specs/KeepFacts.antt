@@ -113,7 +113,7 @@ pieces_of p (a ∷ xs) x m = ⊎_elim
 
 -- ---- heads that are the same
 
--- the tests of `sameHead`
+-- the tests of `same_head`
 abbrev same_tests : Head → Head → List Bool
 same_tests h k =
     eqb h.label k.label

@@ -31,14 +31,14 @@ late_relabelled h r s e l = subst (λ (z : Rule). h ≤ z.interval.end) e l
 
 -- ---- what a rule derives, its right side being looked at in all that holds, under whatever label
 
-module _ (B : Base) (sB : stratified B.rules ≡ true) where
+module _ (B : Base) (s_b : stratified B.rules ≡ true) where
   abbrev law : Rule → Pattern → ℕ → Bool
   law z p t = in_interval z.interval t
       && operate always z.operator (λ u. holding B u p) (λ u. holding B u p) z.interval.start t
 
   relabelled_law : (r s : Rule) → Relabelled r s → Mem s B.rules → (x : Access) (t : ℕ) →
       derived B (fact s x t) ≡ law r (right_of r x) t
-  relabelled_law r s e m x t = derived-law B sB s m x t
+  relabelled_law r s e m x t = derived-law B s_b s m x t
       ∙ ap₂ (λ (z : Rule) (p : Pattern). law z p t) (sym e) (right_relabelled s r (sym e) x)
 
   -- a rule that derives something at h or after has not ended before h
@@ -47,7 +47,7 @@ module _ (B : Base) (sB : stratified B.rules ≡ true) where
   ongoing s m x h t l e =
       let v = operate always s.operator (λ u. holding B u (right_of s x)) (λ u. holding B u (right_of s x))
       s.interval.start t in
-      let i = (and-true (in_interval s.interval t) v (sym (derived-law B sB s m x t) ∙ e)).0 in
+      let i = (and-true (in_interval s.interval t) v (sym (derived-law B s_b s m x t) ∙ e)).0 in
       let w = in_interval-true s.interval t i in
       omega (arith, w.1)
 
@@ -174,7 +174,7 @@ module _ (D : Access → Bool) (h : ℕ) where
 
   -- ---- one step: what a rule of A derives by facts that B has, the same rule derives in B
 
-  module _ (A B : Base) (sB : stratified B.rules ≡ true) (lower S : Fact → Bool)
+  module _ (A B : Base) (s_b : stratified B.rules ≡ true) (lower S : Fact → Bool)
       (r s : Rule) (x : Access) (w : RelabelledFor D A B r s x) (t : ℕ) (l : h ≤ t) where
     pub carried : (lasting r.operator ≡ true → h ≤ r.interval.start) →
         ((p : Pattern) → Depends r x p → (u : ℕ) → h ≤ u →
@@ -190,7 +190,7 @@ module _ (D : Access → Bool) (h : ℕ) where
         let g = right_by always A lower lower p in
         let H : ℕ → Bool = λ u. holding B u p in
         let v = and-true (in_interval r.interval t) (operate always o f g a t) e in
-        relabelled_law B sB r s w.relabelled w.second x t
+        relabelled_law B s_b r s w.relabelled w.second x t
         ∙ and_intro (in_interval r.interval t) (operate always o H H a t) v.0
         (operate_carry o f H g H h a t l fresh
         (λ u k. right_carry r x (holds_by always A S u) (holds always B u) (holds_by always A lower u)

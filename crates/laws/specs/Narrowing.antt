@@ -40,36 +40,36 @@ fits-access p h e =
 
 -- the base with those authorizations and rules alone that pass
 abbrev pub narrowed : Base → (Authorization → Bool) → (Rule → Bool) → Base
-narrowed base keepLine keepRule = with_authorizations (keep_if keepLine base.authorizations)
-    (with_rules (keep_if keepRule base.rules) base)
+narrowed base keep_line keep_rule = with_authorizations (keep_if keep_line base.authorizations)
+    (with_rules (keep_if keep_rule base.rules) base)
 
 -- it is stratified if the base is
 pub narrowed-stratified : (base : Base) → stratified base.rules ≡ true →
-    (keepLine : Authorization → Bool) (keepRule : Rule → Bool) →
-    stratified (narrowed base keepLine keepRule).rules ≡ true
-narrowed-stratified base s keepLine keepRule =
-    stratified-less (keep_if keepRule base.rules) base.rules
-    (λ r m. (kept keepRule base.rules r m).0) s
+    (keep_line : Authorization → Bool) (keep_rule : Rule → Bool) →
+    stratified (narrowed base keep_line keep_rule).rules ≡ true
+narrowed-stratified base s keep_line keep_rule =
+    stratified-less (keep_if keep_rule base.rules) base.rules
+    (λ r m. (kept keep_rule base.rules r m).0) s
 
 -- a rule stands for the same accesses there: which, says the base's objects and privileges
-narrowed-stands : (base : Base) (keepLine : Authorization → Bool) (keepRule : Rule → Bool) (r : Rule)
-    (x : Access) → stands_for (narrowed base keepLine keepRule) r x ≡ stands_for base r x
-narrowed-stands base keepLine keepRule r x = stands_same (narrowed base keepLine keepRule) base r x refl
+narrowed-stands : (base : Base) (keep_line : Authorization → Bool) (keep_rule : Rule → Bool) (r : Rule)
+    (x : Access) → stands_for (narrowed base keep_line keep_rule) r x ≡ stands_for base r x
+narrowed-stands base keep_line keep_rule r x = stands_same (narrowed base keep_line keep_rule) base r x refl
 
 module _ (base : Base) (s : stratified base.rules ≡ true) (D : Access → Bool)
-    (keepLine : Authorization → Bool) (keepRule : Rule → Bool)
+    (keep_line : Authorization → Bool) (keep_rule : Rule → Bool)
     (inward : (r : Rule) (x : Access) → Mem r base.rules → D x ≡ true → stands_for base r x ≡ true →
     D (right_of r x).access ≡ true)
     (rules : (r : Rule) (x : Access) → Mem r base.rules → D x ≡ true → stands_for base r x ≡ true →
-    keepRule r ≡ true)
+    keep_rule r ≡ true)
     (lines : (a : Authorization) → Mem a base.authorizations → D (access_of a.head) ≡ true →
-    keepLine a ≡ true) where
+    keep_line a ≡ true) where
   abbrev less : Base
-  less = narrowed base keepLine keepRule
+  less = narrowed base keep_line keep_rule
 
   -- what fits on an access of D is kept
   direct_same : (t : ℕ) (p : Pattern) → D p.access ≡ true →
-      direct base t p ≡ direct (narrowed base keepLine keepRule) t p
+      direct base t p ≡ direct (narrowed base keep_line keep_rule) t p
   direct_same t p d = agree (direct base t p) (direct less t p)
       (λ e. let m = any_mem (fits p) (live t base.authorizations) e in
       let w = live-mem t base.authorizations m.0 m.1 in
@@ -77,28 +77,28 @@ module _ (base : Base) (s : stratified base.rules ≡ true) (D : Access → Bool
       let f : fits p a.head ≡ true = ap (fits p) w.2 ∙ m.2 in
       let k = lines a w.1 (ap D (fits-access p a.head f) ∙ d) in
       mem_any (fits p) (live t less.authorizations) a.head
-      (mem-live t less.authorizations a (keep_if-mem keepLine base.authorizations a w.1 k) w.3) f)
+      (mem-live t less.authorizations a (keep_if-mem keep_line base.authorizations a w.1 k) w.3) f)
       (λ e. let m = any_mem (fits p) (live t less.authorizations) e in
       let w = live-mem t less.authorizations m.0 m.1 in
       let a = w.0 in
       mem_any (fits p) (live t base.authorizations) a.head
-      (mem-live t base.authorizations a (kept keepLine base.authorizations a w.1).0 w.3)
+      (mem-live t base.authorizations a (kept keep_line base.authorizations a w.1).0 w.3)
       (ap (fits p) w.2 ∙ m.2))
 
   forth : Matched D 0 base less
   forth r x w = (
     r,
-    keep_if-mem keepRule base.rules r w.listed (rules r x w.listed w.inside w.stands),
+    keep_if-mem keep_rule base.rules r w.listed (rules r x w.listed w.inside w.stands),
     refl,
-    narrowed-stands base keepLine keepRule r x ∙ w.stands,
+    narrowed-stands base keep_line keep_rule r x ∙ w.stands,
   )
 
   back : Matched D 0 less base
   back r x w = (
     r,
-    (kept keepRule base.rules r w.listed).0,
+    (kept keep_rule base.rules r w.listed).0,
     refl,
-    sym (narrowed-stands base keepLine keepRule r x) ∙ w.stands,
+    sym (narrowed-stands base keep_line keep_rule r x) ∙ w.stands,
   )
 
   alike : Alike D 0 base less
@@ -110,12 +110,12 @@ module _ (base : Base) (s : stratified base.rules ≡ true) (D : Access → Bool
   }
 
   pub needed-only : (t : ℕ) (p : Pattern) → D p.access ≡ true →
-      holds always base t p ≡ holds always (narrowed base keepLine keepRule) t p
-  needed-only t p d = holds_alike D 0 base less s (narrowed-stratified base s keepLine keepRule) forth back
+      holds always base t p ≡ holds always (narrowed base keep_line keep_rule) t p
+  needed-only t p d = holds_alike D 0 base less s (narrowed-stratified base s keep_line keep_rule) forth back
       alike t (omega arith) p d (direct_same t p d)
 
   pub needed-may : (x : Access) → D x ≡ true → (t : ℕ) →
-      may base x t ≡ may (narrowed base keepLine keepRule) x t
+      may base x t ≡ may (narrowed base keep_line keep_rule) x t
   unfolding may may_with
   needed-may x d t = ap₂ (λ (y z : Bool). y && not z)
       (needed-only t (asked x false) d) (needed-only t (asked x true) d)

@@ -37,7 +37,7 @@ round-derived b k few i j r m x t e =
     settled_at b (suc k) y m (below-stratum b (suc k) y d) (omega arith) ∙ d
 
 module _ (D : Access → Bool) (h : ℕ) (A B : Base)
-    (sA : stratified A.rules ≡ true) (sB : stratified B.rules ≡ true)
+    (s_a : stratified A.rules ≡ true) (s_b : stratified B.rules ≡ true)
     (forth : Matched D h A B) (back : Matched D h B A) (alike : Alike D h A B) where
   -- a rule of A with a stratum below k and the same rule of B derive the same
   abbrev Same : ℕ → Type 0
@@ -53,11 +53,11 @@ module _ (D : Access → Bool) (h : ℕ) (A B : Base)
       settled_same = agree (holds always A t p) (holds always B t p)
           (λ e. held_more D h A B forth p d (derived A) t q
           (λ r s w f g a. sym (known r s p.access w (low r w.first f) t l) ∙ a)
-          (λ r m a. ongoing A sA r m p.access h t l a)
+          (λ r m a. ongoing A s_a r m p.access h t l a)
           (sym (holds-law A t p) ∙ e))
           (λ e. held_more D h B A back p d (derived B) t (sym q)
           (λ s r w f g a. known r s p.access (swap D B A s r p.access w) (low r w.second g) t l ∙ a)
-          (λ s m a. ongoing B sB s m p.access h t l a)
+          (λ s m a. ongoing B s_b s m p.access h t l a)
           (sym (holds-law B t p) ∙ e))
 
     -- so does what a rule of A's stratum k looks at below it
@@ -67,7 +67,7 @@ module _ (D : Access → Bool) (h : ℕ) (A B : Base)
         let n = below_depends r x p e in
         settled_same p (ap D (depends_access r x p n) ∙ alike.inward r x w)
         (λ q m f. let z = depends_strictly r x p A e q f in
-        omega (arith, feeder_below A.rules sA q r m w.listed z.0 z.1))
+        omega (arith, feeder_below A.rules s_a q r m w.listed z.0 z.1))
         u i (alike.lines r x w p n u i)
 
     -- ---- what A's stratum k derives, B derives
@@ -92,16 +92,16 @@ module _ (D : Access → Bool) (h : ℕ) (A B : Base)
           let f = and-true (eqb v k) (derives always A L S (fact r x t)) (rw y at e) in
           let level : v ≡ k = true_eq v k f.0 in
           let d = round-derived A k few (suc i) j r w.first x t e in
-          let z = stands-inside D h A B r s x w (ongoing A sA r w.first x h t l d) in
-          carried D h A B sB L S r s x w t l (alike.fresh r x z)
+          let z = stands-inside D h A B r s x w (ongoing A s_a r w.first x h t l d) in
+          carried D h A B s_b L S r s x w t l (alike.fresh r x z)
           (λ p n u c.
           let d = ap D (depends_access r x p n) ∙ alike.inward r x z in
           held_more D h A B forth p d S u (alike.lines r x z p n u c)
           (λ r' s' w' a b. found i (omega arith) r' s' p.access w' u c)
-          (λ r' m' a. ongoing A sA r' m' p.access h u c
+          (λ r' m' a. ongoing A s_a r' m' p.access h u c
           (round-derived A k few i (omega arith) r' m' p.access u a)))
           (λ p n u c. subst (λ (i : ℕ). holds_by always A (derived_below always A i) u p ≡ holds always A u p)
-          level (strictly_settled A sA r w.first u p (depends_strictly r x p A n))
+          level (strictly_settled A s_a r w.first u p (depends_strictly r x p A n))
           ∙ below_same r x z level p n u c)
           f.1)
 
@@ -139,24 +139,24 @@ module _ (D : Access → Bool) (h : ℕ) (A B : Base)
           let here : g ≡ j = true_eq g j f.0 in
           let back-pair = swap D A B r s x w in
           let d = round-derived B j few (suc i) c s w.second x t e in
-          let late = ongoing B sB s w.second x h t l d in
+          let late = ongoing B s_b s w.second x h t l d in
           let bs = stands-inside D h B A s r x back-pair late in
           let br = stands-inside D h A B r s x w (late_relabelled h s r (sym w.relabelled) late) in
           let other = alike_swap D h A B back alike in
-          carried D h B A sA L S s r x back-pair t l (other.fresh s x bs)
+          carried D h B A s_a L S s r x back-pair t l (other.fresh s x bs)
           (λ p n u q.
           let d = ap D (depends_access s x p n) ∙ other.inward s x bs in
           held_more D h B A back p d S u (other.lines s x bs p n u q)
           (λ s' r' w' a b. returns i (omega arith) r' s' p.access (swap D B A s' r' p.access w')
           (omega (
             arith,
-            feeder_not-above A.rules sA r' r w'.second w.first
+            feeder_not-above A.rules s_a r' r w'.second w.first
                 (depends_fed r x p A (depends_relabelled s x p r (sym w.relabelled) n) r' b),
           )) u q)
-          (λ s' m' a. ongoing B sB s' m' p.access h u q
+          (λ s' m' a. ongoing B s_b s' m' p.access h u q
           (round-derived B j few i (omega arith) s' m' p.access u a)))
           (λ p n u q. subst (λ (i : ℕ). holds_by always B (derived_below always B i) u p ≡ holds always B u p)
-          here (strictly_settled B sB s w.second u p (depends_strictly s x p B n))
+          here (strictly_settled B s_b s w.second u p (depends_strictly s x p B n))
           ∙ sym (below_same r x br level p (below_relabelled s x p r (sym w.relabelled) n) u q))
           f.1))
 
@@ -175,7 +175,7 @@ module _ (D : Access → Bool) (h : ℕ) (A B : Base)
         (λ e. found few (enough always A) (omega arith) r s x w t l
         (sym (settled_at A (suc k) (fact r x t) w.first v (omega arith)) ∙ e))
         (λ e. returned (suc (2 * length B.rules)) (omega arith) r s x w (omega arith)
-        (omega (arith, stratum-few B.rules sB s w.second)) t l e)
+        (omega (arith, stratum-few B.rules s_b s w.second)) t l e)
 
   same : (k : ℕ) → k ≤ suc (2 * length A.rules) → Same k
   same zero c = λ r s x w v t l. absurd (omega arith)
@@ -187,4 +187,4 @@ module _ (D : Access → Bool) (h : ℕ) (A B : Base)
   holds_alike t l p d q =
       let n = suc (2 * length A.rules) in
       settled_same n (same n (omega arith)) p d
-      (λ r m e. omega (arith, stratum-few A.rules sA r m)) t l q
+      (λ r m e. omega (arith, stratum-few A.rules s_a r m)) t l q

@@ -86,7 +86,7 @@ pub fn stands_for(s: &[u8], q: Rule, x: Access) -> bool
 // The subject may set up a rule with these objects on its left and on its right.
 pub fn may_rule(s: &[u8], u: u32, left: u32, right: u32) -> bool
     requires { sound_bytes s.now ≡ true }
-    ensures { result ≡ base.mayRule (decode s.now) u left right }
+    ensures { result ≡ base.may_rule (decode s.now) u left right }
 {
     controls(s, left, u) & (controls(s, right, u) | refers(s, right, u))
 }

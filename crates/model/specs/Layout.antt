@@ -1,6 +1,6 @@
 -- The bytes of a base, each thing that 01 says of them on its own ("The base as bytes"): `Laid`. THEOREM
 -- `laid` in LayoutFacts: 27,936 bytes are laid out so exactly if they are what `encode` writes of what
--- `decode` reads. THEOREM `sound-laid` there: bytes are sound (`soundBytes`) exactly if they are laid out so
+-- `decode` reads. THEOREM `sound-laid` there: bytes are sound (`sound_bytes`) exactly if they are laid out so
 -- and the base that they hold is sound. What the fields and the flag bits in use mean is in `decode`.
 use Rattle.std.specs.Prelude.{◌≡◌, ℕ, ◌+◌, ◌*◌, ◌≤◌, ◌<◌, true, false, List, length, take, drop, get_or}
 use Rattle.foundation.specs.Bytes.{le}

@@ -1,4 +1,4 @@
--- What requests ask of every instant, in two readings: `plainly`, which is the definition, and `atMarks`,
+-- What requests ask of every instant, in two readings: `plainly`, which is the definition, and `at_marks`,
 -- which asks only where something can change and can therefore be computed. `same-means` (MeansFacts) proves
 -- that they agree.
 use Rattle.std.specs.Prelude.{ℕ, suc, Bool, not, ◌||◌, List, [], ◌∷◌, ◌++◌}

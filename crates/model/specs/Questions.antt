@@ -1,5 +1,5 @@
--- What the two questions ask of every instant, in two readings, as Means has them for requests: `asDefined`
--- and `readAtMarks`. `same-questions` (MeansFacts) proves that they agree.
+-- What the two questions ask of every instant, in two readings, as Means has them for requests: `as_defined`
+-- and `read_at_marks`. `same-questions` (MeansFacts) proves that they agree.
 use Rattle.std.specs.Prelude.{ℕ, Bool, not, List}
 use Rattle.foundation.specs.declared.Interval.{Interval}
 use Rattle.foundation.specs.Intervals.{none?}

@@ -1,4 +1,4 @@
--- When a rule's right side holds, and what its operator makes of that: the laws of `rightHolds` and
+-- When a rule's right side holds, and what its operator makes of that: the laws of `right_holds` and
 -- `operate`. Both change at marks only, and from more facts they give no less.
 use Rattle.std.specs.Prelude.{◌≡◌, refl, ◌↔◌, ℕ, ◌≤◌, Bool, true, false, not, ◌&&◌, ◌||◌, List}
 use Rattle.std.proofs.Common.{sym, ap, ap₂, ◌∙◌}
@@ -9,7 +9,7 @@ use Rattle.model.specs.declared.Operator.{Operator}
 use Rattle.model.specs.declared.Operator.TheVariants.{Whenever, AsLongAs, WheneverNot, Unless}
 use Rattle.model.specs.Rules.{Pattern, asked, right_holds, operate}
 
--- ---- the laws of `rightHolds`; nothing else looks into it
+-- ---- the laws of `right_holds`; nothing else looks into it
 
 -- where more holds up to the stratum, no less counts as held
 pub right_mono : (same more lower : Pattern → Bool) (p : Pattern) →

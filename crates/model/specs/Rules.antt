@@ -106,8 +106,8 @@ module _ (every : ℕ → ℕ → (ℕ → Bool) → Bool) (b : Base) where
   -- 01: "Held means given by a line or by a rule, denied or not", S saying what rules derive
   abbrev pub holds_by : (Fact → Bool) → ℕ → Pattern → Bool
   holds_by S t p =
-      let byRule = anyb (λ r. let d = S (fact r p.access t) in derives_for b p r && d) b.rules in
-      anyb (fits p) (live t b.authorizations) || byRule
+      let by_rule = anyb (λ r. let d = S (fact r p.access t) in derives_for b p r && d) b.rules in
+      anyb (fits p) (live t b.authorizations) || by_rule
 
   -- whether the right side p counts as held, instant by instant
   abbrev pub right_by : (Fact → Bool) → (Fact → Bool) → Pattern → ℕ → Bool

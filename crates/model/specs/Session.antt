@@ -89,7 +89,7 @@ byte_transcript (l ∷ rest) s =
 unfoldable pub byte_session : List ℕ → List ℕ
 byte_session input = byte_transcript (lines input) (encode empty_base)
 
--- the base's bytes after lines that are answered one after the other, as in `byteTranscript`
+-- the base's bytes after lines that are answered one after the other, as in `byte_transcript`
 abbrev pub turns : List (List ℕ) → List ℕ → List ℕ
 turns [] s = s
 turns (l ∷ rest) s = turns rest (byte_turn s (read_line l)).lent

@@ -1,4 +1,4 @@
--- What is looked for and what is given: the laws of `fits`, `stands_for`, `derivesFor`, `rightOf`, `feeds` and
+-- What is looked for and what is given: the laws of `fits`, `stands_for`, `derives_for`, `right_of`, `feeds` and
 -- `links`. The equation of each says all of it (`fits-eq`, `right-eq` and so on). Outside `model` and `laws`
 -- the six are used through these laws, and opened only to compute cases.
 use Rattle.std.specs.Prelude.{◌≡◌, refl, ◌↔◌, ℕ, Bool, true, false, not, ◌&&◌, ◌||◌, eqb}

@@ -1,7 +1,7 @@
 -- Reading one line and printing one reply (01, "Text session"). Texts are lists of bytes.
 use Rattle.std.specs.Prelude.{ℕ, zero, suc, ◌+◌, ◌-◌, ◌*◌, ◌/◌, ◌%◌, Bool, true, false, not, ◌&&◌, List, [], ◌∷◌, ◌++◌, leb, ltb, eqb, length}
 use Prim.Native.Char.{code}
-use Prim.Native.String.{String, [] as noText, ◌∷◌ as ◌then◌}
+use Prim.Native.String.{String, [] as no_text, ◌∷◌ as ◌then◌}
 use Rattle.std.proofs.Math.Option.{Option, none, some}
 use Rattle.foundation.specs.Tests.{pick}
 use Rattle.foundation.specs.Lists.{allb}
@@ -26,7 +26,7 @@ use Rattle.model.specs.Requests.{REVOKEADM, GRANTREF, REVOKEREF}
 
 -- the bytes of an ASCII text
 abbrev pub ascii : String → List ℕ
-ascii noText = []
+ascii no_text = []
 ascii (c then s) = code c ∷ ascii s
 
 abbrev pub newline : ℕ
@@ -288,10 +288,10 @@ when_line = do
 abbrev pub any_line : List (List ℕ) → Option Line
 any_line [] = none
 any_line (f ∷ rest) =
-    let asMay = whole (may_line rest) in
-    let asWhen = whole (when_line rest) in
-    let asRequest = whole (request_line (f ∷ rest)) in
-    pick (eq_list f (ascii "MAY")) asMay (pick (eq_list f (ascii "WHEN")) asWhen asRequest)
+    let as_may = whole (may_line rest) in
+    let as_when = whole (when_line rest) in
+    let as_request = whole (request_line (f ∷ rest)) in
+    pick (eq_list f (ascii "MAY")) as_may (pick (eq_list f (ascii "WHEN")) as_when as_request)
 
 abbrev pub or_unreadable : Option Line → Line
 or_unreadable none = unreadable

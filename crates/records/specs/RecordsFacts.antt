@@ -1,4 +1,4 @@
--- What `recordsAnswer` says to a caller: which numbers it refuses with (`records-refuses`), and that a list
+-- What `records_answer` says to a caller: which numbers it refuses with (`records-refuses`), and that a list
 -- of 10,240 numbers takes any body whole (`whole-body`).
 use Rattle.std.specs.Prelude.{◌≡◌, refl, ◌≢◌, Bool, true, false, not, List, [], ◌∷◌, ◌++◌, ℕ, suc, ◌*◌, ◌/◌, ◌≤◌, ◌<◌, ltb, length, drop}
 use Rattle.std.proofs.Common.{◌∙◌, inl, inr, le-div_iff_mul-le, mul_comm, arith, take_all}

@@ -18,7 +18,7 @@ fn meets(a: u16, b: u16) -> bool
 
 // Whether the option of a right side fits what is, or is not, transferable.
 pub fn fits_option(o: OptionTerm, has: bool) -> bool
-    ensures { result ≡ model.fitsOption o has }
+    ensures { result ≡ model.fits_option o has }
 {
     match o {
         OptionTerm::With => has,

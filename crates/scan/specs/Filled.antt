@@ -1,5 +1,5 @@
 -- Intervals at the front of a lent list, two numbers each: as many as there is room for (`filled`), and one
--- more behind others (`withPair`). That the rest of the list is untouched where there is room for all is
+-- more behind others (`with_pair`). That the rest of the list is untouched where there is room for all is
 -- proved in `proofs/FilledFacts.antt`.
 use Rattle.std.specs.Prelude.{ℕ, zero, suc, List, [], ◌∷◌}
 use Rattle.foundation.specs.declared.Interval.{Interval}

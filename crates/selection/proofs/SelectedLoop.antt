@@ -1,4 +1,4 @@
--- The rules of a mask among the first r of a base's bytes (`rulesUpTo`): what a turn of a loop over the bits
+-- The rules of a mask among the first r of a base's bytes (`rules_up_to`): what a turn of a loop over the bits
 -- of the mask adds to them, and where a rule stands among them (`position`).
 use mathlib.Core.Path.{◌≡◌, refl, sym, ap, ◌∙◌}
 use mathlib.Core.Bool.{Bool, true, false}

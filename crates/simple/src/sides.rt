@@ -61,7 +61,7 @@ pub fn is_granted(s: &[u8], p: Pattern, t: u32) -> bool
 // Whether the left side of a rule is what is sought. The author is its grantor, and it is never transferable.
 pub fn may_give(s: &[u8], r: Rule, p: Pattern) -> bool
     requires { sound_bytes s.now ≡ true }
-    ensures { result ≡ model.derivesFor (decode s.now) p r }
+    ensures { result ≡ model.derives_for (decode s.now) p r }
 {
     let o = p.option;
     let same = lookup::stands_for(s, r, p.access)
@@ -82,7 +82,7 @@ fn number_or(n: u16, x: u32) -> u32
 
 // The right side of a rule whose left side is x.
 pub fn right_of(r: Rule, x: Access) -> Pattern
-    ensures { result ≡ model.rightOf r x }
+    ensures { result ≡ model.right_of r x }
 {
     let right = r.right;
     let o = r.option;

@@ -109,10 +109,10 @@ all_laid g right rules first to l =
     behind (suc (suc c)) (suc (suc d)) e f h = l.behind c d e f (omega arith)
 
 -- tables stay where they are, whatever is written where rules without one look
-pub laid_as : {g : Grid} {right : List ℕ} {tables : ℕ} {first first' : List ℕ} {to : ℕ} →
+pub laid_as : {g : Grid} (right : List ℕ) (tables : ℕ) (first first' : List ℕ) {to : ℕ} →
     ((c : ℕ) → bit c tables ≡ true → get_or first' c 0 ≡ get_or first c 0) →
     TablesLaid (all_tables g right tables first) 0 to → TablesLaid (all_tables g right tables first') 0 to
-laid_as {g} {right} {tables} {first} {first'} {to} same l = record {
+laid_as {g} right tables first first' {to} same l = record {
   room = l.room;
   low = λ c t. omega arith;
   high = λ c t. omega (arith, l.high c t, at c t);

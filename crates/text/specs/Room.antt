@@ -1,4 +1,4 @@
--- When a buffer suffices, and that a refusal alters nothing: the theorems on `textAnswer`.
+-- When a buffer suffices, and that a refusal alters nothing: the theorems on `text_answer`.
 use Rattle.std.specs.Prelude.{◌≡◌, ◌⊎◌, List, [], ℕ, ◌≤◌, ◌<◌, leb, length}
 use Rattle.std.proofs.Common.{ap, ◌∙◌, inl, inr, arith}
 use Rattle.foundation.specs.Tests.{cases, true-le, false-le}

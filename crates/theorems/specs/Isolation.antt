@@ -412,7 +412,7 @@ module _ (block : ℕ → Bool) where
         let same = a ∙ when_isolated x h list ∙ sym a' in
         (ap (λ (z : Answer). z.reply) same, ap (λ (z : Answer). z.lent) same)
 
-    -- of `batch`, and with `questionsIn words` for the questions of `batch_words`
+    -- of `batch`, and with `questions_in words` for the questions of `batch_words`
     pub batch-code : (questions : List Question) →
         ((q : Question) → Mem q questions → block q.access.object ≡ true) →
         (bytes : List ℕ) (r r' : ℕ) (after after' : List ℕ) →

@@ -1,6 +1,6 @@
 -- DEMAND 3 ABOUT THE TEXT SESSION: for every input of bytes, questions and lines that cannot be read
 -- included, it holds of the requests among the lines and of the base's bytes after the session:
--- `demand3-text`. These are the bytes that `byteSession` passes from line to line; it prints what the session
+-- `demand3-text`. These are the bytes that `byte_session` passes from line to line; it prints what the session
 -- prints (`session-bytes`).
 use Rattle.std.specs.Prelude.{◌≡◌, refl, ℕ, List, [], ◌∷◌, ◌++◌}
 use Rattle.std.proofs.Common.{sym, ap, ◌∙◌, subst}

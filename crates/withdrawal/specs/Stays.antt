@@ -1,5 +1,5 @@
 -- What a withdrawal leaves, as one test of instants, and what of it those granted before a time leave
--- (`untilInstant`).
+-- (`until_instant`).
 use Rattle.std.specs.Prelude.{ℕ, Bool, ◌&&◌, List, ltb}
 use Rattle.model.specs.declared.Head.{Head}
 use Rattle.model.specs.declared.Authorization.{Authorization}

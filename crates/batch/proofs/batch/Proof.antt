@@ -332,24 +332,24 @@ module _ {M : Type 1} {𝓤 : Ura M} (𝓛 : Logic 𝓤) (mem' : Memory → SPro
   prep_of n t = ex_e 𝓤 _ (λ ws. snd∗ 𝓤 (sem 𝓛 (lasts prep.ended (κ₀, tt) (x₀, (n, tt)) ws))
       (fact 𝓤 (Ready n t)))
 
-  module _ (α lP : ℕ) (δ : GName) (t : List ℕ) where
+  module _ (α l_p : ℕ) (δ : GName) (t : List ℕ) where
     abbrev to : Question → (Answer 𝓛 mem' run).Ghost
     to d = (
       (
         (κ₀, (α ∷ [], tt)),
         (q₀, (full_share, tt)),
         tt,
-        (x₀, (x_p lP δ t, (d, tt))),
-        (v₀ ∷ [], (slice_val (lP, 0) (length t) ∷ [], (vals d, tt))),
+        (x₀, (x_p l_p δ t, (d, tt))),
+        (v₀ ∷ [], (slice_val (l_p, 0) (length t) ∷ [], (vals d, tt))),
       ),
       tt,
     )
 
     goes : sound_bytes s ≡ true → HandedOn s t → (d : Question) → Is T.the_row d (vals d) →
         ent 𝓤 (sep 𝓤 (A.lft κ₀ q₀) (sep 𝓤 (sem 𝓛 Own₀)
-        (sep 𝓤 (A.lft (α ∷ []) full_share) (sem 𝓛 (OwnP α lP δ t))))) ((Answer 𝓛 mem' run).pre (to d))
+        (sep 𝓤 (A.lft (α ∷ []) full_share) (sem 𝓛 (OwnP α l_p δ t))))) ((Answer 𝓛 mem' run).pre (to d))
     goes g e d p =
-        qed 𝓛 (‵ (flft κ₀ q₀) ∷ ‵ Own₀ ∷ (‵ (flft (α ∷ []) full_share) ⊛ ‵ (OwnP α lP δ t)) ∷ []) ∵ move !
+        qed 𝓛 (‵ (flft κ₀ q₀) ∷ ‵ Own₀ ∷ (‵ (flft (α ∷ []) full_share) ⊛ ‵ (OwnP α l_p δ t)) ∷ []) ∵ move !
         (2 ∷ []) $
         split ! $
         says ! (g, e) $ nothing ! $ move ! (1 ∷ 0 ∷ []) $ join ! $ move ! (2 ∷ 0 ∷ []) $ join ! $ frame ! $
@@ -358,9 +358,9 @@ module _ {M : Type 1} {𝓤 : Ura M} (𝓛 : Logic 𝓤) (mem' : Memory → SPro
         move ! (1 ∷ 0 ∷ []) $ fjoin ! $ move ! (1 ∷ 0 ∷ []) $ fjoin ! $ done !
 
     said : (d : Question) (r : ℕ) → ent 𝓤 (ensured 𝓛 byte-for.ended (byte-for.clauses 𝓛 mem' run)
-        (κ₀, (α ∷ [], tt)) (x₀, (x_p lP δ t, (d, tt))) tt r) (fact 𝓤 (r ≡ byte_for s d))
+        (κ₀, (α ∷ [], tt)) (x₀, (x_p l_p δ t, (d, tt))) tt r) (fact 𝓤 (r ≡ byte_for s d))
     said d r = ex_e 𝓤 _ (λ ws. snd∗ 𝓤 (sem 𝓛 (lasts byte-for.ended (κ₀, (α ∷ [], tt))
-        (x₀, (x_p lP δ t, (d, tt)))
+        (x₀, (x_p l_p δ t, (d, tt)))
         ws)) (fact 𝓤 (r ≡ byte_for s d)))
 
   module _ (𝓣 : Tables 𝓤 H) (fm : FmC 𝓤 H 𝓛.laws 𝓣.C)

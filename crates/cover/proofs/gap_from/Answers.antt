@@ -6,7 +6,6 @@ use Rattle.cover.specs.Cover.{uncovered}
 use Rattle.encoding.specs.Format.{authorizations_in}
 use Rattle.cover.specs.Sweep.{CoveredOrBare}
 use Rattle.cover.proofs.SweepFacts.{sweep_passed, gap_hit, gap_skip}
-use Rattle.cover.proofs.gap_from.Invariants.{decreases-loop-t, invariant-loop-t}
 use Rattle.cover.proofs.gap_from.Goals as goal
 
 pub loop-t-init : goal.loop-t-init

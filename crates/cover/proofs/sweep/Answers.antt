@@ -12,7 +12,6 @@ use Rattle.cover.specs.declared.Want.{Want}
 use Rattle.encoding.specs.Format.{authorizations_in, authorizations_from}
 use Rattle.cover.specs.Sweep.{end_from, sweep_of}
 use Rattle.foundation.specs.ByteRecords.{rest_all, rest_step, rest_end}
-use Rattle.cover.proofs.sweep.Invariants.{decreases-loop-i, invariant-loop-i}
 use Rattle.cover.proofs.sweep.Goals as goal
 
 abbrev pass_over : Want → ℕ → ℕ → List Authorization → ℕ

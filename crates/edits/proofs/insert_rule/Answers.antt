@@ -1,4 +1,3 @@
-use borrow.Author.Rules.{rules}
 use Rattle.edits.proofs.BodyEdits.{rules, insertion}
 use Rattle.edits.proofs.BodyEditRules.{count-rises, put-old-room, put-new-room, put_counts, edit-rules}
 use Rattle.edits.proofs.insert_rule.Goals as goal

@@ -1,4 +1,3 @@
-use borrow.Author.Rules.{rules}
 use Rattle.edits.proofs.BodyEdits.{rules, removal}
 use Rattle.edits.proofs.BodyEditRules.{count-falls, out_new-room, out_old-room, out_counts, edit-rules}
 use Rattle.edits.proofs.remove_rule.Goals as goal

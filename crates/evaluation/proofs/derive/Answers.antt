@@ -3,7 +3,7 @@ use mathlib.Core.Path.{◌≡◌, sym, ap, subst, ◌∙◌}
 use mathlib.Core.Bool.{true, false}
 use Prim.Native.Nat.{ℕ}
 use lib.Dec.{eqb}
-use Rattle.foundation.specs.Tests.{or_cases, true_eq, not-true, not-false}
+use Rattle.foundation.specs.Tests.{or_cases, true_eq}
 use Rattle.model.specs.Stratification.{lasting}
 use Rattle.words.specs.Ones.{all_from}
 use Rattle.derivation.specs.Derive.{Derived}
@@ -15,7 +15,7 @@ pub returns-then-not-is_lasting : goal.returns-then-not-is_lasting
 returns-then-not-is_lasting c =
     let a = c.args in
     let e : lasting a.o ≡ false = sym c.is_lasting.ensures
-    ∙ not-true c.is_lasting.result c.if-not-is_lasting.true in
+    ∙ c.if-not-is_lasting.true in
     subst (λ (r : ℕ). Derived a.o a.held a.active a.broken r) (sym c.wanted_word-x.ensures)
     (plain-derived a.o a.held a.active a.broken e)
 
@@ -23,7 +23,7 @@ pub returns-then-broken-active : goal.returns-then-broken-active
 returns-then-broken-active c =
     let a = c.args in
     let e : lasting a.o ≡ true = sym c.is_lasting.ensures
-    ∙ not-false c.is_lasting.result c.if-not-is_lasting.false in
+    ∙ c.if-not-is_lasting.false in
     or_cases a.broken (eqb a.active 0) c.if-broken-active.true
     (λ b. broken_derived a.o a.held a.active a.broken e b)
     (λ z. idle_derived a.o a.held a.active a.broken (true_eq a.active 0 z))
@@ -47,7 +47,7 @@ pub returns : goal.returns
 returns c =
     let a = c.args in
     let e : lasting a.o ≡ true = sym c.is_lasting.ensures
-    ∙ not-false c.is_lasting.result c.if-not-is_lasting.false in
+    ∙ c.if-not-is_lasting.false in
     let n = neither a.broken a.active c.if-broken-active.false in
     let x = c.next_bit.ensures in
     let f = first-active a.active c.next_bit.result n.1 c.requires x.1

@@ -18,9 +18,6 @@ bounds-which-i c =
     let s = c in
     omega (arith, s.requires.0.picks.room)
 
-pub overflow_cast-at : goal.overflow_cast-at
-overflow_cast-at c = omega (arith, c.shared_slice_known-in-loop-i-1.given c.loop-i.i)
-
 pub overflow_mul-at : goal.overflow_mul-at
 overflow_mul-at c =
     let l = c in
@@ -46,12 +43,6 @@ give_line-requires c =
       s.requires.3,
     )
 
-pub overflow_add-i : goal.overflow_add-i
-overflow_add-i c =
-    let i = c in
-    let s = i in
-    omega (arith, i.loop-i-test.true, s.requires.0.picks.room, s.well_formed.1.1.1.1.0)
-
 pub loop-i-preserved : goal.loop-i-preserved
 loop-i-preserved c =
     let g = c in
@@ -76,6 +67,6 @@ returns c =
     let z : l.i ≡ w.chosen.authorizations = omega (arith, l.invariant.0) in
     let r : LineSteps (setting_in (take (length records - w.offset) (drop w.offset records)) w
     a.outline.now a.coordinates.now a.number.now a.marks.now)
-    (picked records a.which.now w.chosen.authorizations) a.words.now l.words-1 =
+    (picked records a.which.now w.chosen.authorizations) a.words.now l.words =
     rw (← z) l.invariant.1 in
     (rw (lent_rest w.offset records) at r, l.invariant.2)

@@ -28,9 +28,6 @@ bounds-number-j c =
     ) in
     omega (arith, c.pair_index-j.ensures, placed)
 
-pub overflow_cast-result : goal.overflow_cast-result
-overflow_cast-result c = omega (arith, c.shared_slice_known-3-1.given c.pair_index-j.result)
-
 pub returns : goal.returns
 returns c =
     let e = c in

@@ -1,5 +1,4 @@
 use borrow.Author.Rules.{rules}
-use borrow.Author.Tests.{not-true, not-false}
 use mathlib.Core.Path.{◌≡◌, sym, ap, ◌∙◌}
 use mathlib.Core.Bool.{true}
 use Prim.Native.Nat.{◌*◌, ◌-◌, ◌≤◌}
@@ -17,11 +16,11 @@ returns-then-s-ne-BASE_BYTES c = other_length c.args.s.now c.if-s-ne-BASE_BYTES.
 pub returns-then-not-counts_fit : goal.returns-then-not-counts_fit
 returns-then-not-counts_fit c = counts_beyond c.args.s.now _
     c.counts_of-c.ensures (search rules)
-    (sym c.counts_fit.ensures ∙ not-true _ c.if-not-counts_fit.true)
+    (sym c.counts_fit.ensures ∙ c.if-not-counts_fit.true)
 
 pub heading_fits-requires : goal.heading_fits-requires
 heading_fits-requires c =
-    let fit : counts_fit c.counts_of-c.result ≡ true = sym c.counts_fit.ensures ∙ not-false _ c.if-not-counts_fit.false in
+    let fit : counts_fit c.counts_of-c.result ≡ true = sym c.counts_fit.ensures ∙ c.if-not-counts_fit.false in
     (
   search rules,
   sym (ap counts_fit c.counts_of-c.ensures)
@@ -30,7 +29,7 @@ heading_fits-requires c =
 
 pub slice_bounds-authorizations_clean-count : goal.slice_bounds-authorizations_clean-count
 slice_bounds-authorizations_clean-count c =
-    let fit : counts_fit c.counts_of-c.result ≡ true = sym c.counts_fit.ensures ∙ not-false _ c.if-not-counts_fit.false in
+    let fit : counts_fit c.counts_of-c.result ≡ true = sym c.counts_fit.ensures ∙ c.if-not-counts_fit.false in
     let fitting : CountsWithin c.counts_of-c.result = fit_within _ (fit) in
     let placed : (let n = length c.args.s.now in let a = c.authorizations_at-authorizations.result in let r = c.rules_at-rules.result in let w = c.counts_of-c.result in (a ≤ n) × (w.authorizations * 24 ≤ n - a) × (r ≤ n) × (w.rules * 28 ≤ n - r) × (c.end_at-end.result ≤ n)) =
     let l : length c.args.s.now ≡ 27936 =
@@ -44,7 +43,7 @@ slice_bounds-authorizations_clean-count c =
 
 pub slice_bounds-authorizations_clean-start : goal.slice_bounds-authorizations_clean-start
 slice_bounds-authorizations_clean-start c =
-    let fit : counts_fit c.counts_of-c.result ≡ true = sym c.counts_fit.ensures ∙ not-false _ c.if-not-counts_fit.false in
+    let fit : counts_fit c.counts_of-c.result ≡ true = sym c.counts_fit.ensures ∙ c.if-not-counts_fit.false in
     let fitting : CountsWithin c.counts_of-c.result = fit_within _ (fit) in
     let placed : (let n = length c.args.s.now in let a = c.authorizations_at-authorizations.result in let r = c.rules_at-rules.result in let w = c.counts_of-c.result in (a ≤ n) × (w.authorizations * 24 ≤ n - a) × (r ≤ n) × (w.rules * 28 ≤ n - r) × (c.end_at-end.result ≤ n)) =
     let l : length c.args.s.now ≡ 27936 =
@@ -58,7 +57,7 @@ slice_bounds-authorizations_clean-start c =
 
 pub authorizations_clean-requires : goal.authorizations_clean-requires
 authorizations_clean-requires c =
-    let fit : counts_fit c.counts_of-c.result ≡ true = sym c.counts_fit.ensures ∙ not-false _ c.if-not-counts_fit.false in
+    let fit : counts_fit c.counts_of-c.result ≡ true = sym c.counts_fit.ensures ∙ c.if-not-counts_fit.false in
     let fitting : CountsWithin c.counts_of-c.result = fit_within _ (fit) in
     let placed : (let n = length c.args.s.now in let a = c.authorizations_at-authorizations.result in let r = c.rules_at-rules.result in let w = c.counts_of-c.result in (a ≤ n) × (w.authorizations * 24 ≤ n - a) × (r ≤ n) × (w.rules * 28 ≤ n - r) × (c.end_at-end.result ≤ n)) =
     let l : length c.args.s.now ≡ 27936 =
@@ -75,7 +74,7 @@ authorizations_clean-requires c =
 
 pub slice_bounds-rules_clean-count : goal.slice_bounds-rules_clean-count
 slice_bounds-rules_clean-count c =
-    let fit : counts_fit c.counts_of-c.result ≡ true = sym c.counts_fit.ensures ∙ not-false _ c.if-not-counts_fit.false in
+    let fit : counts_fit c.counts_of-c.result ≡ true = sym c.counts_fit.ensures ∙ c.if-not-counts_fit.false in
     let fitting : CountsWithin c.counts_of-c.result = fit_within _ (fit) in
     let placed : (let n = length c.args.s.now in let a = c.authorizations_at-authorizations.result in let r = c.rules_at-rules.result in let w = c.counts_of-c.result in (a ≤ n) × (w.authorizations * 24 ≤ n - a) × (r ≤ n) × (w.rules * 28 ≤ n - r) × (c.end_at-end.result ≤ n)) =
     let l : length c.args.s.now ≡ 27936 =
@@ -89,7 +88,7 @@ slice_bounds-rules_clean-count c =
 
 pub slice_bounds-rules_clean-start : goal.slice_bounds-rules_clean-start
 slice_bounds-rules_clean-start c =
-    let fit : counts_fit c.counts_of-c.result ≡ true = sym c.counts_fit.ensures ∙ not-false _ c.if-not-counts_fit.false in
+    let fit : counts_fit c.counts_of-c.result ≡ true = sym c.counts_fit.ensures ∙ c.if-not-counts_fit.false in
     let fitting : CountsWithin c.counts_of-c.result = fit_within _ (fit) in
     let placed : (let n = length c.args.s.now in let a = c.authorizations_at-authorizations.result in let r = c.rules_at-rules.result in let w = c.counts_of-c.result in (a ≤ n) × (w.authorizations * 24 ≤ n - a) × (r ≤ n) × (w.rules * 28 ≤ n - r) × (c.end_at-end.result ≤ n)) =
     let l : length c.args.s.now ≡ 27936 =
@@ -103,7 +102,7 @@ slice_bounds-rules_clean-start c =
 
 pub rules_clean-requires : goal.rules_clean-requires
 rules_clean-requires c =
-    let fit : counts_fit c.counts_of-c.result ≡ true = sym c.counts_fit.ensures ∙ not-false _ c.if-not-counts_fit.false in
+    let fit : counts_fit c.counts_of-c.result ≡ true = sym c.counts_fit.ensures ∙ c.if-not-counts_fit.false in
     let fitting : CountsWithin c.counts_of-c.result = fit_within _ (fit) in
     let placed : (let n = length c.args.s.now in let a = c.authorizations_at-authorizations.result in let r = c.rules_at-rules.result in let w = c.counts_of-c.result in (a ≤ n) × (w.authorizations * 24 ≤ n - a) × (r ≤ n) × (w.rules * 28 ≤ n - r) × (c.end_at-end.result ≤ n)) =
     let l : length c.args.s.now ≡ 27936 =
@@ -118,7 +117,7 @@ rules_clean-requires c =
 
 pub slice_bounds-zeros-count : goal.slice_bounds-zeros-count
 slice_bounds-zeros-count c =
-    let fit : counts_fit c.counts_of-c.result ≡ true = sym c.counts_fit.ensures ∙ not-false _ c.if-not-counts_fit.false in
+    let fit : counts_fit c.counts_of-c.result ≡ true = sym c.counts_fit.ensures ∙ c.if-not-counts_fit.false in
     let fitting : CountsWithin c.counts_of-c.result = fit_within _ (fit) in
     let placed : (let n = length c.args.s.now in let a = c.authorizations_at-authorizations.result in let r = c.rules_at-rules.result in let w = c.counts_of-c.result in (a ≤ n) × (w.authorizations * 24 ≤ n - a) × (r ≤ n) × (w.rules * 28 ≤ n - r) × (c.end_at-end.result ≤ n)) =
     let l : length c.args.s.now ≡ 27936 =
@@ -132,7 +131,7 @@ slice_bounds-zeros-count c =
 
 pub slice_bounds-zeros-start : goal.slice_bounds-zeros-start
 slice_bounds-zeros-start c =
-    let fit : counts_fit c.counts_of-c.result ≡ true = sym c.counts_fit.ensures ∙ not-false _ c.if-not-counts_fit.false in
+    let fit : counts_fit c.counts_of-c.result ≡ true = sym c.counts_fit.ensures ∙ c.if-not-counts_fit.false in
     let fitting : CountsWithin c.counts_of-c.result = fit_within _ (fit) in
     let placed : (let n = length c.args.s.now in let a = c.authorizations_at-authorizations.result in let r = c.rules_at-rules.result in let w = c.counts_of-c.result in (a ≤ n) × (w.authorizations * 24 ≤ n - a) × (r ≤ n) × (w.rules * 28 ≤ n - r) × (c.end_at-end.result ≤ n)) =
     let l : length c.args.s.now ≡ 27936 =
@@ -146,7 +145,7 @@ slice_bounds-zeros-start c =
 
 pub returns : goal.returns
 returns c =
-    let fit : counts_fit c.counts_of-c.result ≡ true = sym c.counts_fit.ensures ∙ not-false _ c.if-not-counts_fit.false in
+    let fit : counts_fit c.counts_of-c.result ≡ true = sym c.counts_fit.ensures ∙ c.if-not-counts_fit.false in
     let c₀ = c in
     format_asked c₀.args.s.now _
     c₀.counts_of-c.ensures (search rules) _ _ _ _ _ _ _

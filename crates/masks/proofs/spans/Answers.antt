@@ -52,4 +52,4 @@ pub returns : goal.returns
 returns c =
     let l = c.loop-r in
     let p = c.requires in
-    (λ r j h. l.invariant.3 r (omega (arith, p.0 r h, p.2)) h j, l.invariant.2)
+    record { by_index = λ r j h. l.invariant.3 r (omega (arith, p.0 r h, p.2)) h j; active_len = l.invariant.2 }

@@ -1,7 +1,6 @@
 use native.Mathlib.Numerals.{add-one}
 use native.Mathlib.Omega.{arith}
 use mathlib.Core.Path.{◌≡◌, sym, ap, ◌∙◌}
-use mathlib.Core.Logic.{⊎_elim}
 use mathlib.Core.Bool.{true, false, not, true≢false}
 use mathlib.Core.List.{List}
 use Prim.Native.Nat.{ℕ, ◌+◌, ◌<◌}
@@ -14,6 +13,7 @@ use Rattle.places.specs.ReachedNumbers.{used, used_before}
 use Rattle.places.proofs.NumberFacts.{used_before_none, used_before-step, used_before-le}
 use Rattle.places.proofs.NumberFacts.{used_before-apart}
 use Rattle.places.proofs.list_pairs.Goals as goal
+use Rattle.places.proofs.list_pairs.Goals.{then-need-j-ne0, else-need-j-ne0}
 
 -- the number that the pair behind has
 next_number : (l : List ℕ) (j n : ℕ) → j < length l → n ≡ used_before l j + as_bit (used (get_or l j 0)) →
@@ -61,30 +61,31 @@ loop-j-preserved c =
     let i = l.invariant in
     let x = get_or need l.j 0 in
     let h : l.n < length l.codes = omega (arith, i.1, i.2, used_before-le need l.j) in
-    ⊎_elim
-    (λ w. let v = w.1.result in
-    let u : used x ≡ true = ap not (ne_false x 0 w.0.taken) in (
-      omega arith,
-      w.3 ∙ next_number need l.j (l.n + 1) (omega arith) (omega (arith, i.1, ap as_bit u)),
-      ap length w.2 ∙ length-set l.codes l.n v ∙ i.2,
-      λ k g y. ap (λ (m : List ℕ). get_or m (used_before need k) 0) w.2 ∙ cases (eqb k l.j)
-          (λ e. let q = true_eq k l.j e in
-          rw q (ap (λ (m : ℕ). get_or (set l.codes l.n v) m 0) (sym i.1)
-          ∙ get_or-set_same l.codes l.n v 0 h ∙ w.1.ensures))
-          (λ e. let d = false_eq k l.j e in
-          let a = used_before-apart need k l.j (omega arith) (omega arith) y in
-          get_or-set_other l.codes l.n (used_before need k) v 0 (λ z. omega (arith, i.1))
-          ∙ i.3 k (omega arith) y),
-    ))
-    (λ w. let u : used x ≡ false = ap not (eq_true x 0 w.0.left) in (
-      omega arith,
-      w.2 ∙ next_number need l.j l.n (omega arith) (omega (arith, i.1, ap as_bit u)),
-      ap length w.1 ∙ i.2,
-      λ k g y. ap (λ (m : List ℕ). get_or m (used_before need k) 0) w.1 ∙ cases (eqb k l.j)
-          (λ e. absurd (true≢false (sym y ∙ ap (λ (m : ℕ). used (get_or need m 0)) (true_eq k l.j e) ∙ u)))
-          (λ e. let d = false_eq k l.j e in i.3 k (omega arith) y),
-    ))
-    c.if-need-j-ne0.branch
+    elim c.if-need-j-ne0.branch [
+      then-need-j-ne0 w ↦ let v = w.code_at.result in
+      let u : used x ≡ true = ap not (ne_false x 0 w.if-need-j-ne0.true) in (
+        omega arith,
+        w.n-is ∙ next_number need l.j (l.n + 1) (omega arith) (omega (arith, i.1, ap as_bit u)),
+        ap length w.codes-is ∙ length-set l.codes l.n v ∙ i.2,
+        λ k g y. ap (λ (m : List ℕ). get_or m (used_before need k) 0) w.codes-is ∙ cases (eqb k l.j)
+            (λ e. let q = true_eq k l.j e in
+            rw q (ap (λ (m : ℕ). get_or (set l.codes l.n v) m 0) (sym i.1)
+            ∙ get_or-set_same l.codes l.n v 0 h ∙ w.code_at.ensures))
+            (λ e. let d = false_eq k l.j e in
+            let a = used_before-apart need k l.j (omega arith) (omega arith) y in
+            get_or-set_other l.codes l.n (used_before need k) v 0 (λ z. omega (arith, i.1))
+            ∙ i.3 k (omega arith) y),
+      )
+    | else-need-j-ne0 w ↦
+      let u : used x ≡ false = ap not (eq_true x 0 w.if-need-j-ne0.false) in (
+        omega arith,
+        w.n-is ∙ next_number need l.j l.n (omega arith) (omega (arith, i.1, ap as_bit u)),
+        ap length w.codes-is ∙ i.2,
+        λ k g y. ap (λ (m : List ℕ). get_or m (used_before need k) 0) w.codes-is ∙ cases (eqb k l.j)
+            (λ e. absurd (true≢false (sym y ∙ ap (λ (m : ℕ). used (get_or need m 0)) (true_eq k l.j e) ∙ u)))
+            (λ e. let d = false_eq k l.j e in i.3 k (omega arith) y),
+      )
+    ]
 
 pub shape_of-codes : goal.shape_of-codes
 shape_of-codes c = c.loop-j.invariant.2 ∙ sym c.requires.3

@@ -6,7 +6,7 @@ use Rattle.printing.proofs.put_more.Given as goal
 
 abbrev pub invariant-loop-i : goal.invariant-loop-i
 invariant-loop-i l =
-    (i ≤ l.n) × Printed l.at (print_more (pairs_of i l.list)) l.initial.out l.end l.i
+    (l.i ≤ l.n) × Printed l.at (print_more (pairs_of l.i l.list)) l.initial.out l.out l.end
 
 abbrev pub decreases-loop-i : goal.decreases-loop-i
-decreases-loop-i l = l.n - i
+decreases-loop-i l = l.n - l.i

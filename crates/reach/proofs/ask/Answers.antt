@@ -13,11 +13,7 @@ pub returns : goal.returns
 returns c =
     let a = c.args in
     let p = c.requires in
-    let o : (i : ℕ) → get_or a.need.now i 0 < 65536 = λ i. omega (
-      arith,
-      c.slice_known-1.given
-          i,
-    ) in (
+    let o : (i : ℕ) → get_or a.need.now i 0 < 65536 = λ i. search rules in (
       ask_grown a.need.now a.todo.now a.pair a.bits p.0 p.1 o (omega arith),
       asked a.need.now a.todo.now a.pair a.bits p.0 p.1 o (omega arith),
       ask_kept a.need.now a.todo.now a.pair a.bits p.0 p.1 o (omega arith),

@@ -20,14 +20,14 @@ loop-r-init c =
     )
 
 pub right_pair-pair-requires : goal.right_pair-pair-requires
-right_pair-pair-requires c κo =
+right_pair-pair-requires c =
     let l = c.loop-r in
     let h : l.r < 64 = omega arith in
     let p = c.requires in
     (h, omega (arith, (p.1 l.r h).pair), p.2)
 
 pub right_needs-bits-requires : goal.right_needs-bits-requires
-right_needs-bits-requires c κo =
+right_needs-bits-requires c =
     let l = c.loop-r in
     let h : l.r < 64 = omega arith in
     let p = c.requires in
@@ -35,7 +35,7 @@ right_needs-bits-requires c κo =
     (h, d.mode, d.signs, p.2)
 
 pub ask-requires : goal.ask-requires
-ask-requires c κo =
+ask-requires c =
     let l = c.loop-r in
     let p = c.requires in
     let h : l.r < 64 = omega arith in

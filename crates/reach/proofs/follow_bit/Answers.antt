@@ -9,10 +9,10 @@ use Rattle.reach.proofs.Growth.{step-law}
 use Rattle.reach.proofs.follow_bit.Goals as goal
 
 pub pair_of_index-p-requires : goal.pair_of_index-p-requires
-pair_of_index-p-requires c κo = c.requires.0.some
+pair_of_index-p-requires c = c.requires.0.some
 
 pub stand-requires : goal.stand-requires
-stand-requires c κo =
+stand-requires c =
     let a = c.args in
     let p = c.requires in
     let e = c.pair_of_index-p.ensures in
@@ -25,7 +25,7 @@ stand-requires c κo =
     )
 
 pub follow-requires : goal.follow-requires
-follow-requires c κo =
+follow-requires c =
     let a = c.args in
     let p = c.requires in
     let k = c.lowest-k.result in
@@ -43,9 +43,9 @@ bounds-todo-pair-2 c =
     omega (arith, c.follow.ensures.0.todos, p.1, p.2)
 
 pub without_bit-requires : goal.without_bit-requires
-without_bit-requires c κo =
+without_bit-requires c =
     let f = c in
-    let e = f.lowest.ensures in
+    let e = f.lowest-k.ensures in
     (e.0, f.follow.ensures.0.kept _ _ e.1)
 
 pub bounds-todo-pair-3 : goal.bounds-todo-pair-3
@@ -68,7 +68,7 @@ returns c =
     let led = rw (e.0, e.1) at f.ensures.1 in
     let keeps = rw (e.0, e.1) at f.ensures.2 in
     step-law (record { left = a.left.now; right = a.right.now; subjects = a.subjects })
-    a.need.now a.todo.now f.new.rules.1.1.0 f.new.rules.1.1.1.0 a.pair k.result
+    a.need.now a.todo.now f.new.need f.new.todo a.pair k.result
     c.without_bit.result g (omega (arith, g.todos, p.1, p.2))
     (λ r l o. led r l (ap (bit r) s ∙ o))
     c.without_bit.ensures.0 c.without_bit.ensures.2

@@ -4,20 +4,15 @@ use Prim.Native.Nat.{ℕ}
 use lib.ListN.{length}
 use Rattle.reach.specs.Net.{Net, Formed}
 use Rattle.reach.proofs.Growth.{closed_grown, closed_start, closed_end, none_within}
-use Rattle.reach.proofs.reach.Reads as reads
-use Rattle.reach.proofs.reach.Lts as lts
-use Rattle.reach.proofs.ask.Reads as ask-reads
-use Rattle.reach.proofs.next_todo.Reads as next-todo-reads
-use Rattle.reach.proofs.follow_bit.Reads as follow-bit-reads
 use Rattle.reach.proofs.reach.Goals as goal
 
 pub ask-requires : goal.ask-requires
-ask-requires c κo =
+ask-requires c =
     let p = c.requires in
     (p.2, omega (arith, p.1, p.2))
 
 pub next_todo-j-requires : goal.next_todo-j-requires
-next_todo-j-requires c κo =
+next_todo-j-requires c =
     let p = c.requires in
     omega (arith, c.ask.ensures.0.todos, p.1, p.2)
 
@@ -40,14 +35,14 @@ loop-j-init c =
     )
 
 pub follow_bit-requires : goal.follow_bit-requires
-follow_bit-requires c κo =
+follow_bit-requires c =
     let a = c.args in
     let p = c.requires in
     let l = c.loop-j in
     let i = l.invariant in
-    let e : length l.need-1 ≡ length a.need.now = i.4
+    let e : length l.need ≡ length a.need.now = i.4
     ∙ c.ask.ensures.0.needs in
-    let t : length l.todo-1 ≡ length l.need-1 = i.5 ∙ sym i.4 in (
+    let t : length l.todo ≡ length l.need = i.5 ∙ sym i.4 in (
       subst (λ (n : ℕ). Formed a.right.now a.subjects n) (sym e) p.0,
       t,
       omega arith,
@@ -57,7 +52,7 @@ follow_bit-requires c κo =
     )
 
 pub next_todo-j-requires-in-loop-j : goal.next_todo-j-requires-in-loop-j
-next_todo-j-requires-in-loop-j c κo =
+next_todo-j-requires-in-loop-j c =
     omega (arith, c.follow_bit.ensures.todos)
 
 pub loop-j-smaller : goal.loop-j-smaller
@@ -92,7 +87,7 @@ returns c =
     let a = c.args in
     let l = c.loop-j in
     let i = l.invariant in (
-      closed_end (record { left = a.left.now; right = a.right.now; subjects = a.subjects }) l.need-1 l.todo-1
+      closed_end (record { left = a.left.now; right = a.right.now; subjects = a.subjects }) l.need l.todo
           (i.3 (omega arith)) i.0,
       i.1,
       i.4 ∙ c.ask.ensures.0.needs,

@@ -5,22 +5,17 @@ use lib.ListN.{length, get_or}
 use Rattle.foundation.specs.BitMasks.{bit}
 use Rattle.reach.specs.Net.{has, ClosedBut, Only}
 use Rattle.reach.specs.Reach.{remaining}
-use Rattle.reach.proofs.reach.Reads as reads
-use Rattle.reach.proofs.reach.Lts as lts
-use Rattle.reach.proofs.ask.Reads as ask-reads
-use Rattle.reach.proofs.next_todo.Reads as next-todo-reads
-use Rattle.reach.proofs.follow_bit.Reads as follow-bit-reads
 use Rattle.reach.proofs.reach.Given as goal
 
 abbrev pub invariant-loop-j : goal.invariant-loop-j
 invariant-loop-j l =
-    ClosedBut (record { l.left = l.left; l.right = l.right; l.subjects = l.subjects }) l.need l.todo
+    ClosedBut (record { left = l.left; right = l.right; subjects = l.subjects }) l.need l.todo
     × ((b : ℕ) → bit b l.bits ≡ true → has l.need l.pair b ≡ true)
     × (l.j < length l.todo → 0 < get_or l.todo l.j 0)
     × (length l.todo ≤ l.j → (i : ℕ) → i < length l.todo → get_or l.todo i 0 ≡ 0)
     × (length l.need ≡ length l.initial.need) × (length l.todo ≡ length l.initial.need)
-    × Only (record { l.left = l.left; l.right = l.right; l.subjects = l.subjects }) l.pair l.need
-    × Only (record { l.left = l.left; l.right = l.right; l.subjects = l.subjects }) l.pair l.todo
+    × Only (record { left = l.left; right = l.right; subjects = l.subjects }) l.pair l.need
+    × Only (record { left = l.left; right = l.right; subjects = l.subjects }) l.pair l.todo
 
 abbrev pub decreases-loop-j : goal.decreases-loop-j
 decreases-loop-j l = remaining l.need l.todo

@@ -6,7 +6,7 @@ use Rattle.reach.proofs.right_pair.Goals as goal
 
 pub pair_index-requires : goal.pair_index-requires
 unfolding right_pair
-pair_index-requires c κo =
+pair_index-requires c =
     let b = c in
     let e = ap₂ (pair_index b.args.at.subjects) c.turn.ensures c.turn-2.ensures in
     omega (arith, b.requires.1)

@@ -7,9 +7,9 @@ pub returns-then-not-is_sound : goal.returns-then-not-is_sound
 returns-then-not-is_sound c =
     let a = c.args in
     sym (report_unsound a.base.now a.object a.page.now
-    (sym c.is_sound.ensures ∙ not-true _ c.if-not-is_sound.true))
+    (sym c.is_sound.ensures ∙ c.if-not-is_sound.true))
 
 pub report_sound-requires : goal.report_sound-requires
 report_sound-requires c =
     let e = c in
-    sym e.is_sound.ensures ∙ not-false _ e.if-not-is_sound.false
+    sym e.is_sound.ensures ∙ e.if-not-is_sound.false

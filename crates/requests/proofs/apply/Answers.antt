@@ -13,6 +13,7 @@ use Rattle.effects.specs.EffectRecords.{Allowed}
 use Rattle.requests.specs.KeepingKinds.{keeping_kinds}
 use Rattle.requests.proofs.KindNumbers.{kind_among, kind_apart, is_one}
 use Rattle.requests.proofs.apply.Goals as goal
+use Rattle.requests.proofs.apply.Goals.{in_default-via-then-k-lt1, in_default-via-else-k-lt1+else-k-lt4}
 
 module _ {s : List ℕ} {q : Request} (a : Allowed keeping_kinds s q) where
   allowed : (ks : List ℕ) → is q ks ≡ true → Allowed ks s q
@@ -34,50 +35,33 @@ module _ {s : List ℕ} {q : Request} (a : Allowed keeping_kinds s q) where
       ) at a.kind
 
 pub new_object-requires : goal.new_object-requires
-new_object-requires c =
-    let m = c in
-    let d = m in
-    allowed d.requires (NEW ∷ []) (is_one d.args.q NEW m.in_default-1.keys1)
+new_object-requires c = allowed c.requires (NEW ∷ []) (is_one c.args.q NEW c.in-1.is)
 
 pub add_rule-requires : goal.add_rule-requires
-add_rule-requires c =
-    let m = c in
-    let d = m in
-    allowed d.requires (ADDRULE ∷ []) (is_one d.args.q ADDRULE m.in_default-1.keys2)
+add_rule-requires c = allowed c.requires (ADDRULE ∷ []) (is_one c.args.q ADDRULE c.in-7.is)
 
 pub drop_rule-requires : goal.drop_rule-requires
-drop_rule-requires c =
-    let m = c in
-    let d = m in
-    allowed d.requires (DROPRULE ∷ []) (is_one d.args.q DROPRULE m.in_default-1.keys3)
+drop_rule-requires c = allowed c.requires (DROPRULE ∷ []) (is_one c.args.q DROPRULE c.in-8.is)
 
 pub grant_privilege-requires : goal.grant_privilege-requires
 grant_privilege-requires c =
-    let m = c in
-    let d = m in
-    let q = d.args.q in
-    allowed d.requires (GRANTADM ∷ GRANTREF ∷ [])
+    let q = c.args.q in
+    allowed c.requires (GRANTADM ∷ GRANTREF ∷ [])
     (⊎_elim
     (λ e. or_intro_left (eqb q.kind GRANTADM) (is q (GRANTREF ∷ [])) (eq_true q.kind GRANTADM e))
     (λ e. or_true_right (eqb q.kind GRANTADM) (is q (GRANTREF ∷ [])) (is_one q GRANTREF e))
-    m.in_default-1.keys4)
+    c.in-9.is)
 
 pub grant-requires : goal.grant-requires
 grant-requires c =
-    let e = c in
-    let m = e in
-    let d = m in
-    let n : d.args.q.kind ≢ NEW = m.in_default-1.rest.0.0.0.1 in
-    allowed d.requires (GRANT ∷ DENY ∷ [])
-    (kind_among d.args.q.kind GRANT 2 (omega (arith, n, e.in_default.false))
-    (omega (arith, c.if-k-lt4.true)))
+    allowed c.requires (GRANT ∷ DENY ∷ []) (kind_among c.args.q.kind GRANT 2 (omega arith) (omega arith))
 
 pub revoke_referrer-requires : goal.revoke_referrer-requires
 revoke_referrer-requires c =
-    let j = c in
-    let m = j in
-    let a = m.requires in
-    let r = m.in_default-1.rest in
-    allowed a (REVOKEREF ∷ [])
-    (last_kind a (⊎_elim (λ w. inl w.taken) (λ w. inr w.1.left) j.in_default.branch)
-    r.0.0.0.1 r.0.0.1 r.0.1 (λ e. r.1 (inl e)) (λ e. r.1 (inr e)))
+    allowed c.requires (REVOKEREF ∷ [])
+    (last_kind c.requires
+    (elim c.in_default.branch [
+        in_default-via-then-k-lt1 w ↦ inl (omega arith)
+      | in_default-via-else-k-lt1+else-k-lt4 w ↦ inr (omega arith)
+    ])
+    (λ e. omega arith) (λ e. omega arith) (λ e. omega arith) (λ e. grind arith) (λ e. grind arith))

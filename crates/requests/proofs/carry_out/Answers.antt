@@ -1,5 +1,5 @@
 use mathlib.Core.Path.{◌≡◌}
-use mathlib.Core.Logic.{◌⊎◌, ◌≢◌, inl, inr, ⊎_elim}
+use mathlib.Core.Logic.{◌⊎◌, ◌≢◌, inl, inr}
 use Prim.Native.Nat.{◌≤◌, ◌<◌}
 use native.Mathlib.Omega.{arith}
 use mathlib.Core.Bool.{false}
@@ -8,6 +8,7 @@ use Rattle.model.specs.declared.Request.{Request}
 use Rattle.model.specs.Requests.{REVOKE, REVOKEP, REVOKEN, ADDRULE, REVOKEADM, withdraws}
 use Rattle.requests.proofs.KindNumbers.{kind_among, kind_apart, is_one}
 use Rattle.requests.proofs.carry_out.Goals as goal
+use Rattle.requests.proofs.carry_out.Goals.{in_default-via-then-k-lt4, in_default-via-else-k-lt4+else-k-lt7}
 
 -- none of the kinds that withdraw
 keeps : (q : Request) → (q.kind < REVOKE) ⊎ (ADDRULE ≤ q.kind) → q.kind ≢ REVOKEADM → withdraws q ≡ false
@@ -19,22 +20,18 @@ keeps q far n = rw (
 )
 
 pub revoke_administrator-requires : goal.revoke_administrator-requires
-revoke_administrator-requires c =
-    let m = c in
-    let d = m in
-    (d.requires, is_one d.args.q REVOKEADM m.in_default-1.keys1)
+revoke_administrator-requires c = (c.requires, is_one c.args.q REVOKEADM c.in-10.is)
 
 pub revoke-requires : goal.revoke-requires
-revoke-requires c =
-    let e = c in
-    let d = e in
-    (d.requires, kind_among d.args.q.kind REVOKE 3 e.in_default.false (omega (arith, c.if-k-lt7.true)))
+revoke-requires c = (c.requires, kind_among c.args.q.kind REVOKE 3 (omega arith) (omega arith))
 
 pub add_or_drop-requires : goal.add_or_drop-requires
-add_or_drop-requires c =
-    let j = c in
-    let d = j in (
-      d.requires,
-      keeps d.args.q (⊎_elim (λ w. inl w.taken) (λ w. inr w.1.left) j.in_default.branch)
-          j.in_default-1.rest.1,
-    )
+add_or_drop-requires c = (
+  c.requires,
+  keeps c.args.q
+      (elim c.in_default.branch [
+          in_default-via-then-k-lt4 w ↦ inl (omega arith)
+        | in_default-via-else-k-lt4+else-k-lt7 w ↦ inr (omega arith)
+      ])
+      (λ e. omega arith),
+)

@@ -7,45 +7,23 @@ use Rattle.revocation.proofs.CarriedFacts.{passed_answered}
 use Rattle.requests.proofs.step.Goals as goal
 
 pub carry_out-requires : goal.carry_out-requires
-carry_out-requires c =
-    let passed : (let d = c in PassesEarly d.args.s.now d.args.q) =
-    let r = c in
-    let d = r in
-    record {
-      sound = d.requires;
-      early = subst (early_is (decode d.args.s.now) d.args.q) c.enum_told-1.given.1
-          r.early_refusal-early.ensures;
-    } in
-    passed
+carry_out-requires c = record {
+  sound = c.requires;
+  early = subst (early_is (decode c.args.s.now) c.args.q) c.in-Passed.is c.early_refusal-early.ensures;
+}
 
 pub returns-in-Number : goal.returns-in-Number
-returns-in-Number c =
-    let r = c in
-    let d = r in
-    let b = decode d.args.s.now in
-    number_answered d.args.s.now d.args.q d.requires _
-    (subst (early_is b d.args.q) c.early-1.given.1 r.early_refusal-early.ensures)
+returns-in-Number c = number_answered c.args.s.now c.args.q c.requires _
+    (subst (early_is (decode c.args.s.now) c.args.q) c.in-Number.is c.early_refusal-early.ensures)
 
 pub returns-in-Uncovered : goal.returns-in-Uncovered
-returns-in-Uncovered c =
-    let r = c in
-    let d = r in
-    let b = decode d.args.s.now in
-    uncovered_answered d.args.s.now d.args.q d.requires _
-    (subst (early_is b d.args.q) c.early-in-Uncovered-1.given.1 r.early_refusal-early.ensures)
+returns-in-Uncovered c = uncovered_answered c.args.s.now c.args.q c.requires _
+    (subst (early_is (decode c.args.s.now) c.args.q) c.in-Uncovered.is c.early_refusal-early.ensures)
 
 pub returns-in-Passed : goal.returns-in-Passed
 returns-in-Passed c =
-    let passed : (let d = c in PassesEarly d.args.s.now d.args.q) =
-    let r = c in
-    let d = r in
-    record {
-      sound = d.requires;
-      early = subst (early_is (decode d.args.s.now) d.args.q) c.enum_told-1.given.1
-          r.early_refusal-early.ensures;
+    let passed : PassesEarly c.args.s.now c.args.q = record {
+      sound = c.requires;
+      early = subst (early_is (decode c.args.s.now) c.args.q) c.in-Passed.is c.early_refusal-early.ensures;
     } in
-    let o = c in
-    let e = o in
-    let d = e in
-    passed_answered d.args.s.now d.args.q (passed) o.carry_out.result o.carry_out.new.s
-    o.carry_out.ensures
+    passed_answered c.args.s.now c.args.q passed c.carry_out.result c.carry_out.new.s c.carry_out.ensures

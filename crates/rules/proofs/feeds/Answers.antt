@@ -13,20 +13,17 @@ pub returns-then-not-object : goal.returns-then-not-object
 returns-then-not-object c =
     let m = c.meets-object in
     let a = c.args in
-    other_object a.q a.r (sym m.ensures ∙ not-true m.result c.if-not-object.true)
+    other_object a.q a.r (sym m.ensures ∙ c.if-not-object.true)
 
 pub returns : goal.returns
 returns c =
-    let d = c in
-    let w = d in
-    let a = w in
     rw (
       feeds_eq _ _,
-      a.alike.ensures,
-      a.meets.ensures,
-      w.meets-subject.ensures,
-      d.meets-mode.ensures,
-      w.u16_of.ensures.0,
-      w.u16_of-2.ensures.0,
-      d.fits_option-option.ensures,
+      c.alike-sign.ensures,
+      c.meets-object.ensures,
+      c.meets-subject.ensures,
+      c.meets-mode.ensures,
+      c.u16_of.ensures.0,
+      c.u16_of-2.ensures.0,
+      c.fits_option-option.ensures,
     )

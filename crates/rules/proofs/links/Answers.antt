@@ -13,7 +13,7 @@ pub returns-then-not-object : goal.returns-then-not-object
 returns-then-not-object c =
     let m = c.meets-object in
     let a = c.args in
-    other_object a.q a.r (sym m.ensures ∙ not-true m.result c.if-not-object.true)
+    other_object a.q a.r (sym m.ensures ∙ c.if-not-object.true)
 
 pub returns : goal.returns
 returns c =

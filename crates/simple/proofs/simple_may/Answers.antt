@@ -68,13 +68,13 @@ returns-then-not-is_sound c =
     let question : Question = (c).args.q in
     let e = c in
     by_tests (bytes) (question) false _ _ _ _ _
-    (sym e.is_sound.ensures ∙ not-true _ c.if-not-is_sound.true) refl refl refl refl refl
+    (sym e.is_sound.ensures ∙ c.if-not-is_sound.true) refl refl refl refl refl
 
 pub returns-then-not-access_in : goal.returns-then-not-access_in
 returns-then-not-access_in c =
     let bytes : List ℕ = (c).args.s.now in
     let question : Question = (c).args.q in
-    let sound : sound_bytes (bytes) ≡ true = sym c.is_sound.ensures ∙ not-false _ c.if-not-is_sound.false in
+    let sound : sound_bytes (bytes) ≡ true = sym c.is_sound.ensures ∙ c.if-not-is_sound.false in
     let said_in : in_range (bytes) (question) ≡ c.access_in.result =
     let t = (question).instant in
     (λ k. sym c.access_in.ensures k && le-true t last_instant (omega arith) k)
@@ -82,47 +82,47 @@ returns-then-not-access_in c =
     let i = c in
     let e = i in
     by_tests (bytes) (question) true false _ _ _ _ (sound)
-    (said_in ∙ not-true _ c.if-not-access_in.true) refl refl refl refl
+    (said_in ∙ c.if-not-access_in.true) refl refl refl refl
 
 pub exists-requires : goal.exists-requires
 exists-requires c =
     let bytes : List ℕ = (c).args.s.now in
-    let sound : sound_bytes (bytes) ≡ true = sym c.is_sound.ensures ∙ not-false _ c.if-not-is_sound.false in
+    let sound : sound_bytes (bytes) ≡ true = sym c.is_sound.ensures ∙ c.if-not-is_sound.false in
     sound
 
 pub returns-then-not-exists : goal.returns-then-not-exists
 returns-then-not-exists c =
     let bytes : List ℕ = (c).args.s.now in
     let question : Question = (c).args.q in
-    let sound : sound_bytes (bytes) ≡ true = sym c.is_sound.ensures ∙ not-false _ c.if-not-is_sound.false in
+    let sound : sound_bytes (bytes) ≡ true = sym c.is_sound.ensures ∙ c.if-not-is_sound.false in
     let said_in : in_range (bytes) (question) ≡ c.access_in.result =
     let t = (question).instant in
     (λ k. sym c.access_in.ensures k && le-true t last_instant (omega arith) k)
     ∙ and-true c.access_in.result in
-    let ranged : in_range (bytes) (question) ≡ true = said_in ∙ not-false _ c.if-not-access_in.false in
+    let ranged : in_range (bytes) (question) ≡ true = said_in ∙ c.if-not-access_in.false in
     let x = c in
     let e = x in
     by_tests (bytes) (question) true true false _ _ _ (sound)
     (ranged)
-    (sym x.exists.ensures ∙ not-true _ c.if-not-exists.true) refl refl refl
+    (sym x.exists.ensures ∙ c.if-not-exists.true) refl refl refl
 
 pub has_circle-requires : goal.has_circle-requires
 has_circle-requires c =
     let bytes : List ℕ = (c).args.s.now in
-    let sound : sound_bytes (bytes) ≡ true = sym c.is_sound.ensures ∙ not-false _ c.if-not-is_sound.false in
+    let sound : sound_bytes (bytes) ≡ true = sym c.is_sound.ensures ∙ c.if-not-is_sound.false in
     sound
 
 pub returns-then-has_circle : goal.returns-then-has_circle
 returns-then-has_circle c =
     let bytes : List ℕ = (c).args.s.now in
     let question : Question = (c).args.q in
-    let sound : sound_bytes (bytes) ≡ true = sym c.is_sound.ensures ∙ not-false _ c.if-not-is_sound.false in
+    let sound : sound_bytes (bytes) ≡ true = sym c.is_sound.ensures ∙ c.if-not-is_sound.false in
     let said_in : in_range (bytes) (question) ≡ c.access_in.result =
     let t = (question).instant in
     (λ k. sym c.access_in.ensures k && le-true t last_instant (omega arith) k)
     ∙ and-true c.access_in.result in
-    let ranged : in_range (bytes) (question) ≡ true = said_in ∙ not-false _ c.if-not-access_in.false in
-    let existing : (let e = c in there (bytes) (question) ≡ true) = sym c.exists.ensures ∙ not-false _ c.if-not-exists.false in
+    let ranged : in_range (bytes) (question) ≡ true = said_in ∙ c.if-not-access_in.false in
+    let existing : (let e = c in there (bytes) (question) ≡ true) = sym c.exists.ensures ∙ c.if-not-exists.false in
     let h = c in
     let x = h in
     let e = x in
@@ -133,7 +133,7 @@ returns-then-has_circle c =
 pub held-requires : goal.held-requires
 held-requires c =
     let bytes : List ℕ = (c).args.s.now in
-    let sound : sound_bytes (bytes) ≡ true = sym c.is_sound.ensures ∙ not-false _ c.if-not-is_sound.false in
+    let sound : sound_bytes (bytes) ≡ true = sym c.is_sound.ensures ∙ c.if-not-is_sound.false in
     let served : ServedRules (bytes) = record {
   sound = sound;
   uncircular = sym c.has_circle.ensures ∙ c.if-has_circle.false;
@@ -143,7 +143,7 @@ held-requires c =
 pub held-requires-2 : goal.held-requires-2
 held-requires-2 c =
     let bytes : List ℕ = (c).args.s.now in
-    let sound : sound_bytes (bytes) ≡ true = sym c.is_sound.ensures ∙ not-false _ c.if-not-is_sound.false in
+    let sound : sound_bytes (bytes) ≡ true = sym c.is_sound.ensures ∙ c.if-not-is_sound.false in
     let served : ServedRules (bytes) = record {
   sound = sound;
   uncircular = sym c.has_circle.ensures ∙ c.if-has_circle.false;
@@ -159,7 +159,7 @@ returns-then-not-held c =
     let at = holds always (decode (bytes)) (question).instant in
     sym (c.held.ensures ∙ ap at c.asked.ensures) in
     let h = c in
-    answered h false _ (said-held ∙ not-true _ c.if-not-held.true) refl
+    answered h false _ (said-held ∙ c.if-not-held.true) refl
 
 pub returns-then-held : goal.returns-then-held
 returns-then-held c =
@@ -175,7 +175,7 @@ returns-then-held c =
     sym (c.held-2.ensures ∙ ap at c.asked-2.ensures) in
     let d = c in
     let p = d in
-    answered p true true (said-held ∙ not-false _ p.if-not-held.false)
+    answered p true true (said-held ∙ p.if-not-held.false)
     (said-denied ∙ c.if-held.true)
 
 pub returns : goal.returns
@@ -192,5 +192,5 @@ returns c =
     sym (c.held-2.ensures ∙ ap at c.asked-2.ensures) in
     let d = c in
     let p = d in
-    answered p true false (said-held ∙ not-false _ p.if-not-held.false)
+    answered p true false (said-held ∙ p.if-not-held.false)
     (said-denied ∙ c.if-held.false)

@@ -6,4 +6,4 @@ pub size_of-requires : goal.size_of-requires
 size_of-requires c = rw c.all_places.ensures c.requires
 
 pub returns : goal.returns
-returns c = c.type_size.ensures ∙ ap (size_of c.args.g) c.all_places.ensures
+returns c = c.size_of.ensures ∙ ap (size_of c.args.g) c.all_places.ensures

@@ -57,7 +57,7 @@ give_rule-fresh-requires c =
     let s = w in
     let l = c.loop-c in
     let p = s.requires in
-    let e : length l.words-1 ≡ length s.args.words.now =
+    let e : length l.words ≡ length s.args.words.now =
     l.invariant.2.lengths ∙ w.join_in-fresh.ensures.1 in (
       record {
         laid = p.0.laid;

@@ -57,7 +57,7 @@ overflow_add-n c =
     let l = c.loop-r in
     omega (
       arith,
-      c.type_size.ensures,
+      c.size_of-n.ensures,
       ap (size_of a.g) c.region_at.ensures,
       l.invariant.1,
       room-taken a.g a.codes.now a.rules l.r (l.invariant.3 (omega arith)),
@@ -79,7 +79,7 @@ loop-r-preserved c =
       omega (
         arith,
         i.1,
-        c.type_size.ensures,
+        c.size_of-n.ensures,
         ap (size_of a.g) c.region_at.ensures,
         room-taken a.g codes a.rules l.r b,
         room_same a.g codes a.rules (suc l.r) k (omega (arith, e.0))

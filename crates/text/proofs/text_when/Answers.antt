@@ -12,7 +12,7 @@ use Rattle.text.proofs.text_when.Goals as goal
 
 pub reply_length-requires : goal.reply_length-requires
 reply_length-requires c =
-    let fits : RunsFit c.when_sound-r.result c.when_sound-r.new.list.1.0 =
+    let fits : RunsFit c.when_sound-r.result c.when_sound-r.new.list =
     let a = c.args in
     subst (λ (a : Answer). RunsFit a.reply a.lent) (sym c.when_sound-r.ensures)
     (when-fits a.base.now a.x _) in
@@ -21,7 +21,7 @@ reply_length-requires c =
 pub returns-then-out-reply_length : goal.returns-then-out-reply_length
 unfolding when_list
 returns-then-out-reply_length c =
-    let said : (let a = c.args in print_reply c.when_sound-r.result (runs_of c.when_sound-r.result c.when_sound-r.new.list.1.0) ≡ turn_text a.base.now (asks_when a.x)) = ap (λ (a : Answer). print_reply a.reply (runs_of a.reply a.lent)) c.when_sound-r.ensures in
+    let said : (let a = c.args in print_reply c.when_sound-r.result (runs_of c.when_sound-r.result c.when_sound-r.new.list) ≡ turn_text a.base.now (asks_when a.x)) = ap (λ (a : Answer). print_reply a.reply (runs_of a.reply a.lent)) c.when_sound-r.ensures in
     let n = c in
     let w = n in
     let a = w.args in
@@ -30,7 +30,7 @@ returns-then-out-reply_length c =
 
 pub put_line-requires : goal.put_line-requires
 put_line-requires c =
-    let fits : RunsFit c.when_sound-r.result c.when_sound-r.new.list.1.0 =
+    let fits : RunsFit c.when_sound-r.result c.when_sound-r.new.list =
     let a = c.args in
     subst (λ (a : Answer). RunsFit a.reply a.lent) (sym c.when_sound-r.ensures)
     (when-fits a.base.now a.x _) in
@@ -41,7 +41,7 @@ put_line-requires c =
 pub returns : goal.returns
 unfolding when_list
 returns c =
-    let said : (let a = c.args in print_reply c.when_sound-r.result (runs_of c.when_sound-r.result c.when_sound-r.new.list.1.0) ≡ turn_text a.base.now (asks_when a.x)) = ap (λ (a : Answer). print_reply a.reply (runs_of a.reply a.lent)) c.when_sound-r.ensures in
+    let said : (let a = c.args in print_reply c.when_sound-r.result (runs_of c.when_sound-r.result c.when_sound-r.new.list) ≡ turn_text a.base.now (asks_when a.x)) = ap (λ (a : Answer). print_reply a.reply (runs_of a.reply a.lent)) c.when_sound-r.ensures in
     let p = c in
     let e = p in
     let w = e in

@@ -59,7 +59,7 @@ note-w-requires c =
       omega (arith, (r.held i).0),
       omega (
         arith,
-        fewer f 4294967295 a.list.now l.t l.w l.list-1 r i (omega (arith, l.invariant.0))
+        fewer f 4294967295 a.list.now l.t l.w l.list r i (omega (arith, l.invariant.0))
             (λ h. sym c.holds_among.ensures ∙ y),
         among-few a.lines.now a.which.now a.n 4294967295 s.requires.0.room,
         s.requires.1,
@@ -102,7 +102,7 @@ loop-t-preserved c =
       on.1,
       onward f 4294967295 a.list.now l.t m o.note-w.result _ on.0
           (among-onward a.lines.now a.which.now a.lines.now a.n l.t m e)
-          (o.note-w.ensures.0 f 4294967295 a.list.now l.invariant.1 o.holds_among.ensures
+          (o.note-w.ensures.by_index f 4294967295 a.list.now l.invariant.1 o.holds_among.ensures
           (omega (arith, h))),
       search rules,
       g.1,
@@ -114,4 +114,4 @@ returns c =
     let a = c.args in
     let e : l.t ≡ 4294967296 = omega (arith, l.invariant.0, c.loop-t-test.false) in
     subst (λ (t : ℕ). ScannedTo (held_among (picked a.lines.now a.which.now a.n)) 4294967295
-    a.list.now t l.w l.list-1) e l.invariant.1
+    a.list.now t l.w l.list) e l.invariant.1

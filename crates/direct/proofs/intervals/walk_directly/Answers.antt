@@ -27,6 +27,6 @@ returns c =
     let k = w in
     let a = k.args in
     subst (λ (f : ℕ → Bool). ScannedTo f 4294967295 a.list.now 4294967296 w.walk_among.result
-    w.walk_among.new.list.1.1.0)
+    w.walk_among.new.list)
     (chosen_held a.x (authorizations_in a.total a.lines.now) _ k.choose_for-n.ensures.chosen)
     w.walk_among.ensures

@@ -66,9 +66,9 @@ shape_of-s c =
     let l = c in
     let d = l in
     let b = decode d.args.s.now in
-    written-length l.loop-i.s-1 (dropped_holds
+    written-length l.loop-i.s (dropped_holds
     (remains d.args.refers d.args.administers d.args.q) b
-    d.requires.fits l.loop-i.i l.loop-i.s-1 l.loop-i.invariant).written
+    d.requires.fits l.loop-i.i l.loop-i.s l.loop-i.invariant).written
     ∙ sym (written-length d.args.s.now d.requires)
 
 pub returns : goal.returns

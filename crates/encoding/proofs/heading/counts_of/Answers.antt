@@ -1,4 +1,3 @@
-use borrow.Author.Rules.{rules}
 use Rattle.encoding.proofs.heading.counts_of.Goals as goal
 
 pub returns : goal.returns

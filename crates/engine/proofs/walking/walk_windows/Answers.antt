@@ -44,18 +44,18 @@ loop-s-smaller c =
     let l = p in
     let s = l in
     let w = s.requires.1 in
-    let r = p.pass-window.ensures _ (l.loop-s.invariant.0 w.0 w.1 w.2) in
+    let r = p.pass_window-s.ensures _ (l.loop-s.invariant.0 w.0 w.1 w.2) in
     omega (arith, r.0, r.1.high)
 
 pub loop-s-preserved : goal.loop-s-preserved
 loop-s-preserved c =
     let p = c in
-    let v = p.loop.invariant in (
-      (λ base x w. (p.pass-window.ensures _ (v.0 base x w)).1),
-      c.outline-1.given ∙ v.1,
-      c.numbers-1.given ∙ v.2,
-      c.work-1.given ∙ v.3,
-      c.list-1.given ∙ v.4,
+    let v = p.loop-s.invariant in (
+      (λ base x w. (p.pass_window-s.ensures _ (v.0 base x w)).1),
+      p.pass_window-s.auto.outline ∙ v.1,
+      p.pass_window-s.auto.numbers ∙ v.2,
+      p.pass_window-s.auto.work ∙ v.3,
+      p.pass_window-s.auto.list ∙ v.4,
     )
 
 pub shape_of-outline : goal.shape_of-outline

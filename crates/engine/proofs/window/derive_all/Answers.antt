@@ -13,20 +13,20 @@ derive_rest-requires c =
     let s = d in
     let f = s.args.w.frame in
     let n = words_for f.fields f.width in
-    let held = s.requires.0.1 in
-    let long = k.work-1.given in
-    let e = d.derive_rules-rest.ensures in (
-      (
-        (λ r b. rw (part_alike n _ s.args.work.now long, e.1) (s.requires.0.0 r (e.2 r b))),
+    let held = s.requires.by_index.1 in
+    let long = k.derive_rules-rest.auto.work in
+    let e = d.derive_rules-rest.ensures in record {
+      by_index = (
+        (λ r b. rw (part_alike n _ s.args.work.now long, e.1) (s.requires.by_index.0 r (e.2 r b))),
         record {
           outlined = held.outlined;
           placed = held.placed;
           numbered = held.numbered;
           roomy = rw long held.roomy;
         },
-      ),
-      s.requires.1,
-    )
+      );
+      by_index_2 = s.requires.by_index_2;
+    }
 
 pub returns-then-rest-ne0 : goal.returns-then-rest-ne0
 returns-then-rest-ne0 c =
@@ -60,6 +60,6 @@ returns c =
         closed = inl ((λ q h e. none_set q (ap (bit q) (sym c.if-rest-ne0.false) ∙ e)), refl);
       },
       d.derive_rules-rest.ensures.1,
-      (d).requires.1.4,
+      d.requires.by_index_2.4,
       refl,
     )

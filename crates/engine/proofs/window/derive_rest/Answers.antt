@@ -17,22 +17,22 @@ use Rattle.foundation.specs.BitMasks.{none_set}
 use Rattle.grounding.specs.RuleTurns.{prepared_in, words_for, none, then}
 use Rattle.engine.proofs.Sectioned.{part_alike, front_front, prepared_same}
 use Rattle.engine.proofs.Sectioned.{passes, passed, less_other, less_in}
-use Rattle.engine.proofs.window.derive_rest.Invariants.{decreases-loop-todo, invariant-loop-todo}
 use Rattle.engine.proofs.window.derive_rest.Goals as goal
+use Rattle.engine.proofs.window.derive_rest.Goals.{After-put_strata}
 
 -- ---- once the strata are in the outline
-module _ (t : goal.After-outline-1 invariant-loop-todo decreases-loop-todo) where
-  abbrev s : goal.Start invariant-loop-todo decreases-loop-todo
+module _ (t : After-put_strata) where
+  abbrev s : After-put_strata
   s = t
 
   abbrev old : List ℕ
   old = s.args.outline.now
 
   abbrev new : List ℕ
-  new = t.put_strata.last.1.1.0
+  new = t.put_strata.new.outline
 
   long : length new ≡ length old
-  long = t.outline-1.given
+  long = t.put_strata.auto.outline
 
   same : take 472 new ≡ take 472 old
   same = t.put_strata.ensures.1
@@ -49,40 +49,41 @@ module _ (t : goal.After-outline-1 invariant-loop-todo decreases-loop-todo) wher
   active = front_same 408 64 472 old new (omega arith) same
 
   strata_long : length (strata_of new) ≡ 64
-  strata_long = part_long 472 64 new (omega (arith, long, s.requires.0.1.outlined))
+  strata_long = part_long 472 64 new (omega (arith, long, s.requires.by_index.1.outlined))
 
 pub put_strata-requires : goal.put_strata-requires
 put_strata-requires c =
     let s = c in
-    let p = s.requires.1 in
-    (p.0, p.1, p.2, p.3, p.4, s.requires.0.1.outlined)
+    let p = s.requires.by_index_2 in
+    (p.0, p.1, p.2, p.3, p.4, s.requires.by_index.1.outlined)
 
 pub loop-todo-init : goal.loop-todo-init
 loop-todo-init c = ((λ w t. t), (λ q e. e), refl, refl, omega arith)
 
 pub slice_bounds-of_stratum-end : goal.slice_bounds-of_stratum-end
 slice_bounds-of_stratum-end c =
-    let r = c in omega (arith, long r, (s r).requires.0.1.outlined)
+    let r = (goal.at.slice_bounds-of_stratum-end c).After-put_strata in
+    omega (arith, long r, (s r).requires.by_index.1.outlined)
 
 pub of_stratum-now-requires : goal.of_stratum-now-requires
-of_stratum-now-requires c = omega (arith, strata_long c)
+of_stratum-now-requires c = omega (arith, strata_long (goal.at.of_stratum-now-requires c).After-put_strata)
 
 pub close-requires : goal.close-requires
 close-requires c =
     let o = c in
     let t = o in
     let l = t.loop-todo in
-    let r = t in
+    let r = (goal.at.close-requires c).After-put_strata in
     let v = l.invariant in
     let f = (s r).args.w.frame in
     let k = words_for f.fields f.width in
-    let held = (s r).requires.0.1 in (
+    let held = (s r).requires.by_index.1 in (
       (λ q e. rw (
         prepared r,
         active r,
-        part_alike k l.work-1 (s r).args.work.now v.3,
+        part_alike k l.work (s r).args.work.now v.3,
         v.2,
-      ) ((s r).requires.0.0 q (v.1 q (passed (λ i. eqb (get_or (strata_of (new r)) i 0) l.k) l.todo
+      ) ((s r).requires.by_index.0 q (v.1 q (passed (λ i. eqb (get_or (strata_of (new r)) i 0) l.k) l.todo
           o.of_stratum-now.result o.of_stratum-now.ensures q e).0))),
       record {
         outlined = long r ∙ held.outlined;
@@ -117,7 +118,7 @@ loop-todo-preserved c =
     let l = t.loop-todo in
     let i = l.invariant in
     let ran = d.close.ensures.0 in
-    let strata : List ℕ = strata_of (new t) in
+    let strata : List ℕ = strata_of (new (goal.at.loop-todo-preserved c).After-put_strata) in
     let level : ℕ → Bool = λ i. eqb (get_or strata i 0) l.k in (
       (λ w t. i.0 w (then
           (λ q h e f. passes level l.todo o.result o.ensures q h e
@@ -133,7 +134,7 @@ loop-todo-preserved c =
     )
 
 pub shape_of-outline : goal.shape_of-outline
-shape_of-outline c = long c
+shape_of-outline c = long (goal.at.shape_of-outline c).After-put_strata
 
 pub shape_of-work : goal.shape_of-work
 shape_of-work c = c.loop-todo.invariant.3
@@ -141,7 +142,7 @@ shape_of-work c = c.loop-todo.invariant.3
 pub returns : goal.returns
 returns c =
     let l = c.loop-todo in
-    let r = c in
+    let r = (goal.at.returns c).After-put_strata in
     let t : not (eqb l.todo 0) && leb l.k 128 ≡ false = c.loop-todo-test.false in
     let e : ((q : ℕ) → q < 64 → bit q l.todo ≡ true → ⊥) ⊎ (128 < l.k) = cases (eqb l.todo 0)
     (λ y. inl (λ q h e. none_set q (ap (bit q) (sym (true_eq l.todo 0 y)) ∙ e)))

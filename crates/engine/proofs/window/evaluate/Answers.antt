@@ -23,10 +23,11 @@ use Rattle.engine.proofs.Sectioned.{part_alike, front_own, front_rest, front_fro
 use Rattle.engine.proofs.Sectioned.{setting_same, prepared_same}
 use Rattle.engine.proofs.Evaluating.{ready_as, able_as, low_in, evaluated_in}
 use Rattle.engine.proofs.window.evaluate.Goals as goal
+use Rattle.engine.proofs.window.evaluate.Goals.{After-spans}
 
 -- ---- once the instants of the rules are known
-module _ (a : goal.After-spans) where
-  abbrev s : goal.Start
+module _ (a : After-spans) where
+  abbrev s : After-spans
   s = a
 
   abbrev w : WindowTask
@@ -49,7 +50,7 @@ module _ (a : goal.After-spans) where
 
   abbrev held : SlicedIn s.args.outline.now s.args.coordinates.now s.args.need.now
       s.args.numbers.now w.frame s.args.work.now
-  held = s.requires.1.1.5
+  held = s.requires.by_index_2.5
 
   room : k ≤ length s.args.work.now
   room = omega (arith, k_is, held.roomy)
@@ -60,7 +61,7 @@ module _ (a : goal.After-spans) where
   old = s.args.outline.now
 
   abbrev active : List ℕ
-  active = a.spans.last.1.1.1.1.1.0
+  active = a.spans.new.active
 
   abbrev new : List ℕ
   new = put_back old 408 64 active
@@ -73,18 +74,18 @@ module _ (a : goal.After-spans) where
       (length-take-le 408 old (omega (arith, held.outlined)))
 
   own : active_of new ≡ active
-  own = back_own old 408 64 active long a.spans.ensures.1
+  own = back_own old 408 64 active long a.spans.ensures.active_len
 
   size : length new ≡ 536
-  size = back-length old 408 64 active long a.spans.ensures.1 ∙ held.outlined
+  size = back-length old 408 64 active long a.spans.ensures.active_len ∙ held.outlined
 
   -- the strata are not touched
   ranks : strata_of new ≡ strata_of old
-  ranks = ap (take 64) (back_rest old 408 64 active long a.spans.ensures.1)
+  ranks = ap (take 64) (back_rest old 408 64 active long a.spans.ensures.active_len)
 
   acts : (r j : ℕ) → bit r w.chosen.needed ≡ true →
       bit j (get_or active r 0) ≡ inside w.count s.args.marks.now (rule_at body r).interval j
-  acts r j e = a.spans.ensures.0 r j e
+  acts r j e = a.spans.ensures.by_index r j e
       ∙ ap (λ (l : List ℕ). inside w.count s.args.marks.now (rule_at l r).interval j) body_is
 
   -- the words that have fields keep their length
@@ -93,67 +94,46 @@ module _ (a : goal.After-spans) where
   fields_long l e = part_alike k l s.args.work.now e
       ∙ ap (λ (m : ℕ). length (take m s.args.work.now)) k_is
 
--- ---- once the words are cleared
-module _ (g : goal.After-clear_words) where
-  abbrev base : goal.After-spans
-  base = g
-
+-- ---- once the words are cleared: the front of the words came back as `clear-part`
+module _ (a : After-spans) (clear-part : List ℕ)
+    (alike : length clear-part ≡ length (take (k a) (s a).args.work.now)) where
   abbrev work : List ℕ
-  work = (s base).args.work.now
-
-  abbrev clear-part : List ℕ
-  clear-part = g.clear_words.last.0
+  work = (s a).args.work.now
 
   abbrev work1 : List ℕ
-  work1 = clear-part ++ drop (k base) work
+  work1 = clear-part ++ drop (k a) work
 
   work1_long : length work1 ≡ length work
-  work1_long = length_front work clear-part (k base) g.clear_words.ensures.1
+  work1_long = length_front work clear-part (k a) alike
 
-  work1_own : take (k base) work1 ≡ clear-part
-  work1_own = front_own (k base) (k base) refl work clear-part (room base) g.clear_words.ensures.1
+  work1_own : take (k a) work1 ≡ clear-part
+  work1_own = front_own (k a) (k a) refl work clear-part (room a) alike
 
-  work1_rest : drop (k base) work1 ≡ drop (k base) work
-  work1_rest = front_rest (k base) (k base) refl work clear-part (room base) g.clear_words.ensures.1
+  -- ---- once the authorizations are given: it came back as `given-part`
+  module _ (given-part : List ℕ) (given : length given-part ≡ length (take (k a) work1)) where
+    abbrev work2 : List ℕ
+    work2 = given-part ++ drop (k a) work1
 
--- ---- once the authorizations are given
-module _ (l : goal.After-give_lines) where
-  abbrev cleared : goal.After-clear_words
-  cleared = l
+    room2 : n a ≤ length work1
+    room2 = omega (arith, (held a).roomy, work1_long)
 
-  abbrev at-spans : goal.After-spans
-  at-spans = base cleared
+    work2_long : length work2 ≡ length work
+    work2_long = length_front work1 given-part (k a) given ∙ work1_long
 
-  abbrev given-part : List ℕ
-  given-part = l.give_lines.last.1.1.1.1.1.1.1.0
+    work2_own : fields_in (w a).frame work2 ≡ given-part
+    work2_own = front_own (k a) (n a) (k_is a) work1 given-part room2 given
 
-  abbrev work2 : List ℕ
-  work2 = given-part ++ drop (k at-spans) (work1 cleared)
-
-  room2 : n at-spans ≤ length (work1 cleared)
-  room2 = omega (arith, (held at-spans).roomy, work1_long cleared)
-
-  work2_long : length work2 ≡ length (work cleared)
-  work2_long = length_front (work1 cleared) given-part (k at-spans) l.give_lines.ensures.1
-      ∙ work1_long cleared
-
-  work2_own : fields_in (w at-spans).frame work2 ≡ given-part
-  work2_own = front_own (k at-spans) (n at-spans) (k_is at-spans) (work1 cleared) given-part room2
-      l.give_lines.ensures.1
-
-  work2_rest : bits_in (w at-spans).frame work2 ≡ bits_in (w at-spans).frame (work cleared)
-  work2_rest = front_rest (k at-spans) (n at-spans) (k_is at-spans) (work1 cleared) given-part room2
-      l.give_lines.ensures.1
-      ∙ front_rest (k at-spans) (n at-spans) (k_is at-spans) (work cleared) (clear-part cleared)
-      (held at-spans).roomy cleared.clear_words.ensures.1
+    work2_rest : bits_in (w a).frame work2 ≡ bits_in (w a).frame work
+    work2_rest = front_rest (k a) (n a) (k_is a) work1 given-part room2 given
+        ∙ front_rest (k a) (n a) (k_is a) work clear-part (held a).roomy alike
 
 pub spans-requires : goal.spans-requires
 spans-requires c =
     let s = c in
     let w = s.args.w in
     let r = s.args.records.now in
-    let u = s.requires.0.usable in
-    let p = s.requires.1.1 in (
+    let u = s.requires.lines_ready.usable in
+    let p = s.requires.by_index_2 in (
       p.0,
       subst (λ (l : List ℕ). w.chosen.rules * 28 ≤ length l) (sym (lent_rest w.offset r)) p.2,
       p.1,
@@ -164,61 +144,69 @@ spans-requires c =
 
 pub slice_bounds-clear_words-end-2 : goal.slice_bounds-clear_words-end-2
 slice_bounds-clear_words-end-2 c =
-    let a = c in sym (length-take-le (k a) (s a).args.work.now (room a))
+    let a = (goal.at.slice_bounds-clear_words-end-2 c).After-spans in
+    sym (length-take-le (k a) (s a).args.work.now (room a))
 
 pub clear_words-requires : goal.clear_words-requires
 clear_words-requires c =
-    let a = c in omega (arith, length-take-le (k a) (s a).args.work.now (room a))
+    let a = (goal.at.clear_words-requires c).After-spans in
+    omega (arith, length-take-le (k a) (s a).args.work.now (room a))
 
 pub slice_bounds-give_lines-end-2 : goal.slice_bounds-give_lines-end-2
 slice_bounds-give_lines-end-2 c =
     let s = c in
     sym (length-take-le (length s.args.need.now) s.args.numbers.now
-    (omega (arith, s.requires.1.1.5.numbered)))
+    (omega (arith, s.requires.by_index_2.5.numbered)))
 
 pub slice_bounds-give_lines-end-4 : goal.slice_bounds-give_lines-end-4
 slice_bounds-give_lines-end-4 c =
-    let g = c in
-    sym (length-take-le (k (base g)) (work1 g) (omega (arith, work1_long g, room (base g))))
+    let a = (goal.at.slice_bounds-give_lines-end-4 c).After-spans in
+    let y = c.clear_words.new.words in
+    let e = c.clear_words.ensures.1 in
+    sym (length-take-le (k a) (work1 a y e) (omega (arith, work1_long a y e, room a)))
 
 pub give_lines-requires : goal.give_lines-requires
 give_lines-requires c =
-    let g = c in
-    let a = base g in
+    let a = (goal.at.give_lines-requires c).After-spans in
+    let y = c.clear_words.new.words in
+    let e = c.clear_words.ensures.1 in
     let x = (s a).args in (
       ready_as (setting_same (new a) (old a) (same a) (body a) (w a) x.coordinates.now
           (numbered_of (length x.need.now) x.numbers.now) x.marks.now)
           (lent_rest (2 * length x.need.now) x.numbers.now)
-          (fields_long a (work1 g) (work1_long g)) (s a).pre.0,
-      (s a).pre.1.1.4,
+          (fields_long a (work1 a y e) (work1_long a y e)) (s a).requires.lines_ready,
+      (s a).requires.by_index_2.4,
       size a,
       (held a).placed,
     )
 
 pub derive_all-requires : goal.derive_all-requires
 derive_all-requires c =
-    let l = c in
-    let a = at-spans l in
+    let a = (goal.at.derive_all-requires c).After-spans in
+    let y = c.clear_words.new.words in
+    let e = c.clear_words.ensures.1 in
+    let z = c.give_lines.new.words in
+    let f = c.give_lines.ensures.1 in
     let x = (s a).args in
-    let u = (s a).pre.0.usable in
-    let p = (s a).pre.1.1 in
-    let f = (w a).frame in
+    let u = (s a).requires.lines_ready.usable in
+    let p = (s a).requires.by_index_2 in
+    let frame = (w a).frame in
     let low = low_in (w a) (body a) x.coordinates.now x.need.now x.numbers.now x.marks.now
-    (old a) (new a) (active a) (same a) (own a) u.short u.fits (acts a) in (
-      (
-        (λ r e. able_as (prepared_same (new a) (old a) (same a) (lent x.records.now (w a).offset)
-            (body a) x.coordinates.now x.need.now x.numbers.now x.numbers.now f
+    (old a) (new a) (active a) (same a) (own a) u.short u.fits (acts a) in record {
+      by_index = (
+        (λ r b. able_as (prepared_same (new a) (old a) (same a) (lent x.records.now (w a).offset)
+            (body a) x.coordinates.now x.need.now x.numbers.now x.numbers.now frame
             (body_is a) refl)
-            (part_alike (n a) (work2 l) (work (cleared l)) (work2_long l)) (ap length (work2_rest l))
-            ((s a).pre.1.0 (active_of (new a)) low r e)),
+            (part_alike (n a) (work2 a y e z f) (work a y e) (work2_long a y e z f)) (ap length (work2_rest a y e z f))
+            ((s a).requires.by_index (active_of (new a)) low r b)),
         record {
           outlined = size a;
           placed = (held a).placed;
           numbered = (held a).numbered;
-          roomy = subst (λ (m : ℕ). n a ≤ m) (sym (work2_long l)) (held a).roomy;
+          roomy = subst (λ (m : ℕ). n a ≤ m) (sym (work2_long a y e z f)) (held a).roomy;
         },
-      ),
-      (
+      );
+      by_index_2 = (
         p.0,
         p.1,
         subst (λ (b : List ℕ). (w a).chosen.rules * 28 ≤ length b) (sym (body_is a)) p.2,
@@ -228,28 +216,30 @@ derive_all-requires c =
             (strata_of (new a))) (sym (body_is a))
             (subst (StrataKnown (w a).chosen.rules (w a).chosen.needed (body a)) (sym (ranks a))
             (p.6 e))),
-      ),
-    )
+      );
+    }
 
 pub returns : goal.returns
 returns c =
     let d = c in
-    let l = d in
-    let a = at-spans l in
+    let a = (goal.at.returns c).After-spans in
+    let b = c.clear_words.new.words in
+    let e = c.clear_words.ensures.1 in
+    let z = c.give_lines.new.words in
+    let f = c.give_lines.ensures.1 in
     let x = (s a).args in
-    let u = (s a).pre.0.usable in
-    let g = cleared l in
-    let y : List ℕ = d.derive_all.new.w.1.0 in
+    let u = (s a).requires.lines_ready.usable in
+    let y : List ℕ = d.derive_all.new.outline in
     let t = d.derive_all.ensures in
     let acting : active_of y ≡ active_of (new a) = front_same 408 64 472 (new a) y (omega arith) t.3 in (
       rw acting (evaluated_in (w a) (body a) x.coordinates.now x.need.now x.numbers.now
           x.marks.now
           (old a) (new a) (active a) (same a) (own a) u.short u.fits (acts a) (k a) (k_is a) (body_is a)
-          g.clear_words.ensures.0 (work1_own g)
+          c.clear_words.ensures.0 (work1_own a b e)
           (ap (λ (v : List ℕ). picked x.records.now v (w a).chosen.authorizations)
           (lent_rest (2 * length x.need.now) x.numbers.now))
-          l.give_lines.ensures.0 (work2_own l) (work2_rest l) t.0),
-      t.1 ∙ work2_rest l,
+          c.give_lines.ensures.0 (work2_own a b e z f) (work2_rest a b e z f) t.0),
+      t.1 ∙ work2_rest a b e z f,
       front_front 472 408 y (new a) (omega arith) t.3 ∙ same a,
       (λ e. subst (λ (b : List ℕ). StrataKnown (w a).chosen.rules (w a).chosen.needed b (strata_of y))
           (body_is a) (t.2 e)),

@@ -21,9 +21,9 @@ returns-then-not-w c =
     let f = c in
     let s = f in
     let o : List ℕ = s.args.outline.now in
-    let y = f.strata_of.new.strata.1.1.0 in
+    let y = f.strata_of.new.strata in
     let h : 472 + 64 ≤ length o = omega (arith, s.requires.5) in
-    let e : length y ≡ 64 = f.strata_of.auto.strata.1.1.0 ∙ part_long 472 64 o h in (
+    let e : length y ≡ 64 = f.strata_of.auto.strata ∙ part_long 472 64 o h in (
       subst (StrataKnown s.args.w.chosen.rules s.args.w.chosen.needed s.args.body.now)
           (sym (back_own o 472 64 y h e)) f.strata_of.ensures,
       same_front o (put_back o 472 64 y) (back-length o 472 64 y h e) 472 (back-before o 472 64 y h e),

@@ -2,7 +2,6 @@ use borrow.Author.Rules.{rules}
 use native.Mathlib.Omega.{arith}
 use mathlib.Core.Path.{◌≡◌, refl, sym, ap, ◌∙◌}
 use mathlib.Core.Bool.{Bool, true, false, not, ◌&&◌, true≢false}
-use mathlib.Core.Logic.{⊎_elim}
 use Prim.Native.Nat.{ℕ, ◌<◌}
 use lib.Bits.{and_le_l}
 use lib.ListN.{length, get_or, set, length-set}
@@ -14,6 +13,7 @@ use Rattle.facts.specs.Sharing.{UsesTable}
 use Rattle.masks.proofs.BitLoops.{passed_start, passed_turn}
 use Rattle.facts.proofs.TableSharing.{shares_self, uses_still, start_still, uses_new}
 use Rattle.facts.proofs.sharing.share_starts.Goals as goal
+use Rattle.facts.proofs.sharing.share_starts.Goals.{then-d-lt64, else-d-lt64}
 
 -- a rule without a table is of the mask and not of the tables
 rest_is : (rules tables i : ℕ) → bit i (less rules tables) ≡ true →
@@ -72,11 +72,11 @@ loop-c-preserved c =
     let h = rest_is a.rules a.tables l.c here in
     let room : l.c < length l.first = omega (arith, l.invariant.1, s.requires.2, f.loop-c-test.true) in
     let moved : (d < 64) × (next ≡ set l.first l.c (get_or l.first d 0)) =
-    ⊎_elim
-    (λ w. (w.0.taken, w.2))
-    (λ w. let y = s.requires.3.enough l.c h.0 in
-    absurd (f.first_sharing-d.ensures.1 w.0.left y.0 y.1 y.2))
-    c.if-d-lt64.branch in
+    elim c.if-d-lt64.branch [
+      then-d-lt64 w ↦ (w.if-d-lt64.true, w.first-is)
+    | else-d-lt64 w ↦ let y = s.requires.3.enough l.c h.0 in
+      absurd (f.first_sharing-d.ensures.1 w.if-d-lt64.false y.0 y.1 y.2)
+    ] in
     let found = f.first_sharing-d.ensures.0 moved.0 in (
       e.1,
       rw moved.1 (simp length-set l.invariant.1),

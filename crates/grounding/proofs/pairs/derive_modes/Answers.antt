@@ -26,12 +26,12 @@ derive_at-fresh-requires c =
     let l = c.loop-m in
     let k = s.args.t.words in
     let w = s.args.work.now in
-    let e : length (fields_of k l.work-1) ≡ length (fields_of k w) =
+    let e : length (fields_of k l.work) ≡ length (fields_of k w) =
     row-length (λ p u v d. d.given.lengths) l.invariant.2.steps in
-    let b : broken_of k l.work-1 ≡ broken_of k w = l.invariant.4 in
+    let b : broken_of k l.work ≡ broken_of k w = l.invariant.4 in
     let h : l.m < 64 = c.loop-m-test.true in (
       rw (e, b) (s.requires.0 l.m h (l.invariant.1 h)),
-      omega (arith, both-length k l.work-1 w e (ap length b), s.requires.1),
+      omega (arith, both-length k l.work w e (ap length b), s.requires.1),
       rw e s.requires.2,
     )
 
@@ -53,7 +53,7 @@ pub shape_of-work : goal.shape_of-work
 shape_of-work c =
     let a = c.args in
     let l = c.loop-m in
-    both-length a.t.words l.work-1 a.work.now
+    both-length a.t.words l.work a.work.now
     (row-length (λ p u v d. d.given.lengths) l.invariant.2.steps) (ap length l.invariant.4)
 
 pub returns : goal.returns

@@ -90,14 +90,14 @@ derive_modes-fresh-requires c =
     (lent_of size a.numbers.now) (numbered_of size a.numbers.now) (length (fields_of k w))
     (length (broken_of k w)) a.range.from a.range.to =
     rw (lent_all size a.numbers.now) s.requires.0 in
-    let e : length (fields_of k l.work-1) ≡ length (fields_of k w) =
+    let e : length (fields_of k l.work) ≡ length (fields_of k w) =
     row-length (λ p u v d. d.given.lengths) l.invariant.1.steps in
-    let b : broken_of k l.work-1 ≡ broken_of k w = l.invariant.3 in (
+    let b : broken_of k l.work ≡ broken_of k w = l.invariant.3 in (
       λ m h y.
           let u = rw (x.0, x.1) at (c.standing_modes-modes.ensures.0 m y) in
           rw (e, b, x.0, x.1) (p.reads l.n m l.invariant.0 i.loop-n-test.true
           record { object = u.0; subject = u.1; mode = u.2 }),
-      omega (arith, both-length k l.work-1 w e (ap length b), s.requires.2.roomy),
+      omega (arith, both-length k l.work w e (ap length b), s.requires.2.roomy),
       rw e s.requires.1,
     )
 
@@ -128,7 +128,7 @@ shape_of-work c =
     let early = c in
     let a = early.args in
     let l = c.loop-n in
-    both-length a.t.words l.work-1 a.work.now
+    both-length a.t.words l.work a.work.now
     (row-length (λ p u v d. d.given.lengths) l.invariant.1.steps) (ap length l.invariant.3)
 
 pub returns : goal.returns
@@ -142,7 +142,7 @@ returns c =
     (lent_of size a.numbers.now)
     (Step a.t a.f (numbered_of size a.numbers.now) (broken_of k a.work.now)
     (rights_of a.coordinates.now) (first_of a.outline.now)) a.range.from a.range.to
-    (fields_of k a.work.now) (fields_of k l.work-1) =
+    (fields_of k a.work.now) (fields_of k l.work) =
     pairs_end a.t a.f (left_of a.outline.now) a.need.now (lent_of size a.numbers.now)
     l.n (omega (arith, c.loop-n-test.false)) l.invariant.1 in
     (rw (lent_all size a.numbers.now) at r, l.invariant.2, l.invariant.3)

@@ -1,10 +1,9 @@
 use native.Mathlib.Omega.{arith}
 use mathlib.Core.Path.{◌≡◌, sym, ap, ◌∙◌}
-use mathlib.Core.Bool.{true, false, not}
+use mathlib.Core.Bool.{true, false}
 use Prim.Native.Nat.{ℕ, ◌+◌}
 use lib.Dec.{eqb}
 use lib.ListN.{length}
-use Rattle.foundation.specs.Tests.{not-true, not-false}
 use Rattle.words.specs.Fields.{field_of}
 use Rattle.model.specs.Stratification.{lasting}
 use Rattle.grounding.proofs.StepBits.{bit-number, bit-room}
@@ -14,18 +13,18 @@ pub returns-then-not-is_lasting : goal.returns-then-not-is_lasting
 returns-then-not-is_lasting c =
     let b = c.is_lasting in
     let e : lasting c.args.t.operator ≡ false =
-    sym b.ensures ∙ not-true b.result c.if-not-is_lasting.true in
+    sym b.ensures ∙ c.if-not-is_lasting.true in
     rw e
 
 pub overflow_cast-t : goal.overflow_cast-t
 overflow_cast-t c =
-    let lasts : not c.is_lasting.result ≡ false → lasting c.args.t.operator ≡ true = λ e. sym c.is_lasting.ensures ∙ not-false c.is_lasting.result e in
+    let lasts : c.is_lasting.result ≡ true → lasting c.args.t.operator ≡ true = λ e. sym c.is_lasting.ensures ∙ e in
     let d = c in
     omega (arith, d.requires.number (lasts d.if-not-is_lasting.false))
 
 pub overflow_add-t : goal.overflow_add-t
 overflow_add-t c =
-    let lasts : not c.is_lasting.result ≡ false → lasting c.args.t.operator ≡ true = λ e. sym c.is_lasting.ensures ∙ not-false c.is_lasting.result e in
+    let lasts : c.is_lasting.result ≡ true → lasting c.args.t.operator ≡ true = λ e. sym c.is_lasting.ensures ∙ e in
     let d = c in
     let s = d in
     let a = s.args in
@@ -37,7 +36,7 @@ overflow_add-t c =
 
 pub field_at-requires : goal.field_at-requires
 field_at-requires c =
-    let lasts : not c.is_lasting.result ≡ false → lasting c.args.t.operator ≡ true = λ e. sym c.is_lasting.ensures ∙ not-false c.is_lasting.result e in
+    let lasts : c.is_lasting.result ≡ true → lasting c.args.t.operator ≡ true = λ e. sym c.is_lasting.ensures ∙ e in
     let d = c in
     let s = d in
     let a = s.args in (
@@ -51,7 +50,7 @@ field_at-requires c =
 
 pub returns : goal.returns
 returns c =
-    let lasts : not c.is_lasting.result ≡ false → lasting c.args.t.operator ≡ true = λ e. sym c.is_lasting.ensures ∙ not-false c.is_lasting.result e in
+    let lasts : c.is_lasting.result ≡ true → lasting c.args.t.operator ≡ true = λ e. sym c.is_lasting.ensures ∙ e in
     let d = c in
     let a = d.args in
     rw (lasts d.if-not-is_lasting.false) (ap (λ (n : ℕ). eqb n 1) (c.field_at.ensures

@@ -17,12 +17,12 @@ mark_broken_at-requires c =
     let l = c.loop-m in
     let k = s.args.t.words in
     let w = s.args.work.now in
-    let e : length (broken_of k l.work-1) ≡ length (broken_of k w) =
+    let e : length (broken_of k l.work) ≡ length (broken_of k w) =
     row-length (λ p u v d. d.lengths) l.invariant.2.steps in
-    let b : fields_of k l.work-1 ≡ fields_of k w = l.invariant.3 in
+    let b : fields_of k l.work ≡ fields_of k w = l.invariant.3 in
     let h : l.m < 64 = c.loop-m-test.true in (
       rw (e, b) (s.requires.0 l.m h (l.invariant.1 h)),
-      omega (arith, both-length k l.work-1 w (ap length b) e, s.requires.1),
+      omega (arith, both-length k l.work w (ap length b) e, s.requires.1),
       s.requires.2,
       s.requires.3,
     )
@@ -44,7 +44,7 @@ pub shape_of-work : goal.shape_of-work
 shape_of-work c =
     let a = c.args in
     let l = c.loop-m in
-    both-length a.t.words l.work-1 a.work.now (ap length l.invariant.3)
+    both-length a.t.words l.work a.work.now (ap length l.invariant.3)
     (row-length (λ p u v d. d.lengths) l.invariant.2.steps)
 
 pub returns : goal.returns

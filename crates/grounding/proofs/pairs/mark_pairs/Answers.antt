@@ -79,14 +79,14 @@ mark_modes-requires c =
     (numbered_of size a.numbers.now) (length (fields_of k w)) (length (broken_of k w)) a.range.from
     a.range.to =
     rw (lent_all size a.numbers.now) s.requires.0 in
-    let e : length (broken_of k l.work-1) ≡ length (broken_of k w) =
+    let e : length (broken_of k l.work) ≡ length (broken_of k w) =
     row-length (λ p u v d. d.lengths) l.invariant.1.steps in
-    let b : fields_of k l.work-1 ≡ fields_of k w = l.invariant.2 in (
+    let b : fields_of k l.work ≡ fields_of k w = l.invariant.2 in (
       λ m h y.
           let u = rw (x.0, x.1) at (c.standing_modes-modes.ensures.0 m y) in
           rw (e, b, x.0, x.1) (p.reads l.n m l.invariant.0 i.loop-n-test.true
           record { object = u.0; subject = u.1; mode = u.2 }),
-      omega (arith, both-length k l.work-1 w (ap length b) e, s.requires.3),
+      omega (arith, both-length k l.work w (ap length b) e, s.requires.3),
       s.requires.4,
       s.requires.5,
     )
@@ -114,7 +114,7 @@ pub shape_of-work : goal.shape_of-work
 shape_of-work c =
     let a = c.args in
     let l = c.loop-n in
-    both-length a.t.words l.work-1 a.work.now (ap length l.invariant.2)
+    both-length a.t.words l.work a.work.now (ap length l.invariant.2)
     (row-length (λ p u v d. d.lengths) l.invariant.1.steps)
 
 pub returns : goal.returns
@@ -125,7 +125,7 @@ returns c =
     let l = c.loop-n in
     let r : PairsRan a.t a.f a.left.now a.need.now (lent_of size a.numbers.now)
     (Mark a.t a.f (numbered_of size a.numbers.now) (fields_of k a.work.now) a.last)
-    a.range.from a.range.to (broken_of k a.work.now) (broken_of k l.work-1) =
+    a.range.from a.range.to (broken_of k a.work.now) (broken_of k l.work) =
     pairs_end a.t a.f a.left.now a.need.now (lent_of size a.numbers.now) l.n
     (omega (arith, c.loop-n-test.false)) l.invariant.1 in
     (rw (lent_all size a.numbers.now) at r, l.invariant.2)

@@ -60,9 +60,9 @@ returns c =
     let d = w in
     let a = d.args in
     let words = fields_of a.t.words a.work.now in
-    let h : w.instants-in-force.result ≡ force_in a.t a.f a.number.now words a.p.point =
-    w.instants-in-force.ensures
-    ∙ ap (λ (y : Place). force_at a.t a.f words y) w.right-place.ensures in
-    let b = sym w.if1.false ∙ d.is_broken.ensures
+    let h : w.instants_in_force.result ≡ force_in a.t a.f a.number.now words a.p.point =
+    w.instants_in_force.ensures
+    ∙ ap (λ (y : Place). force_at a.t a.f words y) w.right_place-y.ensures in
+    let b = sym w.if-is_broken.false ∙ d.is_broken.ensures
     ∙ ap (λ (l : List ℕ). broken_in a.t a.f.grid l a.p) (lent_rest a.t.words a.work.now) in
     rw (h, b) at c.derive.ensures

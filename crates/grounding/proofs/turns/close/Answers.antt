@@ -44,11 +44,11 @@ derive_rule-requires c =
     let w = a.work.now in
     let k = words_for a.f.fields a.f.width in
     let held : SlicedIn a.outline.now a.coordinates.now a.need.now a.numbers.now a.f
-    l.work-1 = record {
+    l.work = record {
       outlined = s.requires.1.outlined;
       placed = s.requires.1.placed;
       numbered = s.requires.1.numbered;
-      roomy = omega (arith, s.requires.1.roomy, both-length k l.work-1 w l.invariant.2 (ap length l.invariant.5));
+      roomy = omega (arith, s.requires.1.roomy, both-length k l.work w l.invariant.2 (ap length l.invariant.5));
     } in (
       rw (l.invariant.2, l.invariant.5)
           (s.requires.0 n.result.rule (l.invariant.1 n.result.rule n.ensures.1)),
@@ -72,12 +72,12 @@ loop-dirty-smaller-then-derive_rule c =
     let rules : ℕ = a.rules in
     let e = d.derive_rule.ensures in
     let r = n.result.rule in
-    let new = d.derive_rule.new.work.1.1.1.1.1.1.0 in
+    let new = d.derive_rule.new.work in
     let m = bits-le _ rules (λ q y. (and-true (bit q rules)
     (bit r (get_or (feed_of a.outline.now) q 0) && bit r rules)
     (sym (l.invariant.4 r q n.ensures.0) ∙ y)).0) in
-    fewer_left (fields_in a.f l.work-1) (fields_in a.f new) l.dirty _
-    (ran_length p (active_of a.outline.now) (bits_in a.f l.work-1) r e.0)
+    fewer_left (fields_in a.f l.work) (fields_in a.f new) l.dirty _
+    (ran_length p (active_of a.outline.now) (bits_in a.f l.work) r e.0)
     (e.1.more c.if-derive_rule.true)
     (front_below (words_for a.f.fields a.f.width) new 18446744073709551616 (omega arith)
     (λ i. omega (arith, c.slice_known-in-loop-dirty-1.given i)))
@@ -98,14 +98,14 @@ loop-dirty-preserved-then-derive_rule c =
     let i = l.invariant in
     let e = d.derive_rule.ensures in
     let r = n.result.rule in
-    let m : ℕ = get_or b.transpose.new.fed.1.0 r 0 in
+    let m : ℕ = get_or b.transpose.new.fed r 0 in
     let own = i.1 r n.ensures.1 in
     let precedes : ℕ → Bool = λ q. bit r (get_or (feed_of a.outline.now) q 0) in
     let fed : (q : ℕ) → bit q m ≡ bit q rules && (precedes q && bit r rules) =
     λ q. i.4 r q n.ensures.0 in
-    let new = d.derive_rule.new.work.1.1.1.1.1.1.0 in
+    let new = d.derive_rule.new.work in
     let ran : RuleRan p (active_of a.outline.now) (bits_in a.f a.work.now) r
-    (fields_in a.f l.work-1) (fields_in a.f new) = rw i.5 at e.0 in (
+    (fields_in a.f l.work) (fields_in a.f new) = rw i.5 at e.0 in (
       (λ w t. i.0 w (then r d.derive_rule.result n.ensures.1 own ran e.1
           (λ q o z. bit_or_lem x.result m q
           ∙ or_intro_left (bit q x.result) (bit q m)
@@ -131,7 +131,7 @@ loop-dirty-smaller c =
     let l = b.loop-dirty in
     let a = b.args in
     rw (d.derive_rule.ensures.1.same c.if-derive_rule.false)
-    (less-to_do (fields_in a.f l.work-1) l.dirty x.result x.ensures.0)
+    (less-to_do (fields_in a.f l.work) l.dirty x.result x.ensures.0)
 
 pub loop-dirty-preserved : goal.loop-dirty-preserved
 loop-dirty-preserved c =
@@ -146,9 +146,9 @@ loop-dirty-preserved c =
     let i = l.invariant in
     let e = d.derive_rule.ensures in
     let r = n.result.rule in
-    let new = d.derive_rule.new.work.1.1.1.1.1.1.0 in
+    let new = d.derive_rule.new.work in
     let ran : RuleRan p (active_of a.outline.now) (bits_in a.f a.work.now) r
-    (fields_in a.f l.work-1) (fields_in a.f new) = rw i.5 at e.0 in (
+    (fields_in a.f l.work) (fields_in a.f new) = rw i.5 at e.0 in (
       (λ w t. i.0 w (then r d.derive_rule.result n.ensures.1 (i.1 r n.ensures.1) ran e.1
           (others l.dirty x.result r x.ensures.1)
           (λ f q h o z. absurd (true≢false (sym f ∙ c.if-derive_rule.false))) t)),
@@ -163,7 +163,7 @@ pub shape_of-work : goal.shape_of-work
 shape_of-work c =
     let l = c.loop-dirty in
     let a = c.args in
-    both-length (words_for a.f.fields a.f.width) l.work-1 a.work.now l.invariant.2
+    both-length (words_for a.f.fields a.f.width) l.work a.work.now l.invariant.2
     (ap length l.invariant.5)
 
 pub returns : goal.returns
@@ -171,6 +171,6 @@ returns c =
     let l = c.loop-dirty in
     let a = c.args in
     let z : l.dirty ≡ 0 = omega arith in (
-      l.invariant.0 (fields_in a.f l.work-1) (none (λ q h e. none_set q (ap (bit q) (sym z) ∙ e))),
+      l.invariant.0 (fields_in a.f l.work) (none (λ q h e. none_set q (ap (bit q) (sym z) ∙ e))),
       l.invariant.5,
     )

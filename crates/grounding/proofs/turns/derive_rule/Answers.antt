@@ -65,7 +65,7 @@ shape_of-work c =
     let g = c in
     let d = g in
     let a = d.args in
-    let new = g.derive_pairs.new.work.1.1.1.1.1.1.0 in
+    let new = g.derive_pairs.new.work in
     let e = g.derive_pairs.ensures in
     both-length d.turn_of-t.result.words new a.work.now
     (row-length (λ p u v s. s.given.lengths) e.0.steps) (ap length e.2)
@@ -77,7 +77,7 @@ returns c =
     let a = d.args in
     let size = length a.need.now in
     let q = ap (λ (t : RuleTurn). t.words) d.turn_of-t.ensures in
-    let new = g.derive_pairs.new.work.1.1.1.1.1.1.0 in
+    let new = g.derive_pairs.new.work in
     let e = g.derive_pairs.ensures in (
       inr (ran_as a.f (left_of a.outline.now) a.need.now (listed_of size a.numbers.now)
           (numbered_of size a.numbers.now) d.turn_of-t.ensures g.range_of-n.ensures

@@ -31,11 +31,11 @@ derive_rule-requires c =
     let k = words_for a.f.fields a.f.width in
     let h : l.at.rule < 64 = omega arith in
     let held : SlicedIn a.outline.now a.coordinates.now a.need.now a.numbers.now a.f
-    l.work-1 = record {
+    l.work = record {
       outlined = s.requires.1.outlined;
       placed = s.requires.1.placed;
       numbered = s.requires.1.numbered;
-      roomy = omega (arith, s.requires.1.roomy, both-length k l.work-1 w l.invariant.2 (ap length l.invariant.4));
+      roomy = omega (arith, s.requires.1.roomy, both-length k l.work w l.invariant.2 (ap length l.invariant.4));
     } in (
       rw (l.invariant.2, l.invariant.4) (s.requires.0 l.at.rule (l.invariant.1 l.at.rule (l.invariant.3.own h))),
       held,
@@ -71,9 +71,9 @@ loop-at-preserved c =
     let h : l.at.rule < 64 = omega arith in
     let out = w.ensures.1 in
     let g = d.derive_rule.ensures in
-    let new = d.derive_rule.new.work.1.1.1.1.1.1.0 in
+    let new = d.derive_rule.new.work in
     let r : RuleRan p (active_of a.outline.now) (bits_in a.f a.work.now) l.at.rule
-    (fields_in a.f l.work-1) (fields_in a.f new) = rw i.4 at g.0 in (
+    (fields_in a.f l.work) (fields_in a.f new) = rw i.4 at g.0 in (
       (λ e v t. i.0 e v (then l.at.rule (i.3.own h) (i.3.alone h)
           (others l.rest w.result l.at.rule out)
           (among l.rest w.result l.at.rule out) r t)),
@@ -87,11 +87,11 @@ pub shape_of-work : goal.shape_of-work
 shape_of-work c =
     let l = c.loop-at in
     let a = c.args in
-    both-length (words_for a.f.fields a.f.width) l.work-1 a.work.now l.invariant.2
+    both-length (words_for a.f.fields a.f.width) l.work a.work.now l.invariant.2
     (ap length l.invariant.4)
 
 pub returns : goal.returns
 returns c =
     let l = c.loop-at in
     let a = c.args in
-    (l.invariant.0 l.rest (fields_in a.f l.work-1) none, l.invariant.4, l.invariant.1)
+    (l.invariant.0 l.rest (fields_in a.f l.work) none, l.invariant.4, l.invariant.1)

@@ -37,11 +37,11 @@ mark_rule-requires c =
     let k = words_for f.fields f.width in
     let b : bit l.r a.rules ≡ true = l.invariant.3 (omega arith) in
     let held : SlicedIn a.outline.now a.coordinates.now a.need.now a.numbers.now f
-    l.work-1 = record {
+    l.work = record {
       outlined = s.requires.1.outlined;
       placed = s.requires.1.placed;
       numbered = s.requires.1.numbered;
-      roomy = omega (arith, s.requires.1.roomy, both-length k l.work-1 w (ap length l.invariant.4) l.invariant.1);
+      roomy = omega (arith, s.requires.1.roomy, both-length k l.work w (ap length l.invariant.4) l.invariant.1);
     } in (
       rw (l.invariant.4, l.invariant.1) (s.requires.0 l.r b),
       held,
@@ -62,8 +62,8 @@ loop-r-preserved c =
     a.numbers.now f in
     let active = active_of a.outline.now in
     let words = fields_in f a.work.now in
-    let new = d.mark_rule.new.work.1.1.1.1.1.1.0 in
-    let m : RuleMarked p active words a.e.last a.e.mark l.r (bits_in f l.work-1) (bits_in f new) =
+    let new = d.mark_rule.new.work in
+    let m : RuleMarked p active words a.e.last a.e.mark l.r (bits_in f l.work) (bits_in f new) =
     rw i.4 at d.mark_rule.ensures.0 in (
       (λ w t. i.0 w (then l.r l.r (omega arith) h (λ j x y. absurd (omega arith)) (i.3 h) m
           (marked_from p active words a.e.last a.e.mark a.rules (suc l.r)
@@ -78,11 +78,11 @@ pub shape_of-work : goal.shape_of-work
 shape_of-work c =
     let l = c.loop-r in
     let a = c.args in
-    both-length (words_for a.e.frame.fields a.e.frame.width) l.work-1 a.work.now
+    both-length (words_for a.e.frame.fields a.e.frame.width) l.work a.work.now
     (ap length l.invariant.4) l.invariant.1
 
 pub returns : goal.returns
 returns c =
     let l = c.loop-r in
     let a = c.args in
-    (l.invariant.0 (bits_in a.e.frame l.work-1) (none (λ q x y. absurd (omega arith))), l.invariant.4)
+    (l.invariant.0 (bits_in a.e.frame l.work) (none (λ q x y. absurd (omega arith))), l.invariant.4)

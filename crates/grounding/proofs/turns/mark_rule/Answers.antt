@@ -69,7 +69,7 @@ shape_of-work c =
     let d = g in
     let early = d in
     let a = early.args in
-    let new = g.mark_pairs.new.work.1.1.1.1.1.1.0 in
+    let new = g.mark_pairs.new.work in
     let e = g.mark_pairs.ensures in
     both-length d.turn_of-t.result.words new a.work.now (ap length e.1)
     (row-length (λ p u v s. s.lengths) e.0.steps)
@@ -85,7 +85,7 @@ returns-then-q-e c =
     let h : (rule_at a.body.now a.r).interval.start ≤ a.e.mark =
     omega (arith, ap (λ (x : Rule). x.interval.start) b.rule_at-q.ensures) in
     let q = ap (λ (t : RuleTurn). t.words) d.turn_of-t.ensures in
-    let new = g.mark_pairs.new.work.1.1.1.1.1.1.0 in
+    let new = g.mark_pairs.new.work in
     let e = g.mark_pairs.ensures in (
       inr (
         h,

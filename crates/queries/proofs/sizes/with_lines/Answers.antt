@@ -27,7 +27,7 @@ counts_some-requires c =
     let g = b.requires.1.2 in
     subst (λ (l : List ℕ). RulesIn a.w.chosen.needed l)
     (sym (lent_rest a.w.offset a.records.now))
-    (needed_in_lem g.tabled.outline-1 g.tabled.mapped g.tabled.needs)
+    (needed_in_lem g.tabled.outline g.tabled.mapped g.tabled.needs)
 
 pub returns-then-not-counts_some : goal.returns-then-not-counts_some
 returns-then-not-counts_some c =

@@ -6,7 +6,6 @@ use lib.Dec.{lit<}
 use lib.ListN.{length}
 use lib.Seq.{drop-length}
 use borrow.Author.Rules.{rules}
-use borrow.Author.Tests.{not-true, not-false}
 use Rattle.reading.proofs.DigitValues.{value_digit, value_other, ten_digits}
 use Rattle.reading.proofs.words.value_of.Goals as goal
 
@@ -17,7 +16,7 @@ pub returns-then-not-c : goal.returns-then-not-c
 returns-then-not-c c =
     let s = c.args.s.now in
     let l = c.loop-i in
-    sym (l.invariant.2 ∙ value_other l.n s l.i (search rules) (not-true _ c.if-not-c.true))
+    sym (l.invariant.2 ∙ value_other l.n s l.i (search rules) c.if-not-c.true)
 
 pub overflow_mul-n : goal.overflow_mul-n
 overflow_mul-n c =
@@ -25,7 +24,7 @@ overflow_mul-n c =
     omega (arith, ten_digits l.n l.i l.invariant.1 (search rules))
 
 pub digit-requires : goal.digit-requires
-digit-requires c = not-false _ c.if-not-c.false
+digit-requires c = c.if-not-c.false
 
 pub overflow_add-n : goal.overflow_add-n
 overflow_add-n c =
@@ -39,7 +38,7 @@ loop-i-preserved c =
     let d = c.digit.ensures in (
       search rules,
       rw (add-one, pow-suc 10 l.i) (omega (arith, l.invariant.1, d.1)),
-      l.invariant.2 ∙ value_digit l.n s l.i (search rules) (not-false _ c.if-not-c.false) ∙ rw d.0,
+      l.invariant.2 ∙ value_digit l.n s l.i (search rules) c.if-not-c.false ∙ rw d.0,
     )
 
 pub returns : goal.returns

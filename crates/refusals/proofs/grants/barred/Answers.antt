@@ -1,4 +1,3 @@
-use borrow.Author.Tests.{not-true, not-false}
 use mathlib.Core.Path.{◌≡◌, sym, ◌∙◌}
 use mathlib.Core.Bool.{true}
 use Rattle.model.specs.Encoding.{decode}
@@ -10,18 +9,18 @@ pub returns-then-not-is_grant : goal.returns-then-not-is_grant
 returns-then-not-is_grant c =
     let a = c.args in
     sym (other_unbarred (decode a.s.now) a.q
-    (sym c.is_grant.ensures ∙ not-true _ c.if-not-is_grant.true))
+    (sym c.is_grant.ensures ∙ c.if-not-is_grant.true))
 
 pub returns-then-controls : goal.returns-then-controls
 returns-then-controls c =
-    let granting : grants c.args.q ≡ true = sym c.is_grant.ensures ∙ not-false _ c.if-not-is_grant.false in
+    let granting : grants c.args.q ≡ true = sym c.is_grant.ensures ∙ c.if-not-is_grant.false in
     let a = c.args in
     sym (exempt (decode a.s.now) a.q (granting)
     (sym c.controls.ensures ∙ c.if-controls.true))
 
 pub returns : goal.returns
 returns c =
-    let granting : grants c.args.q ≡ true = sym c.is_grant.ensures ∙ not-false _ c.if-not-is_grant.false in
+    let granting : grants c.args.q ≡ true = sym c.is_grant.ensures ∙ c.if-not-is_grant.false in
     let e = c in
     let a = e.args in
     c.is_denied.ensures

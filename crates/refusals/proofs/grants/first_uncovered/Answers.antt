@@ -1,4 +1,3 @@
-use borrow.Author.Tests.{not-true, not-false}
 use mathlib.Core.Path.{◌≡◌, sym, ◌∙◌, subst}
 use mathlib.Core.Bool.{true, ◌&&◌}
 use mathlib.Core.List.{List}
@@ -15,85 +14,70 @@ use Rattle.cover.specs.Gaps.{GapIs}
 use Rattle.refusals.proofs.AskedFacts.{GrantIn, grant_in, no_grant, in_control, uncovered_is}
 use Rattle.encoding.proofs.SoundBodies.{fitting, there, authorizations-lent}
 use Rattle.refusals.proofs.grants.first_uncovered.Goals as goal
+use Rattle.refusals.proofs.grants.first_uncovered.Goals.{Else-not-is_grant}
+
+-- behind the test of the kind
+granting : (c : Else-not-is_grant) → grants c.args.q ≡ true
+granting c = sym c.is_grant.ensures ∙ c.if-not-is_grant.false
+
+fields_in : (c : Else-not-is_grant) → GrantIn c.args.q
+fields_in c = grant_in c.args.q c.requires.1 (granting c)
 
 pub returns-then-not-is_grant : goal.returns-then-not-is_grant
 returns-then-not-is_grant c =
     let a = c.args in
-    no_grant (decode a.s.now) a.q (sym c.is_grant.ensures ∙ not-true _ c.if-not-is_grant.true)
+    no_grant (decode a.s.now) a.q (sym c.is_grant.ensures ∙ c.if-not-is_grant.true)
 
 pub returns-then-controls : goal.returns-then-controls
 returns-then-controls c =
-    let granting : grants c.args.q ≡ true = sym c.is_grant.ensures ∙ not-false _ c.if-not-is_grant.false in
     let a = c.args in
-    in_control (decode a.s.now) a.q (granting) (sym c.controls.ensures
-    ∙ c.if-controls.true)
+    in_control (decode a.s.now) a.q (granting (goal.at.returns-then-controls c).Else-not-is_grant)
+    (sym c.controls.ensures ∙ c.if-controls.true)
 
 pub counts_of-c-requires : goal.counts_of-c-requires
-counts_of-c-requires c =
-    let d = c in
-    omega (arith, sound-length d.args.s.now d.requires.0)
+counts_of-c-requires c = omega (arith, sound-length c.args.s.now c.requires.0)
 
 pub overflow_cast-object : goal.overflow_cast-object
-overflow_cast-object c =
-    let granting : grants c.args.q ≡ true = sym c.is_grant.ensures ∙ not-false _ c.if-not-is_grant.false in
-    let fields_in : GrantIn c.args.q = let d = c in grant_in d.args.q d.requires.1 (granting) in
-    omega (arith, (fields_in).object)
+overflow_cast-object c = omega (arith, (fields_in (goal.at.overflow_cast-object c).Else-not-is_grant).object)
 
 pub overflow_cast-mode : goal.overflow_cast-mode
-overflow_cast-mode c =
-    let granting : grants c.args.q ≡ true = sym c.is_grant.ensures ∙ not-false _ c.if-not-is_grant.false in
-    let fields_in : GrantIn c.args.q = let d = c in grant_in d.args.q d.requires.1 (granting) in
-    omega (arith, (fields_in).mode)
+overflow_cast-mode c = omega (arith, (fields_in (goal.at.overflow_cast-mode c).Else-not-is_grant).mode)
 
 pub overflow_cast-grantor : goal.overflow_cast-grantor
 overflow_cast-grantor c =
-    let granting : grants c.args.q ≡ true = sym c.is_grant.ensures ∙ not-false _ c.if-not-is_grant.false in
-    let fields_in : GrantIn c.args.q = let d = c in grant_in d.args.q d.requires.1 (granting) in
-    omega (
-  arith,
-  (fields_in).requester,
-)
+    omega (arith, (fields_in (goal.at.overflow_cast-grantor c).Else-not-is_grant).requester)
 
 pub slice_bounds-first_gap-count : goal.slice_bounds-first_gap-count
-slice_bounds-first_gap-count c =
-    let l = c in
-    let n = l in
-    let d = n in
-    omega (
-      arith,
-      fitting d.args.s.now d.requires.0 n.counts_of-c.result n.counts_of-c.ensures,
-      l.authorizations_at-at.ensures,
-    )
+slice_bounds-first_gap-count c = omega (
+  arith,
+  fitting c.args.s.now c.requires.0 c.counts_of-c.result c.counts_of-c.ensures,
+  c.authorizations_at-at.ensures,
+)
 
 pub slice_bounds-first_gap-start : goal.slice_bounds-first_gap-start
-slice_bounds-first_gap-start c = sub-first-gap c
+slice_bounds-first_gap-start c = omega (
+  arith,
+  fitting c.args.s.now c.requires.0 c.counts_of-c.result c.counts_of-c.ensures,
+  c.authorizations_at-at.ensures,
+)
 
 pub first_gap-requires : goal.first_gap-requires
 first_gap-requires c =
-    let l = c in
-    let n = l in
-    let d = n in
-    let f = fitting d.args.s.now d.requires.0 n.counts_of-c.result n.counts_of-c.ensures in
-    there d.args.s.now l.authorizations_at-at.result (authorizations_at n.counts_of-c.result) _
-    l.authorizations_at-at.ensures
-    (omega (arith, f))
+    let f = fitting c.args.s.now c.requires.0 c.counts_of-c.result c.counts_of-c.ensures in
+    there c.args.s.now c.authorizations_at-at.result (authorizations_at c.counts_of-c.result) _
+    c.authorizations_at-at.ensures (omega (arith, f))
 
 pub returns : goal.returns
 returns c =
-    let granting : grants c.args.q ≡ true = sym c.is_grant.ensures ∙ not-false _ c.if-not-is_grant.false in
-    let l = c in
-    let n = l in
-    let e = n in
-    let d = e in
-    let s = d.args.s.now in
+    let s = c.args.s.now in
     let b = decode s in
-    let q = d.args.q in
+    let q = c.args.q in
     let h = new_head (suc b.last) q in
-    uncovered_is b q (granting) (sym e.controls.ensures ∙ e.if-controls.false)
+    uncovered_is b q (granting (goal.at.returns c).Else-not-is_grant) (sym c.controls.ensures ∙ c.if-controls.false)
     c.first_gap.result
     (subst (λ (xs : List Authorization). GapIs xs h q.interval c.first_gap.result)
-    (authorizations-lent s n.counts_of-c.result n.counts_of-c.ensures l.authorizations_at-at.result
-    l.authorizations_at-at.ensures)
+    (authorizations-lent s c.counts_of-c.result c.counts_of-c.ensures c.authorizations_at-at.result
+    c.authorizations_at-at.ensures)
     (c.first_gap.ensures.model h (λ k. record {
       object = q.object;
       mode = q.mode;

@@ -4,4 +4,4 @@ use Rattle.model.specs.Step.{term_in}
 use Rattle.refusals.proofs.ranges.object_term_in.Goals as goal
 
 pub returns-in-Number : goal.returns-in-Number
-returns-in-Number c = c.object_in.ensures ∙ ap (term_in is_object) (sym c.t-1.given.1)
+returns-in-Number c = c.object_in.ensures ∙ ap (term_in is_object) (sym c.in-Number.is)

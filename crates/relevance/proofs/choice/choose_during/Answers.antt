@@ -1,10 +1,11 @@
-use Rattle.std.proofs.Common.{ℕ, ◌+◌, Bool, ◌&&◌, List, sym, ap, ◌∙◌, subst, ⊎_elim, arith}
+use Rattle.std.proofs.Common.{ℕ, ◌+◌, Bool, ◌&&◌, List, sym, ap, ◌∙◌, subst, arith}
 use Rattle.model.specs.declared.Authorization.{Authorization}
 use Rattle.sections.specs.Sections.{subjects_of, objects_of}
 use Rattle.relevance.specs.Needed.{is_needed, is_chosen_by}
 use Rattle.relevance.proofs.KeptNumbers.{Chose, chose_skip, chose-loop}
 use Rattle.relevance.proofs.KeptNumbers.{charted, placed_at, chose_during}
 use Rattle.relevance.proofs.choice.choose_during.Goals as goal
+use Rattle.relevance.proofs.choice.choose_during.Goals.{then-asked-v, else-asked-v}
 
 pub cell_of-requires : goal.cell_of-requires
 cell_of-requires c =
@@ -33,18 +34,18 @@ loop-i-preserved c =
     let r = k.authorization_at-a in
     let test : Authorization → Bool =
     is_chosen_by a.coordinates.now a.asked a.x a.stride a.need.now in
-    ⊎_elim
-    (λ w. subst (λ (v : List ℕ). Chose test a.lines.now a.total a.which.now v c.if-asked-v.n
-    (l.i + 1)) (sym w.4)
-    (chose_during b.requires.0 l.i (omega arith) r.ensures a.asked a.x l.which l.n
-    c.if-asked-v.n w.1.result w.2.result l.invariant w.0.taken w.1.ensures.0 w.2.ensures
-    (w.5 ∙ w.3.ensures)))
-    (λ w. rw (w.1, w.2) (chose_skip test a.lines.now a.total a.which.now l.which l.n
-    l.i l.invariant (omega arith)
-    (ap test (sym r.ensures) ∙ ap (λ (d : Bool). d
-    && is_needed (subjects_of a.coordinates.now) (objects_of a.coordinates.now) a.x
-    a.stride a.need.now r.result) w.0.left)))
-    c.if-asked-v.branch
+    elim c.if-asked-v.branch [
+      then-asked-v w ↦ subst (λ (v : List ℕ). Chose test a.lines.now a.total a.which.now v c.if-asked-v.n
+      (l.i + 1)) (sym w.which-is)
+      (chose_during b.requires.0 l.i (omega arith) r.ensures a.asked a.x l.which l.n
+      c.if-asked-v.n w.cell_of.result w.is_needed.result l.invariant w.if-asked-v.true w.cell_of.ensures.0 w.is_needed.ensures
+      (w.n-is ∙ w.counted-n.ensures))
+    | else-asked-v w ↦ rw (w.which-is, w.n-is) (chose_skip test a.lines.now a.total a.which.now l.which l.n
+      l.i l.invariant (omega arith)
+      (ap test (sym r.ensures) ∙ ap (λ (d : Bool). d
+      && is_needed (subjects_of a.coordinates.now) (objects_of a.coordinates.now) a.x
+      a.stride a.need.now r.result) w.if-asked-v.false))
+    ]
 
 pub loop-i-init : goal.loop-i-init
 loop-i-init = λ c. search chose-loop

@@ -30,7 +30,7 @@ loop-i-preserved c =
     let k = c.cell_of in
     chose_during b.requires.0 l.i (omega arith) r.ensures ever a.x l.which l.n
     c.counted-n.result k.result c.is_needed.result l.invariant
-    (during_all r.result (omega (arith, r.type-inv))) k.ensures.0 c.is_needed.ensures
+    (during_all r.result (omega (arith, r.type_inv))) k.ensures.0 c.is_needed.ensures
     c.counted-n.ensures
 
 pub loop-i-init : goal.loop-i-init

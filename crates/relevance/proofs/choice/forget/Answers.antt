@@ -8,7 +8,7 @@ loop-i-preserved c =
     let a = b.args in
     let l = c.loop-i in
     let r = c.authorization_at-a in
-    forgot_turn a.lines.now a.n a.t a.which.now l.which l.auto l.i
+    forgot_turn a.lines.now a.n a.t a.which.now l.which l.kept l.i
     (get_or l.which l.i 0) c.counted-kept.result r.result (leb a.t r.result.interval.end)
     l.invariant
     (omega arith) b.requires.room refl r.ensures refl c.counted-kept.ensures
@@ -18,12 +18,6 @@ loop-i-init = λ c. search forget-loop
 
 pub bounds-which-i : goal.bounds-which-i
 bounds-which-i = λ c. search forget-loop
-
-pub overflow_cast-at : goal.overflow_cast-at
-overflow_cast-at = λ c. omega (arith, c.slice_known-in-loop-i-1.given c.loop-i.i)
-
-pub overflow_mul-at : goal.overflow_mul-at
-overflow_mul-at = λ c. omega (arith, c.slice_known-in-loop-i-1.given c.loop-i.i)
 
 pub authorization_at-a-requires : goal.authorization_at-a-requires
 authorization_at-a-requires = λ c. search forget-loop

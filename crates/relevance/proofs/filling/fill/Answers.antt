@@ -1,37 +1,17 @@
-use Rattle.std.proofs.Common.{ℕ, suc, ◌<◌, ◌≤◌, ltb, leb, List, sym, ap, ◌∙◌, arith, rules}
+use Rattle.std.proofs.Common.{◌≡◌, ℕ, suc, ◌<◌, ◌≤◌, true, ◌&&◌, ltb, leb, List, sym, ap, ◌∙◌, arith, rules}
 use Rattle.foundation.specs.Tests.{and-true, true-le}
 use Rattle.foundation.specs.Marks.{next}
 use Rattle.encoding.specs.Format.{rules_in}
 use Rattle.relevance.specs.Chosen.{marks_for, picked, selected}
 use Rattle.relevance.proofs.PickedFacts.{marks_for_lem}
 use Rattle.relevance.proofs.Growing.{grown_start, only_one, grown_turn, grown_end}
-use Rattle.relevance.proofs.filling.fill.Reads as reads
-use Rattle.relevance.proofs.filling.fill.Lts as lts
-use Rattle.relevance.proofs.ahead.near_at.Reads as near-at-reads
-use Rattle.relevance.proofs.ahead.next_of.Reads as next-of-reads
-use Rattle.relevance.proofs.ahead.nothing_near.Reads as nothing-near-reads
-use Rattle.relevance.proofs.filling.fill.Invariants.{decreases-loop-count, invariant-loop-count}
 use Rattle.relevance.proofs.filling.fill.Goals as goal
 
 -- what the test says
-abbrev Looping : Type 0
-Looping =
-    lts.In-loop (
-      nothing-near-reads.Asked,
-      nothing-near-reads.Learnt,
-      near-at-reads.Asked,
-      near-at-reads.Learnt,
-      next-of-reads.Asked,
-      next-of-reads.Learnt,
-    ) reads.Pre reads.Post invariant-loop-count decreases-loop-count
-
-tested : (c : Looping) → let a = c.args in
-    (c.loop-count.count < a.width) × (c.loop-count.t ≤ a.to)
-tested c =
-    let l = c.loop-count in
-    let a = c.args in
-    let w = and-true (ltb l.count a.width) (leb l.t a.to) c.loop-count-test.true in
-    (true-le (suc l.count) a.width w.0, true-le l.t a.to w.1)
+tested : (count width t to : ℕ) → ltb count width && leb t to ≡ true → (count < width) × (t ≤ to)
+tested count width t to e =
+    let w = and-true (ltb count width) (leb t to) e in
+    (true-le (suc count) width w.0, true-le t to w.1)
 
 pub loop-count-init : goal.loop-count-init
 loop-count-init c =
@@ -52,7 +32,7 @@ loop-count-preserved c =
     let b = c in
     let a = b.args in
     let l = c.loop-count in
-    let w = tested c in
+    let w = tested c.loop-count.count c.args.width c.loop-count.t c.args.to c.loop-count-test.true in
     let e = c.next_of-t.ensures (picked a.lines.now a.which.now a.c.authorizations)
     (selected a.c.needed (rules_in a.c.rules a.body.now)) l.t
     c.near_at-near.ensures in (
@@ -80,19 +60,19 @@ returns c =
     a.width l.marks l.count l.t l.invariant.0 b.requires.1 (omega arith) b.requires.2 c.loop-count-test.false
 
 pub overflow_cast-marks : goal.overflow_cast-marks
-overflow_cast-marks = λ c. omega (arith, tested c)
+overflow_cast-marks = λ c. let w = tested c.loop-count.count c.args.width c.loop-count.t c.args.to c.loop-count-test.true in omega arith
 
 pub offset_bounds-marks-count : goal.offset_bounds-marks-count
-offset_bounds-marks-count = λ c. omega (arith, tested c)
+offset_bounds-marks-count = λ c. let w = tested c.loop-count.count c.args.width c.loop-count.t c.args.to c.loop-count-test.true in omega arith
 
 pub bounds-marks-count : goal.bounds-marks-count
-bounds-marks-count = λ c. omega (arith, tested c)
+bounds-marks-count = λ c. let w = tested c.loop-count.count c.args.width c.loop-count.t c.args.to c.loop-count-test.true in omega arith
 
 pub overflow_add-count : goal.overflow_add-count
-overflow_add-count = λ c. omega (arith, tested c)
+overflow_add-count = λ c. let w = tested c.loop-count.count c.args.width c.loop-count.t c.args.to c.loop-count-test.true in omega arith
 
 pub overflow_cast-t : goal.overflow_cast-t
-overflow_cast-t = λ c. omega (arith, tested c)
+overflow_cast-t = λ c. let w = tested c.loop-count.count c.args.width c.loop-count.t c.args.to c.loop-count-test.true in omega arith
 
 pub loop-count-smaller : goal.loop-count-smaller
-loop-count-smaller = λ c. omega (arith, tested c)
+loop-count-smaller = λ c. let w = tested c.loop-count.count c.args.width c.loop-count.t c.args.to c.loop-count-test.true in omega arith

@@ -3,11 +3,6 @@ use Rattle.encoding.specs.Format.{rules_in}
 use Rattle.relevance.specs.Ahead.{Standing}
 use Rattle.relevance.specs.Chosen.{marks_for, picked, selected}
 use Rattle.relevance.proofs.Growing.{MarksGrown}
-use Rattle.relevance.proofs.filling.fill.Reads as reads
-use Rattle.relevance.proofs.filling.fill.Lts as lts
-use Rattle.relevance.proofs.ahead.near_at.Reads as near-at-reads
-use Rattle.relevance.proofs.ahead.next_of.Reads as next-of-reads
-use Rattle.relevance.proofs.ahead.nothing_near.Reads as nothing-near-reads
 use Rattle.relevance.proofs.filling.fill.Given as goal
 
 abbrev pub invariant-loop-count : goal.invariant-loop-count

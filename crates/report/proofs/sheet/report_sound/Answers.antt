@@ -18,16 +18,16 @@ returns-then-not-object_in c =
     let start = c in
     let a = start.args in
     sym (report_range a.base.now a.object a.page.now start.requires
-    (sym c.object_in.ensures ∙ not-true _ c.if-not-object_in.true))
+    (sym c.object_in.ensures ∙ c.if-not-object_in.true))
 
 pub returns-then-not-exists : goal.returns-then-not-exists
 returns-then-not-exists c =
-    let in_range : is_object c.args.object ≡ true = sym c.object_in.ensures ∙ not-false _ c.if-not-object_in.false in
+    let in_range : is_object c.args.object ≡ true = sym c.object_in.ensures ∙ c.if-not-object_in.false in
     let d = c in
     let start = d in
     let a = start.args in
     sym (report_unknown a.base.now a.object a.page.now start.requires (in_range)
-    (sym c.exists.ensures ∙ not-true _ c.if-not-exists.true))
+    (sym c.exists.ensures ∙ c.if-not-exists.true))
 
 pub counts_of-c-requires : goal.counts_of-c-requires
 counts_of-c-requires c =
@@ -62,7 +62,7 @@ fill_page-requires c =
 
 pub returns : goal.returns
 returns c =
-    let in_range : is_object c.args.object ≡ true = sym c.object_in.ensures ∙ not-false _ c.if-not-object_in.false in
+    let in_range : is_object c.args.object ≡ true = sym c.object_in.ensures ∙ c.if-not-object_in.false in
     let p = c in
     let at = p in
     let n = at in
@@ -75,4 +75,4 @@ returns c =
     (authorizations-lent s n.counts_of-c.result n.counts_of-c.ensures at.authorizations_at-at.result
     at.authorizations_at-at.ensures)
     ∙ sym (report_filled s a.object a.page.now start.requires (in_range)
-    (sym d.exists.ensures ∙ not-false _ d.if-not-exists.false))
+    (sym d.exists.ensures ∙ d.if-not-exists.false))

@@ -14,7 +14,7 @@ loop-k-init c =
       c.put_own.ensures.0,
       p.put_edges.ensures,
       c.put_own.ensures.1,
-      first-ranks b.args.every b.args.n b.args.s.now c.put_own.new.own.1.1.0
+      first-ranks b.args.every b.args.n b.args.s.now c.put_own.new.own
           c.put_own.ensures.1,
       λ h. absurd (omega arith),
     )
@@ -50,7 +50,7 @@ returns-then-same_ranks c =
     let n = b.args.n in
     let s = b.args.s.now in
     let i = l.loop-k.invariant in
-    let next = d.rank_round.new.out.1.1.1.0 in
+    let next = d.rank_round.new.out in
     let old = ranks every (rules_in n s) l.loop-k.k in
     let g = d.rank_round.ensures.1 every s old i.2 i.3 i.4 in
     let e = c.same_ranks.ensures.0 c.if-same_ranks.true in
@@ -68,7 +68,7 @@ loop-k-preserved c =
     let n = b.args.n in
     let s = b.args.s.now in
     let i = l.loop-k.invariant in
-    let next = d.rank_round.new.out.1.1.1.0 in
+    let next = d.rank_round.new.out in
     let old = ranks every (rules_in n s) l.loop-k.k in
     let g = d.rank_round.ensures.1 every s old i.2 i.3 i.4 in (
       omega arith,

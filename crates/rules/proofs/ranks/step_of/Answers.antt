@@ -28,7 +28,7 @@ returns-then-not-fed-linked c =
     let l = c in
     let f = l in
     let a = f.args in
-    rw (not-true (f.feeds-fed.result || l.links-linked.result) c.if-not-fed-linked.true)
+    rw c.if-not-fed-linked.true
     at (by_tests a.every a.q a.r f.feeds-fed.result l.links-linked.result f.feeds-fed.ensures
     l.links-linked.ensures)
 
@@ -40,7 +40,7 @@ returns-then-every c =
     ap (λ (b : Bool). suc (pick b 1 (weight a.q a.r))) (sym c.if-every.true)
     ∙ looked a.every a.q a.r f.feeds-fed.result l.links-linked.result f.feeds-fed.ensures
     l.links-linked.ensures
-    (not-false (f.feeds-fed.result || l.links-linked.result) c.if-not-fed-linked.false)
+    c.if-not-fed-linked.false
 
 pub returns : goal.returns
 returns c =
@@ -59,7 +59,7 @@ returns c =
     ∙ ap (λ (b : Bool). suc (pick b 1 (weight a.q a.r))) (sym e.if-every.false)
     ∙ looked a.every a.q a.r f.feeds-fed.result l.links-linked.result f.feeds-fed.ensures
     l.links-linked.ensures
-    (not-false (f.feeds-fed.result || l.links-linked.result) e.if-not-fed-linked.false)
+    e.if-not-fed-linked.false
 
 pub overflow_add-result : goal.overflow_add-result
 overflow_add-result c = omega (arith, c.as_bit.ensures, bit_le c.negates.result)

@@ -17,7 +17,7 @@ returns-then-yes-w c =
     let a = c.args in
     let z = and-true a.yes (not a.w.inside) c.if-yes-w.true in
     let o = not-true a.w.inside z.1 in
-    (λ f e lent r q h. opens f e lent a.t a.w a.list.now r o (sym q ∙ z.0), search rules)
+    record { by_index = λ f e lent r q h. opens f e lent a.t a.w a.list.now r o (sym q ∙ z.0); count_bound = search rules }
 
 pub overflow_sub-t : goal.overflow_sub-t
 overflow_sub-t c =
@@ -56,14 +56,14 @@ returns-then-yes-w-2 c =
     (not-true a.yes z.0, z.1) in
     let d = c in
     let a = d.args in
-    let z = ends in (
-      λ f e lent r q h. closed_run f e lent a.t a.w a.list.now r z.1 h (sym q ∙ z.0) _
-          c.put_run.ensures,
-      search rules,
-    )
+    let z = ends in record {
+      by_index = λ f e lent r q h. closed_run f e lent a.t a.w a.list.now r z.1 h (sym q ∙ z.0) _
+          c.put_run.ensures;
+      count_bound = search rules;
+    }
 
 pub returns : goal.returns
 returns c =
     let a = c.args in
     let o = as_before a.yes a.w.inside c.if-yes-w.false c.if-yes-w-2.false in
-    (λ f e lent r q h. same f e lent a.t a.w a.list.now r (o ∙ q), search rules)
+    record { by_index = λ f e lent r q h. same f e lent a.t a.w a.list.now r (o ∙ q); count_bound = search rules }

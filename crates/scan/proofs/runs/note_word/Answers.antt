@@ -34,13 +34,13 @@ loop-i-preserved c =
     let h : l.i < a.count = omega arith in
     let noted = c.note-r in (
       omega arith,
-      omega (arith, noted.ensures.1, l.invariant.1),
+      omega (arith, noted.ensures.count_bound, l.invariant.1),
       search rules,
       λ i g. omega (arith, s.requires.2 l.i (l.i + 1) (omega arith) g),
       λ f e lent m r w. next_reached f e lent a.count ms m a.yes s.requires.2 w l.i noted.result _
           h
-          (noted.ensures.0 f e lent
-          (subst (λ (t : ℕ). ScannedTo f e lent t l.r l.list-1) (instant-there a.count ms m l.i h)
+          (noted.ensures.by_index f e lent
+          (subst (λ (t : ℕ). ScannedTo f e lent t l.r l.list) (instant-there a.count ms m l.i h)
           (l.invariant.4 f e lent m r w))
           (w.answers l.i h) (within_end f e lent a.count ms m a.yes s.requires.2 w l.i h)),
     )
@@ -49,5 +49,5 @@ pub returns : goal.returns
 returns c =
     let l = c.loop-i in
     let a = c.args in
-    λ f e lent m r w. subst (λ (t : ℕ). ScannedTo f e lent t l.r l.list-1)
+    λ f e lent m r w. subst (λ (t : ℕ). ScannedTo f e lent t l.r l.list)
     (instant_behind a.count a.marks.now m l.i (omega arith)) (l.invariant.4 f e lent m r w)

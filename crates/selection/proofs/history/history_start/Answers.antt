@@ -1,6 +1,6 @@
 use native.Mathlib.Omega.{arith}
 use mathlib.Core.Path.{ap, subst}
-use mathlib.Core.Logic.{⊎_elim, inl}
+use mathlib.Core.Logic.{inl}
 use mathlib.Core.Bool.{false, ◌&&◌, ◌||◌}
 use Prim.Native.Nat.{◌≤◌}
 use lib.Dec.{leb, ltb}
@@ -10,6 +10,7 @@ use Rattle.model.specs.declared.Rule.{Rule}
 use Rattle.masks.proofs.BitLoops.{passed_start, passed_turn}
 use Rattle.selection.proofs.Seen.{Seen, Idle, idle}
 use Rattle.selection.proofs.history.history_start.Goals as goal
+use Rattle.selection.proofs.history.history_start.Goals.{then-start-least, else-start-least}
 
 pub loop-r-init : goal.loop-r-init
 loop-r-init c =
@@ -34,7 +35,10 @@ loop-r-preserved c =
     let a = j.args in
     let e = c.next_bit-r-in-loop-r.ensures in
     let low : (j.if-start-least.least ≤ l.least) × (j.if-start-least.least ≤ q.result.interval.start) =
-    ⊎_elim (λ w. (omega arith, omega arith)) (λ w. (omega arith, omega arith)) j.if-start-least.branch in
+    elim j.if-start-least.branch [
+      then-start-least w ↦ (omega arith, omega arith)
+      | else-start-least w ↦ (omega arith, omega arith)
+    ] in
     let test = ltb q.result.interval.start a.t && leb a.t q.result.interval.end in
     let seen = Seen a.body.now a.t in
     let own = ap (λ (x : Rule). x.interval) q.ensures in (

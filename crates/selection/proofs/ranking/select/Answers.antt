@@ -83,4 +83,7 @@ returns c =
     )
 
 pub slice_bounds-copy-start : goal.slice_bounds-copy-start
-slice_bounds-copy-start = λ c. sub-copy c
+slice_bounds-copy-start c =
+    let l = c.loop-r in
+    let p = c.requires in
+    omega (arith, p.2 l.r (l.invariant.1 (omega arith)), p.1)

@@ -3,7 +3,6 @@ use native.Mathlib.Omega.{arith}
 use mathlib.Core.Path.{◌≡◌, sym, ap, ap₂, ◌∙◌, subst}
 use mathlib.Core.Bool.{true}
 use mathlib.Core.List.{List}
-use Rattle.foundation.specs.Tests.{not-true}
 use Rattle.foundation.specs.Lists.{Mem}
 use Rattle.model.specs.declared.Rule.{Rule}
 use Rattle.model.specs.Stratification.{stratified, stratum}
@@ -30,7 +29,7 @@ returns-then-not-counts_some c =
     let body = a.body.now in
     let plain : (q : Rule) → Mem q (selected a.needed (rules_in a.n body)) → Plain q = λ q m.
     let w = selected-rule a.needed a.n body q m in
-    subst Plain (sym w.2) (k.ensures (not-true k.result t.if-not-counts_some.true)
+    subst Plain (sym w.2) (k.ensures t.if-not-counts_some.true
     w.0 w.1) in
     λ r b.
     let h = s.requires.2 r b in
@@ -51,7 +50,7 @@ returns c =
     let good : y.stratify.result ≡ true = found.test ∙ ap stratified e ∙ s.requires.3 in
     λ r b.
     let h = s.requires.2 r b in
-    let p = at_position a.needed body k.new.few.1.1.0 k.result a.n r e h b in
+    let p = at_position a.needed body k.new.few k.result a.n r e h b in
     g.spread_strata.ensures r (omega (arith, s.requires.0)) b ∙ found.table good (position a.needed r)
     p.0
     ∙ ap₂ (λ (rules : List Rule) (q : Rule). stratum rules q) e p.1

@@ -68,7 +68,7 @@ overflow_add-g c =
     let i = l.loop-g.invariant in
     let e = t.serve_behind-r.ensures in
     let k = e.0 _ (kept_front i.few i.size) in
-    let end = length-drop l.loop-g.g.n t.serve_behind-r.new.line.1.1.1.0 in
+    let end = length-drop l.loop-g.g.n t.serve_behind-r.new.line in
     omega (arith, k.few, end, e.4, i.room, i.fits, l.well_formed)
 
 pub loop-g-smaller : goal.loop-g-smaller
@@ -96,7 +96,7 @@ loop-g-preserved c =
       fits = omega (
         arith,
         k.few,
-        length-drop l.loop-g.g.n t.serve_behind-r.new.line.1.1.1.0,
+        length-drop l.loop-g.g.n t.serve_behind-r.new.line,
         e.4,
         i.fits,
       );

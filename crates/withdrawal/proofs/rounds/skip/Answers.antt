@@ -1,5 +1,4 @@
 use borrow.Author.Rules.{rules}
-use borrow.Author.Tests.{not-true, not-false}
 use native.Mathlib.Omega.{arith}
 use mathlib.Core.Path.{◌≡◌, sym, ap, ◌∙◌}
 use mathlib.Core.Bool.{Bool, true, false}
@@ -12,7 +11,6 @@ use Rattle.model.specs.Encoding.{authorization_of}
 use Rattle.encoding.specs.Format.{authorizations_in, authorizations_from}
 use Rattle.foundation.specs.ByteRecords.{rest_step, rest_end, drop-records}
 use Rattle.withdrawal.specs.RoundTurns.{piece_of, leading}
-use Rattle.withdrawal.proofs.rounds.skip.Invariants.{decreases-loop-p, invariant-loop-p}
 use Rattle.withdrawal.proofs.rounds.skip.Goals as goal
 
 -- what stands from `pos` on
@@ -32,17 +30,6 @@ turn a x m s p b h q e =
     ∙ ap (λ (z : Bool). pick z (leading (piece_of a) (authorizations_from m s (p + 1)) + 1) 0)
     (ap (piece_of a) (sym q) ∙ e)
 
-turned : (c : goal.After-is_piece invariant-loop-p decreases-loop-p) (b : Bool) → c.is_piece.result ≡ b →
-    (let a = c.args in
-    let p = c.loop-p.p in
-    leading (piece_of a.a) (authorizations_from a.m a.out.now p)
-    ≡ pick b (leading (piece_of a.a) (authorizations_from a.m a.out.now (p + 1)) + 1) 0)
-turned c b e =
-    let a = c.args in
-    let l = c.loop-p in
-    turn a.a c.authorization_at.result a.m a.out.now l.p b (search rules)
-    c.authorization_at.ensures (sym c.is_piece.ensures ∙ e)
-
 pub loop-p-init : goal.loop-p-init
 loop-p-init c =
     let a = c.args in (
@@ -53,12 +40,14 @@ loop-p-init c =
 
 pub returns-then-not-is_piece : goal.returns-then-not-is_piece
 returns-then-not-is_piece c =
-    let t = turned c false (not-true _ c.if-not-is_piece.true) in
+    let t = turn c.args.a c.authorization_at.result c.args.m c.args.out.now c.loop-p.p false (search rules)
+    c.authorization_at.ensures (sym c.is_piece.ensures ∙ c.if-not-is_piece.true) in
     omega (arith, c.loop-p.invariant.1, t)
 
 pub loop-p-preserved : goal.loop-p-preserved
 loop-p-preserved c =
-    let t = turned c true (not-false _ c.if-not-is_piece.false) in
+    let t = turn c.args.a c.authorization_at.result c.args.m c.args.out.now c.loop-p.p true (search rules)
+    c.authorization_at.ensures (sym c.is_piece.ensures ∙ c.if-not-is_piece.false) in
     (search rules, omega (arith, c.loop-p.invariant.1, t))
 
 pub returns : goal.returns
