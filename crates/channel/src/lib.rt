@@ -1,5 +1,5 @@
-// Standard input and standard output, with a trace of what passed there. The fields are private: another
-// crate makes and changes a channel by `open`, `fetch` and `put` only.
+// An input that is read and an output that is written, with a trace of what passed there. The fields are
+// private: another crate makes and changes a channel by `open`, `fetch` and `put` only.
 #![tactic(auto)]
 
 ghost use Rattle.std.specs.Prelude.{◌≡◌, true, false, ◌<◌, pos, length};

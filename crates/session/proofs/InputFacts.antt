@@ -1,12 +1,6 @@
 -- Parts of the input answered one behind the other, up to its end or to where the program stopped, and what
 -- that says of the whole run (`served-run`).
-use mathlib.Core.Path.{◌≡◌, refl, sym, ap, ◌∙◌, subst}
-use Prim.Native.Nat.{ℕ}
-use mathlib.Core.Logic.{inl}
-use mathlib.Core.Bool.{true}
-use mathlib.Core.List.{List, [], ◌++◌, append-nil}
-use lib.IntN.{pos}
-use lib.ListN.{take, drop}
+use Rattle.std.proofs.Common.{List, [], ap, append-nil, drop, inl, pos, refl, subst, sym, take, true, ℕ, ◌++◌, ◌∙◌, ◌≡◌}
 use Rattle.model.specs.Soundness.{sound_bytes}
 use Rattle.model.specs.Base.{empty_base}
 use Rattle.model.specs.Encoding.{encode}

@@ -3,9 +3,9 @@
 // pipe and at a terminal. At the end of the input it answers the line that is not ended. A read or a write
 // that fails ends it, and then that line is not answered.
 //
-// It reads and writes through crate `channel`, and depends on no other crate that can. A channel is a value,
-// and could be copied: that `open` is called once, and that `fetch` and `put` each go on from the channel
-// that the last of them gave back, is to be read by eye.
+// It reads and writes through crate `channel`, and hands its streams to nothing else. A channel is a value,
+// and could be copied: that `open` is called once, that `fetch` and `put` each go on from the channel that
+// the last of them gave back, and that nothing else reads or writes the streams, is to be read by eye.
 #![tactic(auto)]
 
 ghost use Rattle.std.specs.Prelude.{◌≡◌, true, List, ℕ, ◌≤◌, ◌<◌, length};

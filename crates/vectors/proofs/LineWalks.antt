@@ -1,15 +1,7 @@
 -- The line that begins at a place of a text, found byte by byte; the lines of a text, one after the other;
 -- and a transcript's walk, which says at each line what it says of all lines. Assumes nothing.
-use mathlib.Core.Path.{◌≡◌, refl, sym, ap, ap₂, ◌∙◌}
-use Prim.Native.Nat.{ℕ, suc, ◌+◌, ◌-◌, ◌≤◌, ◌<◌}
-use native.Mathlib.Numerals.{add-one}
-use native.Mathlib.Omega.{arith}
-use mathlib.Core.Bool.{Bool, true, false, ◌&&◌}
-use mathlib.Core.List.{List, [], ◌∷◌, ◌++◌, append-nil}
-use lib.Dec.{leb, eqb}
-use lib.ListN.{length, take, drop, get_or, length-append, length-drop}
-use lib.Seq.{take_all, take-suc, take-append-le, drop-cons, drop-length, get_or-drop, append_snoc}
-use lib.Seq.{length-take-le}
+use Rattle.std.proofs.Common.{Bool, List, [], add-one, ap, append-nil, ap₂, arith, drop, drop-cons, eqb, false, get_or, get_or-drop, leb, length, length-append, length-drop, length-take-le, refl, suc, sym, take, take-suc, take_all, true, ℕ, ◌&&◌, ◌++◌, ◌+◌, ◌-◌, ◌<◌, ◌∙◌, ◌∷◌, ◌≡◌, ◌≤◌}
+use lib.Seq.{take-append-le, drop-length, append_snoc}
 use Rattle.foundation.specs.Tests.{cases, pick, agree, and-true, and_intro, true-le, eq_true, true_eq}
 use Rattle.foundation.specs.Bytes.{eq_list, eq_list_eq, eq_list_refl}
 use Rattle.model.specs.Text.{newline, space, extend, split, without_empty_last, lines}

@@ -1,0 +1,5 @@
+use Rattle.std.proofs.Common.{◌-◌}
+use Rattle.vectors.proofs.arg_count.Given as goal
+
+abbrev pub decreases-loop-n : goal.decreases-loop-n
+decreases-loop-n g l = 18446744073709551615 - l.n
