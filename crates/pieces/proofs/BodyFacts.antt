@@ -1,6 +1,6 @@
 -- Bodies under construction: what a change answers, and authorizations placed between others.
 use mathlib.Core.Path.{◌≡◌, refl, sym, ap, ◌∙◌, subst}
-use Prim.Native.Nat.{ℕ, ◌+◌, ◌≤◌}
+use Prim.Native.Nat.{ℕ, ◌+◌, ◌≤◌, ◌<◌}
 use native.Mathlib.Omega.{arith}
 use mathlib.Core.Bool.{Bool, ◌||◌}
 use mathlib.Core.List.{List, [], ◌++◌, append_assoc}
@@ -14,7 +14,9 @@ use Rattle.cover.specs.Cover.{covers, covered_by}
 use Rattle.encoding.specs.Format.{authorizations_in}
 use Rattle.foundation.specs.Tests.{or_swap}
 use Rattle.foundation.specs.ByteRecords.{length-records}
-use Rattle.pieces.specs.Building.{BuiltBody, AnyBody, Result}
+use Rattle.pieces.specs.declared.Put.{Put}
+use Rattle.pieces.specs.declared.Put.TheVariants.{Full, Lines}
+use Rattle.pieces.specs.Building.{BuiltBody, AnyBody, Makes, Result}
 
 -- ---- what is built in the end
 
@@ -26,6 +28,16 @@ body-count {k} {ys} {out} b =
 pub body_result : {m : ℕ} {ys : List Authorization} {out sorted : List ℕ} → BuiltBody m ys out sorted →
     Result m ys out
 body_result b = record { count = body-count b; fits = b.fits; records = b.records; clean = b.clean }
+
+-- by what was answered
+pub makes_lines : (ys : List Authorization) (r : Put) (out sorted : List ℕ) (k : ℕ) → r ≡ Lines k →
+    Makes ys r out sorted → BuiltBody k ys out sorted
+makes_lines ys r out sorted k e m = subst (λ (x : Put). Makes ys x out sorted) e m
+
+pub makes_full : (ys : List Authorization) (r : Put) (out sorted : List ℕ) → r ≡ Full →
+    Makes ys r out sorted →
+    1024 < length ys
+makes_full ys r out sorted e m = subst (λ (x : Put). Makes ys x out sorted) e m
 
 -- a body that is what it is, under the name of its own authorizations
 pub body_own : {k : ℕ} {ys : List Authorization} {out sorted : List ℕ} → BuiltBody k ys out sorted →

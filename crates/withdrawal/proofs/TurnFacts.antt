@@ -17,7 +17,7 @@ use Rattle.laws.specs.KeepFacts.{intervals_of, piece_of_lem, pieces_of, Precedes
 use Rattle.pieces.specs.declared.Cut.{Cut}
 use Rattle.pieces.specs.declared.Stretch.{Stretch}
 use Rattle.withdrawal.specs.declared.RoundStep.{RoundStep}
-use Rattle.withdrawal.specs.declared.RoundStep.TheVariants.{At}
+use Rattle.withdrawal.specs.declared.RoundStep.TheVariants.{Full, At}
 use Rattle.pieces.proofs.StretchFacts.{stretch-true}
 use Rattle.withdrawal.proofs.StayFacts.{left}
 use Rattle.pieces.specs.Cuts.{taken_of}
@@ -65,6 +65,20 @@ leading_left r a ys s =
     (leading_none (piece_of a) (keep r ys)
     (λ x m. let w = pieces_of r ys x m in not_piece a w.0 x (s w.0 w.1) w.2.0 w.2.2))
     ∙ omega arith
+
+-- ---- a turn
+
+-- by what it answers
+pub turns_at : (pos : ℕ) (ps : List Authorization) (by : ℕ) (os : List Authorization) (r : RoundStep)
+    (out sorted : List ℕ)
+    (k p : ℕ) → r ≡ At k p → TurnMakes pos ps by os r out sorted →
+    BuiltBody k (placed pos ps os) out sorted × (p ≡ pos + length ps + by)
+turns_at pos ps by os r out sorted k p e t = subst (λ (x : RoundStep). TurnMakes pos ps by os x out sorted) e
+    t
+
+pub turns-full : (pos : ℕ) (ps : List Authorization) (by : ℕ) (os : List Authorization) (r : RoundStep)
+    (out sorted : List ℕ) → r ≡ Full → TurnMakes pos ps by os r out sorted → 1024 < length (placed pos ps os)
+turns-full pos ps by os r out sorted e t = subst (λ (x : RoundStep). TurnMakes pos ps by os x out sorted) e t
 
 -- ---- what a turn answers
 
