@@ -17,7 +17,7 @@ use Rattle.model.specs.Ranges.{is_instant}
 use Rattle.model.specs.Base.{Base, exists}
 use Rattle.model.specs.Rules.{may, when}
 use Rattle.model.specs.Step.{Row, row, first_number, refused_or}
-use Rattle.model.specs.StepFacts.{answered, turned_away}
+use Rattle.model.proofs.StepFacts.{answered, turned_away}
 use Rattle.model.specs.Encoding.{decode}
 use Rattle.model.specs.Soundness.{sound_bytes}
 use Rattle.model.specs.Answers.{Answer, answering, refusing, access_in, may_table, when_table, words, may_reply}

@@ -12,7 +12,7 @@ use Rattle.foundation.specs.Tests.{pick, cases, true_eq, false_eq}
 use Rattle.model.specs.declared.Question.{Question}
 use Rattle.model.specs.Soundness.{sound_bytes}
 use Rattle.model.specs.Batch.{byte_for, batch_refusal, batch_bytes}
-use Rattle.model.specs.BatchFacts.{batch-accepted, batch-written, batch-refused}
+use Rattle.model.proofs.BatchFacts.{batch-accepted, batch-written, batch-refused}
 
 module _ (s : List ℕ) (qs : List Question) (out : List ℕ) where
   -- the bytes for the first n questions stand at the front

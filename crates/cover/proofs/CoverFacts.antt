@@ -6,8 +6,9 @@ use mathlib.Core.List.{List}
 use Rattle.foundation.specs.Lists.{any_cong}
 use Rattle.model.specs.declared.Head.{Head}
 use Rattle.model.specs.declared.Authorization.{Authorization}
-use Rattle.model.specs.Support.{supports, supports_eq, live, covered_for}
-use Rattle.model.specs.SupportFacts.{any_live}
+use Rattle.model.specs.Support.{supports, live, covered_for}
+use Rattle.model.proofs.SupportChains.{supports_eq}
+use Rattle.model.proofs.SupportFacts.{any_live}
 use Rattle.cover.specs.Cover.{want_of, head_for, wanted, covered_by}
 
 pub supports-wanted : (k h : Head) → supports k h ≡ wanted (want_of h) k

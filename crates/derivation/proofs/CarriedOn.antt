@@ -18,8 +18,9 @@ use Rattle.model.specs.Base.{Base}
 use Rattle.model.specs.Means.{marks_of, rule_marks, all_marks}
 use Rattle.model.specs.Stratification.{stratified, lasting}
 use Rattle.model.specs.Rules.{operate, right_of}
-use Rattle.model.specs.HoldsFacts.{below_steady}
-use Rattle.model.specs.HoldsLaws.{holding, derived-law}
+use Rattle.model.proofs.HoldsFacts.{below_steady}
+use Rattle.model.specs.Rules.{holding}
+use Rattle.model.proofs.HoldsLaws.{derived-law}
 use Rattle.questions.proofs.OperatorSteps.{operate-back}
 use Rattle.questions.specs.Table.{truth}
 use Rattle.derivation.proofs.Window.{Window}

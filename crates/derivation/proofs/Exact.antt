@@ -14,10 +14,11 @@ use Rattle.model.specs.declared.Rule.{Rule}
 use Rattle.model.specs.declared.Access.{Access}
 use Rattle.model.specs.Base.{Base}
 use Rattle.model.specs.Support.{live}
-use Rattle.model.specs.SupportFacts.{live-mem, mem-live}
+use Rattle.model.proofs.SupportFacts.{live-mem, mem-live}
 use Rattle.model.specs.declared.Pattern.{Pattern}
 use Rattle.model.specs.Rules.{Fact, fact, fits, derives_for, holds_by, holds}
-use Rattle.model.specs.HoldsLaws.{derived, holds-law}
+use Rattle.model.specs.Rules.{derived}
+use Rattle.model.proofs.HoldsLaws.{holds-law}
 use Rattle.questions.specs.Table.{truth}
 use Rattle.derivation.specs.Words.{AccessWords}
 

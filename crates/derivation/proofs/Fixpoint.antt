@@ -19,16 +19,19 @@ use Rattle.model.specs.declared.Rule.{Rule}
 use Rattle.model.specs.declared.Access.{Access}
 use Rattle.model.specs.declared.Pattern.{Pattern}
 use Rattle.model.specs.Base.{Base}
-use Rattle.model.specs.Stratification.{negating, stratified, stratum, links, links-precedes, links-heavy}
-use Rattle.model.specs.Stratification.{negates-heavy, lasting}
-use Rattle.model.specs.StratificationFacts.{feeder_below, stratum-few}
+use Rattle.model.specs.Stratification.{negating, stratified, stratum, links}
+use Rattle.model.proofs.FeedingLaws.{links-precedes, links-heavy}
+use Rattle.model.proofs.FeedingLaws.{negates-heavy}
+use Rattle.model.specs.Stratification.{lasting}
+use Rattle.model.proofs.StratificationFacts.{feeder_below, stratum-few}
 use Rattle.model.specs.Rules.{Fact, fact, fits, stands_for, derives_for, right_of, operate, holds_by, right_by}
 use Rattle.model.specs.Rules.{asked, derives, enough, derived_below, holds}
-use Rattle.model.specs.SideFacts.{right_sign}
-use Rattle.model.specs.RightFacts.{right_is}
-use Rattle.model.specs.HoldsFacts.{below_steady, below-stratum, rounds, rounds-below}
-use Rattle.model.specs.HoldsLaws.{holding, fit_precedes, StrictlyFed, strictly_fed, right_settled}
-use Rattle.model.specs.HoldsLaws.{strictly_linked, strictly_settled, settled_at}
+use Rattle.model.proofs.SideFacts.{right_sign}
+use Rattle.model.proofs.RightFacts.{right_is}
+use Rattle.model.proofs.HoldsFacts.{below_steady, below-stratum, rounds, rounds-below}
+use Rattle.model.specs.Rules.{holding}
+use Rattle.model.proofs.HoldsLaws.{fit_precedes, StrictlyFed, strictly_fed, right_settled}
+use Rattle.model.proofs.HoldsLaws.{strictly_linked, strictly_settled, settled_at}
 use Rattle.laws.specs.Dependence.{Depends}
 use Rattle.questions.proofs.OperatorSteps.{sense, operate-back, operate-now, sense_more}
 use Rattle.questions.specs.Table.{truth}

@@ -13,11 +13,13 @@ use Rattle.model.specs.declared.Rule.{Rule}
 use Rattle.model.specs.declared.Access.{Access}
 use Rattle.model.specs.declared.Pattern.{Pattern}
 use Rattle.model.specs.Base.{Base}
-use Rattle.model.specs.Stratification.{stratified, links, precedes, links-precedes}
+use Rattle.model.specs.Stratification.{stratified, links, precedes}
+use Rattle.model.proofs.FeedingLaws.{links-precedes}
 use Rattle.model.specs.Rules.{asked, stands_for, derives_for, right_of, holds}
-use Rattle.model.specs.SideFacts.{right_sign, fit_links}
-use Rattle.model.specs.RightFacts.{right_own, right_is}
-use Rattle.model.specs.HoldsLaws.{holding, fit_precedes}
+use Rattle.model.proofs.SideFacts.{right_sign, fit_links}
+use Rattle.model.proofs.RightFacts.{right_own, right_is}
+use Rattle.model.specs.Rules.{holding}
+use Rattle.model.proofs.HoldsLaws.{fit_precedes}
 use Rattle.laws.specs.Dependence.{Depends}
 use Rattle.questions.specs.Table.{truth}
 use Rattle.questions.proofs.OneInstant.{Before, right_truth}

@@ -19,7 +19,7 @@ use Rattle.model.specs.declared.Access.{Access}
 use Rattle.model.specs.declared.Authorization.{Authorization}
 use Rattle.model.specs.Support.{live}
 use Rattle.model.specs.SupportMarks.{interval_steady}
-use Rattle.model.specs.HoldsSteady.{marks-length}
+use Rattle.model.proofs.HoldsSteady.{marks-length}
 use Rattle.model.specs.Means.{boundaries, marks_of}
 use Rattle.model.specs.Rules.{fits, asked}
 use Rattle.relevance.specs.declared.Chosen.{Chosen}

@@ -16,7 +16,7 @@ use Rattle.model.specs.Base.{Base}
 use Rattle.model.specs.Support.{live}
 use Rattle.model.specs.Rules.{Fact, fact, fits, stands_for, derives_for, derived_below, holds}
 use Rattle.model.specs.Rules.{asked, may, may_with, when}
-use Rattle.model.specs.SideFacts.{derives_eq}
+use Rattle.model.proofs.SideFacts.{derives_eq}
 use Rattle.direct.specs.Direct.{held_directly}
 
 -- no rule stands for the access

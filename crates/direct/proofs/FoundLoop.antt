@@ -19,7 +19,7 @@ use Rattle.model.specs.declared.Pattern.{Pattern}
 use Rattle.model.specs.Encoding.{authorization_of}
 use Rattle.model.specs.Support.{live}
 use Rattle.model.specs.Rules.{fits, asked}
-use Rattle.model.specs.SideFacts.{fits_eq}
+use Rattle.model.proofs.SideFacts.{fits_eq}
 use Rattle.encoding.specs.Format.{authorizations_in, authorizations_from}
 use Rattle.direct.specs.Direct.{held_directly, live_for}
 

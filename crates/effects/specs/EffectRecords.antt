@@ -6,7 +6,7 @@ use Rattle.model.specs.declared.Rule.{Rule}
 use Rattle.model.specs.declared.Request.{Request}
 use Rattle.model.specs.Encoding.{decode}
 use Rattle.model.specs.Soundness.{sound_bytes}
-use Rattle.model.specs.StepFacts.{Accepted}
+use Rattle.model.specs.Step.{Accepted}
 use Rattle.model.specs.Requests.{DROPRULE, GRANTADM, REVOKEADM, REVOKEREF, is}
 use Rattle.edits.specs.declared.PrivilegeBody.{PrivilegeBody}
 use Rattle.edits.specs.declared.PrivilegeBody.TheVariants.{Administrators, Referrers}

@@ -17,7 +17,7 @@ use Rattle.model.specs.declared.Head.{Head}
 use Rattle.model.specs.declared.Pattern.{Pattern}
 use Rattle.model.specs.Stratification.{fits_option}
 use Rattle.model.specs.Rules.{fits, fits_grantor}
-use Rattle.model.specs.SideFacts.{fits_eq}
+use Rattle.model.proofs.SideFacts.{fits_eq}
 use Rattle.laws.specs.Narrowing.{access_of}
 use Rattle.encoding.specs.Format.{rule_at}
 use Rattle.words.specs.Fields.{field_of}

@@ -19,7 +19,7 @@ use Rattle.model.specs.declared.Authorization.{Authorization}
 use Rattle.model.specs.declared.Rule.{Rule}
 use Rattle.model.specs.Base.{Base}
 use Rattle.model.specs.Means.{marks, all_marks, rule_marks}
-use Rattle.model.specs.HoldsMarks.{may_steady}
+use Rattle.model.proofs.HoldsMarks.{may_steady}
 use Rattle.model.specs.Rules.{may}
 use Rattle.model.specs.Stratification.{stratified}
 use Rattle.model.specs.Stratification as model

@@ -31,7 +31,7 @@ use Rattle.model.specs.Base.{Base}
 use Rattle.model.specs.Stratification.{is_star, feeds, precedes}
 use Rattle.model.specs.Rules.{stands_for, derives_for, right_of}
 use Rattle.model.specs.Rules as rules
-use Rattle.model.specs.SideFacts.{derives_eq, derives_is, right_eq, fit_feeds, feeds_fit}
+use Rattle.model.proofs.SideFacts.{derives_eq, derives_is, right_eq, fit_feeds, feeds_fit}
 use Rattle.encoding.specs.Format.{rule_at}
 use Rattle.outlines.specs.Coordinates.{Chart, subject_of, object_of, known, mode_of}
 use Rattle.outlines.proofs.CoordinateFacts.{known_one}

@@ -16,7 +16,7 @@ use Rattle.model.specs.declared.Access.{Access}
 use Rattle.model.specs.Base.{Base}
 use Rattle.model.specs.Stratification.{is_star}
 use Rattle.model.specs.Rules.{stands_on, stands_for}
-use Rattle.model.specs.SideFacts.{stands_eq, stands_same}
+use Rattle.model.proofs.SideFacts.{stands_eq, stands_same}
 use Rattle.encoding.specs.Format.{rule_at}
 use Rattle.places.specs.ReachedNumbers.{used, used_before}
 use Rattle.places.proofs.NumberFacts.{used_before_more, used_before-apart}

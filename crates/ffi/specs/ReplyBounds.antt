@@ -17,7 +17,7 @@ use Rattle.model.specs.Base.{empty_base}
 use Rattle.model.specs.Rules.{may, when}
 use Rattle.model.specs.Means.{plainly}
 use Rattle.model.specs.Step.{Row, row, first_number, earliest_gap}
-use Rattle.model.specs.StepFacts.{first_all, first_none, numbered, by_rows}
+use Rattle.model.proofs.StepFacts.{first_all, first_none, numbered, by_rows}
 use Rattle.model.specs.Encoding.{size, encode, decode}
 use Rattle.model.specs.FitsFacts.{counts_fit_lem}
 use Rattle.model.specs.Soundness.{sound_bytes}

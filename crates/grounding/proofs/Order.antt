@@ -21,8 +21,9 @@ use Rattle.model.specs.declared.Pattern.{Pattern}
 use Rattle.model.specs.Base.{Base}
 use Rattle.model.specs.Stratification.{stratified, precedes}
 use Rattle.model.specs.Rules.{stands_for, derives_for, right_of, operate}
-use Rattle.model.specs.SideFacts.{derives-stands}
-use Rattle.model.specs.HoldsLaws.{holding, derived-law}
+use Rattle.model.proofs.SideFacts.{derives-stands}
+use Rattle.model.specs.Rules.{holding}
+use Rattle.model.proofs.HoldsLaws.{derived-law}
 use Rattle.encoding.specs.Format.{rule_at}
 use Rattle.derivation.proofs.Window.{Window}
 use Rattle.derivation.specs.Carried.{Carried}

@@ -17,7 +17,7 @@ use Rattle.tables.specs.declared.Place.{Place}
 use Rattle.model.specs.declared.Rule.{Rule}
 use Rattle.model.specs.declared.Access.{Access}
 use Rattle.model.specs.Stratification.{precedes, stratum}
-use Rattle.model.specs.StratificationFacts.{stratum-few}
+use Rattle.model.proofs.StratificationFacts.{stratum-few}
 use Rattle.model.specs.Rules.{stands_for, right_of}
 use Rattle.laws.specs.Dependence.{Depends, depends_fed}
 use Rattle.derivation.proofs.Joined.{rule_valued}

@@ -8,7 +8,7 @@ use Rattle.model.specs.Encoding.{size, encode}
 use Rattle.model.specs.EncodingFacts.{encode-sound, empty_sound}
 use Rattle.model.specs.Soundness.{sound_bytes}
 use Rattle.model.specs.Step.{row, first_number}
-use Rattle.model.specs.StepFacts.{answered}
+use Rattle.model.proofs.StepFacts.{answered}
 use Rattle.model.specs.Answers.{Answer, answering, refusing, create}
 
 -- a buffer of the right length is made an empty base

@@ -14,11 +14,11 @@ use Rattle.model.specs.declared.Access.{Access}
 use Rattle.model.specs.declared.Pattern.{Pattern}
 use Rattle.model.specs.Base.{Base}
 use Rattle.model.specs.Stratification.{negating, negates, lasting}
-use Rattle.model.specs.StratificationFacts.{unlabelled}
+use Rattle.model.specs.Stratification.{unlabelled}
 use Rattle.model.specs.Rules.{right_of, asked, right_holds, operate}
-use Rattle.model.specs.SideFacts.{right_eq, right_sign}
-use Rattle.model.specs.RightFacts.{right_is}
-use Rattle.model.specs.HoldsLaws.{PrecededOnly, StrictlyFed, fit_precedes, strictly_fed, strictly_linked}
+use Rattle.model.proofs.SideFacts.{right_eq, right_sign}
+use Rattle.model.proofs.RightFacts.{right_is}
+use Rattle.model.proofs.HoldsLaws.{PrecededOnly, StrictlyFed, fit_precedes, strictly_fed, strictly_linked}
 
 -- the same rule, under this label or another
 abbrev pub Relabelled : Rule → Rule → Type 0

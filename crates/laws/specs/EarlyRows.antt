@@ -6,7 +6,7 @@ use Rattle.model.specs.declared.Request.{Request}
 use Rattle.model.specs.Base.{Base}
 use Rattle.model.specs.Means.{plainly}
 use Rattle.model.specs.Step.{Row, row, first_number, full, refusal, table}
-use Rattle.model.specs.StepFacts.{Numbered, numbered, first_append}
+use Rattle.model.proofs.StepFacts.{Numbered, numbered, first_append}
 
 -- the rows that stand before the one numbered n
 abbrev pub rows_until : ℕ → List Row → List Row

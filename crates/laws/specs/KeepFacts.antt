@@ -14,7 +14,7 @@ use Rattle.foundation.specs.Intervals.{maximal, maximal_separate, maximal_covere
 use Rattle.model.specs.declared.Head.{Head}
 use Rattle.model.specs.declared.Authorization.{Authorization}
 use Rattle.model.specs.Support.{live}
-use Rattle.model.specs.SupportFacts.{live_append}
+use Rattle.model.proofs.SupportFacts.{live_append}
 use Rattle.model.specs.Withdrawal.{authorization, pieces, keep}
 use Rattle.model.specs.Soundness.{rises, same_head}
 use Rattle.laws.specs.Chained.{Pairwise, pairwise_append}

@@ -15,8 +15,9 @@ use Rattle.model.specs.Support.{live}
 use Rattle.model.specs.Stratification.{lasting, stratified}
 use Rattle.model.specs.Rules.{Fact, fact, fits, fits_grantor, stands_for, derives_for, right_of, operate, holds_by}
 use Rattle.model.specs.Rules.{right_by, derives, holds}
-use Rattle.model.specs.SideFacts.{derives_is}
-use Rattle.model.specs.HoldsLaws.{derived, holding, holds-law, derived-law}
+use Rattle.model.proofs.SideFacts.{derives_is}
+use Rattle.model.specs.Rules.{derived, holding}
+use Rattle.model.proofs.HoldsLaws.{holds-law, derived-law}
 use Rattle.laws.specs.Dependence.{Relabelled, right_relabelled, Depends, DependsBelow}
 use Rattle.laws.specs.Dependence.{depends_relabelled, right_carry}
 use Rattle.laws.specs.Dependence.{right_alike, operate_carry}

@@ -15,10 +15,10 @@ use Rattle.model.specs.declared.Access.{Access}
 use Rattle.model.specs.declared.Pattern.{Pattern}
 use Rattle.model.specs.Base.{Base}
 use Rattle.model.specs.Support.{live}
-use Rattle.model.specs.SupportFacts.{mem-live, live-mem}
+use Rattle.model.proofs.SupportFacts.{mem-live, live-mem}
 use Rattle.model.specs.Stratification.{stratified}
 use Rattle.model.specs.Rules.{fits, stands_for, right_of, holds, asked, may_with, may}
-use Rattle.model.specs.SideFacts.{fits_is, stands_same}
+use Rattle.model.proofs.SideFacts.{fits_is, stands_same}
 use Rattle.model.specs.Effects.{with_authorizations, with_rules}
 use Rattle.laws.specs.RulesAfter.{stratified-less}
 use Rattle.laws.specs.Dependence.{depends_access}

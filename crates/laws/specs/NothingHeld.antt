@@ -14,7 +14,7 @@ use Rattle.model.specs.declared.Pattern.{Pattern}
 use Rattle.model.specs.Rules.{asked, may}
 use Rattle.model.specs.Held.{HeldUpTo, HeldBelow, Held, lower, whenever, as_long_as, whenever_not}
 use Rattle.model.specs.Held.{unless}
-use Rattle.model.specs.HeldFacts.{may-held}
+use Rattle.model.proofs.HeldFacts.{may-held}
 
 module _ (b : Base) (t : ℕ)
     (uncovered : (a : Authorization) → Mem a b.authorizations → in_interval a.interval t ≡ false)

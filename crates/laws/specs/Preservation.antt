@@ -6,7 +6,8 @@ use Rattle.model.specs.declared.Request.{Request}
 use Rattle.model.specs.Base.{Base}
 use Rattle.model.specs.Means.{plainly}
 use Rattle.model.specs.Step.{refusal, effect}
-use Rattle.model.specs.StepFacts.{Accepted, accepted}
+use Rattle.model.specs.Step.{Accepted}
+use Rattle.model.proofs.StepFacts.{accepted}
 use Rattle.model.specs.Soundness.{sound}
 use Rattle.model.specs.SoundnessFacts.{Sound, sound_tests_lem, tests-sound}
 use Rattle.laws.specs.SoundPrivileges.{counts-after, order-objects, order_administrators}

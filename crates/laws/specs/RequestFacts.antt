@@ -9,7 +9,7 @@ use Rattle.model.specs.declared.Reply.TheVariants.{Refused, Unsupported}
 use Rattle.model.specs.Base.{Base}
 use Rattle.model.specs.Means.{plainly}
 use Rattle.model.specs.Step.{first_number, accepting, refusal, effect, earliest_gap, refusal_reply}
-use Rattle.model.specs.StepFacts.{answered, turned_away, by_rows}
+use Rattle.model.proofs.StepFacts.{answered, turned_away, by_rows}
 use Rattle.model.specs.Encoding.{encode, decode}
 use Rattle.model.specs.EncodingFacts.{decode-encode, encode-sound}
 use Rattle.model.specs.Soundness.{sound, sound_bytes}

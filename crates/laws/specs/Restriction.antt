@@ -11,15 +11,16 @@ use Rattle.model.specs.declared.Head.{Head}
 use Rattle.model.specs.declared.Authorization.{Authorization}
 use Rattle.model.specs.declared.Request.{Request}
 use Rattle.model.specs.Base.{Base}
-use Rattle.model.specs.Support.{same_object_and_mode, supported, supported-chain, live, root}
-use Rattle.model.specs.SupportFacts.{mem-live, live-mem, chain_local}
+use Rattle.model.specs.Support.{same_object_and_mode, supported, live, root}
+use Rattle.model.proofs.SupportChains.{supported-chain}
+use Rattle.model.proofs.SupportFacts.{mem-live, live-mem, chain_local}
 use Rattle.model.specs.Withdrawal.{restrict}
 use Rattle.model.specs.Requests.{REVOKE, REVOKEP, REVOKEN, REVOKEADM, is, withdraws, root_after, names, takes}
 use Rattle.model.specs.Requests.{leave, affects}
 use Rattle.model.specs.Means.{plainly}
 use Rattle.model.specs.Step.{effect}
 use Rattle.model.specs.SoundnessFacts.{Sound}
-use Rattle.model.specs.SurvivalFacts.{takes_eq, affects_eq}
+use Rattle.model.proofs.SurvivalFacts.{takes_eq, affects_eq}
 use Rattle.model.specs.Kinds.{is_apart}
 use Rattle.laws.specs.KeepFacts.{live-keep, keep_cong}
 use Rattle.laws.specs.SoundFacts.{all_supported_lem}

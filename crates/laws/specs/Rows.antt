@@ -16,7 +16,8 @@ use Rattle.model.specs.Step.{any_object, left_object, right_object, no_object}
 use Rattle.model.specs.Step.{not_permitted, not_supported, already_there, not_stratified, counts_hold, full}
 use Rattle.model.specs.Step.{effect}
 use Rattle.model.specs.Soundness.{interval_in, starts_first}
-use Rattle.model.specs.StepFacts.{Accepted, in_range}
+use Rattle.model.specs.Step.{Accepted}
+use Rattle.model.proofs.StepFacts.{in_range}
 
 module _ (b : Base) (q : Request) (g : Accepted b q) where
   -- ---- row 3

@@ -13,11 +13,11 @@ use Rattle.model.specs.declared.Reply.{Reply}
 use Rattle.model.specs.declared.Reply.TheVariants.{Refused, Runs}
 use Rattle.model.specs.Base.{Base, empty_base}
 use Rattle.model.specs.Rules.{may, when}
-use Rattle.model.specs.HoldsMarks.{when-count}
+use Rattle.model.proofs.HoldsMarks.{when-count}
 use Rattle.model.specs.Means.{plainly}
 use Rattle.model.specs.Questions.{as_defined}
 use Rattle.model.specs.Step.{first_number, refused_or, Outcome, refusal, step}
-use Rattle.model.specs.StepFacts.{answered, turned_away, step-accepted, step-refused}
+use Rattle.model.proofs.StepFacts.{answered, turned_away, step-accepted, step-refused}
 use Rattle.model.specs.Encoding.{encode}
 use Rattle.model.specs.EncodingFacts.{decode-encode, encode-sound, empty_sound}
 use Rattle.model.specs.FitsFacts.{counts_fit_lem}

@@ -14,7 +14,7 @@ use Rattle.model.specs.Base.{Base, exists}
 use Rattle.model.specs.Requests.{NEW, GRANT, DENY, ADDRULE, is, grants, labels}
 use Rattle.model.specs.Means.{plainly}
 use Rattle.model.specs.Step.{names_interval, effect}
-use Rattle.model.specs.StepFacts.{Accepted}
+use Rattle.model.specs.Step.{Accepted}
 use Rattle.model.specs.Soundness.{chained, rises, interval_in, authorization_in, starts_first, granted_in_time}
 use Rattle.model.specs.Soundness.{denials_plain, labels_agree}
 use Rattle.model.specs.SoundnessFacts.{Sound}

@@ -12,7 +12,7 @@ use Rattle.model.specs.Stratification.{is_star}
 use Rattle.model.specs.Requests.{ADDRULE, REVOKEADM, REVOKEREF, is, new_rule, drops}
 use Rattle.model.specs.Means.{plainly}
 use Rattle.model.specs.Step.{effect}
-use Rattle.model.specs.StepFacts.{Accepted}
+use Rattle.model.specs.Step.{Accepted}
 use Rattle.model.specs.Soundness.{authors_may}
 use Rattle.model.specs.SoundnessFacts.{Sound}
 use Rattle.model.specs.Kinds.{kind_is}

@@ -9,7 +9,7 @@ use Rattle.model.specs.declared.Authorization.{Authorization}
 use Rattle.model.specs.declared.Rule.{Rule}
 use Rattle.model.specs.Base.{Base}
 use Rattle.model.specs.Support.{live, supported_at}
-use Rattle.model.specs.SupportFacts.{everywhere_live}
+use Rattle.model.proofs.SupportFacts.{everywhere_live}
 use Rattle.model.specs.Soundness.{rises, starts_first}
 use Rattle.model.specs.SoundnessFacts.{Sound}
 use Rattle.model.specs.SoundTests.{order_test, intervals_test, labels_test}

@@ -14,7 +14,7 @@ use Rattle.model.specs.Base.{Base, privilege, is_privilege, exists, owns, admini
 use Rattle.model.specs.Requests.{NEW, GRANTADM, REVOKEADM, GRANTREF, REVOKEREF, is, labels, before}
 use Rattle.model.specs.Means.{plainly}
 use Rattle.model.specs.Step.{counts_hold, effect}
-use Rattle.model.specs.StepFacts.{Accepted}
+use Rattle.model.specs.Step.{Accepted}
 use Rattle.model.specs.Soundness.{chained, privilege_in, owners_apart}
 use Rattle.model.specs.SoundnessFacts.{Sound}
 use Rattle.model.specs.Kinds.{object_kinds, subject_kinds, kind_is, is_kinds, is_apart}

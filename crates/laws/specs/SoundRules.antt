@@ -12,7 +12,7 @@ use Rattle.model.specs.Stratification.{is_star, stratified}
 use Rattle.model.specs.Requests.{ADDRULE, DROPRULE, REVOKEADM, REVOKEREF, is, labels, new_rule, drops}
 use Rattle.model.specs.Means.{plainly}
 use Rattle.model.specs.Step.{option_fits, left_object, right_object, effect}
-use Rattle.model.specs.StepFacts.{Accepted}
+use Rattle.model.specs.Step.{Accepted}
 use Rattle.model.specs.Soundness.{chained, rule_in, starts_first, stars_meet, stars_match, right_denials_plain}
 use Rattle.model.specs.SoundnessFacts.{Sound}
 use Rattle.model.specs.Kinds.{kind_is}

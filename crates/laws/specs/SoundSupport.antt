@@ -8,14 +8,15 @@ use Rattle.foundation.specs.Intervals.{in_interval, in_interval-true}
 use Rattle.model.specs.declared.Head.{Head}
 use Rattle.model.specs.declared.Request.{Request}
 use Rattle.model.specs.Base.{Base, controls}
-use Rattle.model.specs.Support.{supported, supported-chain, first, then, live, root, supported_at}
-use Rattle.model.specs.SupportFacts.{live-last, live-old, supported_more, still, live_everywhere}
-use Rattle.model.specs.SupportFacts.{covered_together}
+use Rattle.model.specs.Support.{supported, first, then, live, root, supported_at}
+use Rattle.model.proofs.SupportChains.{supported-chain}
+use Rattle.model.proofs.SupportFacts.{live-last, live-old, supported_more, still, live_everywhere}
+use Rattle.model.proofs.SupportFacts.{covered_together}
 use Rattle.model.specs.Withdrawal.{restrict}
 use Rattle.model.specs.Requests.{REVOKEADM, is, grants, withdraws, root_after, new_head, leave}
 use Rattle.model.specs.Means.{plainly}
 use Rattle.model.specs.Step.{effect}
-use Rattle.model.specs.StepFacts.{Accepted}
+use Rattle.model.specs.Step.{Accepted}
 use Rattle.model.specs.Soundness.{all_supported}
 use Rattle.model.specs.SoundnessFacts.{Sound}
 use Rattle.model.specs.Kinds.{grant_kinds, withdrawal_kinds, is_apart, not_kind}

@@ -16,10 +16,11 @@ use Rattle.model.specs.declared.Access.{Access}
 use Rattle.model.specs.declared.Pattern.{Pattern}
 use Rattle.model.specs.Base.{Base}
 use Rattle.model.specs.Stratification.{stratified, stratum}
-use Rattle.model.specs.StratificationFacts.{feeder_not-above, feeder_below, stratum-few}
+use Rattle.model.proofs.StratificationFacts.{feeder_not-above, feeder_below, stratum-few}
 use Rattle.model.specs.Rules.{fact, derives_for, holds_by, derives, enough, derived_below, holds}
-use Rattle.model.specs.HoldsFacts.{below-stratum, rounds, rounds-below}
-use Rattle.model.specs.HoldsLaws.{derived, holds-law, settled_at, strictly_settled}
+use Rattle.model.proofs.HoldsFacts.{below-stratum, rounds, rounds-below}
+use Rattle.model.specs.Rules.{derived}
+use Rattle.model.proofs.HoldsLaws.{holds-law, settled_at, strictly_settled}
 use Rattle.laws.specs.Dependence.{DependsBelow, depends_access}
 use Rattle.laws.specs.Dependence.{below_depends, depends_fed, depends_strictly}
 use Rattle.laws.specs.Dependence.{depends_relabelled, below_relabelled}

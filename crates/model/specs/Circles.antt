@@ -1,14 +1,13 @@
 -- Circles of feeding of any sort (02, change request 6), a WHENEVERNOT or UNLESS on them or not, beside the
--- forbidden ones of Stratification; 02: "For CR 6 such links count as feeding". `circular-path`: the test
--- finds exactly the circles.
-use Rattle.std.specs.Prelude.{◌≡◌, ◌↔◌, true, List}
-use Rattle.std.proofs.Math.Path.{sym, subst}
-use Rattle.std.proofs.Math.Bool.{Bool, and-true}
-use Rattle.foundation.specs.Lists.{anyb, Mem, any_mem, mem_any}
-use Rattle.foundation.specs.Graph.{reaches, cyclic, reaches_path}
+-- forbidden ones of Stratification; 02: "For CR 6 such links count as feeding". `circular_path` in CirclePaths:
+-- the test finds exactly the circles.
+use Rattle.std.specs.Prelude.{List}
+use Rattle.std.proofs.Math.Bool.{Bool}
+use Rattle.foundation.specs.Lists.{anyb, Mem}
+use Rattle.foundation.specs.Graph.{reaches}
 use Rattle.model.specs.declared.Rule.{Rule}
 use Rattle.model.specs.Stratification.{precedes}
-use Rattle.model.specs.StratificationFacts.{FeedingPath, path_feeds}
+use Rattle.model.specs.Stratification.{FeedingPath}
 
 -- 02: "some feeding circle exists": feeding, links counting as feeding, leads from some rule back to it
 unfoldable pub circular : List Rule → Bool
@@ -18,22 +17,3 @@ circular rules = anyb (λ r. reaches precedes precedes rules r r) rules
 -- 01: "a rule that feeds itself is a circle": a rule with a path of feeding and links to itself
 abbrev pub Circle : List Rule → Type 0
 Circle rules = (r : Rule) × Mem r rules × FeedingPath rules r r
-
-module _ (rules : List Rule) where
-  pub circular_path : (circular rules ≡ true) ↔ Circle rules
-  unfolding circular
-  circular_path = (
-    (λ e. let w = any_mem back rules e in
-        let p = (reaches_path precedes precedes rules w.0 w.0 w.1).0 w.2 in
-        (w.0, w.1, subst (λ (T : Type 0). T) (path_feeds rules w.0 w.0) p)),
-    (λ c. let p = subst (λ (T : Type 0). T) (sym (path_feeds rules c.0 c.0)) c.2 in
-        mem_any back rules c.0 c.1 ((reaches_path precedes precedes rules c.0 c.0 c.1).1 p)),
-  )
-    where
-      back : Rule → Bool
-      back r = reaches precedes precedes rules r r
-
-  -- it is a cycle of the graph in which every edge counts
-  pub circular-cyclic : circular rules ≡ cyclic precedes (λ q r. true) rules
-  unfolding circular cyclic
-  circular-cyclic t = anyb (λ r. reaches (λ p s. sym (and-true (precedes p s)) t) precedes rules r r) rules

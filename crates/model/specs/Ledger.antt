@@ -1,6 +1,6 @@
 -- The account of demand 3 (01, "Requests", last paragraph), fed the requests alone.
 use Rattle.std.specs.Prelude.{ℕ, suc, Bool, true, false, not, ◌&&◌, List, [], ◌∷◌, ◌++◌, eqb, ◌≡◌}
-use Rattle.foundation.specs.Tests.{pick, and-true}
+use Rattle.foundation.specs.Tests.{pick}
 use Rattle.foundation.specs.Intervals.{in_interval, maximal}
 use Rattle.model.specs.declared.Privilege.{Privilege}
 use Rattle.model.specs.declared.Head.{Head}
@@ -93,11 +93,3 @@ NoMore [] [] = Unit {0}
 NoMore [] (e ∷ es) = ⊥
 NoMore (d ∷ ds) [] = ⊥
 NoMore (d ∷ ds) (e ∷ es) = ((t : ℕ) → d.at t ≡ true → e.at t ≡ true) × NoMore ds es
-
--- whatever is kept, nothing comes back: not by a new administrator either, since `settle` keeps entries
-pub keep-loses : (p : Head → ℕ → Bool) (es : List Entry) → NoMore (keep_entries p es) es
-keep-loses p [] = tt
-keep-loses p (e ∷ es) = ((λ t h. (and-true (e.at t) (p e.head t) h).0), keep-loses p es)
-
-pub settle-loses : (root : Head → Bool) (es : List Entry) → NoMore (settle root es) es
-settle-loses root es = keep-loses (λ h t. supported root (standing_heads t es) h) es

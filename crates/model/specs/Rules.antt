@@ -161,3 +161,14 @@ may b x t = may_with always b x t
 -- 01: "WHEN ... writes the longest runs of instants where MAY says yes, rising"
 unfoldable pub when : Base → Access → List Interval
 when b x = maximal 0 last_instant (λ t. may b x t)
+
+-- ---- what holds at last
+
+module _ (base : Base) where
+  -- what the rules derive, all strata together
+  abbrev pub derived : Fact → Bool
+  derived = derived_below always base (suc (2 * length base.rules))
+
+  -- what counts as held on a right side at u
+  abbrev pub holding : ℕ → Pattern → Bool
+  holding u p = right_holds (holds always base u) (holds always base u) p

@@ -5,6 +5,7 @@ use Rattle.std.specs.Prelude.{ℕ, suc, Bool, true, false, not, ◌&&◌, ◌||�
 use Rattle.foundation.specs.Tests.{pick}
 use Rattle.foundation.specs.Lists.{anyb}
 use Rattle.foundation.specs.Intervals.{overlap, first_start, none?}
+use Rattle.std.specs.Prelude.{◌≡◌}
 use Rattle.model.specs.declared.Head.{Head}
 use Rattle.model.specs.declared.Authorization.{Authorization}
 use Rattle.model.specs.declared.OptionTerm.{OptionTerm}
@@ -302,3 +303,20 @@ step b q = step_by plainly b q
 abbrev pub play : List Request → Base → Base
 play [] b = b
 play (q ∷ rest) b = play rest (step b q).base
+
+-- ---- a request that is accepted
+
+-- every row passed
+pub record Accepted (b : Base) (q : Request) : Type 0 where
+  pub range : out_of_range q ≡ false
+  pub clock : behind_clock b q ≡ false
+  pub interval : bad_interval q ≡ false
+  pub object : no_object b q ≡ false
+  pub label : no_label b q ≡ false
+  pub permitted : not_permitted b q ≡ false
+  pub unbarred : barred b q ≡ false
+  pub support : not_supported plainly b q ≡ false
+  pub fresh : already_there b q ≡ false
+  pub held : not_held b q ≡ false
+  pub strata : not_stratified b q ≡ false
+  pub room : full plainly b q ≡ false

@@ -1,12 +1,10 @@
 -- Which rule feeds which, forbidden circles and ranks (01, "Rules"): a graph with weights, and its strata.
 -- Theorem 3: `stratified-path`, `stratum-most`, `stratum-walk` in StratificationFacts.
--- `feeds`, `links`, `precedes` and `weight` are used through the laws at the end and those of SideFacts.
-use Rattle.std.specs.Prelude.{◌≡◌, refl, ℕ, ◌+◌, ◌≤◌, Bool, true, false, not, ◌&&◌, ◌||◌, List, eqb}
-use Rattle.std.proofs.Common.{ap, ◌∙◌, arith}
+-- `feeds`, `links`, `precedes` and `weight` are used through the laws of FeedingLaws and SideFacts.
+use Rattle.std.specs.Prelude.{ℕ, ◌+◌, Bool, true, false, not, ◌&&◌, ◌||◌, List, eqb}
 use Rattle.std.specs.Bool.{beq}
-use Rattle.foundation.specs.Tests.{le-true, cases, le-false, or_intro_left, or_true_right}
-use Rattle.foundation.specs.BitMasks.{as_bit, bit_le}
-use Rattle.foundation.specs.Graph.{heavy, cyclic, rank}
+use Rattle.foundation.specs.BitMasks.{as_bit}
+use Rattle.foundation.specs.Graph.{heavy, cyclic, rank, Path}
 use Rattle.model.specs.declared.Rule.{Rule}
 use Rattle.model.specs.declared.Operator.{Operator}
 use Rattle.model.specs.declared.Operator.TheVariants.{Whenever, AsLongAs, WheneverNot, Unless}
@@ -89,35 +87,24 @@ stratified rules = not (cyclic precedes (heavy weight) rules)
 unfoldable pub stratum : List Rule → Rule → ℕ
 stratum rules r = rank precedes weight negates rules r
 
--- ---- laws
+-- ---- paths of feeding; a rule but for its label
 
-pub precedes_either : (q r : Rule) → precedes q r ≡ feeds q r || links q r
-unfolding precedes
-precedes_either q r = refl
+-- 01's feeding, or 02's link
+abbrev pub leads : Rule → Rule → Bool
+leads q r = feeds q r || links q r
 
-pub feeds-precedes : (q r : Rule) → feeds q r ≡ true → precedes q r ≡ true
-feeds-precedes q r e = precedes_either q r ∙ or_intro_left (feeds q r) (links q r) e
+-- a path: each rule feeds the next, or links to it
+abbrev pub FeedingPath : List Rule → Rule → Rule → Type 0
+FeedingPath rules q r = Path leads leads rules q r
 
-pub links-precedes : (q r : Rule) → links q r ≡ true → precedes q r ≡ true
-links-precedes q r e = precedes_either q r ∙ or_true_right (feeds q r) (links q r) e
-
-pub weight_is : (q r : Rule) → weight q r ≡ as_bit (negates r) + as_bit (links q r)
-unfolding weight
-weight_is q r = refl
-
-pub weight_small : (q r : Rule) → weight q r ≤ 2
-weight_small q r = omega (arith, weight_is q r, bit_le (negates r), bit_le (links q r))
-
--- a step counts exactly if it leads to a rule with WHENEVERNOT or UNLESS, or is a link
-pub heavy_either : (q r : Rule) → heavy weight q r ≡ negates r || links q r
-heavy_either q r = cases (negates r)
-    (λ e. le-true 1 (weight q r) (omega (arith, weight_is q r, ap as_bit e)) ∙ rw e)
-    (λ e. cases (links q r)
-    (λ l. le-true 1 (weight q r) (omega (arith, weight_is q r, ap as_bit l)) ∙ rw (e, l))
-    (λ l. le-false 1 (weight q r) (omega (arith, weight_is q r, ap as_bit e, ap as_bit l)) ∙ rw (e, l)))
-
-pub negates-heavy : (q r : Rule) → negates r ≡ true → heavy weight q r ≡ true
-negates-heavy q r e = heavy_either q r ∙ or_intro_left (negates r) (links q r) e
-
-pub links-heavy : (q r : Rule) → links q r ≡ true → heavy weight q r ≡ true
-links-heavy q r e = heavy_either q r ∙ or_true_right (negates r) (links q r) e
+abbrev pub unlabelled : Rule → Rule
+unlabelled r = record {
+  label = 0;
+  author = r.author;
+  left = r.left;
+  operator = r.operator;
+  right = r.right;
+  grantor = r.grantor;
+  option = r.option;
+  interval = r.interval;
+}

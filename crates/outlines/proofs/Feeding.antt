@@ -16,9 +16,9 @@ use Rattle.foundation.specs.BitMasks.{as_bit, bit, bit_le, bit-zero}
 use Rattle.foundation.specs.BitLaws.{bit_or_lem, bit_and_lem}
 use Rattle.model.specs.declared.Rule.{Rule}
 use Rattle.model.specs.Stratification.{is_star, meets, feeds, links, precedes, fits_option}
-use Rattle.model.specs.Stratification.{precedes_either}
+use Rattle.model.proofs.FeedingLaws.{precedes_either}
 use Rattle.model.specs.Rules.{fits_grantor}
-use Rattle.model.specs.SideFacts.{feeds_eq, links_eq, links_is}
+use Rattle.model.proofs.SideFacts.{feeds_eq, links_eq, links_is}
 use Rattle.encoding.specs.Format.{rules_in, rule_at}
 use Rattle.outlines.specs.Coordinates.{HasCoordinates, Chart}
 use Rattle.outlines.specs.Outline.{code_in}

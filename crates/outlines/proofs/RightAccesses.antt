@@ -14,7 +14,7 @@ use Rattle.model.specs.declared.Access.{Access}
 use Rattle.model.specs.declared.Pattern.{Pattern}
 use Rattle.model.specs.Stratification.{is_star}
 use Rattle.model.specs.Rules.{right_of}
-use Rattle.model.specs.SideFacts.{right_eq}
+use Rattle.model.proofs.SideFacts.{right_eq}
 use Rattle.encoding.specs.Format.{rule_at}
 use Rattle.places.specs.Needs.{both_signs}
 use Rattle.places.proofs.NeedBits.{both_bits}

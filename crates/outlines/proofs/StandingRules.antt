@@ -20,7 +20,7 @@ use Rattle.model.specs.Base.{Base, controls}
 use Rattle.model.specs.Encoding.{rule_of, decode}
 use Rattle.model.specs.Stratification.{is_star}
 use Rattle.model.specs.Rules.{stands_on}
-use Rattle.model.specs.SideFacts.{stands_eq, stands_same}
+use Rattle.model.proofs.SideFacts.{stands_eq, stands_same}
 use Rattle.encoding.specs.Format.{rules_in, rule_at}
 use Rattle.reach.specs.Net.{standing}
 use Rattle.outlines.specs.Coordinates.{WellFormed, HasCoordinates, Chart, Charted, subject_of, object_of}

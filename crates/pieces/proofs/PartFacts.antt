@@ -20,7 +20,7 @@ use Rattle.pieces.specs.declared.Cut.{Cut}
 use Rattle.pieces.specs.Stretches.{in_stretch, maximal_to}
 use Rattle.pieces.proofs.StretchFacts.{to_same, to_next, to_none, to_past, on_off, to-parts}
 use Rattle.pieces.proofs.StretchFacts.{interval-to}
-use Rattle.model.specs.Support.{supports-rises}
+use Rattle.model.proofs.SupportChains.{supports-rises}
 use Rattle.pieces.specs.Cuts.{cut_takes, CutOrdered, behind_all, taken_of}
 use Rattle.pieces.proofs.CutFacts.{taken_is, taken-gap}
 use Rattle.pieces.proofs.BodyFacts.{covered-placed}

@@ -18,7 +18,7 @@ use Rattle.model.specs.Rules.{may, when}
 use Rattle.model.specs.Means.{plainly}
 use Rattle.model.specs.Step.{Row, row, first_number, refusal, accepting, table, effect, refusal_reply}
 use Rattle.model.specs.Requests.{labels}
-use Rattle.model.specs.StepFacts.{accepted, first_all, by_rows}
+use Rattle.model.proofs.StepFacts.{accepted, first_all, by_rows}
 use Rattle.model.specs.Encoding.{encode, decode}
 use Rattle.model.specs.FitsFacts.{counts_fit_lem}
 use Rattle.model.specs.Soundness.{sound, sound_bytes}

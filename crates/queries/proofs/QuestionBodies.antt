@@ -23,7 +23,7 @@ use Rattle.model.specs.declared.Side.{Side}
 use Rattle.model.specs.Base.{Base}
 use Rattle.model.specs.Effects.{with_rules}
 use Rattle.model.specs.Encoding.{decode, authorization_of, rule_of}
-use Rattle.model.specs.HoldsMarks.{when-count}
+use Rattle.model.proofs.HoldsMarks.{when-count}
 use Rattle.model.specs.Ranges.{is_label, is_subject, is_object, is_mode}
 use Rattle.model.specs.Rules.{stands_for, may, when}
 use Rattle.model.specs.Soundness.{sound_bytes, or_star, side_in, interval_in, starts_first}

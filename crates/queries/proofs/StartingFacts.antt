@@ -23,7 +23,7 @@ use Rattle.model.specs.Encoding.{authorization_of, rule_of}
 use Rattle.model.specs.Stratification.{negates, lasting}
 use Rattle.model.specs.Rules.{may}
 use Rattle.model.specs.Means.{all_marks}
-use Rattle.model.specs.HoldsMarks.{may_steady, all_marks-length}
+use Rattle.model.proofs.HoldsMarks.{may_steady, all_marks-length}
 use Rattle.encoding.specs.Format.{rule_at}
 use Rattle.laws.specs.Narrowing.{narrowed, narrowed-stratified}
 use Rattle.derivation.specs.Carried.{Carried}

@@ -8,7 +8,7 @@ use Rattle.foundation.specs.Marks.{clear}
 use Rattle.model.specs.declared.Access.{Access}
 use Rattle.model.specs.Base.{Base}
 use Rattle.model.specs.Means.{all_marks}
-use Rattle.model.specs.HoldsFacts.{below_steady}
+use Rattle.model.proofs.HoldsFacts.{below_steady}
 use Rattle.questions.specs.Table.{Bits}
 use Rattle.questions.proofs.OneInstant.{Before, Right}
 

@@ -15,8 +15,9 @@ use Rattle.model.specs.declared.Pattern.{Pattern}
 use Rattle.model.specs.Base.{Base}
 use Rattle.model.specs.Stratification.{stratified, lasting}
 use Rattle.model.specs.Rules.{Fact, stands_for, right_of, right_holds, operate, holds_by, holds}
-use Rattle.model.specs.RightFacts.{right_cong}
-use Rattle.model.specs.HoldsLaws.{holding, holds-law, derived-law}
+use Rattle.model.proofs.RightFacts.{right_cong}
+use Rattle.model.specs.Rules.{holding}
+use Rattle.model.proofs.HoldsLaws.{holds-law, derived-law}
 use Rattle.questions.proofs.OperatorSteps.{sense, operate-first, operate-step}
 use Rattle.questions.specs.Table.{Bits, truth}
 

@@ -5,7 +5,7 @@ use Rattle.model.specs.declared.Rule.{Rule}
 use Rattle.model.specs.declared.Access.{Access}
 use Rattle.model.specs.Base.{Base}
 use Rattle.model.specs.Rules.{fact}
-use Rattle.model.specs.HoldsLaws.{derived}
+use Rattle.model.specs.Rules.{derived}
 
 -- for each rule and access, whether the rule derives its left side for that access
 abbrev pub Bits : Type 0

@@ -19,7 +19,7 @@ use Rattle.model.specs.Step.{names_object, names_mode, names_interval, rule_term
 use Rattle.model.specs.Step.{bars, barred}
 use Rattle.model.specs.Soundness.{interval_in, rule_in}
 use Rattle.model.specs.FitsFacts.{RuleFits, rule_fits, at_most}
-use Rattle.model.specs.StepFacts.{in_range}
+use Rattle.model.proofs.StepFacts.{in_range}
 use Rattle.laws.specs.RuleTerms.{term_in_lem, side_in_lem, rule_tests}
 use Rattle.cover.specs.declared.Gap.{Gap}
 use Rattle.cover.specs.declared.Gap.TheVariants.{At, None}

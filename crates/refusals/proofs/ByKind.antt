@@ -13,7 +13,7 @@ use Rattle.model.specs.Base.{Base, exists, owns, administers, refers, controls, 
 use Rattle.model.specs.Requests.{NEW, GRANT, DENY, REVOKE, REVOKEP, REVOKEN, ADDRULE, DROPRULE, GRANTADM}
 use Rattle.model.specs.Requests.{REVOKEADM, GRANTREF, REVOKEREF, is, new_rule, rules_after}
 use Rattle.model.specs.Stratification.{stratified}
-use Rattle.model.specs.StratificationFacts.{label-free}
+use Rattle.model.proofs.StratificationFacts.{label-free}
 use Rattle.model.specs.Step.{names_object, no_object, no_label, not_permitted, already_there, not_held}
 use Rattle.model.specs.Step.{any_object, left_object, right_object, not_stratified}
 use Rattle.lookup.specs.NarrowedNumbers.{has_label, of_other, labelled, of_other_author}

@@ -14,7 +14,7 @@ use Rattle.model.specs.Encoding.{decode}
 use Rattle.model.specs.Soundness.{sound_bytes}
 use Rattle.model.specs.Means.{plainly}
 use Rattle.model.specs.Step.{first_number, full, refusal_reply}
-use Rattle.model.specs.StepFacts.{reply_number_lem}
+use Rattle.model.proofs.StepFacts.{reply_number_lem}
 use Rattle.model.specs.Answers.{answering, request}
 use Rattle.laws.specs.EarlyRows.{early_rows, refusal_early}
 use Rattle.refusals.specs.declared.Early.TheVariants.{Number, Uncovered}

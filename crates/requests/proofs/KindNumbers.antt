@@ -14,7 +14,7 @@ use Rattle.model.specs.declared.Request.{Request}
 use Rattle.model.specs.Ranges.{between}
 use Rattle.model.specs.Requests.{NEW, REVOKE, REVOKEP, REVOKEN, REVOKEADM, REVOKEREF, is, withdraws}
 use Rattle.model.specs.Step.{out_of_range}
-use Rattle.model.specs.StepFacts.{in_range}
+use Rattle.model.proofs.StepFacts.{in_range}
 use Rattle.model.specs.Kinds.{withdrawal_kinds}
 use Rattle.requests.specs.KeepingKinds.{keeping_kinds}
 

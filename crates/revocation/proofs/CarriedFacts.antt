@@ -17,7 +17,8 @@ use Rattle.model.specs.Soundness.{sound_bytes}
 use Rattle.model.specs.SoundnessFacts.{sound_bytes_lem}
 use Rattle.model.specs.Means.{plainly}
 use Rattle.model.specs.Step.{Row, full, effect, accepting, refusal, refusal_reply}
-use Rattle.model.specs.StepFacts.{Accepted, accepted, first_none}
+use Rattle.model.specs.Step.{Accepted}
+use Rattle.model.proofs.StepFacts.{accepted, first_none}
 use Rattle.model.specs.Answers.{answering, request}
 use Rattle.laws.specs.RequestFacts.{request-accepted, request-refused}
 use Rattle.laws.specs.EarlyRows.{early_rows, early_numbered, refusal_early}

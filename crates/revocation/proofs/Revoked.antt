@@ -21,7 +21,7 @@ use Rattle.model.specs.Requests.{GRANTREF, REVOKEREF, is, labels, withdraws, dro
 use Rattle.model.specs.Means.{plainly}
 use Rattle.model.specs.Step.{names_object, names_subject, names_mode, names_interval, names_label, out_of_range}
 use Rattle.model.specs.Step.{bad_interval, full, effect}
-use Rattle.model.specs.StepFacts.{in_range}
+use Rattle.model.proofs.StepFacts.{in_range}
 use Rattle.model.specs.SoundnessFacts.{Sound}
 use Rattle.model.specs.FitsFacts.{counts_fit_lem, at_most}
 use Rattle.model.specs.Kinds.{is_kinds, is_apart, interval_kinds, label_kinds, withdrawal_kinds}

@@ -15,7 +15,8 @@ use Rattle.foundation.specs.GraphFacts.{most-le, le-most}
 use Rattle.foundation.specs.BitMasks.{as_bit}
 use Rattle.model.specs.declared.Rule.{Rule}
 use Rattle.model.specs.Encoding.{rule_of}
-use Rattle.model.specs.Stratification.{precedes, weight_small}
+use Rattle.model.specs.Stratification.{precedes}
+use Rattle.model.proofs.FeedingLaws.{weight_small}
 use Rattle.rules.specs.RankTables.{RuleTable, count_of, own_count, raised}
 use Rattle.encoding.specs.Format.{rules_in, rule_at}
 use Rattle.rules.specs.Edges.{step_of, edge_at, EdgeRow, best_of}

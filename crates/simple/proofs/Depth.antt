@@ -13,10 +13,11 @@ use Rattle.model.specs.declared.Rule.{Rule}
 use Rattle.model.specs.declared.Pattern.{Pattern}
 use Rattle.model.specs.Base.{Base}
 use Rattle.model.specs.Stratification.{precedes}
-use Rattle.model.specs.Circles.{circular, circular-cyclic}
+use Rattle.model.specs.Circles.{circular}
+use Rattle.model.proofs.CirclePaths.{circular-cyclic}
 use Rattle.model.specs.Rules.{derives_for, right_of, asked}
-use Rattle.model.specs.SideFacts.{right_sign}
-use Rattle.model.specs.HoldsLaws.{PrecededOnly, fit_precedes, strictly_linked}
+use Rattle.model.proofs.SideFacts.{right_sign}
+use Rattle.model.proofs.HoldsLaws.{PrecededOnly, fit_precedes, strictly_linked}
 
 module _ (b : Base) where
   -- how many rules are on the longest path that ends in r,

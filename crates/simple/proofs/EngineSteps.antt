@@ -18,8 +18,9 @@ use Rattle.model.specs.declared.Pattern.{Pattern}
 use Rattle.model.specs.Base.{Base}
 use Rattle.model.specs.Stratification.{stratified}
 use Rattle.model.specs.Rules.{derives_for, right_of, asked, operate, holds}
-use Rattle.model.specs.RightFacts.{right_positive, right_denial}
-use Rattle.model.specs.HoldsLaws.{holding, holds-law, derived-law}
+use Rattle.model.proofs.RightFacts.{right_positive, right_denial}
+use Rattle.model.specs.Rules.{holding}
+use Rattle.model.proofs.HoldsLaws.{holds-law, derived-law}
 use Rattle.model.specs.Encoding.{rule_of, decode}
 use Rattle.encoding.specs.Format.{counts_of}
 use Rattle.encoding.proofs.FormatFacts.{decoded_rules}

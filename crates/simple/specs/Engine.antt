@@ -9,7 +9,7 @@ use Rattle.model.specs.Base.{Base}
 use Rattle.model.specs.Support.{live}
 use Rattle.model.specs.Circles.{circular}
 use Rattle.model.specs.Rules.{fact, fits, derives_for, holds}
-use Rattle.model.specs.HoldsLaws.{derived, holding}
+use Rattle.model.specs.Rules.{derived, holding}
 use Rattle.model.specs.Encoding.{decode}
 use Rattle.model.specs.Soundness.{sound_bytes}
 

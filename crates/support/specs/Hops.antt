@@ -6,7 +6,7 @@ use Rattle.foundation.specs.Intervals.{always}
 use Rattle.model.specs.declared.Head.{Head}
 use Rattle.model.specs.declared.Authorization.{Authorization}
 use Rattle.model.specs.Support.{root_in, supported, live}
-use Rattle.model.specs.SupportFacts.{hop}
+use Rattle.model.specs.Support.{hop}
 use Rattle.encoding.specs.Format.{privileges_in}
 
 -- who owns or administers, by n privileges and m

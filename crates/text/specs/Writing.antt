@@ -8,7 +8,7 @@ use Rattle.std.proofs.Math.Dec.{ltb}
 use Rattle.std.proofs.Math.ListN.{length-append}
 use Rattle.foundation.specs.Tests.{le-true, le-false, or_intro_left, or_true_right}
 use Rattle.model.specs.Step.{Row, row, first_number, refused_or}
-use Rattle.model.specs.StepFacts.{answered, turned_away}
+use Rattle.model.proofs.StepFacts.{answered, turned_away}
 use Rattle.model.specs.Text.{Line, newline, read_line}
 use Rattle.model.specs.Session.{byte_turn, turn_text, WrittenText, shortest_buffer, text_answer}
 use Rattle.text.specs.declared.TextReply.{TextReply}

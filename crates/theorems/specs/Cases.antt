@@ -16,7 +16,7 @@ use Rattle.model.specs.Requests.{takes, affects}
 use Rattle.model.specs.Rules.{fits, stands_for, derives_for, right_of, derived_below, holds, may_with}
 use Rattle.model.specs.Means.{Means, at_marks, keep_at, leave_at, restrict_at, gaps_at}
 use Rattle.model.specs.Questions.{Questions, read_at_marks, always_at, may_at_marks, when_at_marks}
-use Rattle.model.specs.MeansFacts.{same_means, same_questions}
+use Rattle.model.proofs.MeansFacts.{same_means, same_questions}
 use Rattle.model.specs.Text.{ascii, decimal, lines, read_line}
 use Rattle.model.specs.Session.{transcript, session}
 

@@ -13,7 +13,7 @@ use Rattle.model.specs.declared.Authorization.{Authorization}
 use Rattle.model.specs.Ranges.{last_instant}
 use Rattle.model.specs.Support.{supported, live}
 use Rattle.model.specs.Withdrawal.{authorization, pieces, keep, restrict}
-use Rattle.model.specs.SupportFacts.{live_append}
+use Rattle.model.proofs.SupportFacts.{live_append}
 use Rattle.model.specs.Ledger.{Entry, entry, standing_heads, keep_entries, settle, lines_of}
 use Rattle.laws.specs.KeepFacts.{live-pieces}
 use Rattle.laws.specs.Refinement.{refine_maximal, keep_append, keep-pieces}

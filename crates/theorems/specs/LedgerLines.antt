@@ -22,7 +22,8 @@ use Rattle.model.specs.Requests.{leave}
 use Rattle.model.specs.Requests.{root_after}
 use Rattle.model.specs.Means.{plainly}
 use Rattle.model.specs.Step.{refusal, effect}
-use Rattle.model.specs.StepFacts.{Accepted, accepted}
+use Rattle.model.specs.Step.{Accepted}
+use Rattle.model.proofs.StepFacts.{accepted}
 use Rattle.model.specs.Encoding.{encode, decode}
 use Rattle.model.specs.EncodingFacts.{decode-encode, encode-sound, empty_sound}
 use Rattle.model.specs.Soundness.{sound, sound_bytes}

@@ -1,4 +1,4 @@
--- Two sound bases that differ next door and agree on a block, meter 7: what the theorems of `Isolation` ask
+-- Two sound bases that differ next door and agree on a block, meter 7: what the theorems of `IsolatedReplies` ask
 -- for is there. `beside` has what `alone` has, and another clock and last label, a meter with its owner and
 -- administrator, a referrer, a line, and a rule that looks into the block.
 use Rattle.std.specs.Prelude.{◌≡◌, refl, Bool, true, false, [], ◌∷◌, ℕ, eqb}

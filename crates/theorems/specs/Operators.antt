@@ -13,12 +13,13 @@ use Rattle.model.specs.declared.Access.{Access}
 use Rattle.model.specs.declared.Pattern.{Pattern}
 use Rattle.model.specs.Base.{Base}
 use Rattle.model.specs.Support.{live}
-use Rattle.model.specs.SupportFacts.{live-mem}
+use Rattle.model.proofs.SupportFacts.{live-mem}
 use Rattle.model.specs.Stratification.{stratified}
 use Rattle.model.specs.Rules.{fact, fits, derives_for, right_of, asked, operate}
-use Rattle.model.specs.HoldsLaws.{derived, holding, holds-law, derived-law}
+use Rattle.model.specs.Rules.{derived, holding}
+use Rattle.model.proofs.HoldsLaws.{holds-law, derived-law}
 use Rattle.model.specs.Held.{ByAuthorization, Held}
-use Rattle.model.specs.HeldFacts.{held, right_held}
+use Rattle.model.proofs.HeldFacts.{held, right_held}
 
 -- a right side counts as held at u: it is held and, unless it is a denial itself, no denial of its access is
 abbrev pub CountsAsHeld : Base → ℕ → Pattern → Type 0

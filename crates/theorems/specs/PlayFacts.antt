@@ -10,13 +10,13 @@ use Rattle.model.specs.Base.{Base, empty_base}
 use Rattle.model.specs.Requests.{REVOKE, REVOKEP, REVOKEN, REVOKEADM, grants, labels, withdraws, takes}
 use Rattle.model.specs.Means.{plainly}
 use Rattle.model.specs.Step.{accepting, Outcome, refusal, effect, step, play}
-use Rattle.model.specs.StepFacts.{step-accepted, step-refused}
+use Rattle.model.proofs.StepFacts.{step-accepted, step-refused}
 use Rattle.model.specs.Encoding.{encode, decode}
 use Rattle.model.specs.EncodingFacts.{decode-encode, empty_sound}
 use Rattle.model.specs.Soundness.{sound}
 use Rattle.model.specs.Answers.{Answer, request, requests, label_of}
 use Rattle.model.specs.Survival.{after}
-use Rattle.model.specs.SurvivalFacts.{takes_eq}
+use Rattle.model.proofs.SurvivalFacts.{takes_eq}
 use Rattle.model.specs.Kinds.{grant_kinds, label_kinds, withdrawal_kinds, is_kinds, not_kind}
 use Rattle.laws.specs.SoundPrivileges.{last-stays}
 use Rattle.laws.specs.Preservation.{effect-sound}

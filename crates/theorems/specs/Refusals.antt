@@ -14,8 +14,8 @@ use Rattle.model.specs.Base.{Base, empty_base, exists}
 use Rattle.model.specs.Rules.{may, when}
 use Rattle.model.specs.Means.{plainly}
 use Rattle.model.specs.Step.{Row, row, first_number, refused_or, accepting, effect, earliest_gap}
-use Rattle.model.specs.StepFacts.{first-given, answered, turned_away, rising?, numbered}
-use Rattle.model.specs.StepFacts.{IsEarliest, earliest_gap_lem, earliest_one, none_given}
+use Rattle.model.proofs.StepFacts.{first-given, answered, turned_away, rising?, numbered}
+use Rattle.model.proofs.StepFacts.{IsEarliest, earliest_gap_lem, earliest_one, none_given}
 use Rattle.model.specs.Encoding.{size, encode, decode}
 use Rattle.model.specs.Soundness.{sound, sound_bytes}
 use Rattle.model.specs.SoundnessFacts.{sound_bytes_lem, decoded-sound}
@@ -23,14 +23,14 @@ use Rattle.model.specs.Answers.{Answer, answering, refusing, refusal_number, cre
 use Rattle.model.specs.Answers.{request}
 use Rattle.model.specs.Answers.{may_table, when_table, words, may_reply, may_answer, when_answer}
 use Rattle.model.specs.Simple.{simple_table, simple_answer}
-use Rattle.model.specs.SimpleFacts.{replied}
+use Rattle.model.proofs.SimpleFacts.{replied}
 use Rattle.model.specs.declared.Counted.TheVariants.{Count}
 use Rattle.model.specs.Counting.{Counting, counting, declining, counted_refusal}
 use Rattle.model.specs.Report.{is_on, report_of, report_table, report_answer}
 use Rattle.model.specs.ReportFacts.{report_length}
 use Rattle.model.specs.Text.{Line, order, asks_may, asks_when, unreadable}
 use Rattle.model.specs.Session.{pairs, when_list, byte_turn}
-use Rattle.model.specs.GrantFacts.{Barred, barred-instant}
+use Rattle.model.proofs.GrantFacts.{Barred, barred-instant}
 use Rattle.laws.specs.EarlyRows.{rows_until}
 use Rattle.laws.specs.SessionFacts.{when-most}
 use Rattle.laws.specs.RequestFacts.{reply_refusal, refused_with, uncovered_reply}

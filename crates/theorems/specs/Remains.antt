@@ -12,22 +12,24 @@ use Rattle.model.specs.declared.Head.{Head}
 use Rattle.model.specs.declared.Authorization.{Authorization}
 use Rattle.model.specs.declared.Request.{Request}
 use Rattle.model.specs.Base.{Base}
-use Rattle.model.specs.Support.{supported, supported-chain, live, root}
+use Rattle.model.specs.Support.{supported, live, root}
+use Rattle.model.proofs.SupportChains.{supported-chain}
 use Rattle.model.specs.Withdrawal.{restrict}
 use Rattle.model.specs.Requests.{GRANT, DENY, grants, withdraws, new_head, takes, leave, root_after}
 use Rattle.model.specs.Means.{plainly}
 use Rattle.model.specs.Step.{refusal, effect, step, play}
-use Rattle.model.specs.StepFacts.{Accepted, accepted as passed}
+use Rattle.model.specs.Step.{Accepted}
+use Rattle.model.proofs.StepFacts.{accepted as passed}
 use Rattle.model.specs.Encoding.{encode, decode}
 use Rattle.model.specs.EncodingFacts.{decode-encode}
 use Rattle.model.specs.Answers.{Answer, refusal_number, request}
 use Rattle.model.specs.Soundness.{sound}
 use Rattle.model.specs.SoundnessFacts.{Sound, sound_tests_lem}
-use Rattle.model.specs.SupportFacts.{live-last, live-old, live-new, chain_more}
+use Rattle.model.proofs.SupportFacts.{live-last, live-old, live-new, chain_more}
 use Rattle.model.specs.Survival.{Gives, grant, denial, after, Given, TakesBack, LosesAdministration, Stands}
 use Rattle.model.specs.Survival.{Behind}
 use Rattle.model.specs.Survival.{Survives, end, refused, accepted}
-use Rattle.model.specs.SurvivalFacts.{taken}
+use Rattle.model.proofs.SurvivalFacts.{taken}
 use Rattle.model.specs.Kinds.{grant_kinds, label_kinds, is_kinds}
 use Rattle.laws.specs.KeepFacts.{live-keep}
 use Rattle.laws.specs.SoundFacts.{all_supported_lem}

@@ -22,13 +22,14 @@ use Rattle.model.specs.Ranges.{is_object}
 use Rattle.model.specs.Base.{Base, privilege, is_privilege, listed, owns, administers, controls}
 use Rattle.model.specs.Stratification.{is_star}
 use Rattle.model.specs.Rules.{stands_on, stands_for}
-use Rattle.model.specs.SideFacts.{stands_is, stands_starred, stands_same}
+use Rattle.model.proofs.SideFacts.{stands_is, stands_starred, stands_same}
 use Rattle.model.specs.Requests.{ADDRULE, DROPRULE, REVOKEADM, REVOKEREF, is, new_rule, drops, without}
 use Rattle.model.specs.Means.{plainly}
 use Rattle.model.specs.declared.Term.TheVariants.{Any}
 use Rattle.model.specs.Step.{row, first_number, out_of_range, behind_clock, bad_interval, not_stratified, full}
 use Rattle.model.specs.Step.{refusal, effect, not_held, step, Outcome}
-use Rattle.model.specs.StepFacts.{Accepted, accepted, step-accepted, step-refused}
+use Rattle.model.specs.Step.{Accepted}
+use Rattle.model.proofs.StepFacts.{accepted, step-accepted, step-refused}
 use Rattle.model.specs.Kinds.{kind_is}
 use Rattle.model.specs.Soundness.{sound}
 use Rattle.model.specs.SoundnessFacts.{Sound, sound_tests_lem}

@@ -13,7 +13,7 @@ use Rattle.model.specs.Requests.{REVOKE, REVOKEP, REVOKEN, REVOKEADM, is, withdr
 use Rattle.model.specs.Means.{plainly}
 use Rattle.model.specs.Step.{effect}
 use Rattle.model.specs.SoundnessFacts.{Sound}
-use Rattle.model.specs.SurvivalFacts.{takes_eq}
+use Rattle.model.proofs.SurvivalFacts.{takes_eq}
 use Rattle.model.specs.Kinds.{is_apart}
 use Rattle.laws.specs.Restriction.{withdrawn_all}
 use Rattle.pieces.specs.declared.Cut.{Cut}

@@ -16,7 +16,7 @@ use Rattle.foundation.specs.Intervals.{maximal}
 use Rattle.model.specs.declared.Head.{Head}
 use Rattle.model.specs.declared.Authorization.{Authorization}
 use Rattle.model.specs.Support.{live}
-use Rattle.model.specs.SupportFacts.{live-mem}
+use Rattle.model.proofs.SupportFacts.{live-mem}
 use Rattle.model.specs.Withdrawal.{pieces, keep}
 use Rattle.laws.specs.KeepFacts.{Sorted}
 use Rattle.cover.specs.Cover.{want_of, wanted, covers, covered_by}

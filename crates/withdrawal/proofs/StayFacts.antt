@@ -13,13 +13,14 @@ use Rattle.foundation.specs.Lists.{anyb, keep_if, Mem, any_cong}
 use Rattle.foundation.specs.Intervals.{in_interval, maximal, maximal_unique}
 use Rattle.model.specs.declared.Head.{Head}
 use Rattle.model.specs.declared.Authorization.{Authorization}
-use Rattle.model.specs.Support.{supports, supported, supported-step, live}
+use Rattle.model.specs.Support.{supports, supported, live}
+use Rattle.model.proofs.SupportChains.{supported-step}
 use Rattle.model.specs.Withdrawal.{pieces, keep, restrict}
 use Rattle.laws.specs.KeepFacts.{intervals_of, live-keep}
 use Rattle.laws.specs.Refinement.{refine_maximal, keep_append, keep-pieces}
 use Rattle.cover.specs.declared.Want.{Want}
 use Rattle.cover.specs.Cover.{want_of, wanted, covered_by}
-use Rattle.model.specs.SupportFacts.{any_live}
+use Rattle.model.proofs.SupportFacts.{any_live}
 use Rattle.cover.proofs.CoverFacts.{supports-wanted}
 use Rattle.pieces.proofs.PartFacts.{wanted-before}
 use Rattle.withdrawal.specs.Stays.{stays, until_instant}

@@ -2,7 +2,7 @@ use Prim.Native.Nat.{◌<◌}
 use mathlib.Core.Path.{sym, ap, subst, ◌∙◌}
 use Rattle.model.specs.declared.Reply.{Reply}
 use Rattle.model.specs.Batch.{reply_byte, byte_for}
-use Rattle.model.specs.BatchFacts.{byte_small}
+use Rattle.model.proofs.BatchFacts.{byte_small}
 use Rattle.batch.proofs.byte_for.Goals as goal
 
 pub byte_of-requires : goal.byte_of-requires

@@ -8,7 +8,7 @@ use Rattle.model.specs.declared.Rule.{Rule}
 use Rattle.model.specs.Base.{Base, controls}
 use Rattle.model.specs.Encoding.{rule_of, decode}
 use Rattle.model.specs.Rules.{stands_for}
-use Rattle.model.specs.SideFacts.{stands_same}
+use Rattle.model.proofs.SideFacts.{stands_same}
 use Rattle.encoding.specs.Format.{rules_in}
 use Rattle.foundation.specs.RecordLoops.{any_starts, any_fails, any_passes, any_ends}
 use Rattle.direct.proofs.stands_some.Goals as goal

@@ -3,7 +3,7 @@ use mathlib.Core.Bool.{false, beq}
 use Rattle.foundation.specs.Tests.{and-false, not-true}
 use Rattle.model.specs.declared.Rule.{Rule}
 use Rattle.model.specs.Stratification.{meets, feeds}
-use Rattle.model.specs.SideFacts.{feeds_eq}
+use Rattle.model.proofs.SideFacts.{feeds_eq}
 use Rattle.rules.proofs.feeds.Goals as goal
 
 other_object : (q r : Rule) → meets q.left.object r.right.object ≡ false → false ≡ feeds q r

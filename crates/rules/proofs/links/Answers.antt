@@ -3,7 +3,7 @@ use mathlib.Core.Bool.{false, not, ◌&&◌}
 use Rattle.foundation.specs.Tests.{and-false, not-true}
 use Rattle.model.specs.declared.Rule.{Rule}
 use Rattle.model.specs.Stratification.{meets, links}
-use Rattle.model.specs.SideFacts.{links_eq}
+use Rattle.model.proofs.SideFacts.{links_eq}
 use Rattle.rules.proofs.links.Goals as goal
 
 other_object : (q r : Rule) → meets q.left.object r.right.object ≡ false → false ≡ links q r

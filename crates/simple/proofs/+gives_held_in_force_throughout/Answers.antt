@@ -13,7 +13,7 @@ use Rattle.model.specs.declared.Operator.TheVariants.{Whenever, AsLongAs, Whenev
 use Rattle.model.specs.Base.{Base}
 use Rattle.model.specs.Stratification.{stratified}
 use Rattle.model.specs.Rules.{derives_for, right_of, operate}
-use Rattle.model.specs.HoldsLaws.{holding}
+use Rattle.model.specs.Rules.{holding}
 use Rattle.model.specs.Encoding.{rule_of, decode}
 use Rattle.encoding.proofs.SoundBodies.{base-sound}
 use Rattle.foundation.specs.RecordLoops.{any_fails, any_passes, any_ends}

@@ -1,4 +1,4 @@
-use Rattle.model.specs.SideFacts.{stands_eq}
+use Rattle.model.proofs.SideFacts.{stands_eq}
 use Rattle.lookup.proofs.base.stands_for.Goals as goal
 
 pub returns-then-l-x : goal.returns-then-l-x

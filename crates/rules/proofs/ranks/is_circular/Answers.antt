@@ -1,6 +1,6 @@
 use mathlib.Core.Path.{sym, ap, ◌∙◌}
 use mathlib.Core.Bool.{not, not-not}
-use Rattle.model.specs.Circles.{circular-cyclic}
+use Rattle.model.proofs.CirclePaths.{circular-cyclic}
 use Rattle.encoding.specs.Format.{rules_in}
 use Rattle.rules.proofs.ranks.is_circular.Goals as goal
 

@@ -5,7 +5,8 @@ use native.Mathlib.Omega.{arith}
 use Rattle.foundation.specs.Tests.{pick, not-true, not-false}
 use Rattle.foundation.specs.BitMasks.{as_bit, bit_le}
 use Rattle.model.specs.declared.Rule.{Rule}
-use Rattle.model.specs.Stratification.{feeds, links, weight, precedes_either, weight_is}
+use Rattle.model.specs.Stratification.{feeds, links, weight}
+use Rattle.model.proofs.FeedingLaws.{precedes_either, weight_is}
 use Rattle.rules.specs.RankTables.{count_of}
 use Rattle.rules.specs.Edges.{step_of}
 use Rattle.rules.proofs.ranks.step_of.Goals as goal

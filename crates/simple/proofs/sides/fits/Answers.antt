@@ -1,4 +1,4 @@
-use Rattle.model.specs.SideFacts.{fits_eq}
+use Rattle.model.proofs.SideFacts.{fits_eq}
 use Rattle.simple.proofs.sides.fits.Goals as goal
 
 pub returns : goal.returns

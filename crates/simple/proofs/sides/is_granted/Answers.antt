@@ -12,7 +12,7 @@ use Rattle.model.specs.Support.{live}
 use Rattle.model.specs.Rules.{fits}
 use Rattle.encoding.specs.Format.{counts_of}
 use Rattle.encoding.proofs.FormatFacts.{decoded-authorizations}
-use Rattle.model.specs.SupportFacts.{any_live}
+use Rattle.model.proofs.SupportFacts.{any_live}
 use Rattle.foundation.specs.RecordLoops.{any_starts, any_fails, any_passes, any_ends}
 use Rattle.simple.specs.Stored.{lines_from}
 use Rattle.simple.proofs.sides.is_granted.Invariants.{gives}

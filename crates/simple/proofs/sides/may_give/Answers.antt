@@ -1,4 +1,4 @@
-use Rattle.model.specs.SideFacts.{derives_eq}
+use Rattle.model.proofs.SideFacts.{derives_eq}
 use Rattle.simple.proofs.sides.may_give.Goals as goal
 
 pub returns : goal.returns

@@ -1,4 +1,4 @@
-use Rattle.model.specs.SideFacts.{right_eq}
+use Rattle.model.proofs.SideFacts.{right_eq}
 use Rattle.simple.proofs.sides.right_of.Goals as goal
 
 pub returns : goal.returns

@@ -19,8 +19,8 @@ use Rattle.model.specs.Base.{Base}
 use Rattle.model.specs.Support.{same_object_and_mode}
 use Rattle.model.specs.Requests.{REVOKE, REVOKEP, REVOKEN, REVOKEADM, is, names, takes, affects}
 use Rattle.model.specs.Step.{not_permitted}
-use Rattle.model.specs.StepFacts.{Accepted}
-use Rattle.model.specs.SupportFacts.{live-mem}
+use Rattle.model.specs.Step.{Accepted}
+use Rattle.model.proofs.SupportFacts.{live-mem}
 use Rattle.model.specs.Survival.{TakesBack, label, grant, denial, LosesAdministration, administration}
 use Rattle.model.specs.Survival.{Stands}
 

@@ -15,10 +15,10 @@ use Rattle.model.specs.declared.Access.{Access}
 use Rattle.model.specs.Base.{Base}
 use Rattle.model.specs.Stratification.{is_star, stratum}
 use Rattle.model.specs.Rules.{Pattern, Fact, fact, right_of, enough}
-use Rattle.model.specs.RightFacts.{right_cong, operate_cong}
+use Rattle.model.proofs.RightFacts.{right_cong, operate_cong}
 use Rattle.model.specs.Means.{all_marks}
-use Rattle.model.specs.HoldsSteady.{marks-length, rule_marks-length, Stead, holds_cong}
-use Rattle.model.specs.HoldsSteady.{holds_from, right_from, round_from}
+use Rattle.model.proofs.HoldsSteady.{marks-length, rule_marks-length, Stead, holds_cong}
+use Rattle.model.proofs.HoldsSteady.{holds_from, right_from, round_from}
 
 abbrev access : ℕ → ℕ → ℕ → Access
 access s m o = record { subject = s; mode = m; object = o }

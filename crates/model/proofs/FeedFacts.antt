@@ -12,8 +12,8 @@ use Rattle.model.specs.declared.Access.{Access}
 use Rattle.model.specs.Base.{Base, privilege, controls}
 use Rattle.model.specs.Stratification.{is_star, meets, fits_option, feeds, links}
 use Rattle.model.specs.Rules.{fits_grantor, right_of, stands_for, derives_for, asked}
-use Rattle.model.specs.SideFacts.{feeds_is, stands_is, fit_feeds, feeds_fit, links_is, fit_links}
-use Rattle.model.specs.SideFacts.{links_fit}
+use Rattle.model.proofs.SideFacts.{feeds_is, stands_is, fit_feeds, feeds_fit, links_is, fit_links}
+use Rattle.model.proofs.SideFacts.{links_fit}
 
 -- ---- field by field
 

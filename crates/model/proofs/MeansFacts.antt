@@ -18,7 +18,7 @@ use Rattle.model.specs.Means.{gaps_at}
 use Rattle.model.specs.Questions.{as_defined, read_at_marks}
 use Rattle.model.specs.Step.{step_by, step}
 use Rattle.model.specs.SupportMarks.{interval_steady, live_steady, supported_steady}
-use Rattle.model.specs.HoldsMarks.{may-marks, when-marks}
+use Rattle.model.proofs.HoldsMarks.{may-marks, when-marks}
 
 -- ---- withdrawals
 

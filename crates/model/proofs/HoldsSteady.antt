@@ -18,7 +18,7 @@ use Rattle.model.specs.Rules.{Pattern, Fact, fact, fits, derives_for, right_of, 
 use Rattle.model.specs.Rules.{derives, round, derived_below}
 use Rattle.model.specs.Means.{boundaries, marks_of, rule_marks, all_marks}
 use Rattle.model.specs.SupportMarks.{interval_steady, live_steady}
-use Rattle.model.specs.RightFacts.{right_mono, right_steady, operate_steady, operate_mono}
+use Rattle.model.proofs.RightFacts.{right_mono, right_steady, operate_steady, operate_mono}
 
 -- ---- marks
 

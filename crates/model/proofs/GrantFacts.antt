@@ -13,7 +13,7 @@ use Rattle.model.specs.declared.Authorization.{Authorization}
 use Rattle.model.specs.declared.Request.{Request}
 use Rattle.model.specs.Base.{Base, privilege, is_privilege, listed, owns, administers, controls}
 use Rattle.model.specs.Support.{gaps}
-use Rattle.model.specs.SupportFacts.{earliest_gaps}
+use Rattle.model.proofs.SupportFacts.{earliest_gaps}
 use Rattle.model.specs.Requests.{GRANT, DENY, grants, new_head}
 use Rattle.model.specs.Means.{plainly}
 use Rattle.model.specs.Kinds.{grant_kinds, interval_kinds, is_kinds}
@@ -21,7 +21,7 @@ use Rattle.model.specs.Soundness.{starts_first}
 use Rattle.model.specs.SoundnessFacts.{Sound}
 use Rattle.model.specs.Step.{names_interval, bad_interval, denies, bars, barred, not_supported}
 use Rattle.model.specs.Step.{earliest_gap}
-use Rattle.model.specs.StepFacts.{IsEarliest, earliest_gap_lem}
+use Rattle.model.proofs.StepFacts.{IsEarliest, earliest_gap_lem}
 
 -- the privilege is not on the list
 abbrev pub Unlisted : List Privilege → ℕ → ℕ → Type 0

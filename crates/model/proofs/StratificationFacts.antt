@@ -1,6 +1,6 @@
 -- Theorem 3: forbidden circles and ranks in the papers' words: by feeding, links, and which rules have a
 -- WHENEVERNOT or UNLESS (`negates-is`). `label-free`: a rule's label does not matter for them.
-use Rattle.std.specs.Prelude.{◌≡◌, refl, ◌↔◌, ◌⊎◌, ℕ, ◌+◌, ◌*◌, ◌≤◌, ◌<◌, Bool, true, false, ◌||◌, List, [], ◌∷◌, ◌++◌, map, length}
+use Rattle.std.specs.Prelude.{◌≡◌, refl, ◌↔◌, ◌⊎◌, ℕ, ◌+◌, ◌*◌, ◌≤◌, ◌<◌, Bool, true, false, List, [], ◌∷◌, ◌++◌, map, length}
 use Rattle.std.proofs.Common.{sym, ◌∙◌, ⊎_elim, true≢false}
 use Rattle.std.proofs.Math.Path.{ap, subst}
 use Rattle.std.proofs.Math.Logic.{inl, inr}
@@ -17,8 +17,9 @@ use Rattle.model.specs.declared.Operator.TheVariants.{Whenever, AsLongAs, Whenev
 use Rattle.model.specs.declared.Rule.{Rule}
 use Rattle.model.specs.Stratification.{feeds, links, precedes, negating, negates, weight, stratified}
 use Rattle.model.specs.Stratification.{stratum}
-use Rattle.model.specs.Stratification.{precedes_either, links-precedes, weight_is, heavy_either}
-use Rattle.model.specs.Stratification.{weight_small, negates-heavy, links-heavy}
+use Rattle.model.proofs.FeedingLaws.{precedes_either, links-precedes, weight_is, heavy_either}
+use Rattle.model.proofs.FeedingLaws.{weight_small, negates-heavy, links-heavy}
+use Rattle.model.specs.Stratification.{leads, FeedingPath, unlabelled}
 
 -- 01: "a WHENEVERNOT or UNLESS"
 pub negates_is : (r : Rule) → (negates r ≡ true) ↔ ((r.operator ≡ WheneverNot) ⊎ (r.operator ≡ Unless))
@@ -29,14 +30,6 @@ negates_is r = (there r.operator, ⊎_elim (λ e. ap negating e) (λ e. ap negat
     there AsLongAs e = absurd (true≢false (sym e))
     there WheneverNot e = inl refl
     there Unless e = inr refl
-
--- 01's feeding, or 02's link
-abbrev pub leads : Rule → Rule → Bool
-leads q r = feeds q r || links q r
-
--- a path: each rule feeds the next, or links to it
-abbrev pub FeedingPath : List Rule → Rule → Rule → Type 0
-FeedingPath rules q r = Path leads leads rules q r
 
 -- a path that ends in the rule; what it counts: the WHENEVERNOT and UNLESS rules on it, both ends included,
 -- and the links on it
@@ -172,18 +165,6 @@ module _ (rules : List Rule) where
     stratum-few r m = laws.few r m
 
 -- ---- labels do not matter
-
-abbrev pub unlabelled : Rule → Rule
-unlabelled r = record {
-  label = 0;
-  author = r.author;
-  left = r.left;
-  operator = r.operator;
-  right = r.right;
-  grantor = r.grantor;
-  option = r.option;
-  interval = r.interval;
-}
 
 unlabelled_same : (rules : List Rule) → stratified (map unlabelled rules) ≡ stratified rules
 unfolding stratified precedes feeds links weight

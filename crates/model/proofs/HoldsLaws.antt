@@ -12,15 +12,17 @@ use Rattle.model.specs.declared.Operator.TheVariants.{Whenever, AsLongAs, Whenev
 use Rattle.model.specs.declared.Access.{Access}
 use Rattle.model.specs.Base.{Base}
 use Rattle.model.specs.Support.{live}
-use Rattle.model.specs.Stratification.{precedes, negating, weight, stratified, stratum, feeds-precedes}
-use Rattle.model.specs.Stratification.{links-precedes, negates-heavy, links-heavy}
+use Rattle.model.specs.Stratification.{precedes, negating, weight, stratified, stratum}
+use Rattle.model.proofs.FeedingLaws.{feeds-precedes}
+use Rattle.model.proofs.FeedingLaws.{links-precedes, negates-heavy, links-heavy}
 use Rattle.model.specs.Rules.{Pattern, Fact, fact, fits, derives_for, right_of, right_holds, operate}
 use Rattle.model.specs.Rules.{asked, holds_by, derives, derived_below, holds}
-use Rattle.model.specs.SideFacts.{fit_feeds, fit_links}
-use Rattle.model.specs.RightFacts.{right_own}
-use Rattle.model.specs.HoldsSteady.{below}
-use Rattle.model.specs.HoldsFacts.{closed}
-use Rattle.model.specs.StratificationFacts.{feeder_not-above, feeder_below, stratum-few}
+use Rattle.model.proofs.SideFacts.{fit_feeds, fit_links}
+use Rattle.model.proofs.RightFacts.{right_own}
+use Rattle.model.proofs.HoldsSteady.{below}
+use Rattle.model.proofs.HoldsFacts.{closed}
+use Rattle.model.proofs.StratificationFacts.{feeder_not-above, feeder_below, stratum-few}
+use Rattle.model.specs.Rules.{derived, holding}
 
 -- what fits a rule's right side is derived by a rule that it looks at
 pub fit_precedes : (base : Base) (q r : Rule) (x : Access) → derives_for base (right_of r x) q ≡ true →
@@ -72,18 +74,10 @@ operate_settled Unless f g h p q a t = always_cong a t (λ u. not (g u)) (λ u. 
     (λ u. ap not (q refl u))
 
 module _ (base : Base) where
-  -- what the rules derive, all strata together
-  abbrev pub derived : Fact → Bool
-  derived = derived_below always base (suc (2 * length base.rules))
-
-  -- what counts as held on a right side at u
-  abbrev pub holding : ℕ → Pattern → Bool
-  holding u p = right_holds (holds always base u) (holds always base u) p
-
   -- 01: "Held means given by a line or by a rule, denied or not"
   pub holds-law : (t : ℕ) (p : Pattern) → holds always base t p
       ≡ anyb (fits p) (live t base.authorizations)
-      || anyb (λ r. derives_for base p r && derived (fact r p.access t)) base.rules
+      || anyb (λ r. derives_for base p r && derived base (fact r p.access t)) base.rules
   unfolding holds
   holds-law t p = refl
 
@@ -103,7 +97,7 @@ module _ (base : Base) where
 
   -- so what a rule derives is settled with its stratum
   pub settled_at : (k : ℕ) (x : Fact) → Mem x.rule base.rules → stratum base.rules x.rule < k →
-      k ≤ suc (2 * length base.rules) → derived x ≡ derived_below always base k x
+      k ≤ suc (2 * length base.rules) → derived base x ≡ derived_below always base k x
   settled_at k x m h l = below_upto k (suc (2 * length base.rules)) x m h l
 
   -- a stratum is closed under its rules
@@ -127,9 +121,9 @@ module _ (base : Base) where
 
   pub holds_same : (S : Fact → Bool) (t : ℕ) (p : Pattern) →
       ((r : Rule) → Mem r base.rules → derives_for base p r ≡ true →
-      derived (fact r p.access t) ≡ S (fact r p.access t)) →
+      derived base (fact r p.access t) ≡ S (fact r p.access t)) →
       holds_by always base S t p ≡ holds always base t p
-  holds_same S t p h = holds_fit S derived t p (λ r m e. sym (h r m e)) ∙ sym (holds-law t p)
+  holds_same S t p h = holds_fit S (derived base) t p (λ r m e. sym (h r m e)) ∙ sym (holds-law t p)
 
   module _ (s : stratified base.rules ≡ true) where
     module _ (r : Rule) (m : Mem r base.rules) where
@@ -153,9 +147,9 @@ module _ (base : Base) where
     -- 01, the operators: a rule derives its left side at the instants of its interval where its operator
     -- allows it, the right side being looked at in all that holds, of whatever stratum
     pub derived-law : (r : Rule) → Mem r base.rules → (x : Access) (t : ℕ) →
-        derived (fact r x t)
+        derived base (fact r x t)
         ≡ in_interval r.interval t
-        && operate always r.operator (λ u. holding u (right_of r x)) (λ u. holding u (right_of r x))
+        && operate always r.operator (λ u. holding base u (right_of r x)) (λ u. holding base u (right_of r x))
         r.interval.start t
     derived-law r m x t =
         let n = stratum base.rules r in
@@ -166,7 +160,7 @@ module _ (base : Base) where
         settled_at (suc n) (fact r x t) m (omega arith) (omega (arith, stratum-few base.rules s r m))
         ∙ at_stratum n (fact r x t) m refl
         ∙ ap (λ (b : Bool). in_interval r.interval t && b) (operate_settled r.operator
-        (λ u. right_holds (now u) (before u) p) (λ u. right_holds (before u) (before u) p) (λ u. holding u p)
+        (λ u. right_holds (now u) (before u) p) (λ u. right_holds (before u) (before u) p) (λ u. holding base u p)
         (λ u. right_settled base r x (now u) (before u) (all u) (fed_settled r m u) (strictly_settled r m u))
         (λ g u. right_settled base r x (before u) (before u) (all u)
         (λ p h. strictly_settled r m u p (strictly_fed base r g p h)) (strictly_settled r m u))

@@ -17,8 +17,8 @@ use Rattle.model.specs.Base.{Base}
 use Rattle.model.specs.Stratification.{stratum}
 use Rattle.model.specs.Rules.{Fact, fact, round, enough, derived_below}
 use Rattle.model.specs.Means.{all_marks}
-use Rattle.model.specs.HoldsSteady.{Stead, Subset, round_from, below, round_steady, round_mono}
-use Rattle.model.specs.HoldsKeys.{keys, keys_enough, in_keys, round_local}
+use Rattle.model.proofs.HoldsSteady.{Stead, Subset, round_from, below, round_steady, round_mono}
+use Rattle.model.proofs.HoldsKeys.{keys, keys_enough, in_keys, round_local}
 
 module _ (base : Base) where
   -- steady, and a part of what one more round makes of it

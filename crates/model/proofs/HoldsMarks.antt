@@ -22,10 +22,10 @@ use Rattle.model.specs.Rules.{Pattern, Fact, fact, right_of, operate, holds_by, 
 use Rattle.model.specs.Rules.{derived_below, holds, asked, may, when}
 use Rattle.model.specs.Means.{marks_of, rule_marks, all_marks}
 use Rattle.model.specs.Questions.{always_at, may_at_marks, when_at_marks}
-use Rattle.model.specs.RightFacts.{right_cong}
-use Rattle.model.specs.HoldsSteady.{marks-length, rule_marks-length, Stead, holds_cong, holds_steady}
-use Rattle.model.specs.HoldsSteady.{right_from, below, right_by_steady}
-use Rattle.model.specs.HoldsFacts.{rounds, rounds_steady, below_steady}
+use Rattle.model.proofs.RightFacts.{right_cong}
+use Rattle.model.proofs.HoldsSteady.{marks-length, rule_marks-length, Stead, holds_cong, holds_steady}
+use Rattle.model.proofs.HoldsSteady.{right_from, below, right_by_steady}
+use Rattle.model.proofs.HoldsFacts.{rounds, rounds_steady, below_steady}
 
 -- ---- `always` at marks
 

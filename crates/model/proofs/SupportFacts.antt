@@ -1,6 +1,6 @@
 -- What supports what: more roots and heads support more, the supported support one another, and one hop is
 -- enough (theorem 2, second half: `one-hop`). A chain stays on one object and mode (`chain-local`).
-use Rattle.std.specs.Prelude.{◌≡◌, refl, ◌⊎◌, ◌↔◌, ℕ, zero, suc, ◌≤◌, ◌<◌, Bool, true, false, ◌&&◌, ◌||◌, List, [], ◌∷◌, ◌++◌}
+use Rattle.std.specs.Prelude.{◌≡◌, refl, ◌⊎◌, ◌↔◌, ℕ, zero, suc, ◌≤◌, ◌<◌, Bool, true, false, ◌&&◌, List, [], ◌∷◌, ◌++◌}
 use Rattle.std.proofs.Common.{sym, ◌∙◌, inl, inr, ⊎_elim, arith}
 use Rattle.std.proofs.Math.Path.{ap}
 use Rattle.std.proofs.Math.Bool.{not}
@@ -15,9 +15,12 @@ use Rattle.foundation.specs.Intervals.{in_interval, in_interval-true, in_interva
 use Rattle.foundation.specs.Intervals.{all_always, first_start, maximal_first, first_one}
 use Rattle.model.specs.declared.Head.{Head}
 use Rattle.model.specs.declared.Authorization.{Authorization}
-use Rattle.model.specs.Support.{supports, supports-rises, supports-object, supports-mode, supported}
-use Rattle.model.specs.Support.{supported-chain, supported-step, Chain, first, then, live, covered_for}
+use Rattle.model.specs.Support.{supports, supported}
+use Rattle.model.proofs.SupportChains.{supports-rises, supports-object, supports-mode}
+use Rattle.model.proofs.SupportChains.{supported-chain, supported-step}
+use Rattle.model.specs.Support.{Chain, first, then, live, covered_for}
 use Rattle.model.specs.Support.{gaps}
+use Rattle.model.specs.Support.{hop}
 
 -- ---- the heads that cover an instant
 
@@ -119,10 +122,6 @@ still root heads (then {k} c m s) =
     (keep_if-mem (λ x. supported root heads x) heads k m ((supported-chain root heads k).1 c)) s
 
 -- ---- one hop is enough
-
--- a root, or a head that covers t and may stand directly before h
-abbrev pub hop : (Head → Bool) → List Authorization → Head → ℕ → Bool
-hop root xs h t = root h || anyb (λ k. supports k h) (live t xs)
 
 module _ (root : Head → Bool) (xs : List Authorization) where
   pub supported-hop : (h : Head) (t : ℕ) → supported root (live t xs) h ≡ true → hop root xs h t ≡ true

@@ -16,15 +16,15 @@ use Rattle.model.specs.declared.Operator.TheVariants.{Whenever, AsLongAs, Whenev
 use Rattle.model.specs.declared.Access.{Access}
 use Rattle.model.specs.Base.{Base}
 use Rattle.model.specs.Support.{live}
-use Rattle.model.specs.SupportFacts.{mem-live, live-mem}
+use Rattle.model.proofs.SupportFacts.{mem-live, live-mem}
 use Rattle.model.specs.Stratification.{stratified, stratum}
-use Rattle.model.specs.StratificationFacts.{stratum-few}
+use Rattle.model.proofs.StratificationFacts.{stratum-few}
 use Rattle.model.specs.Rules.{Pattern, Fact, fact, fits, derives_for, right_of, right_holds, operate}
 use Rattle.model.specs.Rules.{holds_by, derives, enough, derived_below, holds, asked, may_with, may}
-use Rattle.model.specs.RightFacts.{right_is}
-use Rattle.model.specs.HoldsSteady.{holds_from, below}
-use Rattle.model.specs.HoldsFacts.{rounds, rounds-below, below-stratum, closed}
-use Rattle.model.specs.HoldsLaws.{settled_at, at_stratum}
+use Rattle.model.proofs.RightFacts.{right_is}
+use Rattle.model.proofs.HoldsSteady.{holds_from, below}
+use Rattle.model.proofs.HoldsFacts.{rounds, rounds-below, below-stratum, closed}
+use Rattle.model.proofs.HoldsLaws.{settled_at, at_stratum}
 use Rattle.model.specs.Held.{ByAuthorization, Undenied, Applies, HeldUpTo, HeldBelow, Held}
 use Rattle.model.specs.Held.{lower, whenever, as_long_as, whenever_not, unless}
 

@@ -11,8 +11,8 @@ use Rattle.model.specs.declared.Reply.{Reply}
 use Rattle.model.specs.declared.Reply.TheVariants.{Refused}
 use Rattle.model.specs.Rules.{may}
 use Rattle.model.specs.Step.{Row, row, first_number}
-use Rattle.model.specs.StepFacts.{first_all, first-given, first_none, numbered, by_rows, answered}
-use Rattle.model.specs.StepFacts.{turned_away}
+use Rattle.model.proofs.StepFacts.{first_all, first-given, first_none, numbered, by_rows, answered}
+use Rattle.model.proofs.StepFacts.{turned_away}
 use Rattle.model.specs.Encoding.{decode}
 use Rattle.model.specs.Soundness.{sound_bytes}
 use Rattle.model.specs.Ranges.{is_instant}

@@ -11,16 +11,14 @@ use Rattle.model.specs.declared.Request.{Request}
 use Rattle.model.specs.declared.Reply.TheVariants.{Refused, Unsupported}
 use Rattle.model.specs.Base.{Base, controls}
 use Rattle.model.specs.Support.{gaps}
-use Rattle.model.specs.SupportFacts.{Earliest, gaps_earliest, earliest_only}
+use Rattle.model.proofs.SupportFacts.{Earliest, gaps_earliest, earliest_only}
 use Rattle.model.specs.Requests.{grants, new_head}
 use Rattle.model.specs.Means.{Means, plainly}
-use Rattle.model.specs.Step.{Row, first_number, range_tests, out_of_range, behind_clock, bad_interval}
-use Rattle.model.specs.Step.{no_object}
-use Rattle.model.specs.Step.{no_label, not_permitted, barred, not_supported, already_there, not_held}
-use Rattle.model.specs.Step.{not_stratified}
-use Rattle.model.specs.Step.{full}
+use Rattle.model.specs.Step.{Row, first_number, range_tests, out_of_range}
+use Rattle.model.specs.Step.{not_supported}
 use Rattle.model.specs.Step.{table, refusal, refused_or, accepting, effect, Outcome, step}
 use Rattle.model.specs.Step.{earliest_gap, refusal_reply}
+use Rattle.model.specs.Step.{Accepted}
 
 -- ---- the first row that applies
 
@@ -124,21 +122,6 @@ first_lowest n (s ∷ rest) up r m g =
 pub table-order : (M : Means) (b : Base) (q : Request) →
     map (λ r. r.number) (table M b q) ≡ 3 ∷ 4 ∷ 5 ∷ 6 ∷ 7 ∷ 8 ∷ 14 ∷ 9 ∷ 10 ∷ 11 ∷ 12 ∷ 13 ∷ []
 table-order M b q = refl
-
--- every row passed
-pub record Accepted (b : Base) (q : Request) : Type 0 where
-  pub range : out_of_range q ≡ false
-  pub clock : behind_clock b q ≡ false
-  pub interval : bad_interval q ≡ false
-  pub object : no_object b q ≡ false
-  pub label : no_label b q ≡ false
-  pub permitted : not_permitted b q ≡ false
-  pub unbarred : barred b q ≡ false
-  pub support : not_supported plainly b q ≡ false
-  pub fresh : already_there b q ≡ false
-  pub held : not_held b q ≡ false
-  pub strata : not_stratified b q ≡ false
-  pub room : full plainly b q ≡ false
 
 pub accepted : (b : Base) (q : Request) → refusal plainly b q ≡ 0 → Accepted b q
 accepted b q z =

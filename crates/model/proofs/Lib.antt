@@ -1,0 +1,22 @@
+-- Theorems of the definitions in specs/ that a must-fail edit changes, and those that rest on such theorems.
+pub mod RightFacts
+pub mod SideFacts
+pub mod FeedFacts
+pub mod StratificationFacts
+pub mod HoldsSteady
+pub mod HoldsKeys
+pub mod HoldsFacts
+pub mod HoldsLaws
+pub mod HoldsMarks
+pub mod HeldFacts
+pub mod SupportFacts
+pub mod StepFacts
+pub mod GrantFacts
+pub mod MeansFacts
+pub mod BatchFacts
+pub mod SimpleFacts
+pub mod SurvivalFacts
+pub mod FeedingLaws
+pub mod SupportChains
+pub mod LostInstants
+pub mod CirclePaths
