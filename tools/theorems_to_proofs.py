@@ -52,7 +52,7 @@ SPLIT = {
             right_inside direct_same alike holds_same may_same when_same sb sc may_isolated when_isolated byte_isolated
             bytes_isolated refusal_isolated batch_isolated may-text when-text may-code when-code batch-code g may_estate when_estate
             batch_estate'''.split(),
-        given={'block': 'share Agree RightsInside Closed Whole'.split()}),
+        given={'block': 'Agree RightsInside Closed Whole'.split()}),
 }
 
 # definitions of the modules above that a contract or a definition of specs/ leans on: where they stand in specs/ then, under which
@@ -60,7 +60,7 @@ SPLIT = {
 LIFTED = {
     ('model', 'StepFacts'): dict(to='Step', names=['Accepted'], head='-- ---- a request that is accepted'),
     ('model', 'SupportFacts'): dict(to='Support', names=['hop'], head='-- ---- one hop'),
-    ('model', 'StratificationFacts'): dict(to='Stratification', names=['leads', 'FeedingPath', 'unlabelled'],
+    ('model', 'StratificationFacts'): dict(to='Stratification', names=['leads', 'FeedingPath', 'FeedingWalk', 'unlabelled'],
                                            head='-- ---- paths of feeding; a rule but for its label'),
     ('model', 'HoldsLaws'): dict(to='Rules', names=['derived', 'holding'], head='-- ---- what holds at last', given='base',
                                  but=('holds_fit S derived base t p', 'holds_fit S (derived base) t p')),
@@ -105,6 +105,10 @@ TEXT = [
     ('docs/ESTATES.md', 'The theorems are in `crates/theorems/specs/Isolation.antt`; its definitions come first there and fill a page.',
      'The definitions are in `crates/theorems/specs/Isolation.antt` and fill a page; the theorems are in\n'
      '`crates/theorems/proofs/IsolatedReplies.antt`.'),
+    ('docs/DECISIONS.md', '196. **`foundation`, `model` and `laws` keep lemmas in specs/**: they have no code of their own, and others rest on their laws.',
+     '196. **`foundation`, `model` and `laws` keep lemmas in specs/**: they have no code of their own, and others rest on their laws. But what '
+     'falls with a must-fail edit of a definition, and what rests on it, stands in proofs/ of `model` and `theorems` (PORT.md lists it), since '
+     'an edit with which a theorem in specs/ falls that has dependants there cannot be read.'),
     ('README.md', 'definition in `crates/model/specs/` and the theorem that reads it.',
      'definition in `crates/model/specs/` and the theorem that reads it, there or in `crates/model/proofs/`.'),
 ]
@@ -441,17 +445,18 @@ def listed():
     split = [(c, m, s['to'], s) for (c, m), s in SPLIT.items()]
     out = [HEADING, '''
 An edit of a definition reads as one that cannot be read where a theorem in specs/ falls on which another in specs/ rests. So
-the theorems below, all of `model` and `theorems` that such an edit makes fall or that rest on one of these, stand in proofs/ of
-their crate (`pub`, so that other crates name them as before, as `Rattle.model.proofs.M`), and each edit stands where it stood.
-None is gone, and none has another name. Statements and proofs are word for word what they were, but for one thing: a definition
-that a theorem had beside it in a `module _` and that stays in specs/ takes that block's parameter as an argument that is written
-out. So it is with `Agree`, `RightsInside`, `Closed`, `Whole` and `share` of the block in `IsolatedReplies` (`Agree block b c` for
-`Agree b c`) and with `derived` and `holding` of the base in `HoldsLaws`. Definitions that a contract or a definition of specs/
-leans on stay in specs/, among them some that stood beside the theorems: @LIFTED@. No definition had to become
-`unfoldable`. tools/theorems_to_proofs.py moved all of it, and wrote this list from the files. A theorem inside a `module _` takes
-the parameters of that line first.
+the modules of `model` and `theorems` that have theorems which such an edit makes fall, or which rest on these, stand in proofs/ of
+their crate, and each edit stands where it stood. Those that are `pub` are named by other crates as `Rattle.model.proofs.M.t`; the
+others are steps of their module's proofs. None is gone, and none has another name. Statements and proofs are word for word what
+they were, but for one thing: a definition that a theorem had beside it in a `module _` and that stays in specs/ takes that block's
+parameter as an argument that is written out, where before it was understood, and is the same term. So it is with `Agree`,
+`RightsInside`, `Closed` and `Whole` of the block in `IsolatedReplies` (`Agree block b c` for `Agree b c`) and with `derived` and
+`holding` of the base in `HoldsLaws`. Definitions that a contract or a definition of specs/ leans on stay in specs/. Some of them
+stood beside the theorems, and stand beside other definitions now, word for word: @LIFTED@.
+No definition had to become `unfoldable`. tools/theorems_to_proofs.py moved all of it, and wrote this list from the files. A theorem
+inside a `module _` takes the parameters of that line first.
 ''']
-    out[-1] = out[-1].replace('@LIFTED@', '; '.join(f"{', '.join(f'`{n}`' for n in s['names'])}, now in `{s['to']}`" for s in LIFTED.values()))
+    out[-1] = out[-1].replace('@LIFTED@', '; '.join(f"{', '.join(f'`{n}`' for n in s['names'])} in `{s['to']}`" for s in LIFTED.values()))
     for crate, m, to, s in whole + split:
         _, _, its = parts(read(path('crates', crate, 'proofs', to + '.antt')))
         theorems = statements(its, lambda it: not it.kind)

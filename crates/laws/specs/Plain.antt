@@ -8,7 +8,8 @@ use Rattle.foundation.specs.BitMasks.{as_bit}
 use Rattle.foundation.specs.Graph.{alone, then}
 use Rattle.model.specs.declared.Rule.{Rule}
 use Rattle.model.specs.Stratification.{negates, links, stratum}
-use Rattle.model.proofs.StratificationFacts.{FeedingWalk, stratum-walk}
+use Rattle.model.specs.Stratification.{FeedingWalk}
+use Rattle.model.proofs.StratificationFacts.{stratum-walk}
 use Rattle.model.proofs.SideFacts.{links_is}
 
 -- no step to the rule or from it counts

@@ -1,6 +1,6 @@
 -- Theorem 3: forbidden circles and ranks in the papers' words: by feeding, links, and which rules have a
 -- WHENEVERNOT or UNLESS (`negates-is`). `label-free`: a rule's label does not matter for them.
-use Rattle.std.specs.Prelude.{◌≡◌, refl, ◌↔◌, ◌⊎◌, ℕ, ◌+◌, ◌*◌, ◌≤◌, ◌<◌, Bool, true, false, List, [], ◌∷◌, ◌++◌, map, length}
+use Rattle.std.specs.Prelude.{◌≡◌, refl, ◌↔◌, ◌⊎◌, ℕ, ◌*◌, ◌≤◌, ◌<◌, Bool, true, false, List, [], ◌∷◌, ◌++◌, map, length}
 use Rattle.std.proofs.Common.{sym, ◌∙◌, ⊎_elim, true≢false}
 use Rattle.std.proofs.Math.Path.{ap, subst}
 use Rattle.std.proofs.Math.Logic.{inl, inr}
@@ -8,7 +8,6 @@ use Rattle.std.proofs.Math.Bool.{not}
 use Rattle.std.proofs.lemmas.List.{map-append}
 use Rattle.foundation.specs.Tests.{and-true, and_intro, or_cases, not-true, not-false}
 use Rattle.foundation.specs.Lists.{Mem}
-use Rattle.foundation.specs.BitMasks.{as_bit}
 use Rattle.foundation.specs.Graph.{Path, direct, onward, CountedPath, strict_edge, heavy, cyclic, cyclic_path}
 use Rattle.foundation.specs.Graph.{cyclic-map}
 use Rattle.foundation.specs.GraphFacts.{Ranked, ranked, rank_most, rank-walk}
@@ -19,7 +18,7 @@ use Rattle.model.specs.Stratification.{feeds, links, precedes, negating, negates
 use Rattle.model.specs.Stratification.{stratum}
 use Rattle.model.proofs.FeedingLaws.{precedes_either, links-precedes, weight_is, heavy_either}
 use Rattle.model.proofs.FeedingLaws.{weight_small, negates-heavy, links-heavy}
-use Rattle.model.specs.Stratification.{leads, FeedingPath, unlabelled}
+use Rattle.model.specs.Stratification.{FeedingPath, FeedingWalk, unlabelled}
 
 -- 01: "a WHENEVERNOT or UNLESS"
 pub negates_is : (r : Rule) → (negates r ≡ true) ↔ ((r.operator ≡ WheneverNot) ⊎ (r.operator ≡ Unless))
@@ -30,11 +29,6 @@ negates_is r = (there r.operator, ⊎_elim (λ e. ap negating e) (λ e. ap negat
     there AsLongAs e = absurd (true≢false (sym e))
     there WheneverNot e = inl refl
     there Unless e = inr refl
-
--- a path that ends in the rule; what it counts: the WHENEVERNOT and UNLESS rules on it, both ends included,
--- and the links on it
-abbrev pub FeedingWalk : List Rule → ℕ → Rule → Type 0
-FeedingWalk rules n r = CountedPath leads (λ q r. as_bit (negates r) + as_bit (links q r)) negates rules n r
 
 -- the paths of `precedes`, and what `weight` counts on them
 pub path_feeds : (rules : List Rule) (q r : Rule) → Path precedes precedes rules q r ≡ FeedingPath rules q r

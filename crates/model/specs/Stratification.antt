@@ -4,7 +4,7 @@
 use Rattle.std.specs.Prelude.{ℕ, ◌+◌, Bool, true, false, not, ◌&&◌, ◌||◌, List, eqb}
 use Rattle.std.specs.Bool.{beq}
 use Rattle.foundation.specs.BitMasks.{as_bit}
-use Rattle.foundation.specs.Graph.{heavy, cyclic, rank, Path}
+use Rattle.foundation.specs.Graph.{heavy, cyclic, rank, Path, CountedPath}
 use Rattle.model.specs.declared.Rule.{Rule}
 use Rattle.model.specs.declared.Operator.{Operator}
 use Rattle.model.specs.declared.Operator.TheVariants.{Whenever, AsLongAs, WheneverNot, Unless}
@@ -96,6 +96,11 @@ leads q r = feeds q r || links q r
 -- a path: each rule feeds the next, or links to it
 abbrev pub FeedingPath : List Rule → Rule → Rule → Type 0
 FeedingPath rules q r = Path leads leads rules q r
+
+-- a path that ends in the rule; what it counts: the WHENEVERNOT and UNLESS rules on it, both ends included,
+-- and the links on it
+abbrev pub FeedingWalk : List Rule → ℕ → Rule → Type 0
+FeedingWalk rules n r = CountedPath leads (λ q r. as_bit (negates r) + as_bit (links q r)) negates rules n r
 
 abbrev pub unlabelled : Rule → Rule
 unlabelled r = record {
