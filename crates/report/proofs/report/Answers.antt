@@ -1,5 +1,4 @@
 use mathlib.Core.Path.{sym, ◌∙◌}
-use Rattle.foundation.specs.Tests.{not-true, not-false}
 use Rattle.report.proofs.SheetByRows.{report_unsound}
 use Rattle.report.proofs.report.Goals as goal
 

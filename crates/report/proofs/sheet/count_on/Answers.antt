@@ -1,7 +1,6 @@
 use borrow.Author.Rules.{rules}
 use native.Mathlib.Omega.{arith}
 use mathlib.Core.Path.{sym, ap, ◌∙◌}
-use mathlib.Core.Logic.{⊎_elim}
 use mathlib.Core.Bool.{true, false}
 use Rattle.model.specs.Encoding.{authorization_of}
 use Rattle.model.specs.Report.{is_on}
@@ -9,6 +8,7 @@ use Rattle.foundation.specs.ByteRecords.{rest_all, rest_end}
 use Rattle.report.proofs.Adding.{count_next}
 use Rattle.report.proofs.sheet.count_on.Invariants.{on}
 use Rattle.report.proofs.sheet.count_on.Goals as goal
+use Rattle.report.proofs.sheet.count_on.Goals.{then-is_on, else-is_on}
 
 pub loop-i-init : goal.loop-i-init
 loop-i-init c =
@@ -24,16 +24,14 @@ loop-i-init c =
 
 pub loop-i-preserved : goal.loop-i-preserved
 loop-i-preserved c =
-    let r = c in
-    let l = r in
-    let a = l.args in
+    let a = c.args in
     let e = sym c.is_on.ensures in
-    let next = count_next a.object a.n a.lines.now l.loop-i.i (omega arith)
-    r.authorization_at.result r.authorization_at.ensures in
-    ⊎_elim
-    (λ w. (search rules, omega (arith, w.1), omega (arith, w.1, next true (e ∙ w.0.taken))))
-    (λ w. (search rules, omega (arith, w.1), omega (arith, w.1, next false (e ∙ w.0.left))))
-    c.if-is_on.branch
+    let next = count_next a.object a.n a.lines.now c.loop-i.i (omega arith)
+    c.authorization_at.result c.authorization_at.ensures in
+    elim c.if-is_on.branch [
+      then-is_on w ↦ (search rules, omega arith, omega (arith, next true (e ∙ w.if-is_on.true)))
+      | else-is_on w ↦ (search rules, omega arith, omega (arith, next false (e ∙ w.if-is_on.false)))
+    ]
 
 pub returns : goal.returns
 returns c =

@@ -2,7 +2,6 @@ use native.Mathlib.Omega.{arith}
 use mathlib.Core.Path.{◌≡◌, sym, ap, ◌∙◌}
 use mathlib.Core.Bool.{true}
 use mathlib.Core.List.{List}
-use Rattle.foundation.specs.Tests.{not-true, not-false}
 use Rattle.model.specs.declared.Authorization.{Authorization}
 use Rattle.model.specs.Ranges.{is_object}
 use Rattle.model.specs.EncodingFacts.{sound-length}
@@ -36,13 +35,13 @@ counts_of-c-requires c =
 
 pub slice_bounds-fill_page-count : goal.slice_bounds-fill_page-count
 slice_bounds-fill_page-count c =
-    let n = c in
-    let start = n in
-    let f = fitting start.args.base.now start.requires n.counts_of-c.result n.counts_of-c.ensures in
+    let f = fitting c.args.base.now c.requires c.counts_of-c.result c.counts_of-c.ensures in
     omega (arith, f, c.authorizations_at-at.ensures)
 
 pub slice_bounds-fill_page-start : goal.slice_bounds-fill_page-start
-slice_bounds-fill_page-start c = sub-fill-page c
+slice_bounds-fill_page-start c =
+    let f = fitting c.args.base.now c.requires c.counts_of-c.result c.counts_of-c.ensures in
+    omega (arith, f, c.authorizations_at-at.ensures)
 
 pub fill_page-requires : goal.fill_page-requires
 fill_page-requires c =
