@@ -17,7 +17,8 @@ WHOLE = {
 }
 
 # modules whose definitions stay in specs/: the new module of their theorems in proofs/, the comment at its head, what moves, and
-# the definitions that took the parameters of an enclosing `module _` unsaid and take them written out now
+# the definitions that took the parameters of an enclosing `module _` unsaid and take them written out now; `proofs` are an
+# `abbrev` of a proof
 SPLIT = {
     ('model', 'Stratification'): dict(
         to='FeedingLaws',
@@ -52,6 +53,7 @@ SPLIT = {
             right_inside direct_same alike holds_same may_same when_same sb sc may_isolated when_isolated byte_isolated
             bytes_isolated refusal_isolated batch_isolated may-text when-text may-code when-code batch-code g may_estate when_estate
             batch_estate'''.split(),
+        proofs='own managed sb sc g'.split(),
         given={'block': 'Agree RightsInside Closed Whole'.split()}),
 }
 
@@ -459,9 +461,10 @@ inside a `module _` takes the parameters of that line first.
     out[-1] = out[-1].replace('@LIFTED@', '; '.join(f"{', '.join(f'`{n}`' for n in s['names'])} in `{s['to']}`" for s in LIFTED.values()))
     for crate, m, to, s in whole + split:
         _, _, its = parts(read(path('crates', crate, 'proofs', to + '.antt')))
-        theorems = statements(its, lambda it: not it.kind)
-        count = sum(not it.kind for it in declared_in(its))
-        with_them = [it.name for it in declared_in(its) if it.kind]
+        is_theorem = lambda it: not it.kind or s and it.name in s.get('proofs', [])
+        theorems = statements(its, is_theorem)
+        count = sum(1 for it in declared_in(its) if is_theorem(it))
+        with_them = [it.name for it in declared_in(its) if not is_theorem(it)]
         out.append(f"\n### `{crate}/specs/{m}` to `{crate}/proofs/{to}`\n\n{count} theorem{'s' * (count != 1)}")
         out.append(f"; with them the definition{'s' * (len(with_them) != 1)} {', '.join(f'`{n}`' for n in with_them)}.\n" if with_them else '.\n')
         out.append('\n```\n' + '\n'.join(theorems) + '\n```\n')

@@ -1,4 +1,6 @@
 // The questions MAY and WHEN over lent bytes.
+#![tactic(auto)]
+
 ghost use Rattle.std.specs.Prelude.{◌≡◌};
 ghost use Rattle.model.specs.Answers.{answering, may_answer, when_answer};
 

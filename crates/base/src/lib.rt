@@ -2,6 +2,8 @@
 // contract is an equation with the definitions of crate model (Answers, for text Session, for the rights
 // sheet Report, for a round's questions Batch, for the simple engine Simple, for records crate records): the
 // reply and every byte of base, list, page and buffer, for refusals too.
+#![tactic(auto)]
+
 pub use answers::{may, when};
 pub use batch::{batch, batch_words};
 pub use encoding::create;

@@ -1,4 +1,6 @@
 // A round's questions in one call: each question is put to the base as if alone, and its reply is a byte.
+#![tactic(auto)]
+
 ghost use Rattle.std.specs.Prelude.{◌≡◌, true, ◌*◌, ◌/◌, ◌<◌, eqb, length, drop};
 ghost use Rattle.foundation.specs.Tests.{pick};
 ghost use Rattle.model.specs.Soundness.{sound_bytes};

@@ -1,4 +1,6 @@
 // One row of the sheet: its columns, each right-aligned in the part of the row that it is lent.
+#![tactic(auto)]
+
 ghost use Rattle.std.specs.Prelude.{◌≡◌, true, [], ◌∷◌, ◌≤◌, length};
 ghost use Rattle.model.specs.Text.{decimal, print_instant};
 ghost use Rattle.model.specs.Soundness.{authorization_in};

@@ -1,4 +1,6 @@
 // Questions that no rule can answer: only authorizations count then.
+#![tactic(auto)]
+
 mod intervals;
 
 ghost use Rattle.std.specs.Prelude.{◌≡◌, true, ℕ, ◌*◌, ◌≤◌, ◌<◌, length};

@@ -1,4 +1,6 @@
 // The question engine: walks over the instants of a question, a window at a time, by the tables drawn for it.
+#![tactic(auto)]
+
 mod walking;
 mod window;
 

@@ -1,4 +1,6 @@
 // The evaluation of one rule at one place, over a window at once.
+#![tactic(auto)]
+
 ghost use Rattle.std.specs.Prelude.{◌≡◌, ◌<◌};
 ghost use Rattle.model.specs.Stratification.{lasting};
 ghost use Rattle.derivation.specs.Words.{wanted_word};

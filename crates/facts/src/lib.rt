@@ -1,5 +1,7 @@
 // Facts: the authorizations that matter, given to the tables over a window. Each is given at its place, to
 // the table of its sign and to those of the rules whose right side it fits.
+#![tactic(auto)]
+
 mod sharing;
 
 ghost use Rattle.std.specs.Prelude.{◌≡◌, ◌&&◌, ℕ, ◌≤◌, ◌<◌, length, drop};

@@ -3,6 +3,8 @@
 // that the numbers say. What a caller takes out of a packed reply is said in specs/PackedReplies.antt
 // (`refusal-back`, `label-back`, `number-back`) and specs/ReplyBounds.antt (`request-parts` for a
 // request, `text-parts` for a line of text, `report-parts` for a rights sheet).
+#![tactic(auto)]
+
 ghost use Rattle.std.specs.Prelude.{◌≡◌};
 ghost use Rattle.foundation.specs.Intervals.{interval};
 ghost use Rattle.model.specs.Soundness.{sound_bytes};

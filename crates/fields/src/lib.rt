@@ -1,5 +1,7 @@
 // Numbers at a place of a byte slice, the least byte first, a test as a number, whether two tests agree, the
 // lesser and the larger of two numbers, and the moving of bytes.
+#![tactic(auto)]
+
 ghost use Rattle.std.specs.Prelude.{◌≡◌, ◌++◌, ◌∷◌, [], ◌+◌, ◌-◌, ◌≤◌, ◌<◌, min, max, eqb, length, take, drop, replicate};
 ghost use Rattle.std.specs.Bool.{beq};
 ghost use Rattle.foundation.specs.Lists.{allb};

@@ -1,4 +1,6 @@
 // The format of a base's bytes.
+#![tactic(auto)]
+
 ghost use Rattle.std.specs.Prelude.{◌≡◌, ◌*◌, ◌≤◌, length};
 ghost use Rattle.encoding.specs.Format.{authorization_clean, rule_clean, each_record, format_fits};
 

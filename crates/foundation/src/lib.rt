@@ -1,4 +1,5 @@
 // Intervals of instants, by value.
+#![tactic(auto)]
 
 // The instants from `start` to `end`, both ends included.
 #[derive(Clone, Copy)]

@@ -1,4 +1,6 @@
 // The grounding of rules: what they derive over a window, each in its turn, is given to the tables.
+#![tactic(auto)]
+
 mod pairs;
 mod turns;
 

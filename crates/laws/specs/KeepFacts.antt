@@ -8,7 +8,7 @@ use Rattle.foundation.specs.Tests.{and_intro}
 use Rattle.foundation.specs.Tests.{or_true_right, or_cases, implied, beq_eq, beq_self}
 use Rattle.foundation.specs.Lists.{keep_if, Mem, append_mem, conjunct}
 use Rattle.foundation.specs.declared.Interval.{Interval}
-use Rattle.foundation.specs.Intervals.{interval, in_interval, in_interval-true, covered, Separate, head_in_lem}
+use Rattle.foundation.specs.Intervals.{in_interval, in_interval-true, covered, Separate, head_in_lem}
 use Rattle.foundation.specs.Intervals.{none_below}
 use Rattle.foundation.specs.Intervals.{maximal, maximal_separate, maximal_covered, maximal_unique}
 use Rattle.model.specs.declared.Head.{Head}

@@ -1,6 +1,6 @@
 -- Rules of which none negates and none has a denial on its left: no step counts, and all are in stratum 0
 -- (`stratum-none`).
-use Rattle.std.specs.Prelude.{◌≡◌, true, false, List, ℕ}
+use Rattle.std.specs.Prelude.{◌≡◌, false, List, ℕ}
 use Rattle.std.proofs.Common.{sym, ap, ◌∙◌, true≢false, arith}
 use Rattle.foundation.specs.Tests.{cases}
 use Rattle.foundation.specs.Lists.{Mem}

@@ -1,5 +1,7 @@
 // Looking things up in a base: who owns, administers, refers or controls, who is denied, which objects and
 // labels exist; and what such questions rest on: ranges of numbers, kinds of requests, the order of records.
+#![tactic(auto)]
+
 mod base;
 mod bodies;
 mod denials;

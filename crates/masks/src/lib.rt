@@ -1,5 +1,7 @@
 // Masks of rules, a bit a rule: those that are needed, fed, ready or still to do. And what a window needs
 // before its rules have their turn: their instants, empty fields, and how wide a field can be.
+#![tactic(auto)]
+
 ghost use Rattle.std.specs.Prelude.{◌≡◌, true, not, ◌&&◌, ◌||◌, ℕ, ◌+◌, ◌*◌, ◌/◌, ◌%◌, ◌^◌, ◌≤◌, ◌<◌, eqb, ltb, length, get_or};
 ghost use Rattle.foundation.specs.BitMasks.{bit};
 ghost use Rattle.encoding.specs.Format.{rule_at};

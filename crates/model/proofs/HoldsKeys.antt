@@ -6,7 +6,7 @@ use Rattle.std.proofs.Math.Path.{ap, subst}
 use Prim.Native.Nat.{ℕ, ◌≤◌}
 use Rattle.std.proofs.Math.Nat.{le_step}
 use Rattle.std.proofs.Math.ListN.{length-append, length-map}
-use Rattle.foundation.specs.Tests.{pick, cases}
+use Rattle.foundation.specs.Tests.{pick}
 use Rattle.foundation.specs.Lists.{Mem, mem-map, combine, combine-length, in_combine, combine-mem}
 use Rattle.foundation.specs.Intervals.{in_interval, always}
 use Rattle.foundation.specs.Marks.{rep}

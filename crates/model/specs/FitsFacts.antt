@@ -5,7 +5,6 @@ use Rattle.std.proofs.Common.{inl, inr, arith}
 use Rattle.foundation.specs.Tests.{and-true, or_cases, true-le, true_eq}
 use Rattle.foundation.specs.Lists.{allb, Mem, all_mem, conjunct}
 use Rattle.foundation.specs.declared.Interval.{Interval}
-use Rattle.foundation.specs.Intervals.{interval}
 use Rattle.model.specs.declared.Privilege.{Privilege}
 use Rattle.model.specs.declared.Authorization.{Authorization}
 use Rattle.model.specs.declared.Side.{Side}

@@ -1,5 +1,6 @@
 // The public types of the access base: what the definitions in specs/ speak of and what the code passes by
 // value.
+#![tactic(auto)]
 
 use foundation::Interval;
 

@@ -1,5 +1,7 @@
 // Outlines: what an answer needs of the rules and does not depend on the question. Coordinates of subjects
 // and objects, the sides of the rules by coordinates, and which rule precedes which.
+#![tactic(auto)]
+
 mod controlled;
 mod feed;
 mod left;

@@ -1,5 +1,7 @@
 // Places: a place is a subject, a mode and an object, by coordinates. Pairs of a subject and an object, and
 // modes, are numbered as far as they are reached; a region of places is numbered by them.
+#![tactic(auto)]
+
 ghost use Rattle.std.specs.Prelude.{◌≡◌, true, ◌&&◌, ℕ, ◌+◌, ◌*◌, ◌≤◌, ◌<◌, ltb, length, get_or};
 ghost use Rattle.places.specs.ReachedNumbers.{used, used_before, modes_below, code_of};
 ghost use Rattle.places.specs.ReachedNumbers.{row_index, pair_index, index_object, index_subject};

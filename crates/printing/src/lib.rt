@@ -1,5 +1,7 @@
 // Replies printed as text into a lent buffer that the text fits. Each function prints at a place, alters no
 // other byte, and gives the place behind.
+#![tactic(auto)]
+
 ghost use Rattle.std.specs.Prelude.{◌≡◌, ◌++◌, ◌+◌, ◌*◌, ◌≤◌, length, take, drop};
 ghost use Rattle.foundation.specs.Intervals.{interval};
 ghost use Rattle.model.specs.Text.{ascii, decimal, print_instant, print_run, print_more, print_runs, print_reply};

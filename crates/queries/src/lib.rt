@@ -1,5 +1,7 @@
 // Questions over the bytes of a sound base: the tables of a question, drawn and laid out, and what the engine
 // finds by them, before it becomes a reply.
+#![tactic(auto)]
+
 mod ask;
 mod outlining;
 mod prepared;

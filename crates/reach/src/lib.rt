@@ -1,5 +1,7 @@
 // Reach: which places a question can rest on. From the place that is asked about, each rule that stands at a
 // needed place leads to the place of its right side.
+#![tactic(auto)]
+
 ghost use Rattle.std.specs.Prelude.{◌≡◌, Bool, true, ℕ, ◌+◌, ◌*◌, ◌/◌, ◌%◌, ◌≤◌, ◌<◌, length, get_or};
 ghost use Rattle.foundation.specs.BitMasks.{bit};
 ghost use Rattle.reach.specs.Net.{standing, turned, right_pair, right_needs, Led, Formed, has};

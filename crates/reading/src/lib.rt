@@ -1,4 +1,6 @@
 // One line of text read as a request or a question.
+#![tactic(auto)]
+
 ghost use Rattle.std.specs.Prelude.{◌≡◌};
 ghost use Rattle.model.specs.Text.{read_line};
 ghost use Rattle.reading.specs.ParsedLines.{line_of};

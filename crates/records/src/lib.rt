@@ -1,4 +1,6 @@
 // The records of a base as numbers, a page at a time, for callers that show or join them, as a database does.
+#![tactic(auto)]
+
 ghost use Rattle.std.specs.Prelude.{◌≡◌};
 ghost use Rattle.model.specs.Answers.{answering};
 ghost use Rattle.records.specs.Records.{body_of, records_answer};

@@ -1,5 +1,7 @@
 // The table of refusals: the rows before 13, asked of the bytes of a sound base and a request. Row 13 is
 // asked of what the request would leave.
+#![tactic(auto)]
+
 mod circles;
 mod grants;
 mod ranges;

@@ -1,4 +1,6 @@
 // The authorizations and rules that matter to a question, and a window of the instants at which they change.
+#![tactic(auto)]
+
 mod ahead;
 mod choice;
 mod distance;

@@ -1,4 +1,6 @@
 // The rights sheet of an object over lent bytes.
+#![tactic(auto)]
+
 ghost use Rattle.std.specs.Prelude.{◌≡◌};
 ghost use Rattle.model.specs.Counting.{counting};
 ghost use Rattle.model.specs.Report.{report_answer};

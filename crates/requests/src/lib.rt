@@ -1,4 +1,6 @@
 // Requests over lent bytes: the table of refusals, then the effect.
+#![tactic(auto)]
+
 ghost use Rattle.std.specs.Prelude.{◌≡◌, true, false, ◌≤◌, length};
 ghost use Rattle.foundation.specs.Tests.{pick};
 ghost use Rattle.model.specs.declared.Reply.TheVariants.{Done};

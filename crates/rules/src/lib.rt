@@ -1,5 +1,7 @@
 // Which rule feeds which, and which links to which. The tests for circles and the strata of the rules:
 // `ranks`.
+#![tactic(auto)]
+
 ghost use Rattle.std.specs.Prelude.{◌≡◌};
 ghost use Rattle.model.specs.Stratification as model;
 

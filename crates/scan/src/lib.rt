@@ -1,4 +1,6 @@
 // The intervals of WHEN, written down while the instants are asked about one after the other.
+#![tactic(auto)]
+
 mod runs;
 
 pub use runs::{finish_runs, note, note_word};

@@ -1,5 +1,6 @@
 // Where tables lie in the slices that hold them. One slice holds all that is drawn of the rules in words, one
 // all that is drawn of them in bytes; so a question takes few arguments, and a batch hands both on.
+#![tactic(auto)]
 
 // In words: the masks of left sides, which rule precedes which, where the table of each rule starts, where
 // its broken bits start, the instants of its interval, and its stratum. The first two are drawn of the rules

@@ -1,4 +1,6 @@
 // The rules that matter to a question: their strata among themselves, and how far back they look.
+#![tactic(auto)]
+
 mod history;
 mod ranking;
 

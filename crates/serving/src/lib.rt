@@ -1,5 +1,7 @@
 // A session, line by line, over the bytes of a base that is known to be sound. Input comes in pieces of any
 // size.
+#![tactic(auto)]
+
 mod lines;
 mod steps;
 mod taking;

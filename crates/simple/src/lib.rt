@@ -10,6 +10,8 @@
 // Below, `s` is the bytes of the base, `p` what is looked for, `t` an instant. The lines `requires` and
 // `ensures` are what is proved of a function, in the words of specs/Engine.antt, which `ghost use` names;
 // they make no code, and a reader of the engine can pass over them.
+#![tactic(auto)]
+
 ghost use Rattle.std.specs.Prelude.{◌≡◌, ◌≤◌};
 ghost use Rattle.model.specs.Simple.{simple_answer};
 ghost use Rattle.simple.specs.Engine.{ServedRules, RuleOfBase, held_at, in_force_at, given_at, wanted_from};

@@ -1,4 +1,6 @@
 // The soundness check of a base's bytes.
+#![tactic(auto)]
+
 ghost use Rattle.std.specs.Prelude.{◌≡◌};
 ghost use Rattle.model.specs.Soundness.{sound_bytes};
 

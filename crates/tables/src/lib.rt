@@ -1,6 +1,8 @@
 // Tables of fields: where they lie, and what is given to them. Table 0 is that of what is held, table 1 that
 // of what is denied, each of all places; table 2 + c is that of rule c, of the places of its right side or of
 // all, which rules that look for the same share.
+#![tactic(auto)]
+
 ghost use Rattle.std.specs.Prelude.{◌≡◌, true, ◌||◌, ◌↔◌, ℕ, ◌+◌, ◌*◌, ◌^◌, ◌≤◌, ◌<◌, eqb, length};
 ghost use Rattle.foundation.specs.BitMasks.{bit};
 ghost use Rattle.words.specs.Fields.{field_of, joined};

@@ -1,5 +1,7 @@
 // One line of text over a lent base, its reply as text in a lent buffer: what a database, a queue or a script
 // calls.
+#![tactic(auto)]
+
 ghost use Rattle.std.specs.Prelude.{◌≡◌, true, [], ◌≤◌, ◌<◌, length};
 ghost use Rattle.model.specs.Soundness.{sound_bytes};
 ghost use Rattle.model.specs.Text.{order, asks_may, asks_when, print_reply};

@@ -1,1 +1,3 @@
+#![tactic(auto)]
+
 // No code: the theorems about the model live in specs/.

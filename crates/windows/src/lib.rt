@@ -1,4 +1,6 @@
 // Windows: up to 63 instants in rising order, and an interval as a word, a bit an instant.
+#![tactic(auto)]
+
 ghost use Rattle.std.specs.Prelude.{◌≡◌, ℕ, ◌≤◌, ◌<◌, ltb, get_or};
 ghost use Rattle.foundation.specs.BitMasks.{bit};
 ghost use Rattle.windows.specs.Windows.{Rising, inside};

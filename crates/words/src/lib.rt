@@ -1,6 +1,8 @@
 // Fields in words: what is known of an instant each is a bit, and what is known of the instants of a window a
 // field of 2^k bits. How wide a field is shows where it is read and joined, here, and in how many instants a
 // window has and how many words a table takes.
+#![tactic(auto)]
+
 ghost use Rattle.std.specs.Prelude.{◌≡◌, ℕ, ◌+◌, ◌*◌, ◌^◌, ◌≤◌, ◌<◌, ◌-◌, length, true, false, ◌&&◌, leb, ltb};
 ghost use Rattle.foundation.specs.BitMasks.{bit};
 ghost use Rattle.words.specs.Ones.{all_from};

@@ -34,7 +34,7 @@ loop-i-preserved c =
     let later : Bool → Bool = λ negative. held_from ls a.total a.x a.t negative (l.i + 1) in
     let found : Bool → Type 0 = λ g. held_from ls a.total a.x a.t false 0 ≡ g || later false in
     elim c.if-le32-both.branch [
-      then-le32-both+then-is_live_for+else-a w ↦ (
+      | then-le32-both+then-is_live_for+else-a w ↦ (
         search rules,
         subst found (sym w.granted-is) (granted_turn ls a.total a.x a.t _ l.granted l.i
             (search rules) _ _ w.authorization_at-a.ensures w.is_live_for.ensures l.invariant.1
@@ -44,7 +44,7 @@ loop-i-preserved c =
             w.is_live_for.ensures l.invariant.2
             ∙ (λ k. (w.if-is_live_for.true k && w.if-a.false k) || later true),
       )
-    | then-le32-both+else-is_live_for w ↦ (
+      | then-le32-both+else-is_live_for w ↦ (
         search rules,
         subst found (sym w.granted-is) (granted_turn ls a.total a.x a.t _ l.granted l.i
             (search rules) _ _ w.authorization_at-a.ensures w.is_live_for.ensures l.invariant.1
@@ -55,7 +55,7 @@ loop-i-preserved c =
             w.is_live_for.ensures l.invariant.2
             ∙ (λ k. (w.if-is_live_for.false k && w.authorization_at-a.result.head.negative) || later true),
       )
-    | else-le32-both w ↦ (
+      | else-le32-both w ↦ (
         search rules,
         subst found (sym w.granted-is) (no_turn ls a.total a.x a.t false _ l.granted l.i
             (search rules) (λ e. w.if-le32-both.false (c.le32.ensures ∙ e)) l.invariant.1),

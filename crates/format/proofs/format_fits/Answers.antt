@@ -20,12 +20,11 @@ returns-then-not-counts_fit c = counts_beyond c.args.s.now _
 
 pub heading_fits-requires : goal.heading_fits-requires
 heading_fits-requires c =
-    let fit : counts_fit c.counts_of-c.result ≡ true = sym c.counts_fit.ensures ∙ c.if-not-counts_fit.false in
-    (
-  search rules,
-  sym (ap counts_fit c.counts_of-c.ensures)
-      ∙ fit,
-)
+    let fit : counts_fit c.counts_of-c.result ≡ true = sym c.counts_fit.ensures ∙ c.if-not-counts_fit.false in (
+      search rules,
+      sym (ap counts_fit c.counts_of-c.ensures)
+          ∙ fit,
+    )
 
 pub slice_bounds-authorizations_clean-count : goal.slice_bounds-authorizations_clean-count
 slice_bounds-authorizations_clean-count c =

@@ -62,29 +62,29 @@ loop-j-preserved c =
     let x = get_or need l.j 0 in
     let h : l.n < length l.codes = omega (arith, i.1, i.2, used_before-le need l.j) in
     elim c.if-need-j-ne0.branch [
-      then-need-j-ne0 w ↦ let v = w.code_at.result in
-      let u : used x ≡ true = ap not (ne_false x 0 w.if-need-j-ne0.true) in (
-        omega arith,
-        w.n-is ∙ next_number need l.j (l.n + 1) (omega arith) (omega (arith, i.1, ap as_bit u)),
-        ap length w.codes-is ∙ length-set l.codes l.n v ∙ i.2,
-        λ k g y. ap (λ (m : List ℕ). get_or m (used_before need k) 0) w.codes-is ∙ cases (eqb k l.j)
-            (λ e. let q = true_eq k l.j e in
-            rw q (ap (λ (m : ℕ). get_or (set l.codes l.n v) m 0) (sym i.1)
-            ∙ get_or-set_same l.codes l.n v 0 h ∙ w.code_at.ensures))
-            (λ e. let d = false_eq k l.j e in
-            let a = used_before-apart need k l.j (omega arith) (omega arith) y in
-            get_or-set_other l.codes l.n (used_before need k) v 0 (λ z. omega (arith, i.1))
-            ∙ i.3 k (omega arith) y),
-      )
-    | else-need-j-ne0 w ↦
-      let u : used x ≡ false = ap not (eq_true x 0 w.if-need-j-ne0.false) in (
-        omega arith,
-        w.n-is ∙ next_number need l.j l.n (omega arith) (omega (arith, i.1, ap as_bit u)),
-        ap length w.codes-is ∙ i.2,
-        λ k g y. ap (λ (m : List ℕ). get_or m (used_before need k) 0) w.codes-is ∙ cases (eqb k l.j)
-            (λ e. absurd (true≢false (sym y ∙ ap (λ (m : ℕ). used (get_or need m 0)) (true_eq k l.j e) ∙ u)))
-            (λ e. let d = false_eq k l.j e in i.3 k (omega arith) y),
-      )
+      | then-need-j-ne0 w ↦ let v = w.code_at.result in
+          let u : used x ≡ true = ap not (ne_false x 0 w.if-need-j-ne0.true) in (
+            omega arith,
+            w.n-is ∙ next_number need l.j (l.n + 1) (omega arith) (omega (arith, i.1, ap as_bit u)),
+            ap length w.codes-is ∙ length-set l.codes l.n v ∙ i.2,
+            λ k g y. ap (λ (m : List ℕ). get_or m (used_before need k) 0) w.codes-is ∙ cases (eqb k l.j)
+                (λ e. let q = true_eq k l.j e in
+                rw q (ap (λ (m : ℕ). get_or (set l.codes l.n v) m 0) (sym i.1)
+                ∙ get_or-set_same l.codes l.n v 0 h ∙ w.code_at.ensures))
+                (λ e. let d = false_eq k l.j e in
+                let a = used_before-apart need k l.j (omega arith) (omega arith) y in
+                get_or-set_other l.codes l.n (used_before need k) v 0 (λ z. omega (arith, i.1))
+                ∙ i.3 k (omega arith) y),
+          )
+      | else-need-j-ne0 w ↦
+          let u : used x ≡ false = ap not (eq_true x 0 w.if-need-j-ne0.false) in (
+            omega arith,
+            w.n-is ∙ next_number need l.j l.n (omega arith) (omega (arith, i.1, ap as_bit u)),
+            ap length w.codes-is ∙ i.2,
+            λ k g y. ap (λ (m : List ℕ). get_or m (used_before need k) 0) w.codes-is ∙ cases (eqb k l.j)
+                (λ e. absurd (true≢false (sym y ∙ ap (λ (m : ℕ). used (get_or need m 0)) (true_eq k l.j e) ∙ u)))
+                (λ e. let d = false_eq k l.j e in i.3 k (omega arith) y),
+          )
     ]
 
 pub shape_of-codes : goal.shape_of-codes

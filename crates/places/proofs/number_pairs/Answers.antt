@@ -9,9 +9,6 @@ use Rattle.foundation.specs.Tests.{cases, true_eq, false_eq}
 use Rattle.foundation.specs.BitMasks.{as_bit}
 use Rattle.places.specs.ReachedNumbers.{used, used_before}
 use Rattle.places.proofs.NumberFacts.{used_before_none, used_before-step, used_before-le}
-use Rattle.places.proofs.number_pairs.Reads as reads
-use Rattle.places.proofs.number_pairs.Lts as lts
-use Rattle.places.proofs.counted.Reads as counted-reads
 use Rattle.places.proofs.number_pairs.Goals as goal
 
 pub loop-j-init : goal.loop-j-init

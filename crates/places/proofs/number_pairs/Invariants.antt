@@ -2,9 +2,6 @@ use mathlib.Core.Path.{◌≡◌}
 use Prim.Native.Nat.{ℕ, ◌-◌, ◌≤◌, ◌<◌}
 use lib.ListN.{length, get_or}
 use Rattle.places.specs.ReachedNumbers.{used_before}
-use Rattle.places.proofs.number_pairs.Reads as reads
-use Rattle.places.proofs.number_pairs.Lts as lts
-use Rattle.places.proofs.counted.Reads as counted-reads
 use Rattle.places.proofs.number_pairs.Given as goal
 
 abbrev pub invariant-loop-j : goal.invariant-loop-j

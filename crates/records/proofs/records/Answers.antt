@@ -1,8 +1,5 @@
 use native.Mathlib.Omega.{arith}
-use mathlib.Core.Path.{◌≡◌, sym, ap, ◌∙◌}
-use mathlib.Core.Bool.{true}
-use Rattle.foundation.specs.Tests.{not-true, not-false}
-use Rattle.model.specs.Soundness.{sound_bytes}
+use mathlib.Core.Path.{sym, ap, ◌∙◌}
 use Rattle.records.specs.declared.Body.{Body}
 use Rattle.records.specs.Records.{page_answer}
 use Rattle.records.proofs.Paged.{unsound, no_body, of_body}
@@ -16,21 +13,17 @@ returns-then-not-is_sound c =
 
 pub returns-then-source-gt5 : goal.returns-then-source-gt5
 returns-then-source-gt5 c =
-    let sound-here : sound_bytes c.args.s.now ≡ true = sym c.is_sound.ensures ∙ c.if-not-is_sound.false in
     let a = c.args in
-    sym (no_body a.s.now a.source a.first a.list.now (sound-here) c.if-source-gt5.true)
+    let sound = sym c.is_sound.ensures ∙ c.if-not-is_sound.false in
+    sym (no_body a.s.now a.source a.first a.list.now sound c.if-source-gt5.true)
 
 pub page-requires : goal.page-requires
-page-requires c =
-    let sound-here : sound_bytes c.args.s.now ≡ true = sym c.is_sound.ensures ∙ c.if-not-is_sound.false in
-    sound-here
+page-requires c = sym c.is_sound.ensures ∙ c.if-not-is_sound.false
 
 pub returns : goal.returns
 returns c =
-    let sound-here : sound_bytes c.args.s.now ≡ true = sym c.is_sound.ensures ∙ c.if-not-is_sound.false in
-    let d = c in
-    let a = d.args in
+    let a = c.args in
+    let sound = sym c.is_sound.ensures ∙ c.if-not-is_sound.false in
     c.page.ensures
-    ∙ ap (λ (b : Body). page_answer a.s.now b a.first a.list.now)
-    c.body_of.ensures
-    ∙ sym (of_body a.s.now a.source a.first a.list.now (sound-here) (omega arith))
+    ∙ ap (λ (b : Body). page_answer a.s.now b a.first a.list.now) c.body_of.ensures
+    ∙ sym (of_body a.s.now a.source a.first a.list.now sound (omega arith))

@@ -10,5 +10,4 @@ returns-then-not-is_sound c =
 
 pub report_sound-requires : goal.report_sound-requires
 report_sound-requires c =
-    let e = c in
-    sym e.is_sound.ensures ∙ e.if-not-is_sound.false
+    sym c.is_sound.ensures ∙ c.if-not-is_sound.false

@@ -61,7 +61,7 @@ revoke_referrer-requires c =
     allowed c.requires (REVOKEREF ∷ [])
     (last_kind c.requires
     (elim c.in_default.branch [
-        in_default-via-then-k-lt1 w ↦ inl (omega arith)
+      | in_default-via-then-k-lt1 w ↦ inl (omega arith)
       | in_default-via-else-k-lt1+else-k-lt4 w ↦ inr (omega arith)
     ])
     (λ e. omega arith) (λ e. omega arith) (λ e. omega arith) (λ e. grind arith) (λ e. grind arith))

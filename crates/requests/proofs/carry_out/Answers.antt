@@ -30,7 +30,7 @@ add_or_drop-requires c = (
   c.requires,
   keeps c.args.q
       (elim c.in_default.branch [
-          in_default-via-then-k-lt4 w ↦ inl (omega arith)
+        | in_default-via-then-k-lt4 w ↦ inl (omega arith)
         | in_default-via-else-k-lt4+else-k-lt7 w ↦ inr (omega arith)
       ])
       (λ e. omega arith),

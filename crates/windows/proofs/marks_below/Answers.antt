@@ -2,9 +2,6 @@ use native.Mathlib.Omega.{arith}
 use mathlib.Core.Path.{refl}
 use Prim.Native.Nat.{◌+◌, ◌/◌}
 use Rattle.windows.proofs.Halves.{cut-start, cut_up, cut_down, cut-end}
-use Rattle.windows.proofs.marks_below.Reads as reads
-use Rattle.windows.proofs.marks_below.Lts as lts
-use Rattle.windows.proofs.u64_of.Reads as u64-of-reads
 use Rattle.windows.proofs.marks_below.Goals as goal
 
 pub loop-low-init : goal.loop-low-init

@@ -1,8 +1,5 @@
 use Prim.Native.Nat.{◌-◌}
 use Rattle.windows.proofs.Halves.{HalvedBetween}
-use Rattle.windows.proofs.marks_below.Reads as reads
-use Rattle.windows.proofs.marks_below.Lts as lts
-use Rattle.windows.proofs.u64_of.Reads as u64-of-reads
 use Rattle.windows.proofs.marks_below.Given as goal
 
 abbrev pub invariant-loop-low : goal.invariant-loop-low

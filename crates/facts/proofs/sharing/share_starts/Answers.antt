@@ -73,9 +73,9 @@ loop-c-preserved c =
     let room : l.c < length l.first = omega (arith, l.invariant.1, s.requires.2, f.loop-c-test.true) in
     let moved : (d < 64) × (next ≡ set l.first l.c (get_or l.first d 0)) =
     elim c.if-d-lt64.branch [
-      then-d-lt64 w ↦ (w.if-d-lt64.true, w.first-is)
-    | else-d-lt64 w ↦ let y = s.requires.3.enough l.c h.0 in
-      absurd (f.first_sharing-d.ensures.1 w.if-d-lt64.false y.0 y.1 y.2)
+      | then-d-lt64 w ↦ (w.if-d-lt64.true, w.first-is)
+      | else-d-lt64 w ↦ let y = s.requires.3.enough l.c h.0 in
+          absurd (f.first_sharing-d.ensures.1 w.if-d-lt64.false y.0 y.1 y.2)
     ] in
     let found = f.first_sharing-d.ensures.0 moved.0 in (
       e.1,

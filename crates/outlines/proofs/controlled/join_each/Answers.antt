@@ -32,7 +32,7 @@ loop-v-preserved c =
       search rules,
       upto_turn b.requires.2 l.invariant.1
           (rw c.usize_of.ensures.0 at j.0) j.1,
-      c.join_controlled.auto.left.1.1.1.1.1.0 ∙ l.invariant.2,
+      c.join_controlled.auto.left ∙ l.invariant.2,
     )
 
 pub returns : goal.returns

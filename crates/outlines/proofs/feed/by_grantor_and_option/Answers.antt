@@ -10,20 +10,20 @@ use Rattle.outlines.proofs.feed.by_grantor_and_option.Goals as goal
 pub returns-in-With : goal.returns-in-With
 returns-in-With c =
     let a = c.args in
-    let e : a.r.option ≡ With = c.enum_told-1.given.1 in
+    let e : a.r.option ≡ With = c.in-With.is in
     λ q. rw e (bit-zero q ∙ sym (and-false (bit q a.f && fits_grantor a.r.grantor
     (rule_at a.body.now q).author)))
 
 pub returns-in-Without : goal.returns-in-Without
 returns-in-Without c =
     let a = c.args in
-    let e : a.r.option ≡ Without = c.enum_told-in-Without-1.given.1 in
+    let e : a.r.option ≡ Without = c.in-Without.is in
     λ q. rw e (c.by_grantor.ensures q ∙ sym (and_yes (bit q a.f && fits_grantor a.r.grantor
     (rule_at a.body.now q).author)))
 
 pub returns-in-Either : goal.returns-in-Either
 returns-in-Either c =
     let a = c.args in
-    let e : a.r.option ≡ Either = c.enum_told-in-Either-1.given.1 in
+    let e : a.r.option ≡ Either = c.in-Either.is in
     λ q. rw e (c.by_grantor-in-Either.ensures q ∙ sym (and_yes (bit q a.f && fits_grantor a.r.grantor
     (rule_at a.body.now q).author)))

@@ -59,15 +59,15 @@ draw_feeders-requires c =
 pub slice_bounds-draw_fed-end : goal.slice_bounds-draw_fed-end
 slice_bounds-draw_fed-end c =
     let d = c.draw_feeders in
-    omega (arith, d.auto.outline.1.1.0, c.requires.1)
+    omega (arith, d.auto.outline, c.requires.1)
 
 pub draw_fed-requires : goal.draw_fed-requires
 draw_fed-requires c =
     let b = c in
     let d = c.draw_feeders in
-    let long : 280 ≤ length d.new.outline.1.1.0 = omega (arith, d.auto.outline.1.1.0, b.requires.1) in (
+    let long : 280 ≤ length d.new.outline = omega (arith, d.auto.outline, b.requires.1) in (
       (λ k h. d.ensures.1 k (omega (arith, b.requires.0.well_formed.few)) ∙ b.requires.3 k),
-      part_long 152 128 d.new.outline.1.1.0 (omega arith),
+      part_long 152 128 d.new.outline (omega arith),
     )
 
 pub draw_linkers-requires : goal.draw_linkers-requires
@@ -75,10 +75,10 @@ draw_linkers-requires c =
     let b = c in
     let d = c.draw_feeders in
     let f = c.draw_fed in
-    let long : 280 ≤ length d.new.outline.1.1.0 = omega (arith, d.auto.outline.1.1.0, b.requires.1) in (
+    let long : 280 ≤ length d.new.outline = omega (arith, d.auto.outline, b.requires.1) in (
       b.requires.0.well_formed.few,
       (λ i h. right_placed b.requires.0 i h),
-      (fed_back d.new.outline.1.1.0 f.new.feed.0 long f.auto.feed.0).0,
+      (fed_back d.new.outline f.new.feed long f.auto.feed).0,
       b.requires.2,
     )
 
@@ -90,9 +90,9 @@ returns-then-outline-eq0 c =
     let d = c.draw_feeders in
     let f = c.draw_fed in
     let w = b.requires.0 in
-    let o = d.new.outline.1.1.0 in
-    let y = f.new.feed.0 in
-    let g = fed_back o y (omega (arith, d.auto.outline.1.1.0, b.requires.1)) f.auto.feed.0 in
+    let o = d.new.outline in
+    let y = f.new.feed in
+    let g = fed_back o y (omega (arith, d.auto.outline, b.requires.1)) f.auto.feed in
     let front : left_of (put_back o 152 128 y) ≡ left_of a.outline.now = g.2 ∙ d.ensures.2 in
     let none : get_or (left_of a.outline.now) 147 0 ≡ 0 =
     ap (λ (m : List ℕ). get_or m 147 0) (sym front) ∙ get_or-take 152 (put_back o 152 128 y) 147 0 (omega arith)
@@ -111,13 +111,13 @@ returns c =
     let d = c.draw_feeders in
     let f = c.draw_fed in
     let l = c.draw_linkers in
-    let o = d.last.1.1.1.0 in
-    let y = f.new.feed.0 in
-    let g = fed_back o y (omega (arith, d.kept.1.1.1.0, b.requires.1)) f.auto.feed.0 in
+    let o = d.new.outline in
+    let y = f.new.feed in
+    let g = fed_back o y (omega (arith, d.auto.outline, b.requires.1)) f.auto.feed in
     let front : left_of (put_back o 152 128 y) ≡ left_of a.outline.now = g.2 ∙ d.ensures.2 in
     let word : ℕ → List ℕ → List ℕ → ℕ = λ k m x. pick (ltb k a.n) (bit_or (get_or x k 0)
     (linkers_word m (rights_of a.coordinates.now) (sides_of a.coordinates.now) k)) (get_or x k 0) in (
-      table b.requires.0 (feed_of o) y (feed_of l.new.outline.1.0) d.ensures.0 f.ensures
+      table b.requires.0 (feed_of o) y (feed_of l.new.outline) d.ensures.0 f.ensures
           (λ k. l.ensures.0 k ∙ ap₂ (word k) front g.1),
       l.ensures.1 ∙ front,
     )

@@ -22,7 +22,7 @@ feeders-f-requires c =
     let p = b.requires.2 in (
       omega arith,
       rw l.invariant.3 b.requires.0,
-      length-take-le 152 l.outline-1 (omega (arith, l.invariant.4, b.requires.1)),
+      length-take-le 152 l.outline (omega (arith, l.invariant.4, b.requires.1)),
       omega (arith, part_long 256 256 s (omega (arith, p))),
       omega (arith, length-take-le 256 s (omega (arith, p))),
     )
@@ -44,14 +44,14 @@ loop-i-preserved c =
     let f = c.feeders-f in
     let p = c.put_word in
     let few : l.i < 64 = omega (arith, i.loop-i-test.true, b.requires.0.well_formed.few) in
-    let w = part-word 152 128 l.outline-1 p.new.table l.i f.result (omega arith) p.ensures in (
+    let w = part-word 152 128 l.outline p.new.table l.i f.result (omega arith) p.ensures in (
       search rules,
       (λ k h. cases (eqb k l.i)
           (λ e. w k ∙ rw e (f.ensures
           ∙ ap (λ (q : ℕ). feeders_of (rules_in n body) (rule_at body q)) (sym (true_eq k l.i e))))
           (λ e. let z = false_eq k l.i e in w k ∙ rw e (l.invariant.1 k (omega arith)))),
       (λ k h. w k ∙ rw (ne_false k l.i (λ z. omega arith)) (l.invariant.2 k (omega arith))),
-      same_front l.outline-1 p.new.table p.auto.table 152
+      same_front l.outline p.new.table p.auto.table 152
           (λ k h. p.ensures k ∙ rw (ne_false k (152 + l.i) (λ z. omega arith))) ∙ l.invariant.3,
       p.auto.table ∙ l.invariant.4,
     )

@@ -49,7 +49,7 @@ add-o-requires c =
 pub overflow_add-i : goal.overflow_add-i
 overflow_add-i c =
     let l = c in
-    omega (arith, l.loop.inv.0, l.requires.0.few)
+    omega (arith, l.loop-i.invariant.0, l.requires.0.few)
 
 pub loop-i-preserved : goal.loop-i-preserved
 loop-i-preserved c =
@@ -60,17 +60,17 @@ loop-i-preserved c =
     let s = l.coordinates in
     let y = f.new.table in
     let z = g.new.table in
-    let long : length l.coordinates ≡ 1666 = l.inv.4 in
+    let long : length l.coordinates ≡ 1666 = l.invariant.4 in
     let p : length f.new.table ≡ 1024 = f.auto.table ∙ part_long 512 1024 l.coordinates (omega arith) in
     let k = back-length l.coordinates 512 1024 f.new.table (omega arith) p in
     let q : length g.new.table ≡ 130 =
     g.auto.table ∙ part_long 1536 130 (put_back l.coordinates 512 1024 f.new.table) (omega arith) in (
       search rules,
-      rw (both-subjects s y z long p q) (numbered_turn l.inv.1
+      rw (both-subjects s y z long p q) (numbered_turn l.invariant.1
           (rw (ap subject_on_right e) at f.ensures)),
-      rw (both-objects s y z long p q) (numbered_turn l.inv.2
+      rw (both-objects s y z long p q) (numbered_turn l.invariant.2
           (rw (ap object_on_right e, objects-between s y z long p q) at g.ensures)),
-      (λ v h. both_front s y z long p q v h ∙ l.inv.3 v h),
+      (λ v h. both_front s y z long p q v h ∙ l.invariant.3 v h),
       both_long s y z long p q,
     )
 

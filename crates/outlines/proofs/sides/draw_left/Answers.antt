@@ -69,10 +69,10 @@ loop-i-preserved c =
     let few : l.i < 64 = omega (arith, b.requires.0.few) in (
       search rules,
       p.auto.coordinates ∙ l.invariant.1,
-      section_turn c₀ l.coordinates-1 p.new.coordinates 0 l.i (λ j. (rule_at s j).left)
-          (λ j. signs_of (rule_at s j)) few (rest_behind c₀ l.coordinates-1 256 512 (omega arith) l.invariant.3)
+      section_turn c₀ l.coordinates p.new.coordinates 0 l.i (λ j. (rule_at s j).left)
+          (λ j. signs_of (rule_at s j)) few (rest_behind c₀ l.coordinates 256 512 (omega arith) l.invariant.3)
           l.invariant.2 (rw (ap left_side r.ensures, g) at w.0) w.1,
-      same_rest l.coordinates-1 p.new.coordinates p.auto.coordinates 256 (λ k h. w.1 k (inr (omega arith)))
+      same_rest l.coordinates p.new.coordinates p.auto.coordinates 256 (λ k h. w.1 k (inr (omega arith)))
           ∙ l.invariant.3,
     )
 

@@ -42,11 +42,11 @@ loop-i-preserved c =
     let few : l.i < 64 = omega (arith, b.requires.0.few) in (
       search rules,
       p.auto.coordinates ∙ l.invariant.1,
-      section_turn a.coordinates.now l.coordinates-1 p.new.coordinates 256 l.i
+      section_turn a.coordinates.now l.coordinates p.new.coordinates 256 l.i
           (λ j. (rule_at a.body.now j).right) (λ j. 3) few l.invariant.4 l.invariant.2 (rw e at w.0) w.1,
-      (λ k h. section_kept l.coordinates-1 p.new.coordinates 256 l.i w.1 k (λ z. omega arith)
+      (λ k h. section_kept l.coordinates p.new.coordinates 256 l.i w.1 k (λ z. omega arith)
           ∙ l.invariant.3 k (omega arith)),
-      same_rest l.coordinates-1 p.new.coordinates p.auto.coordinates 512 (λ k h. w.1 k (inr (omega arith)))
+      same_rest l.coordinates p.new.coordinates p.auto.coordinates 512 (λ k h. w.1 k (inr (omega arith)))
           ∙ l.invariant.4,
     )
 

@@ -18,9 +18,9 @@ returns-then-pairs-r c =
 
 pub returns : goal.returns
 returns c =
-    let room : (let a = c.args in (base : Base) → BodiesIn a.records.now a.n (decode a.s.now) base → length (when base a.x) ≤ length a.list.now / 2) = λ base b.    let a = c.args in
+    let room : (let a = c.args in (base : Base) → BodiesIn a.records.now a.n (decode a.s.now) base → length (when base a.x) ≤ length a.list.now / 2) = λ base b. let a = c.args in
     elim c.if-pairs-n.branch [
-      then-pairs-n+else-pairs-r w ↦ omega (arith, (w.runs_in-r.ensures base b).count)
+      | then-pairs-n+else-pairs-r w ↦ omega (arith, (w.runs_in-r.ensures base b).count)
       | else-pairs-n w ↦ omega (arith, most b a.x)
     ] in
     let r = c.runs_in in

@@ -142,7 +142,7 @@ with_sizes-requires c =
       totals = s.args.n;
       extent = s.args.e;
     } in
-    let task : (let s = c in (base : Base) → BodiesIn s.args.records.now s.args.n (decode s.args.bytes.now) base → TaskIn s.args.records.now (outlined) s.args.coordinates.now (inquiry) base) = λ base b.    let g = c in
+    let task : (let s = c in (base : Base) → BodiesIn s.args.records.now s.args.n (decode s.args.bytes.now) base → TaskIn s.args.records.now (outlined) s.args.coordinates.now (inquiry) base) = λ base b. let g = c in
     let s = g in
     let o : List ℕ = s.args.outline.now in
     record {
@@ -235,7 +235,7 @@ returns c =
       totals = s.args.n;
       extent = s.args.e;
     } in
-    let task : (let s = c in (base : Base) → BodiesIn s.args.records.now s.args.n (decode s.args.bytes.now) base → TaskIn s.args.records.now (outlined) s.args.coordinates.now (inquiry) base) = λ base b.    let g = c in
+    let task : (let s = c in (base : Base) → BodiesIn s.args.records.now s.args.n (decode s.args.bytes.now) base → TaskIn s.args.records.now (outlined) s.args.coordinates.now (inquiry) base) = λ base b. let g = c in
     let s = g in
     let o : List ℕ = s.args.outline.now in
     record {

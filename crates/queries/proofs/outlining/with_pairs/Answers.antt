@@ -193,7 +193,7 @@ lay_tables-t-requires c =
     let n = c in
     let s = (n) in
     bit_and s.args.k.extent.choosy n.needed_rules-needed.result in
-    let choosy-in : (let s = c in RulesIn (choosy) (drop (s.args.k.totals.authorizations * 24) s.args.records.now)) = λ r e.    let n = c in
+    let choosy-in : (let s = c in RulesIn (choosy) (drop (s.args.k.totals.authorizations * 24) s.args.records.now)) = λ r e. let n = c in
     let y = n in
     let s = y in
     let all : ℕ = s.args.k.extent.choosy in
@@ -250,7 +250,7 @@ lay_out-bits-requires c =
     (subst (λ (l : List ℕ). Needed (left_of s.args.outline.now) (needed) l
     s.args.k.extent.subjects y.map_pairs-g.result.pairs c.needed_rules-needed.result)
     (lent_rest size (numbered)) c.needed_rules-needed.ensures) in
-    let lasts : (let n = c in let s = (n) in (r : ℕ) → bit r c.lasting_of-lasting.result ≡ bit r n.needed_rules-needed.result && lasting (rule_at (drop (s.args.k.totals.authorizations * 24) s.args.records.now) r).operator) = λ r.    let n = c in
+    let lasts : (let n = c in let s = (n) in (r : ℕ) → bit r c.lasting_of-lasting.result ≡ bit r n.needed_rules-needed.result && lasting (rule_at (drop (s.args.k.totals.authorizations * 24) s.args.records.now) r).operator) = λ r. let n = c in
     let s = (n) in
     c.lasting_of-lasting.ensures r
     ∙ ap (λ (b : List ℕ). bit r n.needed_rules-needed.result && lasting (rule_at b r).operator)
@@ -362,7 +362,7 @@ walk_start-requires c =
     (subst (λ (l : List ℕ). Needed (left_of s.args.outline.now) (needed) l
     s.args.k.extent.subjects y.map_pairs-g.result.pairs c.needed_rules-needed.result)
     (lent_rest size (numbered)) c.needed_rules-needed.ensures) in
-    let lasts : (let n = c in let s = (n) in (r : ℕ) → bit r c.lasting_of-lasting.result ≡ bit r n.needed_rules-needed.result && lasting (rule_at (drop (s.args.k.totals.authorizations * 24) s.args.records.now) r).operator) = λ r.    let n = c in
+    let lasts : (let n = c in let s = (n) in (r : ℕ) → bit r c.lasting_of-lasting.result ≡ bit r n.needed_rules-needed.result && lasting (rule_at (drop (s.args.k.totals.authorizations * 24) s.args.records.now) r).operator) = λ r. let n = c in
     let s = (n) in
     c.lasting_of-lasting.ensures r
     ∙ ap (λ (b : List ℕ). bit r n.needed_rules-needed.result && lasting (rule_at b r).operator)
@@ -396,7 +396,7 @@ with_lines-requires c =
     (subst (λ (l : List ℕ). Needed (left_of s.args.outline.now) (needed) l
     s.args.k.extent.subjects y.map_pairs-g.result.pairs c.needed_rules-needed.result)
     (lent_rest size (numbered)) c.needed_rules-needed.ensures) in
-    let lasts : (let n = c in let s = (n) in (r : ℕ) → bit r c.lasting_of-lasting.result ≡ bit r n.needed_rules-needed.result && lasting (rule_at (drop (s.args.k.totals.authorizations * 24) s.args.records.now) r).operator) = λ r.    let n = c in
+    let lasts : (let n = c in let s = (n) in (r : ℕ) → bit r c.lasting_of-lasting.result ≡ bit r n.needed_rules-needed.result && lasting (rule_at (drop (s.args.k.totals.authorizations * 24) s.args.records.now) r).operator) = λ r. let n = c in
     let s = (n) in
     c.lasting_of-lasting.ensures r
     ∙ ap (λ (b : List ℕ). bit r n.needed_rules-needed.result && lasting (rule_at b r).operator)
@@ -497,7 +497,7 @@ with_lines-requires c =
         wide = u.lay_tables-t.result.wide;
       };
     } in
-    let ground : (let h = c in let y = (h) in let s = y in (base : Base) → TaskIn s.args.records.now s.args.outline.now s.args.coordinates.now s.args.k base → WalkGivenIn s.args.records.now (full) s.args.coordinates.now (needed) (numbered) (going) base s.args.k.asked.access) = λ base b.    let v = c in
+    let ground : (let h = c in let y = (h) in let s = y in (base : Base) → TaskIn s.args.records.now s.args.outline.now s.args.coordinates.now s.args.k base → WalkGivenIn s.args.records.now (full) s.args.coordinates.now (needed) (numbered) (going) base s.args.k.asked.access) = λ base b. let v = c in
     let h = c in
     let u = h in
     let l = u in
@@ -603,7 +603,7 @@ returns c =
     (subst (λ (l : List ℕ). Needed (left_of s.args.outline.now) (needed) l
     s.args.k.extent.subjects y.map_pairs-g.result.pairs c.needed_rules-needed.result)
     (lent_rest size (numbered)) c.needed_rules-needed.ensures) in
-    let lasts : (let n = c in let s = (n) in (r : ℕ) → bit r c.lasting_of-lasting.result ≡ bit r n.needed_rules-needed.result && lasting (rule_at (drop (s.args.k.totals.authorizations * 24) s.args.records.now) r).operator) = λ r.    let n = c in
+    let lasts : (let n = c in let s = (n) in (r : ℕ) → bit r c.lasting_of-lasting.result ≡ bit r n.needed_rules-needed.result && lasting (rule_at (drop (s.args.k.totals.authorizations * 24) s.args.records.now) r).operator) = λ r. let n = c in
     let s = (n) in
     c.lasting_of-lasting.ensures r
     ∙ ap (λ (b : List ℕ). bit r n.needed_rules-needed.result && lasting (rule_at b r).operator)
@@ -699,7 +699,7 @@ returns c =
         wide = u.lay_tables-t.result.wide;
       };
     } in
-    let ground : (let h = c in let y = (h) in let s = y in (base : Base) → TaskIn s.args.records.now s.args.outline.now s.args.coordinates.now s.args.k base → WalkGivenIn s.args.records.now (full) s.args.coordinates.now (needed) (numbered) (going) base s.args.k.asked.access) = λ base b.    let v = c in
+    let ground : (let h = c in let y = (h) in let s = y in (base : Base) → TaskIn s.args.records.now s.args.outline.now s.args.coordinates.now s.args.k base → WalkGivenIn s.args.records.now (full) s.args.coordinates.now (needed) (numbered) (going) base s.args.k.asked.access) = λ base b. let v = c in
     let h = c in
     let u = h in
     let l = u in

@@ -10,8 +10,7 @@ not_stratified-requires c = (c.requires, passed_range (decode c.args.s.now) c.ar
 
 pub returns-then-not_stratified : goal.returns-then-not_stratified
 returns-then-not_stratified c =
-    let e = sym c.not_stratified.ensures ∙ c.if-not_stratified.true in
-    (
+    let e = sym c.not_stratified.ensures ∙ c.if-not_stratified.true in (
       early_last (decode c.args.s.now) c.args.q true c.in-Passed.ensures e,
       (λ z. omega arith),
       (λ z. omega arith),

@@ -35,16 +35,16 @@ loop-i-preserved c =
     let test : Authorization → Bool =
     is_chosen_by a.coordinates.now a.asked a.x a.stride a.need.now in
     elim c.if-asked-v.branch [
-      then-asked-v w ↦ subst (λ (v : List ℕ). Chose test a.lines.now a.total a.which.now v c.if-asked-v.n
-      (l.i + 1)) (sym w.which-is)
-      (chose_during b.requires.0 l.i (omega arith) r.ensures a.asked a.x l.which l.n
-      c.if-asked-v.n w.cell_of.result w.is_needed.result l.invariant w.if-asked-v.true w.cell_of.ensures.0 w.is_needed.ensures
-      (w.n-is ∙ w.counted-n.ensures))
-    | else-asked-v w ↦ rw (w.which-is, w.n-is) (chose_skip test a.lines.now a.total a.which.now l.which l.n
-      l.i l.invariant (omega arith)
-      (ap test (sym r.ensures) ∙ ap (λ (d : Bool). d
-      && is_needed (subjects_of a.coordinates.now) (objects_of a.coordinates.now) a.x
-      a.stride a.need.now r.result) w.if-asked-v.false))
+      | then-asked-v w ↦ subst (λ (v : List ℕ). Chose test a.lines.now a.total a.which.now v c.if-asked-v.n
+          (l.i + 1)) (sym w.which-is)
+          (chose_during b.requires.0 l.i (omega arith) r.ensures a.asked a.x l.which l.n
+          c.if-asked-v.n w.cell_of.result w.is_needed.result l.invariant w.if-asked-v.true w.cell_of.ensures.0 w.is_needed.ensures
+          (w.n-is ∙ w.counted-n.ensures))
+      | else-asked-v w ↦ rw (w.which-is, w.n-is) (chose_skip test a.lines.now a.total a.which.now l.which l.n
+          l.i l.invariant (omega arith)
+          (ap test (sym r.ensures) ∙ ap (λ (d : Bool). d
+          && is_needed (subjects_of a.coordinates.now) (objects_of a.coordinates.now) a.x
+          a.stride a.need.now r.result) w.if-asked-v.false))
     ]
 
 pub loop-i-init : goal.loop-i-init

@@ -29,7 +29,7 @@ loop-i-preserved c =
     let next = count_next a.object a.n a.lines.now c.loop-i.i (omega arith)
     c.authorization_at.result c.authorization_at.ensures in
     elim c.if-is_on.branch [
-      then-is_on w ↦ (search rules, omega arith, omega (arith, next true (e ∙ w.if-is_on.true)))
+      | then-is_on w ↦ (search rules, omega arith, omega (arith, next true (e ∙ w.if-is_on.true)))
       | else-is_on w ↦ (search rules, omega arith, omega (arith, next false (e ∙ w.if-is_on.false)))
     ]
 

@@ -36,7 +36,7 @@ loop-r-preserved c =
     let e = c.next_bit-r-in-loop-r.ensures in
     let low : (j.if-start-least.least ≤ l.least) × (j.if-start-least.least ≤ q.result.interval.start) =
     elim j.if-start-least.branch [
-      then-start-least w ↦ (omega arith, omega arith)
+      | then-start-least w ↦ (omega arith, omega arith)
       | else-start-least w ↦ (omega arith, omega arith)
     ] in
     let test = ltb q.result.interval.start a.t && leb a.t q.result.interval.end in
