@@ -60,12 +60,31 @@ SPLIT = {
 # definitions of the modules above that a contract or a definition of specs/ leans on: where they stand in specs/ then, under which
 # comment, and the argument that those which stood in a `module _` take written out now in the theorems beside which they stood
 LIFTED = {
-    ('model', 'StepFacts'): dict(to='Step', names=['Accepted'], head='-- ---- a request that is accepted'),
-    ('model', 'SupportFacts'): dict(to='Support', names=['hop'], head='-- ---- one hop'),
-    ('model', 'StratificationFacts'): dict(to='Stratification', names=['leads', 'FeedingPath', 'FeedingWalk', 'unlabelled'],
-                                           head='-- ---- paths of feeding; a rule but for its label'),
-    ('model', 'HoldsLaws'): dict(to='Rules', names=['derived', 'holding'], head='-- ---- what holds at last', given='base',
-                                 but=('holds_fit S derived base t p', 'holds_fit S (derived base) t p')),
+    ('model', 'StepFacts'): [
+        dict(to='Step', names=['Accepted'], head='-- ---- a request that is accepted'),
+        dict(to='Step', names=['Numbered', 'row_given', 'numbered?', 'rising?'], head='-- ---- rows by their numbers'),
+        dict(to='Step', names=['IsEarliest'], head='-- ---- the instant that goes with 9', given='b q', but=('', ''), text=[
+            '-- t lies in the span and is not covered, and every instant of the span before it is',
+            'abbrev pub IsEarliest : Base → Request → ℕ → Type 0',
+            'IsEarliest b q = Earliest b.authorizations (new_head (suc b.last) q) q.interval']),
+    ],
+    ('model', 'GrantFacts'): [
+        dict(to='Step', names=['Unlisted', 'Outside', 'DeniedAt', 'Barred', 'Uncovered'],
+             head='-- ---- who is barred, and what is not covered, in plain logic'),
+    ],
+    ('model', 'SupportFacts'): [
+        dict(to='Support', names=['hop'], head='-- ---- one hop'),
+        dict(to='Support', names=['Earliest'], head='-- ---- the earliest instant that is not covered'),
+    ],
+    ('model', 'StratificationFacts'): [
+        dict(to='Stratification', names=['leads', 'FeedingPath', 'FeedingWalk', 'unlabelled'],
+             head='-- ---- paths of feeding; a rule but for its label'),
+    ],
+    ('model', 'HoldsLaws'): [
+        dict(to='Rules', names=['derived', 'holding'], head='-- ---- what holds at last', given='base',
+             but=('holds_fit S derived base t p', 'holds_fit S (derived base) t p')),
+        dict(to='Rules', names=['PrecededOnly', 'StrictlyFed'], head='-- ---- what precedes a rule'),
+    ],
 }
 
 # lines of text that say where something is: file, what stood there, what stands there now
@@ -287,7 +306,7 @@ def move():
                 os.rename(old, new)
                 print('moved', crate, m)
         lib(crate, modules, modules)
-    for (crate, m), s in LIFTED.items():
+    for (crate, m), s in [(k, s) for k, ss in LIFTED.items() for s in ss]:
         old, new = path('crates', crate, 'proofs', m + '.antt'), path('crates', crate, 'specs', s['to'] + '.antt')
         comment, uses, its = parts(read(old))
         going = lambda it: it.name in s['names'] and it.kind
@@ -300,6 +319,7 @@ def move():
         gone, kept = chosen(its, going, False), chosen(its, lambda it: not going(it))
         has = {it.name for it in declared_in(there_its)} | {n.split(' as ')[-1].strip() for l in there_uses for n in re.sub(r'.*\{|\}', '', l).split(',')}
         more = []
+        gone = s.get('text', gone)
         for l in pruned(uses, '\n'.join(gone)):
             names = [n for n in re.sub(r'.*\{|\}', '', l).split(', ') if n not in has]
             line = re.sub(r'\{.*\}', '{' + ', '.join(names) + '}', l)
@@ -313,7 +333,8 @@ def move():
         write(new, '\n'.join([*there, *there_uses[:at + 1], *more, *there_uses[at + 1:], body, '', s['head'], '', *gone]) + '\n')
         if 'given' in s:
             word = re.compile(r"(?<![\w.'-])(" + '|'.join(s['names']) + r")(?![\w.'-])")
-            kept = [l if l.strip().startswith('--') else word.sub(rf"\1 {s['given']}", l).replace(*s['but']) for l in kept]
+            kept = [l if l.strip().startswith('--') else word.sub(rf"\1 {s['given']}", l) for l in kept]
+            kept = [l.replace(*s['but']) if s['but'][0] else l for l in kept]
         tokens = names_in('\n'.join(kept))
         own = [n for n in s['names'] if n in tokens]
         own = [f"use Rattle.{crate}.specs.{s['to']}.{{{', '.join(own)}}}"] if own else []
@@ -366,8 +387,7 @@ def places():
     found = {}
     for crate, modules in WHOLE.items():
         for m in modules:
-            lifted = LIFTED.get((crate, m), {'names': []})
-            found[crate, m] = ({n: f"specs.{lifted['to']}" for n in lifted['names']}, f'proofs.{m}')
+            found[crate, m] = ({n: f"specs.{s['to']}" for s in LIFTED.get((crate, m), []) for n in s['names']}, f'proofs.{m}')
     for (crate, m), s in SPLIT.items():
         found[crate, m] = ({n: f"proofs.{s['to']}" for n in s['names']}, f'specs.{m}')
     return found
@@ -458,7 +478,7 @@ stood beside the theorems, and stand beside other definitions now, word for word
 No definition had to become `unfoldable`. tools/theorems_to_proofs.py moved all of it, and wrote this list from the files. A theorem
 inside a `module _` takes the parameters of that line first.
 ''']
-    out[-1] = out[-1].replace('@LIFTED@', '; '.join(f"{', '.join(f'`{n}`' for n in s['names'])} in `{s['to']}`" for s in LIFTED.values()))
+    out[-1] = out[-1].replace('@LIFTED@', '; '.join(f"{', '.join(f'`{n}`' for n in s['names'])} in `{s['to']}`" for ss in LIFTED.values() for s in ss))
     for crate, m, to, s in whole + split:
         _, _, its = parts(read(path('crates', crate, 'proofs', to + '.antt')))
         is_theorem = lambda it: not it.kind or s and it.name in s.get('proofs', [])

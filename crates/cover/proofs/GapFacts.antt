@@ -12,7 +12,8 @@ use Rattle.foundation.specs.Intervals.{in_interval_in, none?, always, always_all
 use Rattle.model.specs.declared.Head.{Head}
 use Rattle.model.specs.declared.Authorization.{Authorization}
 use Rattle.model.specs.Support.{covered_for, gaps}
-use Rattle.model.proofs.SupportFacts.{Earliest, earliest_gaps, earliest_only}
+use Rattle.model.specs.Support.{Earliest}
+use Rattle.model.proofs.SupportFacts.{earliest_gaps, earliest_only}
 use Rattle.cover.specs.declared.Want.{Want}
 use Rattle.cover.specs.declared.Gap.{Gap}
 use Rattle.cover.specs.First.{first}

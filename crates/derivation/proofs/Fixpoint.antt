@@ -30,7 +30,8 @@ use Rattle.model.proofs.SideFacts.{right_sign}
 use Rattle.model.proofs.RightFacts.{right_is}
 use Rattle.model.proofs.HoldsFacts.{below_steady, below-stratum, rounds, rounds-below}
 use Rattle.model.specs.Rules.{holding}
-use Rattle.model.proofs.HoldsLaws.{fit_precedes, StrictlyFed, strictly_fed, right_settled}
+use Rattle.model.proofs.HoldsLaws.{fit_precedes, strictly_fed, right_settled}
+use Rattle.model.specs.Rules.{StrictlyFed}
 use Rattle.model.proofs.HoldsLaws.{strictly_linked, strictly_settled, settled_at}
 use Rattle.laws.specs.Dependence.{Depends}
 use Rattle.questions.proofs.OperatorSteps.{sense, operate-back, operate-now, sense_more}

@@ -18,7 +18,8 @@ use Rattle.model.specs.Stratification.{unlabelled}
 use Rattle.model.specs.Rules.{right_of, asked, right_holds, operate}
 use Rattle.model.proofs.SideFacts.{right_eq, right_sign}
 use Rattle.model.proofs.RightFacts.{right_is}
-use Rattle.model.proofs.HoldsLaws.{PrecededOnly, StrictlyFed, fit_precedes, strictly_fed, strictly_linked}
+use Rattle.model.specs.Rules.{PrecededOnly, StrictlyFed}
+use Rattle.model.proofs.HoldsLaws.{fit_precedes, strictly_fed, strictly_linked}
 
 -- the same rule, under this label or another
 abbrev pub Relabelled : Rule → Rule → Type 0

@@ -6,7 +6,8 @@ use Rattle.model.specs.declared.Request.{Request}
 use Rattle.model.specs.Base.{Base}
 use Rattle.model.specs.Means.{plainly}
 use Rattle.model.specs.Step.{Row, row, first_number, full, refusal, table}
-use Rattle.model.proofs.StepFacts.{Numbered, numbered, first_append}
+use Rattle.model.specs.Step.{Numbered}
+use Rattle.model.proofs.StepFacts.{numbered, first_append}
 
 -- the rows that stand before the one numbered n
 abbrev pub rows_until : ℕ → List Row → List Row

@@ -7,7 +7,7 @@ use Rattle.std.proofs.lemmas.Bool.{false≢true}
 use Rattle.foundation.specs.Tests.{cases, must_fail, and-true, and_intro, and_three, and-four, or_cases}
 use Rattle.foundation.specs.Tests.{or_none, or_false, not-true, eq_true, true_eq, true-le, false-le}
 use Rattle.foundation.specs.Lists.{Mem, anyb, allb, any_mem, mem_any, all_mem}
-use Rattle.foundation.specs.Intervals.{in_interval, none?, overlap, overlap-instant}
+use Rattle.foundation.specs.Intervals.{none?, overlap, overlap-instant}
 use Rattle.model.specs.declared.Privilege.{Privilege}
 use Rattle.model.specs.declared.Authorization.{Authorization}
 use Rattle.model.specs.declared.Request.{Request}
@@ -21,42 +21,8 @@ use Rattle.model.specs.Soundness.{starts_first}
 use Rattle.model.specs.SoundnessFacts.{Sound}
 use Rattle.model.specs.Step.{names_interval, bad_interval, denies, bars, barred, not_supported}
 use Rattle.model.specs.Step.{earliest_gap}
-use Rattle.model.proofs.StepFacts.{IsEarliest, earliest_gap_lem}
-
--- the privilege is not on the list
-abbrev pub Unlisted : List Privilege → ℕ → ℕ → Type 0
-Unlisted ps o s = Mem (privilege o s) ps → ⊥
-
--- a grant or denial by somebody who neither owns nor administers the object
-pub record Outside (b : Base) (q : Request) : Type 0 where
-  pub kind : (q.kind ≡ GRANT) ⊎ (q.kind ≡ DENY)
-  pub owner : Unlisted b.objects q.object q.requester
-  pub administrator : Unlisted b.administrators q.object q.requester
-
--- an authorization that denies the requester what the request names, at t
-pub record DeniedAt (b : Base) (q : Request) (t : ℕ) : Type 0 where
-  pub line : Authorization
-  pub stands : Mem line b.authorizations
-  pub covers : in_interval line.interval t ≡ true
-  pub negative : line.head.negative ≡ true
-  pub subject : line.head.subject ≡ q.requester
-  pub object : line.head.object ≡ q.object
-  pub mode : line.head.mode ≡ q.mode
-
--- 02, CR 4: "A GRANT or DENY fails if some instant of its interval is covered by a line denying the requester
--- that object and mode. Owners and administrators of the object are exempt."
-pub record Barred (b : Base) (q : Request) : Type 0 where
-  pub outside : Outside b q
-  pub instant : ℕ
-  pub within : in_interval q.interval instant ≡ true
-  pub denied : DeniedAt b q instant
-
--- 01, row 9: "the giver of a grant or denial is neither owner nor administrator, and some instant of it is
--- not covered"; 02, CR 3: the earliest
-pub record Uncovered (b : Base) (q : Request) : Type 0 where
-  pub outside : Outside b q
-  pub instant : ℕ
-  pub earliest : IsEarliest b q instant
+use Rattle.model.proofs.StepFacts.{earliest_gap_lem}
+use Rattle.model.specs.Step.{Unlisted, Outside, Barred, Uncovered}
 
 -- ---- who is outside
 

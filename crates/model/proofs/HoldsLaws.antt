@@ -4,7 +4,6 @@ use Rattle.std.proofs.Math.Path.{refl}
 use Rattle.std.proofs.Common.{sym, ap, ◌∙◌, arith}
 use Rattle.foundation.specs.Tests.{cases, le-true, le-false, true-le, false-le, eq_true}
 use Rattle.foundation.specs.Lists.{anyb, Mem, any_cong_mem}
-use Rattle.foundation.specs.Graph.{heavy}
 use Rattle.foundation.specs.Intervals.{in_interval, always, always_cong}
 use Rattle.model.specs.declared.Rule.{Rule}
 use Rattle.model.specs.declared.Operator.{Operator}
@@ -12,7 +11,7 @@ use Rattle.model.specs.declared.Operator.TheVariants.{Whenever, AsLongAs, Whenev
 use Rattle.model.specs.declared.Access.{Access}
 use Rattle.model.specs.Base.{Base}
 use Rattle.model.specs.Support.{live}
-use Rattle.model.specs.Stratification.{precedes, negating, weight, stratified, stratum}
+use Rattle.model.specs.Stratification.{precedes, negating, stratified, stratum}
 use Rattle.model.proofs.FeedingLaws.{feeds-precedes}
 use Rattle.model.proofs.FeedingLaws.{links-precedes, negates-heavy, links-heavy}
 use Rattle.model.specs.Rules.{Pattern, Fact, fact, fits, derives_for, right_of, right_holds, operate}
@@ -23,20 +22,12 @@ use Rattle.model.proofs.HoldsSteady.{below}
 use Rattle.model.proofs.HoldsFacts.{closed}
 use Rattle.model.proofs.StratificationFacts.{feeder_not-above, feeder_below, stratum-few}
 use Rattle.model.specs.Rules.{derived, holding}
+use Rattle.model.specs.Rules.{PrecededOnly, StrictlyFed}
 
 -- what fits a rule's right side is derived by a rule that it looks at
 pub fit_precedes : (base : Base) (q r : Rule) (x : Access) → derives_for base (right_of r x) q ≡ true →
     precedes q r ≡ true
 fit_precedes base q r x e = feeds-precedes q r (fit_feeds base q r x e)
-
--- what holds of p is derived only by rules that r looks at
-abbrev pub PrecededOnly : Base → Rule → Pattern → Type 0
-PrecededOnly base r p = (q : Rule) → derives_for base p q ≡ true → precedes q r ≡ true
-
--- and by steps that count in a rank
-abbrev pub StrictlyFed : Base → Rule → Pattern → Type 0
-StrictlyFed base r p =
-    (q : Rule) → derives_for base p q ≡ true → (precedes q r ≡ true) × (heavy weight q r ≡ true)
 
 -- each step to a rule with WHENEVERNOT or UNLESS counts
 pub strictly_fed : (base : Base) (r : Rule) → negating r.operator ≡ true → (p : Pattern) →

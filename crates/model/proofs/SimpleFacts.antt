@@ -14,7 +14,8 @@ use Rattle.model.specs.Circles.{circular, Circle}
 use Rattle.model.proofs.CirclePaths.{circular_path}
 use Rattle.model.specs.Rules.{may}
 use Rattle.model.specs.Step.{Row, row, first_number, refused_or}
-use Rattle.model.proofs.StepFacts.{Numbered, numbered, first_append, first_all, answered, turned_away}
+use Rattle.model.specs.Step.{Numbered}
+use Rattle.model.proofs.StepFacts.{numbered, first_append, first_all, answered, turned_away}
 use Rattle.model.specs.Encoding.{decode}
 use Rattle.model.specs.Soundness.{sound_bytes}
 use Rattle.model.specs.Answers.{refusal_number, may_table, may_reply, may_answer}

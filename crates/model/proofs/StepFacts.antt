@@ -11,7 +11,7 @@ use Rattle.model.specs.declared.Request.{Request}
 use Rattle.model.specs.declared.Reply.TheVariants.{Refused, Unsupported}
 use Rattle.model.specs.Base.{Base, controls}
 use Rattle.model.specs.Support.{gaps}
-use Rattle.model.proofs.SupportFacts.{Earliest, gaps_earliest, earliest_only}
+use Rattle.model.proofs.SupportFacts.{gaps_earliest, earliest_only}
 use Rattle.model.specs.Requests.{grants, new_head}
 use Rattle.model.specs.Means.{Means, plainly}
 use Rattle.model.specs.Step.{Row, first_number, range_tests, out_of_range}
@@ -19,13 +19,10 @@ use Rattle.model.specs.Step.{not_supported}
 use Rattle.model.specs.Step.{table, refusal, refused_or, accepting, effect, Outcome, step}
 use Rattle.model.specs.Step.{earliest_gap, refusal_reply}
 use Rattle.model.specs.Step.{Accepted}
+use Rattle.model.specs.Step.{Numbered, row_given, numbered?, rising?}
+use Rattle.model.specs.Step.{IsEarliest}
 
 -- ---- the first row that applies
-
--- every row has a number
-abbrev pub Numbered : List Row → Type 0
-Numbered [] = Unit {0}
-Numbered (r ∷ rest) = (0 < r.number) × Numbered rest
 
 -- a number that is given is a row's whose condition holds
 pub first-given : (rows : List Row) → first_number rows ≢ 0 →
@@ -49,11 +46,6 @@ first_none [] up z r m = absurd m.lower
 first_none (s ∷ rest) up z r m = cases s.given
     (λ g. let w : s.number ≡ 0 = rw g at z in absurd (omega (arith, up.0)))
     (λ g. ⊎_elim (λ e. rw e g) (λ k. first_none rest up.1 (rw g at z) r k) m)
-
--- whether the condition of the row numbered n holds
-abbrev pub row_given : ℕ → List Row → Bool
-row_given n [] = false
-row_given n (r ∷ rest) = pick (eqb r.number n) r.given (row_given n rest)
 
 -- where no number is given, no row's condition holds
 pub none_given : (rows : List Row) → Numbered rows → first_number rows ≡ 0 → (n : ℕ) →
@@ -79,10 +71,6 @@ first_all p (r ∷ rest) z e =
     let w = and-true (p r.number) (allb (λ s. p s.number) rest) e in
     cases r.given (λ g. rw g w.0) (λ g. rw g (first_all p rest z w.1))
 
--- rows are numbered if a test over them says so
-abbrev pub numbered? : List Row → Bool
-numbered? rows = allb (λ r. ltb 0 r.number) rows
-
 pub numbered : (rows : List Row) → numbered? rows ≡ true → Numbered rows
 numbered [] e = tt
 numbered (r ∷ rest) e =
@@ -93,11 +81,6 @@ numbered (r ∷ rest) e =
 
 pub table_numbered : (M : Means) (b : Base) (q : Request) → Numbered (table M b q)
 table_numbered M b q = numbered (table M b q) refl
-
--- the numbers rise from n on
-abbrev pub rising? : ℕ → List Row → Bool
-rising? n [] = true
-rising? n (r ∷ rest) = ltb n r.number && rising? r.number rest
 
 -- where they rise, the first number that applies is the lowest
 pub first_lowest : (n : ℕ) (rows : List Row) → rising? n rows ≡ true → (r : Row) → Mem r rows →
@@ -153,12 +136,8 @@ module _ (b : Base) (q : Request) where
   abbrev asked_head : Head
   asked_head = new_head (suc b.last) q
 
-  -- t lies in the span and is not covered, and every instant of the span before it is
-  abbrev pub IsEarliest : ℕ → Type 0
-  IsEarliest = Earliest b.authorizations asked_head q.interval
-
   -- 02: "the earliest uncovered" instant is what goes with 9, where row 9 applies,
-  pub earliest_gap_lem : not_supported plainly b q ≡ true → IsEarliest (earliest_gap plainly b q)
+  pub earliest_gap_lem : not_supported plainly b q ≡ true → IsEarliest b q (earliest_gap plainly b q)
   earliest_gap_lem e =
       let lacks = not (none? (gaps b.authorizations asked_head q.interval)) in
       let outside = not (controls b q.object q.requester) in
@@ -167,7 +146,7 @@ module _ (b : Base) (q : Request) where
       (and-true (grants q && outside) lacks e).1)
 
   -- and no other instant is
-  pub earliest_one : (t : ℕ) → IsEarliest t → t ≡ earliest_gap plainly b q
+  pub earliest_one : (t : ℕ) → IsEarliest b q t → t ≡ earliest_gap plainly b q
   earliest_one = earliest_only b.authorizations asked_head q.interval
 
   -- with 9 the instant, with any other number nothing

@@ -21,6 +21,7 @@ use Rattle.model.proofs.SupportChains.{supported-chain, supported-step}
 use Rattle.model.specs.Support.{Chain, first, then, live, covered_for}
 use Rattle.model.specs.Support.{gaps}
 use Rattle.model.specs.Support.{hop}
+use Rattle.model.specs.Support.{Earliest}
 
 -- ---- the heads that cover an instant
 
@@ -197,12 +198,6 @@ covered_together xs h i = (
   (λ f. gaps-always xs h i ∙ all_always i.start i.end (λ u. covered_for xs h u)
       (λ t p q. let w = f t p q in mem_any (λ k. supports k h) (live t xs) w.0 w.1 w.2)),
 )
-
--- t is the earliest instant of i that nothing covers for h
-pub record Earliest (xs : List Authorization) (h : Head) (i : Interval) (t : ℕ) : Type 0 where
-  pub within : in_interval i t ≡ true
-  pub uncovered : covered_for xs h t ≡ false
-  pub before : (u : ℕ) → i.start ≤ u → u < t → covered_for xs h u ≡ true
 
 module _ (xs : List Authorization) (h : Head) (i : Interval) where
   -- where there are gaps, the first of them starts there,

@@ -1,7 +1,7 @@
 -- What holds by authorizations and rules, and the question MAY (01, "Rules").
 -- Theorem 4: `closed` and `smallest` in HoldsFacts. Theorem 5: HoldsMarks.
 use Prim.Native.Nat.{ℕ, zero, suc, ◌+◌, ◌*◌}
-use Rattle.std.specs.Prelude.{Bool, true, not, ◌&&◌, ◌||◌, List, ltb, eqb}
+use Rattle.std.specs.Prelude.{Bool, true, not, ◌&&◌, ◌||◌, List, ltb, eqb, ◌≡◌}
 use Rattle.std.proofs.Math.Bool.{false}
 use Rattle.std.specs.Bool.{beq}
 use Rattle.std.proofs.Math.ListN.{length}
@@ -10,6 +10,7 @@ use Rattle.foundation.specs.Lists.{anyb}
 use Rattle.foundation.specs.Closure.{iter}
 use Rattle.foundation.specs.declared.Interval.{Interval}
 use Rattle.foundation.specs.Intervals.{in_interval, maximal, always}
+use Rattle.foundation.specs.Graph.{heavy}
 use Rattle.model.specs.declared.Head.{Head}
 use Rattle.model.specs.declared.Rule.{Rule}
 use Rattle.model.specs.declared.Operator.{Operator}
@@ -20,7 +21,7 @@ pub use Rattle.model.specs.declared.Pattern.{Pattern}
 use Rattle.model.specs.Ranges.{last_instant}
 use Rattle.model.specs.Base.{Base, controls}
 use Rattle.model.specs.Support.{live}
-use Rattle.model.specs.Stratification.{star, is_star, fits_option, stratum}
+use Rattle.model.specs.Stratification.{star, is_star, fits_option, stratum, precedes, weight}
 
 -- 01: "A star for granter or option fits any"
 abbrev pub fits_grantor : ℕ → ℕ → Bool
@@ -172,3 +173,14 @@ module _ (base : Base) where
   -- what counts as held on a right side at u
   abbrev pub holding : ℕ → Pattern → Bool
   holding u p = right_holds (holds always base u) (holds always base u) p
+
+-- ---- what precedes a rule
+
+-- what holds of p is derived only by rules that r looks at
+abbrev pub PrecededOnly : Base → Rule → Pattern → Type 0
+PrecededOnly base r p = (q : Rule) → derives_for base p q ≡ true → precedes q r ≡ true
+
+-- and by steps that count in a rank
+abbrev pub StrictlyFed : Base → Rule → Pattern → Type 0
+StrictlyFed base r p =
+    (q : Rule) → derives_for base p q ≡ true → (precedes q r ≡ true) × (heavy weight q r ≡ true)

@@ -3,9 +3,11 @@
 -- the definition.
 use Rattle.std.specs.Prelude.{ℕ, suc, Bool, true, false, not, ◌&&◌, ◌||◌, List, [], ◌∷◌, ◌++◌, leb, ltb, eqb, length}
 use Rattle.foundation.specs.Tests.{pick}
-use Rattle.foundation.specs.Lists.{anyb}
-use Rattle.foundation.specs.Intervals.{overlap, first_start, none?}
-use Rattle.std.specs.Prelude.{◌≡◌}
+use Rattle.foundation.specs.Lists.{anyb, allb, Mem}
+use Rattle.foundation.specs.Intervals.{overlap, first_start, none?, in_interval}
+use Rattle.std.specs.Prelude.{◌≡◌, ◌<◌, ◌⊎◌}
+use Rattle.model.specs.declared.Privilege.{Privilege}
+use Rattle.model.specs.Support.{Earliest}
 use Rattle.model.specs.declared.Head.{Head}
 use Rattle.model.specs.declared.Authorization.{Authorization}
 use Rattle.model.specs.declared.OptionTerm.{OptionTerm}
@@ -20,7 +22,7 @@ use Rattle.model.specs.declared.Reply.TheVariants.{Done, Refused, Unsupported}
 use Rattle.model.specs.Ranges.{between, is_instant, is_subject, is_object, is_mode, is_label, last_label}
 use Rattle.model.specs.Ranges.{most_administrators, most_referrers, most_authorizations, most_rules}
 use Rattle.model.specs.Ranges.{most_objects}
-use Rattle.model.specs.Base.{Base, exists, owns, administers, refers, controls, may_rule}
+use Rattle.model.specs.Base.{Base, exists, owns, administers, refers, controls, may_rule, privilege}
 use Rattle.model.specs.Withdrawal.{authorization}
 use Rattle.model.specs.Stratification.{is_star, stratified}
 use Rattle.model.specs.Requests.{NEW, GRANT, DENY, REVOKE, REVOKEP, REVOKEN, ADDRULE, DROPRULE}
@@ -320,3 +322,67 @@ pub record Accepted (b : Base) (q : Request) : Type 0 where
   pub held : not_held b q ≡ false
   pub strata : not_stratified b q ≡ false
   pub room : full plainly b q ≡ false
+
+-- ---- rows by their numbers
+
+-- every row has a number
+abbrev pub Numbered : List Row → Type 0
+Numbered [] = Unit {0}
+Numbered (r ∷ rest) = (0 < r.number) × Numbered rest
+
+-- whether the condition of the row numbered n holds
+abbrev pub row_given : ℕ → List Row → Bool
+row_given n [] = false
+row_given n (r ∷ rest) = pick (eqb r.number n) r.given (row_given n rest)
+
+-- rows are numbered if a test over them says so
+abbrev pub numbered? : List Row → Bool
+numbered? rows = allb (λ r. ltb 0 r.number) rows
+
+-- the numbers rise from n on
+abbrev pub rising? : ℕ → List Row → Bool
+rising? n [] = true
+rising? n (r ∷ rest) = ltb n r.number && rising? r.number rest
+
+-- ---- the instant that goes with 9
+
+-- t lies in the span and is not covered, and every instant of the span before it is
+abbrev pub IsEarliest : Base → Request → ℕ → Type 0
+IsEarliest b q = Earliest b.authorizations (new_head (suc b.last) q) q.interval
+
+-- ---- who is barred, and what is not covered, in plain logic
+
+-- the privilege is not on the list
+abbrev pub Unlisted : List Privilege → ℕ → ℕ → Type 0
+Unlisted ps o s = Mem (privilege o s) ps → ⊥
+
+-- a grant or denial by somebody who neither owns nor administers the object
+pub record Outside (b : Base) (q : Request) : Type 0 where
+  pub kind : (q.kind ≡ GRANT) ⊎ (q.kind ≡ DENY)
+  pub owner : Unlisted b.objects q.object q.requester
+  pub administrator : Unlisted b.administrators q.object q.requester
+
+-- an authorization that denies the requester what the request names, at t
+pub record DeniedAt (b : Base) (q : Request) (t : ℕ) : Type 0 where
+  pub line : Authorization
+  pub stands : Mem line b.authorizations
+  pub covers : in_interval line.interval t ≡ true
+  pub negative : line.head.negative ≡ true
+  pub subject : line.head.subject ≡ q.requester
+  pub object : line.head.object ≡ q.object
+  pub mode : line.head.mode ≡ q.mode
+
+-- 02, CR 4: "A GRANT or DENY fails if some instant of its interval is covered by a line denying the requester
+-- that object and mode. Owners and administrators of the object are exempt."
+pub record Barred (b : Base) (q : Request) : Type 0 where
+  pub outside : Outside b q
+  pub instant : ℕ
+  pub within : in_interval q.interval instant ≡ true
+  pub denied : DeniedAt b q instant
+
+-- 01, row 9: "the giver of a grant or denial is neither owner nor administrator, and some instant of it is
+-- not covered"; 02, CR 3: the earliest
+pub record Uncovered (b : Base) (q : Request) : Type 0 where
+  pub outside : Outside b q
+  pub instant : ℕ
+  pub earliest : IsEarliest b q instant

@@ -1,7 +1,7 @@
 -- Support of an authorization by a chain of others (01, "Backing"; report, section 5).
 -- Theorem 2: `supported-chain` in SupportChains; one hop is enough: `one_hop` in SupportFacts.
 use Rattle.std.specs.Prelude.{◌≡◌, Bool, true, false, not, ◌&&◌, ◌||◌, List, [], ◌∷◌, ltb, eqb}
-use Prim.Native.Nat.{ℕ, zero, suc, ◌<◌}
+use Prim.Native.Nat.{ℕ, zero, suc, ◌≤◌, ◌<◌}
 use Rattle.foundation.specs.Tests.{pick}
 use Rattle.foundation.specs.Lists.{anyb, Mem}
 use Rattle.foundation.specs.declared.Interval.{Interval}
@@ -92,3 +92,11 @@ pub record Supports (k h : Head) : Type 0 where
 -- a root, or a head that covers t and may stand directly before h
 abbrev pub hop : (Head → Bool) → List Authorization → Head → ℕ → Bool
 hop root xs h t = root h || anyb (λ k. supports k h) (live t xs)
+
+-- ---- the earliest instant that is not covered
+
+-- t is the earliest instant of i that nothing covers for h
+pub record Earliest (xs : List Authorization) (h : Head) (i : Interval) (t : ℕ) : Type 0 where
+  pub within : in_interval i t ≡ true
+  pub uncovered : covered_for xs h t ≡ false
+  pub before : (u : ℕ) → i.start ≤ u → u < t → covered_for xs h u ≡ true

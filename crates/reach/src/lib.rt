@@ -132,7 +132,7 @@ fn follow_bit(
         × (pair < length need.old) × (0 < get_or todo.old pair 0) × (152 ≤ length left.now)
         × (256 ≤ length right.now) }
     ensures { ReachStep
-        (record { left = left.entry.now; right = right.now; subjects = subjects })
+        (record { left = left.now; right = right.now; subjects = subjects })
         need.old todo.old need.new todo.new }
 {
     let k = lowest(todo[pair]);
@@ -194,16 +194,11 @@ pub fn reach(
         × (pair < length need.old)
         × ((i : ℕ) → (get_or need.old i 0 ≡ 0) × (get_or todo.old i 0 ≡ 0)) × (152 ≤ length left.now)
         × (256 ≤ length right.now) }
-    ensures { ClosedNet (record {
-      left = left.entry.now;
-      right = right.now;
-      subjects =
-          subjects;
-    })
+    ensures { ClosedNet (record { left = left.now; right = right.now; subjects = subjects })
         need.new
         × ((b : ℕ) → bit b bits ≡ true → has need.new pair b ≡ true)
         × (length need.new ≡ length need.old)
-        × Only (record { left = left.entry.now; right = right.now; subjects = subjects }) pair
+        × Only (record { left = left.now; right = right.now; subjects = subjects }) pair
         need.new }
 {
     ask(need, todo, pair, bits);

@@ -13,7 +13,8 @@ use Rattle.model.specs.declared.Request.{Request}
 use Rattle.model.specs.Base.{Base}
 use Rattle.model.specs.Means.{plainly}
 use Rattle.model.specs.Step.{Row, row, first_number, out_of_range, not_supported, not_stratified}
-use Rattle.model.proofs.StepFacts.{Numbered, numbered, first_none, first_append, first_all}
+use Rattle.model.specs.Step.{Numbered}
+use Rattle.model.proofs.StepFacts.{numbered, first_none, first_append, first_all}
 use Rattle.refusals.specs.declared.Early.TheVariants.{Number}
 use Rattle.laws.specs.EarlyRows.{early_rows}
 use Rattle.refusals.specs.Early.{rows_before_cover, rows_behind_cover, rows_before_strata, says_of, or_else}

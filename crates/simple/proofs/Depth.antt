@@ -17,7 +17,8 @@ use Rattle.model.specs.Circles.{circular}
 use Rattle.model.proofs.CirclePaths.{circular-cyclic}
 use Rattle.model.specs.Rules.{derives_for, right_of, asked}
 use Rattle.model.proofs.SideFacts.{right_sign}
-use Rattle.model.proofs.HoldsLaws.{PrecededOnly, fit_precedes, strictly_linked}
+use Rattle.model.specs.Rules.{PrecededOnly}
+use Rattle.model.proofs.HoldsLaws.{fit_precedes, strictly_linked}
 
 module _ (b : Base) where
   -- how many rules are on the longest path that ends in r,

@@ -10,11 +10,13 @@ use Rattle.model.specs.declared.Reply.TheVariants.{Done}
 use Rattle.model.specs.Base.{Base}
 use Rattle.model.specs.Means.{plainly}
 use Rattle.model.specs.Step.{Row, first_number, accepting, refusal, effect, barred, not_supported}
-use Rattle.model.proofs.StepFacts.{by_rows, first_all, first_none, Numbered, numbered, row_given, none_given}
+use Rattle.model.proofs.StepFacts.{by_rows, first_all, first_none, numbered, none_given}
+use Rattle.model.specs.Step.{Numbered, row_given}
 use Rattle.model.specs.Encoding.{encode, decode}
 use Rattle.model.specs.Soundness.{sound, sound_bytes}
 use Rattle.model.specs.SoundnessFacts.{decoded-sound}
-use Rattle.model.proofs.GrantFacts.{Barred, barred-instant}
+use Rattle.model.specs.Step.{Barred}
+use Rattle.model.proofs.GrantFacts.{barred-instant}
 use Rattle.model.specs.Answers.{Answer, answering, request_table, request, refusal_number}
 use Rattle.laws.specs.EarlyRows.{rows_until}
 use Rattle.laws.specs.RequestFacts.{reply_refusal, refused_with, encoded_table}

@@ -14,8 +14,10 @@ use Rattle.model.specs.Base.{Base, empty_base, exists}
 use Rattle.model.specs.Rules.{may, when}
 use Rattle.model.specs.Means.{plainly}
 use Rattle.model.specs.Step.{Row, row, first_number, refused_or, accepting, effect, earliest_gap}
-use Rattle.model.proofs.StepFacts.{first-given, answered, turned_away, rising?, numbered}
-use Rattle.model.proofs.StepFacts.{IsEarliest, earliest_gap_lem, earliest_one, none_given}
+use Rattle.model.proofs.StepFacts.{first-given, answered, turned_away, numbered}
+use Rattle.model.specs.Step.{rising?}
+use Rattle.model.specs.Step.{IsEarliest}
+use Rattle.model.proofs.StepFacts.{earliest_gap_lem, earliest_one, none_given}
 use Rattle.model.specs.Encoding.{size, encode, decode}
 use Rattle.model.specs.Soundness.{sound, sound_bytes}
 use Rattle.model.specs.SoundnessFacts.{sound_bytes_lem, decoded-sound}
@@ -30,7 +32,8 @@ use Rattle.model.specs.Report.{is_on, report_of, report_table, report_answer}
 use Rattle.model.specs.ReportFacts.{report_length}
 use Rattle.model.specs.Text.{Line, order, asks_may, asks_when, unreadable}
 use Rattle.model.specs.Session.{pairs, when_list, byte_turn}
-use Rattle.model.proofs.GrantFacts.{Barred, barred-instant}
+use Rattle.model.specs.Step.{Barred}
+use Rattle.model.proofs.GrantFacts.{barred-instant}
 use Rattle.laws.specs.EarlyRows.{rows_until}
 use Rattle.laws.specs.SessionFacts.{when-most}
 use Rattle.laws.specs.RequestFacts.{reply_refusal, refused_with, uncovered_reply}
