@@ -473,8 +473,11 @@ others are steps of their module's proofs. None is gone, and none has another na
 they were, but for one thing: a definition that a theorem had beside it in a `module _` and that stays in specs/ takes that block's
 parameter as an argument that is written out, where before it was understood, and is the same term. So it is with `Agree`,
 `RightsInside`, `Closed` and `Whole` of the block in `IsolatedReplies` (`Agree block b c` for `Agree b c`) and with `derived` and
-`holding` of the base in `HoldsLaws`. Definitions that a contract or a definition of specs/ leans on stay in specs/. Some of them
-stood beside the theorems, and stand beside other definitions now, word for word: @LIFTED@.
+`holding` of the base in `HoldsLaws`, and `IsEarliest` of the base and the request in `StepFacts`. (The proof of `starred_number` in
+`HoldsKeys` is in other words too, as is said above.) Definitions that a contract, a definition of specs/ or a theorem that stays in
+specs/ leans on stay in specs/, but for `rounds` of `HoldsFacts`, which three steps of proofs in laws/specs/Transfer name. Some of them
+stood beside the theorems, and stand beside other definitions now, word for word but for `IsEarliest`, whose `asked_head` is written
+out: @LIFTED@.
 No definition had to become `unfoldable`. tools/theorems_to_proofs.py moved all of it, and wrote this list from the files. A theorem
 inside a `module _` takes the parameters of that line first.
 ''']
