@@ -1,6 +1,6 @@
 #!/usr/bin/env python3
 """Turns a crate's proofs/**/Proof.antt that answer needs by tie.spec into Invariants.antt and Answers.antt.
-usage: conv.py NAMES CRATE_FOLDER [FUNCTION ..]   NAMES: the folder of `rt names`"""
+usage: answers.py NAMES CRATE_FOLDER [FUNCTION ..]   NAMES: the folder of `rt names`"""
 import json, os, re, sys
 names_dir, crate = sys.argv[1], sys.argv[2].rstrip('/')
 only = set(sys.argv[3:])
