@@ -13,7 +13,7 @@ pub returns-then-u-t : goal.returns-then-u-t
 returns-then-u-t c =
     let a = c.args in
     let l = c.loop-t in
-    sym (l.invariant.1 ∙ gap_hit a.w a.authorizations.now l.t a.b (search rules) 
+    sym (l.invariant.1 ∙ gap_hit a.w a.authorizations.now l.t a.b (search rules)
     (rw c.if-u-t.true at (sweep_passed a.w a.b _ _ _ c.sweep-u.ensures (search rules))))
 
 pub loop-t-smaller : goal.loop-t-smaller

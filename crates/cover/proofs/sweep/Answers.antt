@@ -20,9 +20,11 @@ returns-then-b-u c =
     ∙ rw (le-leb _ _ c.if-b-u.true))
 
 pub loop-i-preserved : goal.loop-i-preserved
-loop-i-preserved c =
-    (search rules, c.loop-i.invariant.1 ∙ turn _ _ _ _ _ _ _ c.get.ensures c.end_from-u.ensures
-    ∙ rw (lt-leb _ _ c.if-b-u.false))
+loop-i-preserved c = (
+  search rules,
+  c.loop-i.invariant.1 ∙ turn _ _ _ _ _ _ _ c.get.ensures c.end_from-u.ensures
+      ∙ rw (lt-leb _ _ c.if-b-u.false),
+)
 
 pub returns : goal.returns
 unfolding sweep_of
