@@ -21,8 +21,7 @@ use Rattle.model.specs.Soundness.{interval_in, rule_in}
 use Rattle.model.specs.FitsFacts.{RuleFits, rule_fits, at_most}
 use Rattle.model.proofs.StepFacts.{in_range}
 use Rattle.laws.specs.RuleTerms.{term_in_lem, side_in_lem, rule_tests}
-use Rattle.cover.specs.declared.Gap.{Gap}
-use Rattle.cover.specs.declared.Gap.TheVariants.{At, None}
+use Rattle.std.specs.Prelude.{Option, Some, None}
 use Rattle.cover.specs.Gaps.{GapIs}
 use Rattle.refusals.specs.Asked.{UncoveredIs}
 
@@ -102,6 +101,6 @@ in_control b q e f = rw (e, f)
 -- the gaps under the new authorization are what row 9 asks for
 pub uncovered_is : (b : Base) (q : Request) → grants q ≡ true →
     controls b q.object q.requester ≡ false →
-    (r : Gap) → GapIs b.authorizations (new_head (suc b.last) q) q.interval r → UncoveredIs b q r
-uncovered_is b q e f (At t) g = ((λ k. e k && not (f k) && not (g.0 k)), g.1)
+    (r : Option ℕ) → GapIs b.authorizations (new_head (suc b.last) q) q.interval r → UncoveredIs b q r
+uncovered_is b q e f (Some t) g = ((λ k. e k && not (f k) && not (g.0 k)), g.1)
 uncovered_is b q e f None g = λ k. e k && not (f k) && not (g k)

@@ -6,7 +6,8 @@ ghost use Rattle.model.specs.Step as model;
 ghost use Rattle.model.specs.Step.{out_of_range};
 ghost use Rattle.refusals.specs.Asked.{UncoveredIs};
 
-use cover::{Gap, Want};
+use cover::Want;
+use encoding::Records;
 use lookup::{controls, is_denied, is_grant};
 use model::{GRANT, Request};
 
@@ -27,15 +28,15 @@ pub fn barred(s: &[u8], q: Request) -> bool
 
 // Row 9: the earliest instant of a new grant or denial that no authorization covers which may support it,
 // unless the requester owns or administers the object.
-pub fn first_uncovered(s: &[u8], q: Request) -> Gap
+pub fn first_uncovered(s: &[u8], q: Request) -> Option<u32>
     requires { (sound_bytes s.now ≡ true) × (out_of_range q ≡ false) }
     ensures { UncoveredIs (decode s.now) q result }
 {
     if !is_grant(q) {
-        return Gap::None;
+        return None;
     }
     if controls(s, q.object, q.requester) {
-        return Gap::None;
+        return None;
     }
     let c = encoding::counts_of(s);
     let at = encoding::authorizations_at(c);
@@ -52,5 +53,6 @@ pub fn first_uncovered(s: &[u8], q: Request) -> Gap
         before,
     };
     let i = q.interval;
-    cover::first_gap(&s[at..], c.authorizations as usize, w, i.start, i.end)
+    let authorizations = Records::new(&s[at..], c.authorizations as usize);
+    cover::first_gap(&authorizations, w, i.start, i.end)
 }

@@ -12,7 +12,6 @@ use crate::circles::not_stratified;
 use crate::grants::{barred, first_uncovered};
 use crate::ranges::{bad_interval, out_of_range};
 use crate::rows::{already_there, behind_clock, no_label, no_object, not_held, not_permitted};
-use cover::Gap;
 use model::Request;
 
 // The number so far, or else that of a row that applies.
@@ -63,8 +62,8 @@ fn before_strata(s: &[u8], q: Request) -> Early
     }
     let gap = first_uncovered(s, q);
     match gap {
-        Gap::At(t) => Early::Uncovered(t),
-        Gap::None => {
+        Some(t) => Early::Uncovered(t),
+        None => {
             let n = behind_cover(s, q);
             if n != 0 {
                 return Early::Number(n);
