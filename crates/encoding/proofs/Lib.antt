@@ -6,6 +6,7 @@ pub mod Contents
 pub mod Empty
 pub mod FlagBytes
 pub mod RecordFields
+pub mod RecordPlaces
 pub mod OwnBytes
 pub mod InsertedRecord
 pub mod FormatFacts

@@ -5,6 +5,7 @@ mod bodies;
 mod flags;
 mod heading;
 mod insertion;
+mod records;
 mod terms;
 
 pub use bodies::{
@@ -20,6 +21,7 @@ pub use heading::{
     put_counts, referrers_at, rules_at,
 };
 pub use insertion::{insert_in_body, insertion_index};
+pub use records::{Record, Records};
 pub use terms::{new_rule, number_of};
 
 // How many records each body has.
