@@ -6,6 +6,7 @@ use native.Mathlib.Omega.{arith}
 use mathlib.Core.Bool.{Bool, not, false≢true}
 use mathlib.Core.List.{List}
 use lib.Dec.{leb, ltb}
+use Rattle.std.specs.Prelude.{Option}
 use Rattle.foundation.specs.Tests.{cases, agree, not-true, not-false, le-true, true-le, false-le}
 use Rattle.foundation.specs.declared.Interval.{Interval}
 use Rattle.foundation.specs.Intervals.{in_interval_in, none?, always, always_all, all_always, always_cong}
@@ -15,7 +16,6 @@ use Rattle.model.specs.Support.{covered_for, gaps}
 use Rattle.model.specs.Support.{Earliest}
 use Rattle.model.proofs.SupportFacts.{earliest_gaps, earliest_only}
 use Rattle.cover.specs.declared.Want.{Want}
-use Rattle.cover.specs.declared.Gap.{Gap}
 use Rattle.cover.specs.First.{first}
 use Rattle.cover.proofs.FirstFacts.{first_of, first_past}
 use Rattle.cover.specs.Cover.{want_of, covered_by, uncovered, gap_in}
@@ -80,7 +80,7 @@ module _ (xs : List Authorization) (h : Head) (i : Interval) where
       rw e (gaps-first xs h i ∙ le-true (i.end + 1) gap (omega arith)))
 
 -- so is the answer to what is wanted of h
-pub first-gap_is : (w : Want) (xs : List Authorization) (i : Interval) (r : Gap) →
+pub first-gap_is : (w : Want) (xs : List Authorization) (i : Interval) (r : Option ℕ) →
     r ≡ gap_of (gap_in w xs i.start (i.end + 1)) (i.end + 1) → FirstGap w xs i r
 first-gap_is w xs i r e = record {
   first = e;

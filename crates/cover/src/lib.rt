@@ -2,15 +2,14 @@
 // and the earliest instant that they do not cover.
 #![tactic(auto)]
 
-ghost use Rattle.std.specs.Prelude.{◌≡◌, ◌+◌, ◌*◌, ◌≤◌, length, drop};
+ghost use Rattle.std.specs.Prelude.{◌≡◌};
 ghost use Rattle.foundation.specs.Intervals.{interval};
-ghost use Rattle.model.specs.Encoding.{authorization_of};
 ghost use Rattle.cover.specs.Cover.{wanted, covers, gap_in};
-ghost use Rattle.encoding.specs.Format.{authorizations_in};
 ghost use Rattle.cover.specs.Sweep.{end_from, sweep_of};
 ghost use Rattle.cover.specs.Gaps.{FirstGap};
 
-use model::{AUTHORIZATION_BYTES, Authorization};
+use encoding::Records;
+use model::Authorization;
 
 // What is wanted of an authorization that is to stand directly before another in a chain: it is to `grantor`,
 // on an object and mode, and was granted before an instant.
@@ -46,45 +45,38 @@ fn covers_at(w: Want, t: u64, a: Authorization) -> bool
     (i.start as u64 <= t) & (t <= i.end as u64) & may_support(w, a)
 }
 
-// Where the authorization at a place gets from an instant that it covers, if it is wanted: behind its end.
-pub fn end_from(s: &[u8], at: usize, w: Want, t: u64) -> u64
-    requires { at + 24 ≤ length s.now }
-    ensures { result ≡ end_from w (authorization_of (drop at s.now)) t }
+// Where an authorization gets from an instant that it covers, if it is wanted: behind its end.
+pub fn end_from(w: Want, a: Authorization, t: u64) -> u64
+    ensures { result ≡ end_from w a t }
 {
-    let a = encoding::authorization_at(s, at);
     if covers_at(w, t, a) {
-        let i = a.interval;
-        return i.end as u64 + 1;
+        return a.interval.end as u64 + 1;
     }
     t
 }
 
-// Where one pass over n authorizations gets from an instant. It ends once b is reached.
-pub fn sweep(s: &[u8], n: usize, w: Want, t: u64, b: u64) -> u64
-    requires { n * 24 ≤ length s.now }
-    ensures { result ≡ sweep_of w b (authorizations_in n s.now) t }
+// Where one pass over authorizations gets from an instant. It ends once b is reached.
+pub fn sweep(authorizations: &Records<'_, Authorization>, w: Want, t: u64, b: u64) -> u64
+    ensures { result ≡ sweep_of w b authorizations.now t }
 {
     let mut u = t;
-    let mut i = 0;
-    while i < n {
-        u = end_from(s, i * AUTHORIZATION_BYTES, w, u);
+    for i in 0..authorizations.len() {
+        u = end_from(w, authorizations.get(i), u);
         if b <= u {
             return u;
         }
-        i += 1;
     }
     u
 }
 
-// The first instant from a on, below b, that none of n authorizations covers that are wanted; b if there is
+// The first instant from a on, below b, that none of the authorizations covers that are wanted; b if there is
 // none.
-pub fn gap_from(s: &[u8], n: usize, w: Want, a: u64, b: u64) -> u64
-    requires { n * 24 ≤ length s.now }
-    ensures { result ≡ gap_in w (authorizations_in n s.now) a b }
+pub fn gap_from(authorizations: &Records<'_, Authorization>, w: Want, a: u64, b: u64) -> u64
+    ensures { result ≡ gap_in w authorizations.now a b }
 {
     let mut t = a;
     while t < b {
-        let u = sweep(s, n, w, t, b);
+        let u = sweep(authorizations, w, t, b);
         if u == t {
             return t;
         }
@@ -93,22 +85,16 @@ pub fn gap_from(s: &[u8], n: usize, w: Want, a: u64, b: u64) -> u64
     b
 }
 
-// The earliest instant that is not covered.
-#[derive(Clone, Copy)]
-pub enum Gap {
-    At(u32),
-    None,
-}
-
-// The earliest instant of a to e that none of n authorizations covers that are wanted.
-pub fn first_gap(s: &[u8], n: usize, w: Want, a: u32, e: u32) -> Gap
-    requires { n * 24 ≤ length s.now }
-    ensures { FirstGap w (authorizations_in n s.now) (interval a e) result }
+// The earliest instant of a to e that none of the authorizations covers that are wanted.
+pub fn first_gap(
+    authorizations: &Records<'_, Authorization>,
+    w: Want,
+    a: u32,
+    e: u32,
+) -> Option<u32>
+    ensures { FirstGap w authorizations.now (interval a e) result }
 {
     let b = e as u64 + 1;
-    let t = gap_from(s, n, w, a as u64, b);
-    if t < b {
-        return Gap::At(t as u32);
-    }
-    Gap::None
+    let t = gap_from(authorizations, w, a as u64, b);
+    if t < b { Some(t as u32) } else { None }
 }

@@ -49,24 +49,16 @@ module _ {R : Type 0} (k : BodyKind R) (s : List ℕ) (W : Written s) (c : Count
     -- one put in
     module _ (x : R) (r : c' ≡ k.with_count (m + 1) c) (h : i ≤ length (k.of (decode s)))
         (l : length (k.of (decode s)) < k.most) where
-      pub put-old-room : at + k.width * i + 0 ≤ length s
-      put-old-room = (insertion k s W c e at i m x c' p q r h l).old-room
-
-      pub put-new-room : (z : List ℕ) → length z ≡ length s → at + k.width * i + k.width ≤ length z
-      put-new-room z g = omega (arith, (insertion k s W c e at i m x c' p q r h l).new-room)
-
-      pub put_counts : counts_fit c' ≡ true
-      put_counts = (insertion k s W c e at i m x c' p q r h l).counts
+      pub put-needs : (at + k.width * i + k.width ≤ length s) × (32 ≤ length s) × (counts_fit c' ≡ true)
+      put-needs =
+          let f = insertion k s W c e at i m x c' p q r h l in
+          (f.new-room, number-within s 32 W tt, f.counts)
 
     -- one taken out
     module _ (r : c' ≡ k.with_count (m - 1) c) (h : i < length (k.of (decode s))) where
-      pub out_new-room : at + k.width * i + 0 ≤ length s
-      out_new-room = (removal k s W c e at i m c' p q r h).new-room
-
-      pub out_old-room : at + k.width * i + k.width ≤ length s
-      out_old-room = (removal k s W c e at i m c' p q r h).old-room
-
-      pub out_counts : counts_fit c' ≡ true
-      out_counts = (removal k s W c e at i m c' p q r h).counts
+      pub out_needs : (at + k.width * i + k.width ≤ length s) × (32 ≤ length s) × (counts_fit c' ≡ true)
+      out_needs =
+          let f = removal k s W c e at i m c' p q r h in
+          (f.old-room, number-within s 32 W tt, f.counts)
 
 pub ruleset edit-rules = (number-within, edited, edited_out, clock_written, last_written, le_of_lt, rules)

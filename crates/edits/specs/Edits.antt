@@ -49,45 +49,15 @@ privilege_count Referrers c = c.referrers
 
 -- the counts with n of them
 abbrev pub with_privilege_count : PrivilegeBody → ℕ → Counts → Counts
-with_privilege_count Objects n c = record {
-  objects = n;
-  administrators = c.administrators;
-  referrers = c.referrers;
-  authorizations = c.authorizations;
-  rules = c.rules;
-}
-with_privilege_count Administrators n c = record {
-  objects = c.objects;
-  administrators = n;
-  referrers = c.referrers;
-  authorizations = c.authorizations;
-  rules = c.rules;
-}
-with_privilege_count Referrers n c = record {
-  objects = c.objects;
-  administrators = c.administrators;
-  referrers = n;
-  authorizations = c.authorizations;
-  rules = c.rules;
-}
+with_privilege_count Objects n c = record c { objects = n }
+with_privilege_count Administrators n c = record c { administrators = n }
+with_privilege_count Referrers n c = record c { referrers = n }
 
 abbrev pub with_authorization_count : ℕ → Counts → Counts
-with_authorization_count n c = record {
-  objects = c.objects;
-  administrators = c.administrators;
-  referrers = c.referrers;
-  authorizations = n;
-  rules = c.rules;
-}
+with_authorization_count n c = record c { authorizations = n }
 
 abbrev pub with_rule_count : ℕ → Counts → Counts
-with_rule_count n c = record {
-  objects = c.objects;
-  administrators = c.administrators;
-  referrers = c.referrers;
-  authorizations = c.authorizations;
-  rules = n;
-}
+with_rule_count n c = record c { rules = n }
 
 -- ---- bytes
 

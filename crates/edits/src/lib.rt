@@ -13,10 +13,10 @@ ghost use Rattle.encoding.specs.Format.{contents_of, counts_fit};
 ghost use Rattle.edits.specs.Edits.{resized, Written, with_stamp};
 ghost use Rattle.model.specs.Effects.{with_authorizations, with_rules};
 ghost use Rattle.edits.specs.Edits.{with_privileges, privileges_of, privileges_at, privilege_count};
-ghost use Rattle.edits.specs.Edits.{with_privilege_count, with_authorization_count, with_rule_count};
+ghost use Rattle.edits.specs.Edits.{with_privilege_count};
 ghost use Rattle.edits.specs.Edits.{remove_at};
 
-use encoding::Counts;
+use encoding::{Counts, Record};
 use model::{AUTHORIZATION_BYTES, Authorization, PRIVILEGE_BYTES, Privilege, RULE_BYTES, Rule};
 
 // The bodies that hold privileges.
@@ -78,54 +78,30 @@ fn with_privilege_count(c: Counts, k: PrivilegeBody, n: u16) -> Counts
     ensures { result ≡ with_privilege_count k n c }
 {
     match k {
-        PrivilegeBody::Objects => Counts {
-            objects: n,
-            administrators: c.administrators,
-            referrers: c.referrers,
-            authorizations: c.authorizations,
-            rules: c.rules,
-        },
+        PrivilegeBody::Objects => Counts { objects: n, ..c },
         PrivilegeBody::Administrators => Counts {
-            objects: c.objects,
             administrators: n,
-            referrers: c.referrers,
-            authorizations: c.authorizations,
-            rules: c.rules,
+            ..c
         },
-        PrivilegeBody::Referrers => Counts {
-            objects: c.objects,
-            administrators: c.administrators,
-            referrers: n,
-            authorizations: c.authorizations,
-            rules: c.rules,
-        },
+        PrivilegeBody::Referrers => Counts { referrers: n, ..c },
     }
 }
 
-// The counts with n authorizations.
-fn with_authorization_count(c: Counts, n: u16) -> Counts
-    ensures { result ≡ with_authorization_count n c }
+// Puts a record in at its place in a body; `c` are the counts with it.
+fn insert<R: Record>(s: &mut [u8], at: usize, r: R, c: Counts)
+    requires { (at + R.BYTES ≤ length s.old) × (32 ≤ length s.old) × (counts_fit c ≡ true) }
+    ensures { s.new ≡ splice at (R.bytes r) (splice 12 (contents_of c) (resized at 0 R.BYTES s.old)) }
 {
-    Counts {
-        objects: c.objects,
-        administrators: c.administrators,
-        referrers: c.referrers,
-        authorizations: n,
-        rules: c.rules,
-    }
+    reshape(s, at, 0, R::BYTES, c);
+    r.put(s, at);
 }
 
-// The counts with n rules.
-fn with_rule_count(c: Counts, n: u16) -> Counts
-    ensures { result ≡ with_rule_count n c }
+// Takes the record at a place out; `c` are the counts without it.
+fn remove<R: Record>(s: &mut [u8], at: usize, c: Counts)
+    requires { (at + R.BYTES ≤ length s.old) × (32 ≤ length s.old) × (counts_fit c ≡ true) }
+    ensures { s.new ≡ splice 12 (contents_of c) (resized at R.BYTES 0 s.old) }
 {
-    Counts {
-        objects: c.objects,
-        administrators: c.administrators,
-        referrers: c.referrers,
-        authorizations: c.authorizations,
-        rules: n,
-    }
+    reshape(s, at, R::BYTES, 0, c);
 }
 
 // Puts a rule before the one at i, or behind the last.
@@ -137,8 +113,8 @@ pub fn insert_rule(s: &mut [u8], i: usize, r: Rule)
 {
     let c = encoding::counts_of(s);
     let at = encoding::rules_at(c) + RULE_BYTES * i;
-    reshape(s, at, 0, RULE_BYTES, with_rule_count(c, c.rules + 1));
-    encoding::put_rule(s, at, r);
+    let rules = c.rules + 1;
+    insert(s, at, r, Counts { rules, ..c });
 }
 
 // Takes the rule at i out.
@@ -149,7 +125,8 @@ pub fn remove_rule(s: &mut [u8], i: usize)
 {
     let c = encoding::counts_of(s);
     let at = encoding::rules_at(c) + RULE_BYTES * i;
-    reshape(s, at, RULE_BYTES, 0, with_rule_count(c, c.rules - 1));
+    let rules = c.rules - 1;
+    remove::<Rule>(s, at, Counts { rules, ..c });
 }
 
 // Puts an authorization before the one at i, or behind the last.
@@ -162,14 +139,16 @@ pub fn insert_authorization(s: &mut [u8], i: usize, a: Authorization)
 {
     let c = encoding::counts_of(s);
     let at = encoding::authorizations_at(c) + AUTHORIZATION_BYTES * i;
-    reshape(
+    let authorizations = c.authorizations + 1;
+    insert(
         s,
         at,
-        0,
-        AUTHORIZATION_BYTES,
-        with_authorization_count(c, c.authorizations + 1),
+        a,
+        Counts {
+            authorizations,
+            ..c
+        },
     );
-    encoding::put_authorization(s, at, a);
 }
 
 // Puts a privilege before the one at i of a body, or behind the last.
@@ -182,14 +161,8 @@ pub fn insert_privilege(s: &mut [u8], k: PrivilegeBody, i: usize, p: Privilege)
 {
     let c = encoding::counts_of(s);
     let at = privileges_at(c, k) + PRIVILEGE_BYTES * i;
-    reshape(
-        s,
-        at,
-        0,
-        PRIVILEGE_BYTES,
-        with_privilege_count(c, k, privilege_count(c, k) + 1),
-    );
-    encoding::put_privilege(s, at, p);
+    let n = privilege_count(c, k) + 1;
+    insert(s, at, p, with_privilege_count(c, k, n));
 }
 
 // Takes the privilege at i of a body out.
@@ -201,13 +174,8 @@ pub fn remove_privilege(s: &mut [u8], k: PrivilegeBody, i: usize)
 {
     let c = encoding::counts_of(s);
     let at = privileges_at(c, k) + PRIVILEGE_BYTES * i;
-    reshape(
-        s,
-        at,
-        PRIVILEGE_BYTES,
-        0,
-        with_privilege_count(c, k, privilege_count(c, k) - 1),
-    );
+    let n = privilege_count(c, k) - 1;
+    remove::<Privilege>(s, at, with_privilege_count(c, k, n));
 }
 
 // Makes the m authorizations that were built those of the base.
@@ -220,12 +188,16 @@ pub fn replace_authorizations(s: &mut [u8], built: &[u8], m: usize)
 {
     let c = encoding::counts_of(s);
     let at = encoding::authorizations_at(c);
+    let authorizations = m as u16;
     reshape(
         s,
         at,
         AUTHORIZATION_BYTES * (c.authorizations as usize),
         AUTHORIZATION_BYTES * m,
-        with_authorization_count(c, m as u16),
+        Counts {
+            authorizations,
+            ..c
+        },
     );
     fields::copy(s, at, built, AUTHORIZATION_BYTES * m);
 }

@@ -1,22 +1,16 @@
--- What `search` is handed at each need of a function that lends a body of a sound base to one that asks its
--- records: `c` are the base's counts as they were read, and the body starts at `a`. Assumes nothing.
+-- What `search` is handed at each need of a method that lends a body of a sound base: `c` are the base's counts as they were read, and the body starts at `a`. Assumes nothing.
 use borrow.Author.Rules.{rules}
-use mathlib.Core.Path.{◌≡◌, refl, ap, ◌∙◌}
-use mathlib.Core.Bool.{Bool, true}
+use mathlib.Core.Path.{◌≡◌, refl}
+use mathlib.Core.Bool.{true}
 use mathlib.Core.List.{List}
 use Prim.Native.Nat.{ℕ, ◌*◌, ◌≤◌}
 use native.Mathlib.Omega.{arith}
 use lib.ListN.{length}
-use Rattle.foundation.specs.Lists.{anyb}
 use Rattle.model.specs.Soundness.{sound_bytes}
 use Rattle.encoding.specs.declared.Counts.{Counts}
 use Rattle.encoding.specs.Format.{counts_of, administrators_at, referrers_at, authorizations_at, rules_at}
-use Rattle.lookup.proofs.NarrowedFacts.{listed-narrowed, label-narrowed}
-use Rattle.lookup.proofs.NarrowedFacts.{other_narrowed, rule-narrowed, author-narrowed}
-use Rattle.encoding.proofs.SoundBodies.{heading-there, lent, fitting, there, objects_in, objects-lent}
-use Rattle.encoding.proofs.SoundBodies.{administrators_in, administrators_lent, referrers_in}
-use Rattle.encoding.proofs.SoundBodies.{referrers_lent, authorizations_in_lem, authorizations-lent}
-use Rattle.encoding.proofs.SoundBodies.{rules_in_lem, rules_lent}
+use Rattle.encoding.proofs.SoundBodies.{heading-there, lent, fitting, there, objects-lent}
+use Rattle.encoding.proofs.SoundBodies.{administrators_lent, referrers_lent, authorizations-lent, rules_lent}
 
 module _ (s : List ℕ) (c : Counts) (e : sound_bytes s ≡ true) (q : c ≡ counts_of s) where
   pub objects-lent-whole : c.objects * 4 ≤ length (lent s 32)
@@ -47,11 +41,6 @@ module _ (s : List ℕ) (c : Counts) (e : sound_bytes s ≡ true) (q : c ≡ cou
     pub rules_lent-whole : a ≡ rules_at c → c.rules * 28 ≤ length (lent s a)
     rules_lent-whole p = let f = fitting s e c q in there s a (rules_at c) _ p (omega arith)
 
--- the answer for what was lent is that for what the base holds
-pub lent-answer : {R : Type 0} (r : Bool) (ks ps : List R) (t p : R → Bool) → r ≡ anyb t ks → ks ≡ ps →
-    anyb t ps ≡ anyb p ps → r ≡ anyb p ps
-lent-answer r ks ps t p e k h = e ∙ ap (anyb t) k ∙ h
-
 pub ruleset lent-body = (
   heading-there,
   objects-lent-whole,
@@ -63,21 +52,10 @@ pub ruleset lent-body = (
   authorizations-lent-whole,
   rules_begin,
   rules_lent-whole,
-  lent-answer,
-  objects_in,
   objects-lent,
-  administrators_in,
   administrators_lent,
-  referrers_in,
   referrers_lent,
-  authorizations_in_lem,
   authorizations-lent,
-  rules_in_lem,
   rules_lent,
-  listed-narrowed,
-  label-narrowed,
-  other_narrowed,
-  rule-narrowed,
-  author-narrowed,
   rules,
 )

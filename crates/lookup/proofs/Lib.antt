@@ -1,4 +1,2 @@
--- `NarrowedFacts` says that a number cut to 16 bits finds what the number itself would, and `LentBodies` has
--- the set that proves a question whole that is asked of a body as it is lent.
+-- `LentBodies` has the set that proves that a body of a sound base is lent whole.
 pub mod LentBodies
-pub mod NarrowedFacts

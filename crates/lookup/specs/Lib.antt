@@ -1,1 +1,1 @@
-pub mod NarrowedNumbers
+pub mod RecordTests

@@ -1,172 +1,74 @@
-// Loops over the records of a body, and the numbers of a request among them.
-ghost use Rattle.std.specs.Prelude.{◌≡◌, ◌||◌, ◌*◌, ◌≤◌, eqb, length};
+// Questions to the records of a body, and of the numbers of a request among them. Those have 32 bits, and the
+// records' 16 or 8: one that does not fit is no record's.
+ghost use Rattle.std.specs.Prelude.{◌≡◌, ◌||◌};
 ghost use Rattle.foundation.specs.Lists.{anyb};
-ghost use Rattle.model.specs.Base.{is_privilege, listed};
-ghost use Rattle.encoding.specs.Format.{privileges_in, authorizations_in, rules_in};
-ghost use Rattle.lookup.specs.NarrowedNumbers.{narrowed_to, exists_in, has_label, of_other, labelled};
-ghost use Rattle.lookup.specs.NarrowedNumbers.{of_other_author};
+ghost use Rattle.model.specs.Base.{listed};
+ghost use Rattle.lookup.specs.RecordTests.{exists_in, has_label, of_other, labelled, of_other_author};
 
-use encoding::{authorization_at, privilege_at, rule_at};
-use model::{AUTHORIZATION_BYTES, Authorization, PRIVILEGE_BYTES, Privilege, RULE_BYTES, Rule};
+use encoding::Records;
+use model::{Authorization, Privilege, Rule};
 
-// A request's number as the base has it. One that does not fit is taken for 0, which no object, subject or
-// label is.
-pub fn narrow(n: u32) -> u16
-    ensures { result ≡ narrowed_to n }
+// One of the privileges is that of a subject on an object.
+pub fn is_listed(privileges: &Records<'_, Privilege>, o: u32, u: u32) -> bool
+    ensures { result ≡ listed privileges.now o u }
 {
-    if n <= 65535 {
-        return n as u16;
-    }
-    0
-}
-
-fn is_of(p: Privilege, o: u16, u: u16) -> bool
-    ensures { result ≡ is_privilege o u p }
-{
-    (p.object == o) & (p.subject == u)
-}
-
-fn is_of_object(p: Privilege, object: u16) -> bool
-    ensures { result ≡ eqb p.object object }
-{
-    p.object == object
-}
-
-fn is_labelled(r: Rule, label: u16) -> bool
-    ensures { result ≡ labelled label r }
-{
-    r.label == label
-}
-
-fn has_its_label(a: Authorization, label: u16) -> bool
-    ensures { result ≡ has_label label a }
-{
-    let h = a.head;
-    h.label == label
-}
-
-fn is_of_other(a: Authorization, label: u16, grantor: u16) -> bool
-    ensures { result ≡ of_other label grantor a }
-{
-    let h = a.head;
-    (h.label == label) & !(h.grantor == grantor)
-}
-
-fn is_of_other_author(r: Rule, label: u16, author: u16) -> bool
-    ensures { result ≡ of_other_author label author r }
-{
-    (r.label == label) & !(r.author == author)
-}
-
-// Whether one of n privileges is that of a subject on an object.
-pub fn is_listed(s: &[u8], n: usize, o: u16, u: u16) -> bool
-    requires { n * 4 ≤ length s.now }
-    ensures { result ≡ listed (privileges_in n s.now) o u }
-{
-    let mut i = 0;
-    while i < n {
-        if is_of(privilege_at(s, i * PRIVILEGE_BYTES), o, u) {
-            return true;
-        }
-        i += 1;
-    }
-    false
+    privileges.any(|p| (p.object as u32 == o) & (p.subject as u32 == u))
 }
 
 // Whether a subject owns or administers an object: a chain may begin with what it grants there.
-pub fn is_root(owners: &[u8], no: usize, administrators: &[u8], na: usize, o: u16, g: u16) -> bool
-    requires { (no * 4 ≤ length owners.now) × (na * 4 ≤ length administrators.now) }
-    ensures { result ≡ listed (privileges_in no owners.now) o g
-        || listed (privileges_in na administrators.now) o g }
+pub fn is_root(
+    owners: &Records<'_, Privilege>,
+    administrators: &Records<'_, Privilege>,
+    o: u32,
+    g: u32,
+) -> bool
+    ensures { result ≡ listed owners.now o g || listed administrators.now o g }
 {
-    is_listed(owners, no, o, g) | is_listed(administrators, na, o, g)
+    is_listed(owners, o, g) | is_listed(administrators, o, g)
 }
 
-// An object is among the n objects of a body.
-pub fn has_object(s: &[u8], n: usize, object: u16) -> bool
-    requires { n * 4 ≤ length s.now }
-    ensures { result ≡ exists_in (privileges_in n s.now) object }
+// An object is among the objects of a base.
+pub fn has_object(objects: &Records<'_, Privilege>, object: u32) -> bool
+    ensures { result ≡ exists_in objects.now object }
 {
-    let mut i = 0;
-    while i < n {
-        if is_of_object(privilege_at(s, i * PRIVILEGE_BYTES), object) {
-            return true;
-        }
-        i += 1;
-    }
-    false
+    objects.any(|p| p.object as u32 == object)
 }
 
 // The same, of all objects: for one question, where the processor cannot foresee at which a search ends.
-pub fn among_objects(s: &[u8], n: usize, object: u16) -> bool
-    requires { n * 4 ≤ length s.now }
-    ensures { result ≡ exists_in (privileges_in n s.now) object }
+pub fn among_objects(objects: &Records<'_, Privilege>, object: u32) -> bool
+    ensures { result ≡ exists_in objects.now object }
 {
     let mut found = false;
-    let mut i = 0;
-    while i < n {
-        found = found | is_of_object(privilege_at(s, i * PRIVILEGE_BYTES), object);
-        i += 1;
+    for i in 0..objects.len() {
+        found |= objects.get(i).object as u32 == object;
     }
     found
 }
 
-// One of the n rules of a body has a label.
-pub fn has_label(s: &[u8], n: usize, label: u16) -> bool
-    requires { n * 28 ≤ length s.now }
-    ensures { result ≡ anyb (labelled label) (rules_in n s.now) }
+// One of the rules has a label.
+pub fn has_label(rules: &Records<'_, Rule>, label: u32) -> bool
+    ensures { result ≡ anyb (labelled label) rules.now }
 {
-    let mut i = 0;
-    while i < n {
-        if is_labelled(rule_at(s, i * RULE_BYTES), label) {
-            return true;
-        }
-        i += 1;
-    }
-    false
+    rules.any(|r| r.label as u32 == label)
 }
 
-// One of the n authorizations of a body has a label.
-pub fn any_labelled(s: &[u8], n: usize, label: u16) -> bool
-    requires { n * 24 ≤ length s.now }
-    ensures { result ≡ anyb (has_label label) (authorizations_in n s.now) }
+// One of the authorizations has a label.
+pub fn any_labelled(authorizations: &Records<'_, Authorization>, label: u32) -> bool
+    ensures { result ≡ anyb (has_label label) authorizations.now }
 {
-    let mut i = 0;
-    while i < n {
-        if has_its_label(authorization_at(s, i * AUTHORIZATION_BYTES), label) {
-            return true;
-        }
-        i += 1;
-    }
-    false
+    authorizations.any(|a| a.head.label as u32 == label)
 }
 
-// One of the n authorizations of a body has a label, and another grantor.
-pub fn any_of_other(s: &[u8], n: usize, label: u16, grantor: u16) -> bool
-    requires { n * 24 ≤ length s.now }
-    ensures { result ≡ anyb (of_other label grantor) (authorizations_in n s.now) }
+// One of the authorizations has a label, and another grantor.
+pub fn any_of_other(authorizations: &Records<'_, Authorization>, label: u32, grantor: u32) -> bool
+    ensures { result ≡ anyb (of_other label grantor) authorizations.now }
 {
-    let mut i = 0;
-    while i < n {
-        if is_of_other(authorization_at(s, i * AUTHORIZATION_BYTES), label, grantor) {
-            return true;
-        }
-        i += 1;
-    }
-    false
+    authorizations.any(|a| (a.head.label as u32 == label) & (a.head.grantor as u32 != grantor))
 }
 
-// One of the n rules of a body has a label, and another author.
-pub fn any_of_other_author(s: &[u8], n: usize, label: u16, author: u16) -> bool
-    requires { n * 28 ≤ length s.now }
-    ensures { result ≡ anyb (of_other_author label author) (rules_in n s.now) }
+// One of the rules has a label, and another author.
+pub fn any_of_other_author(rules: &Records<'_, Rule>, label: u32, author: u32) -> bool
+    ensures { result ≡ anyb (of_other_author label author) rules.now }
 {
-    let mut i = 0;
-    while i < n {
-        if is_of_other_author(rule_at(s, i * RULE_BYTES), label, author) {
-            return true;
-        }
-        i += 1;
-    }
-    false
+    rules.any(|r| (r.label as u32 == label) & (r.author as u32 != author))
 }

@@ -12,28 +12,28 @@ use model::{Access, OptionTerm};
 pub fn subject_in(n: u32) -> bool
     ensures { result ≡ is_subject n }
 {
-    (1 <= n) & (n <= 1023)
+    (1..=1023).contains(&n)
 }
 
 // Whether a number is an object's, 1 to 128.
 pub fn object_in(n: u32) -> bool
     ensures { result ≡ is_object n }
 {
-    (1 <= n) & (n <= 128)
+    (1..=128).contains(&n)
 }
 
 // Whether a number is a mode, 1 to 8.
 pub fn mode_in(n: u32) -> bool
     ensures { result ≡ is_mode n }
 {
-    (1 <= n) & (n <= 8)
+    (1..=8).contains(&n)
 }
 
 // Whether a number is a label, 1 to 65,535.
 pub fn label_in(n: u32) -> bool
     ensures { result ≡ is_label n }
 {
-    (1 <= n) & (n <= 65535)
+    (1..=65535).contains(&n)
 }
 
 // Whether a number is an instant. Each number of 32 bits is one: the test is there for the definition's sake
@@ -62,9 +62,5 @@ pub fn has_instant(i: Interval, t: u32) -> bool
 pub fn option_fits(negative: bool, option: OptionTerm) -> bool
     ensures { result ≡ option_fits negative option }
 {
-    match option {
-        OptionTerm::With => !negative,
-        OptionTerm::Without => true,
-        OptionTerm::Either => true,
-    }
+    !(negative && matches!(option, OptionTerm::With))
 }

@@ -1,15 +1,19 @@
+use Rattle.std.proofs.Common.{refl}
 use Rattle.edits.proofs.BodyEdits.{rules, removal}
-use Rattle.edits.proofs.BodyEditRules.{count-falls, out_new-room, out_old-room, out_counts, edit-rules}
+use Rattle.edits.proofs.EditedBytes.{edited_out}
+use Rattle.edits.proofs.BodyEditRules.{count-falls, out_needs, edit-rules}
 use Rattle.edits.proofs.remove_rule.Goals as goal
 
 pub counts_of-c-requires : goal.counts_of-c-requires
 counts_of-c-requires = λ c. search edit-rules
 
-pub overflow_sub-c : goal.overflow_sub-c
-overflow_sub-c = λ c. search (count-falls rules, edit-rules)
+pub overflow_sub-rules : goal.overflow_sub-rules
+overflow_sub-rules = λ c. search (count-falls rules, edit-rules)
 
-pub reshape-requires : goal.reshape-requires
-reshape-requires = λ c. search (out_new-room rules, out_old-room rules, out_counts rules, edit-rules)
+pub remove-requires : goal.remove-requires
+remove-requires c = let q = c.requires in
+    out_needs rules _ q.0 _ c.counts_of-c.ensures _ _ _ _ c.rules_at.ensures refl refl q.1
 
 pub returns : goal.returns
-returns = λ c. search (removal rules, edit-rules)
+returns c = let q = c.requires in
+    edited_out (removal rules _ q.0 _ c.counts_of-c.ensures _ _ _ _ c.rules_at.ensures refl refl q.1) c.remove.ensures

@@ -4,8 +4,5 @@ use Rattle.edits.proofs.set_clock.Goals as goal
 pub put32-requires : goal.put32-requires
 put32-requires = λ c. search edit-rules
 
-pub shape_of-s : goal.shape_of-s
-shape_of-s = λ c. search edit-rules
-
 pub returns : goal.returns
 returns = λ c. search edit-rules

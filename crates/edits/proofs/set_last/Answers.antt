@@ -4,8 +4,5 @@ use Rattle.edits.proofs.set_last.Goals as goal
 pub put16-requires : goal.put16-requires
 put16-requires = λ c. search edit-rules
 
-pub shape_of-s : goal.shape_of-s
-shape_of-s = λ c. search edit-rules
-
 pub returns : goal.returns
 returns = λ c. search edit-rules

@@ -1,8 +1,0 @@
-use Rattle.model.proofs.SideFacts.{stands_eq}
-use Rattle.lookup.proofs.base.stands_for.Goals as goal
-
-pub returns-then-l-x : goal.returns-then-l-x
-returns-then-l-x c = rw (stands_eq _ _ _, c.if-l-x.true) c.stands_on.ensures
-
-pub returns : goal.returns
-returns c = rw (stands_eq _ _ _, c.if-l-x.false)

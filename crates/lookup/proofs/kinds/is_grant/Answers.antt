@@ -1,5 +1,0 @@
-use Rattle.foundation.specs.Tests.{or_assoc, or_false}
-use Rattle.lookup.proofs.kinds.is_grant.Goals as goal
-
-pub returns : goal.returns
-returns c = simp (or_assoc, or_false)
