@@ -6,3 +6,6 @@ pub mod OnesFacts
 pub mod LowestBit
 pub mod CutBit
 pub mod SumFacts
+pub mod RangeBits
+pub mod SetBitFacts
+pub mod SetBitLoops

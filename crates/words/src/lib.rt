@@ -9,6 +9,10 @@ ghost use Rattle.words.specs.Ones.{all_from};
 ghost use Rattle.words.specs.Fields.{field_of, joined, starts};
 ghost use Rattle.words.specs.Sums.{SumGrown};
 
+mod bits;
+
+pub use bits::{SetBits, ones};
+
 // The word whose lowest 2^k bits are set.
 fn low_ones(k: u32) -> u64
     requires { k ≤ 6 }
