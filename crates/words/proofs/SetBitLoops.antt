@@ -1,13 +1,14 @@
 -- Loops over the set bits of a mask: `for r in ones(m)`. At each turn, those before r have been given (`turn`);
 -- at the end all have (`finished`). An invariant may say which have been (`among i l.yielded`, with
--- `among-more`), or hold at any place below which these are the set bits (`AtPlace`).
+-- `among_more`, `ForEach`, `Collected`), or hold at any place below which these are the set bits (`AtPlace`).
 use Rattle.std.specs.Prelude.{◌≡◌, refl, Bool, true, false, ◌&&◌, ◌||◌, List, [], ◌∷◌, ◌++◌, ℕ, suc, ◌+◌, ◌≤◌, ◌<◌, eqb, ltb}
 use Rattle.std.proofs.Common.{sym, ap, ◌∙◌, arith}
+use Rattle.std.proofs.lemmas.Bool.{false≢true}
 use Rattle.std.proofs.lemmas.List.{append-nil}
 use Rattle.std.proofs.lemmas.List.Folds.{list_any-append}
 use Rattle.std.specs.Iterator.{YieldsFirst, Yields}
-use Rattle.foundation.specs.BitMasks.{bit, bit-inside}
-use Rattle.foundation.specs.Tests.{cases, le-true, and-false}
+use Rattle.foundation.specs.BitMasks.{bit, bit-inside, bit-zero}
+use Rattle.foundation.specs.Tests.{cases, le-true, true-le, true_eq, and-false, and-true, or_cases}
 use Rattle.words.specs.declared.bits.SetBits.{SetBits}
 use Rattle.words.specs.SetBits.{bits_below, bits_left, among}
 use Rattle.words.proofs.SetBitFacts.{Around, around, among_bits}
@@ -57,6 +58,49 @@ pub among_all : (i m : ℕ) (xs : List ℕ) → m < 18446744073709551616 → xs 
 among_all i m xs h e = ap (among i) e ∙ among_bits i 64 m ∙ cases (bit i m)
     (λ y. rw (y, le-true (suc i) 64 (bit-inside 64 m i h y)))
     (λ y. rw (y, and-false (ltb i 64)))
+
+-- ---- what holds of those that have been given
+
+abbrev pub ForEach : List ℕ → (ℕ → Type 0) → Type 0
+ForEach xs P = (i : ℕ) → among i xs ≡ true → P i
+
+pub each_start : (P : ℕ → Type 0) → ForEach [] P
+each_start P i e = absurd (false≢true e)
+
+-- r has its turn
+pub each_turn : {m r : ℕ} {xs : List ℕ} (P Q : ℕ → Type 0) → Turn m xs r → ForEach xs P →
+    ((i : ℕ) → i < r → P i → Q i) → Q r → ForEach (xs ++ r ∷ []) Q
+each_turn {m} {r} {xs} P Q t d f q i e = or_cases (among i xs) (eqb i r) (sym (among_more i r xs) ∙ e)
+    (λ a. f i (true-le (suc i) r (and-true (ltb i r) (bit i m) (sym (t.seen i) ∙ a)).0) (d i a))
+    (λ y. let k = true_eq i r y in rw k q)
+
+pub each_end : (m : ℕ) {xs : List ℕ} (P : ℕ → Type 0) → m < 18446744073709551616 → xs ≡ bits_below 64 m →
+    ForEach xs P → (i : ℕ) → bit i m ≡ true → P i
+each_end m {xs} P h e d i b = d i (among_all i m xs h e ∙ b)
+
+-- ---- which of them a test collects
+
+module _ (t : ℕ → Bool) where
+  -- m has those that pass
+  abbrev pub Collected : List ℕ → ℕ → Type 0
+  Collected xs m = (i : ℕ) → bit i m ≡ among i xs && t i
+
+  pub collect_start : Collected [] 0
+  collect_start i = bit-zero i
+
+  pub collect_turn : (r : ℕ) (xs : List ℕ) (m m' : ℕ) (b : Bool) → Collected xs m → b ≡ t r →
+      ((i : ℕ) → bit i m' ≡ bit i m || (eqb i r && b)) → Collected (xs ++ r ∷ []) m'
+  collect_turn r xs m m' b d e s i =
+      s i ∙ ap (λ (x : Bool). x || (eqb i r && b)) (d i)
+      ∙ bring (among i xs) (eqb i r) (t i) b (λ y. e ∙ ap t (sym (true_eq i r y)))
+      ∙ ap (λ (x : Bool). x && t i) (sym (among_more i r xs))
+    where
+      bring : (a e t u : Bool) → (e ≡ true → u ≡ t) → (a && t) || (e && u) ≡ (a || e) && t
+      bring a e t u f = grind arith
+
+  pub collect_end : (m : ℕ) (xs : List ℕ) (m' : ℕ) → m < 18446744073709551616 → xs ≡ bits_below 64 m →
+      Collected xs m' → (i : ℕ) → bit i m' ≡ bit i m && t i
+  collect_end m xs m' h e d i = d i ∙ ap (λ (x : Bool). x && t i) (among_all i m xs h e)
 
 -- ---- what holds at a place below which they are the set bits
 
