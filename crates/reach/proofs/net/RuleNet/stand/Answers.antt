@@ -1,6 +1,6 @@
 use mathlib.Core.Path.{refl}
 use Rattle.reach.specs.Net.{standing}
-use Rattle.reach.proofs.stand.Goals as goal
+use Rattle.reach.proofs.net.RuleNet.stand.Goals as goal
 
 pub returns : goal.returns
 unfolding standing
