@@ -10,6 +10,3 @@ invariant-loop-i l =
     (l.i ≤ l.n)
     × LineSteps (setting_in l.body l.w l.outline l.coordinates l.number l.marks) (picked l.records l.which l.i) l.initial.words l.words
     × (length l.words ≡ length l.initial.words)
-
-abbrev pub decreases-loop-i : goal.decreases-loop-i
-decreases-loop-i l = l.n - l.i
