@@ -61,7 +61,10 @@ pub fn takers_of(h: Head, body: &[u8], rules: u64) -> u64
     ensures { (result ≡ takers_in body.now rules h)
         × ((c : ℕ) → bit c result ≡ bit c rules && fits_rule body.now h c) }
 {
-    those(rules, |c| fits_kind(h, rule_at(body, (c as usize) * RULE_BYTES)))
+    those(
+        rules,
+        |c| fits_kind(h, rule_at(body, (c as usize) * RULE_BYTES)),
+    )
 }
 
 // The place of an authorization, x being asked.

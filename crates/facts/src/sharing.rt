@@ -11,7 +11,7 @@ use crate::TablePlan;
 use encoding::rule_at;
 use masks::with_if;
 use model::{RULE_BYTES, Rule};
-use places::{Grid, Region};
+use places::Grid;
 use rules::fits_option;
 use tables::{lay_all, region_at};
 use words::ones;
@@ -25,13 +25,6 @@ fn is_same_kind(q: Rule, r: Rule) -> bool
     (q.right.negative == r.right.negative) & (q.grantor == r.grantor) & with & without
 }
 
-// Whether two regions are one.
-fn is_same_region(a: Region, b: Region) -> bool
-    ensures { (result ≡ true) ↔ (a ≡ b) }
-{
-    (a.subject == b.subject) & (a.mode == b.mode) & (a.object == b.object)
-}
-
 // Whether two rules can share a table.
 fn shares_table(body: &[u8], right: &[u8], c: u32, d: u32) -> bool
     requires { (c < 64) × (d < 64) × (c * 28 + 28 ≤ length body.now) × (d * 28 + 28 ≤ length body.now)
@@ -41,7 +34,7 @@ fn shares_table(body: &[u8], right: &[u8], c: u32, d: u32) -> bool
     let i = c as usize;
     let j = d as usize;
     let kind = is_same_kind(rule_at(body, i * RULE_BYTES), rule_at(body, j * RULE_BYTES));
-    kind & is_same_region(region_at(right, i), region_at(right, j))
+    kind & (region_at(right, i) == region_at(right, j))
 }
 
 // The first rule of a mask that rule c can share a table with.
@@ -76,7 +69,8 @@ fn share_starts(body: &[u8], right: &[u8], rules: u64, tables: u64, first: &mut 
         × ((c : ℕ) → bit c tables ≡ true → get_or first.new c 0 ≡ get_or first.old c 0)
         × (length first.new ≡ length first.old) }
 {
-    for c in ones(rules - (rules & tables)) {
+    let rest = rules - (rules & tables);
+    for c in ones(rest) {
         if let Some(d) = first_sharing(body, right, tables, c) {
             first[c as usize] = first[d as usize];
         }

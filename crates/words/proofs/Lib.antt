@@ -9,3 +9,4 @@ pub mod SumFacts
 pub mod RangeBits
 pub mod SetBitFacts
 pub mod SetBitLoops
+pub mod SetBitChains
