@@ -11,3 +11,4 @@ pub mod SumFacts
 pub mod RangeBits
 pub mod SetBitFacts
 pub mod SetBitLoops
+pub mod SetBitChains
