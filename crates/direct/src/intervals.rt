@@ -70,8 +70,7 @@ fn walk_among(lines: &[u8], which: &[u16], n: usize, list: &mut [u32]) -> Track
     };
     let mut w = Track {
         count: 0,
-        inside: false,
-        from: 0,
+        began: None,
     };
     let mut t: u64 = 0;
     let mut near = nothing_near();
