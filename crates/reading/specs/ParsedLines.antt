@@ -2,21 +2,8 @@
 use Rattle.std.specs.Prelude.{ℕ, ◌||◌, eqb}
 use Rattle.foundation.specs.Tests.{pick}
 use Rattle.model.specs.Requests.{NEW, GRANT, DENY, REVOKE, REVOKEP, REVOKEN, ADDRULE, DROPRULE}
-use Rattle.model.specs.Text.{Line, order, asks_may, asks_when, unreadable, Reader}
+use Rattle.model.specs.Text.{Line, Reader}
 use Rattle.model.specs.Text.{object_line, label_line, privilege_line, interval_line, grant_line, rule_line}
-use Rattle.reading.specs.declared.Asked.{Asked}
-use Rattle.reading.specs.declared.Asked.TheVariants.{Order, May, When}
-use Rattle.reading.specs.declared.Parsed.{Parsed}
-use Rattle.reading.specs.declared.Parsed.TheVariants.{Line as Said, Unreadable}
-
-abbrev pub asked_of : Asked → Line
-asked_of (Order q) = order q
-asked_of (May q) = asks_may q
-asked_of (When x) = asks_when x
-
-abbrev pub line_of : Parsed → Line
-line_of (Said a) = asked_of a
-line_of Unreadable = unreadable
 
 -- the fields behind the word of a kind; the kinds that are not named here have an object and a subject
 abbrev pub reader_for : ℕ → ℕ → ℕ → Reader Line
