@@ -1,3 +1,4 @@
 pub mod FirstField
 pub mod WordSearch
 pub mod DigitValues
+pub mod WholeLines

@@ -2,7 +2,7 @@
 // line there.
 ghost use Rattle.std.specs.Prelude.{◌≡◌, ◌∷◌, false, option_map};
 ghost use Rattle.foundation.specs.Intervals.{interval};
-ghost use Rattle.model.specs.Text.{order, asks_may, asks_when, ordering, no_side, no_rule, side};
+ghost use Rattle.model.specs.Text.{order, asks_may, asks_when, ordering, no_rule, side};
 ghost use Rattle.model.specs.Text.{object_line, label_line, privilege_line, interval_line, grant_line, rule_line};
 ghost use Rattle.model.specs.Text.{request_line, may_line, when_line};
 ghost use Rattle.reading.specs.LineFields.{fields_left, told_with};
@@ -28,29 +28,21 @@ struct Opening {
 }
 
 // A side of a rule where a request names none.
-fn no_side() -> SideTerms
-    ensures { result ≡ no_side }
-{
-    SideTerms {
-        subject: Term::Any,
-        mode: Term::Any,
-        object: Term::Any,
-        negative: false,
-    }
-}
+const NO_SIDE: SideTerms = SideTerms {
+    subject: Term::Any,
+    mode: Term::Any,
+    object: Term::Any,
+    negative: false,
+};
 
 // A rule where a request names none.
-fn no_rule() -> RuleTerms
-    ensures { result ≡ no_rule }
-{
-    RuleTerms {
-        left: no_side(),
-        operator: 0,
-        right: no_side(),
-        grantor: Term::Any,
-        option: OptionTerm::Either,
-    }
-}
+const NO_RULE: RuleTerms = RuleTerms {
+    left: NO_SIDE,
+    operator: 0,
+    right: NO_SIDE,
+    grantor: Term::Any,
+    option: OptionTerm::Either,
+};
 
 impl Opening {
     // The request whose other fields are not named.
@@ -68,7 +60,7 @@ impl Opening {
             subject: 0,
             interval: Interval { start: 0, end: 0 },
             option: false,
-            rule: no_rule(),
+            rule: NO_RULE,
         }
     }
 
@@ -131,28 +123,18 @@ impl Opening {
 
     // GRANT: mode, object, subject, start, end and option.
     fn grant_line(self, fields: &mut Fields) -> Option<Request>
+        requires { self.kind ≡ GRANT }
         ensures { told_with (option_map order result) (fields_left fields.new)
             ≡ grant_line self.now self.requester (fields_left fields.old) }
     {
-        let mode = read_number(fields.next()?)?;
-        let object = read_number(fields.next()?)?;
-        let subject = read_number(fields.next()?)?;
-        let start = read_instant(fields.next()?)?;
-        let end = read_instant(fields.next()?)?;
+        let request = self.interval_line(fields)?;
         let option = read_option(fields.next()?)?;
-        Some(Request {
-            kind: GRANT,
-            mode,
-            object,
-            subject,
-            interval: Interval { start, end },
-            option,
-            ..self.request()
-        })
+        Some(Request { option, ..request })
     }
 
     // ADDRULE: the left side, the operator, the right side with its grantor and option, start and end.
     fn rule_line(self, fields: &mut Fields) -> Option<Request>
+        requires { self.kind ≡ ADDRULE }
         ensures { told_with (option_map order result) (fields_left fields.new)
             ≡ rule_line self.now self.requester (fields_left fields.old) }
     {
@@ -164,7 +146,6 @@ impl Opening {
         let start = read_instant(fields.next()?)?;
         let end = read_instant(fields.next()?)?;
         Some(Request {
-            kind: ADDRULE,
             interval: Interval { start, end },
             rule: RuleTerms {
                 left,
@@ -230,18 +211,9 @@ pub fn may_line(fields: &mut Fields) -> Option<Question>
     ensures { told_with (option_map asks_may result) (fields_left fields.new)
         ≡ may_line (fields_left fields.old) }
 {
-    let subject = read_number(fields.next()?)?;
-    let mode = read_number(fields.next()?)?;
-    let object = read_number(fields.next()?)?;
+    let access = when_line(fields)?;
     let instant = read_instant(fields.next()?)?;
-    Some(Question {
-        access: Access {
-            subject,
-            mode,
-            object,
-        },
-        instant,
-    })
+    Some(Question { access, instant })
 }
 
 // WHEN: subject, mode and object.
