@@ -14,7 +14,7 @@ pub struct Fields<'a> {
 
 impl<'a> Fields<'a> {
     // All fields of a line.
-    pub fn of(line: &'a [u8]) -> Fields<'a>
+    pub fn new(line: &'a [u8]) -> Fields<'a>
         ensures { fields_left result ≡ split space line.now }
     {
         Fields { rest: Some(line) }

@@ -45,7 +45,7 @@ pub fn read_line(s: &[u8]) -> Option<Asked>
     if 96 < s.len() {
         return None;
     }
-    let mut fields = Fields::of(s);
+    let mut fields = Fields::new(s);
     let asked = asked_line(&mut fields)?;
     match fields.next() {
         None => Some(asked),

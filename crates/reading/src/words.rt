@@ -14,11 +14,7 @@ use model::{
 fn digit(c: u8) -> Option<u32>
     ensures { result ≡ (if is_digit c then Some (c - 48) else None) }
 {
-    if c.is_ascii_digit() {
-        Some(u32::from(c - b'0'))
-    } else {
-        None
-    }
+    char::from(c).to_digit(10)
 }
 
 // Whether a 0 stands in front of other bytes.
@@ -94,45 +90,50 @@ pub fn read_sign(s: &[u8]) -> Option<bool>
 pub fn read_option_term(s: &[u8]) -> Option<OptionTerm>
     ensures { told result ≡ option_term s.now }
 {
-    let words: [(&[u8], OptionTerm); 3] = [
-        (b"y", OptionTerm::With),
-        (b"n", OptionTerm::Without),
-        (b"*", OptionTerm::Either),
-    ];
-    one_of(&words, s)
+    one_of(
+        &[
+            (b"y", OptionTerm::With),
+            (b"n", OptionTerm::Without),
+            (b"*", OptionTerm::Either),
+        ],
+        s,
+    )
 }
 
 // An operator's word, by its number.
 pub fn read_operator(s: &[u8]) -> Option<u32>
     ensures { told result ≡ operator s.now }
 {
-    let words: [(&[u8], u32); 4] = [
-        (b"WHENEVER", 1),
-        (b"ASLONGAS", 2),
-        (b"WHENEVERNOT", 3),
-        (b"UNLESS", 4),
-    ];
-    one_of(&words, s)
+    one_of(
+        &[
+            (b"WHENEVER", 1),
+            (b"ASLONGAS", 2),
+            (b"WHENEVERNOT", 3),
+            (b"UNLESS", 4),
+        ],
+        s,
+    )
 }
-
-const KINDS: [(&[u8], u32); 12] = [
-    (b"NEW", NEW),
-    (b"GRANT", GRANT),
-    (b"DENY", DENY),
-    (b"REVOKE", REVOKE),
-    (b"REVOKEP", REVOKEP),
-    (b"REVOKEN", REVOKEN),
-    (b"ADDRULE", ADDRULE),
-    (b"DROPRULE", DROPRULE),
-    (b"GRANTADM", GRANTADM),
-    (b"REVOKEADM", REVOKEADM),
-    (b"GRANTREF", GRANTREF),
-    (b"REVOKEREF", REVOKEREF),
-];
 
 // A request's word, by the number of its kind.
 pub fn read_kind(s: &[u8]) -> Option<u32>
     ensures { told (option_map reader_for result) ≡ one_of grammar s.now }
 {
-    one_of(&KINDS, s)
+    one_of(
+        &[
+            (b"NEW", NEW),
+            (b"GRANT", GRANT),
+            (b"DENY", DENY),
+            (b"REVOKE", REVOKE),
+            (b"REVOKEP", REVOKEP),
+            (b"REVOKEN", REVOKEN),
+            (b"ADDRULE", ADDRULE),
+            (b"DROPRULE", DROPRULE),
+            (b"GRANTADM", GRANTADM),
+            (b"REVOKEADM", REVOKEADM),
+            (b"GRANTREF", GRANTREF),
+            (b"REVOKEREF", REVOKEREF),
+        ],
+        s,
+    )
 }
