@@ -1,12 +1,12 @@
 -- The value of digits, byte by byte.
-use Rattle.std.specs.Prelude.{◌≡◌, refl, ℕ, ◌+◌, ◌-◌, ◌*◌, ◌≤◌, ◌<◌, true, false, ◌&&◌, List, [], ◌∷◌, leb, length, drop, get_or}
-use Rattle.std.proofs.Common.{◌∙◌, add-one, arith}
+use Rattle.std.specs.Prelude.{◌≡◌, ℕ, ◌+◌, ◌-◌, ◌*◌, ◌≤◌, ◌<◌, true, false, ◌&&◌, List, [], ◌∷◌, leb, length, drop, get_or}
+use Rattle.std.proofs.Common.{add-one, arith}
 use Rattle.std.proofs.Math.Option.{Option, none, some}
 use Rattle.std.proofs.Math.Seq.{drop-cons}
 use Rattle.std.proofs.Math.ListN.{drop_of_length-le}
 use Rattle.foundation.specs.Tests.{cases, pick, and-false, le-true, le-false}
 use Rattle.foundation.specs.Lists.{allb}
-use Rattle.model.specs.Ranges.{between, last_instant}
+use Rattle.model.specs.Ranges.{last_instant}
 use Rattle.model.specs.Text.{is_digit, value_from, leading_zero, number}
 
 -- the number of the digits s behind those that make n

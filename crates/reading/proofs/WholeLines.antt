@@ -1,9 +1,9 @@
 -- A line is its fields, if it is short and none of them is left over.
 use Rattle.std.specs.Prelude.{◌≡◌, refl, ℕ, ◌≤◌, ◌<◌, List, [], ◌∷◌, length}
-use Rattle.std.proofs.Common.{◌∙◌, ap}
+use Rattle.std.proofs.Common.{ap}
 use Rattle.foundation.specs.Bytes.{eq_list}
 use Rattle.foundation.specs.Tests.{cases, le-true, le-false}
-use Rattle.model.specs.Text.{Line, any_line, or_unreadable, unreadable, read_line, space, split, whole, ascii}
+use Rattle.model.specs.Text.{any_line, or_unreadable, unreadable, read_line, space, split, whole, ascii}
 use Rattle.reading.specs.ParsedLines.{asked_line}
 
 whole_line : (fields : List (List ℕ)) → any_line fields ≡ whole (asked_line fields)

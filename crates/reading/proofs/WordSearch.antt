@@ -1,11 +1,10 @@
 -- Words looked for one after the other.
-use Rattle.std.specs.Prelude.{◌≡◌, refl, ℕ, ◌+◌, ◌<◌, Bool, true, false, List, [], ◌∷◌, eqb, length, drop, get_or}
+use Rattle.std.specs.Prelude.{◌≡◌, refl, ℕ, ◌+◌, ◌<◌, true, false, List, [], ◌∷◌, eqb, length, drop, get_or}
 use Rattle.std.specs.Cmp.Lexicographic.{pointwise}
-use Rattle.std.proofs.Common.{Bor, sym, ◌∙◌, ap, add-one, arith}
+use Rattle.std.proofs.Common.{Bor, add-one}
 use Rattle.std.proofs.Math.Option.{some}
 use Rattle.std.proofs.Math.Seq.{drop-cons}
 use Rattle.foundation.specs.Bytes.{eq_list}
-use Rattle.foundation.specs.Tests.{pick}
 use Rattle.model.specs.Text.{one_of}
 use Rattle.reading.specs.LineFields.{words_of}
 

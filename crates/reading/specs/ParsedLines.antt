@@ -1,5 +1,5 @@
 -- What a line says, in the model's words, and the kinds of requests by number.
-use Rattle.std.specs.Prelude.{ℕ, List, [], ◌∷◌, ◌||◌, eqb, Option, Some, None}
+use Rattle.std.specs.Prelude.{ℕ, [], ◌∷◌, ◌||◌, eqb, Option, Some, None}
 use Rattle.std.proofs.Math.Option.{none}
 use Rattle.foundation.specs.Tests.{pick}
 use Rattle.foundation.specs.Bytes.{eq_list}
