@@ -101,13 +101,13 @@ unfolding splice
 part-back s a e ys h k l =
     rw (drop-drop (e - a) a s, ← append_assoc (take a s) ys (drop (a + (e - a)) s), l)
 
--- the n bytes at a place, after other bytes were copied there
-pub part-put : (at n : ℕ) (s : List ℕ) {ys bs : List ℕ} → ys ≡ bs → length bs ≡ n →
-    take at s ++ (ys ++ drop (at + n - at) (drop at s)) ≡ splice at bs s
+-- the bytes from a place up to e, after others were copied there
+pub part-put : (at e : ℕ) (s : List ℕ) {ys bs : List ℕ} → ys ≡ bs → at + length bs ≡ e →
+    take at s ++ (ys ++ drop (e - at) (drop at s)) ≡ splice at bs s
 unfolding splice
-part-put at n s {ys} {bs} e l =
-    rw (e, drop-drop (at + n - at) at s, ← append_assoc (take at s) bs (drop (at + (at + n - at)) s), l)
-    (ap (λ (m : ℕ). take at s ++ bs ++ drop m s) (omega arith))
+part-put at e s {ys} {bs} p l =
+    let n : at + (e - at) ≡ at + length bs = omega arith in
+    rw (p, drop-drop (e - at) at s, ← append_assoc (take at s) bs (drop (at + (e - at)) s), n) refl
 
 -- a second store right behind a first, as what two calls ensure
 pub splice-then : (at n : ℕ) (a b s : List ℕ) {s₁ s₂ : List ℕ} → at + n ≤ length s → length a ≡ n →

@@ -1,7 +1,8 @@
-// Numbers at a place of a byte slice, the least byte first, and gaps opened and closed in one.
+// Numbers at a place of a byte slice, the least byte first, gaps opened and closed in one, and the test for zeros.
 #![tactic(auto)]
 
-ghost use Rattle.std.specs.Prelude.{◌≡◌, ◌++◌, ◌∷◌, [], ◌+◌, ◌-◌, ◌≤◌, length, take, drop, replicate};
+ghost use Rattle.std.specs.Prelude.{◌≡◌, ◌++◌, ◌∷◌, [], ◌+◌, ◌-◌, ◌≤◌, eqb, length, take, drop, replicate};
+ghost use Rattle.foundation.specs.Lists.{allb};
 ghost use Rattle.foundation.specs.Bytes.{le, bytes_of};
 ghost use Rattle.fields.specs.Field.{splice, gapped, gap_closed};
 
@@ -54,4 +55,16 @@ pub fn close_gap(s: &mut [u8], from: usize, to: usize, w: usize)
 {
     s.copy_within(from + w..to, from);
     s[to - w..to].fill(0);
+}
+
+// Whether every byte of a slice is zero. It asks all of them, also behind one that is not: `all` stops there, and
+// so it looks at one byte at a time, where this looks at many.
+pub fn zeros(s: &[u8]) -> bool
+    ensures { result ≡ allb (λ x. eqb x 0) s.now }
+{
+    let mut all = true;
+    for x in s {
+        all &= *x == 0;
+    }
+    all
 }
