@@ -7,7 +7,6 @@ ghost use Rattle.model.specs.Stratification as model;
 
 mod ranks;
 
-use fields::alike;
 use model::{Operator, OptionTerm, Rule};
 pub use ranks::{is_circular, is_stratified, stratify};
 
@@ -38,9 +37,9 @@ pub fn feeds(q: Rule, r: Rule) -> bool
     if !object {
         return false;
     }
-    let sign = alike(q.left.negative, r.right.negative);
+    let sign = q.left.negative == r.right.negative;
     let subject = meets(q.left.subject, r.right.subject);
-    let mode = meets(fields::u16_of(q.left.mode), fields::u16_of(r.right.mode));
+    let mode = meets(u16::from(q.left.mode), u16::from(r.right.mode));
     let o = r.option;
     let option = fits_option(o, false);
     sign & object & subject & mode & ((r.grantor == 0) | (r.grantor == q.author)) & option
@@ -55,7 +54,7 @@ pub fn links(q: Rule, r: Rule) -> bool
         return false;
     }
     let subject = meets(q.left.subject, r.right.subject);
-    let mode = meets(fields::u16_of(q.left.mode), fields::u16_of(r.right.mode));
+    let mode = meets(u16::from(q.left.mode), u16::from(r.right.mode));
     q.left.negative & !r.right.negative & object & subject & mode
 }
 

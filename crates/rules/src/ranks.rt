@@ -14,7 +14,6 @@ ghost use Rattle.rules.specs.Edges.{step_of, EdgeRow, EdgeRows, Inside, best_of}
 
 use crate::{feeds, links, negates};
 use encoding::rule_at;
-use fields::{as_bit, larger};
 use model::{RULE_BYTES, Rule};
 
 // Whether a rule counts by itself.
@@ -36,7 +35,7 @@ fn step_of(q: Rule, r: Rule, every: bool) -> u8
     if every {
         return 2;
     }
-    1 + as_bit(negates(r)) + as_bit(linked)
+    1 + u8::from(negates(r)) + u8::from(linked)
 }
 
 // Puts the edge from the i-th rule behind c others, if the step is one; how many they are then.
@@ -96,7 +95,7 @@ fn put_own(s: &[u8], n: usize, every: bool, own: &mut [u16; 65])
 {
     let mut i = 0;
     while i < n {
-        own[i] = as_bit(counts(rule_at(s, i * RULE_BYTES), every)) as u16;
+        own[i] = u16::from(counts(rule_at(s, i * RULE_BYTES), every));
         i += 1;
     }
 }
@@ -112,7 +111,7 @@ fn best_of(edges: &[u8; 4225], at: usize, c: usize, l: &[u16; 65], own: u16) -> 
     while e < c {
         let x = edges[at + e];
         let y = (x % 3) as u16 + l[(x / 3) as usize];
-        best = larger(best as u64, y as u64) as u16;
+        best = best.max(y);
         e += 1;
     }
     best

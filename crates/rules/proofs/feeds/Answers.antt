@@ -1,6 +1,6 @@
 use mathlib.Core.Path.{◌≡◌, sym, ◌∙◌}
 use mathlib.Core.Bool.{false, beq}
-use Rattle.foundation.specs.Tests.{and-false, not-true}
+use Rattle.foundation.specs.Tests.{and-false}
 use Rattle.model.specs.declared.Rule.{Rule}
 use Rattle.model.specs.Stratification.{meets, feeds}
 use Rattle.model.proofs.SideFacts.{feeds_eq}
@@ -19,11 +19,11 @@ pub returns : goal.returns
 returns c =
     rw (
       feeds_eq _ _,
-      c.alike-sign.ensures,
+      
       c.meets-object.ensures,
       c.meets-subject.ensures,
       c.meets-mode.ensures,
-      c.u16_of.ensures.0,
-      c.u16_of-2.ensures.0,
+      c.from.ensures,
+      c.from-2.ensures,
       c.fits_option-option.ensures,
     )

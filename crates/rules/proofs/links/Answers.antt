@@ -1,6 +1,6 @@
 use mathlib.Core.Path.{◌≡◌, sym, ◌∙◌}
 use mathlib.Core.Bool.{false, not, ◌&&◌}
-use Rattle.foundation.specs.Tests.{and-false, not-true}
+use Rattle.foundation.specs.Tests.{and-false}
 use Rattle.model.specs.declared.Rule.{Rule}
 use Rattle.model.specs.Stratification.{meets, links}
 use Rattle.model.proofs.SideFacts.{links_eq}
@@ -24,6 +24,6 @@ returns c =
       m.meets-object.ensures,
       m.meets-subject.ensures,
       c.meets-mode.ensures,
-      w.u16_of.ensures.0,
-      w.u16_of-2.ensures.0,
+      w.from.ensures,
+      w.from-2.ensures,
     )

@@ -32,16 +32,6 @@ overflow_add-y c =
     let l = i in
     omega (arith, (l.requires.1 l.loop-e.e (search rules)).1)
 
-pub overflow_cast-y-in-loop-e-2 : goal.overflow_cast-y-in-loop-e-2
-overflow_cast-y-in-loop-e-2 c =
-    let l = c in
-    omega (arith, (l.requires.1 l.loop-e.e (search rules)).1)
-
-pub overflow_cast-best-in-loop-e : goal.overflow_cast-best-in-loop-e
-overflow_cast-best-in-loop-e c =
-    let l = c in
-    omega (arith, c.larger-best.ensures, l.loop-e.invariant.1, (l.requires.1 l.loop-e.e (search rules)).1)
-
 pub loop-e-preserved : goal.loop-e-preserved
 loop-e-preserved c =
     let l = c in
@@ -49,8 +39,8 @@ loop-e-preserved c =
     let row : ℕ → ℕ = λ k. get_or a.edges.now (a.at + k) 0 in
     let e = l.loop-e.e in (
       search rules,
-      omega (arith, c.larger-best.ensures, l.loop-e.invariant.1, (l.requires.1 e (search rules)).1),
-      c.larger-best.ensures
+      omega (arith, c.max-best.ensures, l.loop-e.invariant.1, (l.requires.1 e (search rules)).1),
+      c.max-best.ensures
           ∙ ap (λ (b : ℕ). max b (row e % 3 + get_or a.l.now (row e / 3) 0)) l.loop-e.invariant.2
           ∙ ap (λ (k : ℕ). best_of k row a.l.now a.own) (sym (add-one e)),
     )

@@ -1,7 +1,7 @@
 use native.Mathlib.Omega.{arith}
 use mathlib.Core.Path.{ap, ◌∙◌}
 use lib.ListN.{length-set}
-use Rattle.foundation.specs.BitMasks.{as_bit, bit_le}
+use Rattle.foundation.specs.BitMasks.{as_bit}
 use Rattle.rules.specs.RankTables.{own_count}
 use Rattle.encoding.specs.Format.{rule_at}
 use Rattle.rules.proofs.RankRounds.{fill-turn}
@@ -10,9 +10,6 @@ use Rattle.rules.proofs.ranks.put_own.Goals as goal
 pub loop-i-init : goal.loop-i-init
 loop-i-init c = (omega arith, c.requires.2, λ i h. absurd (omega arith))
 
-pub overflow_cast-own : goal.overflow_cast-own
-overflow_cast-own c = omega (arith, c.as_bit.ensures, bit_le c.counts.result)
-
 pub loop-i-preserved : goal.loop-i-preserved
 loop-i-preserved c =
     let l = c in
@@ -20,11 +17,11 @@ loop-i-preserved c =
     let own = l.loop-i.own in
     let i = l.loop-i.i in (
       omega arith,
-      length-set own i c.as_bit.result ∙ l.loop-i.invariant.1,
+      length-set own i c.from.result ∙ l.loop-i.invariant.1,
       fill-turn (λ i. as_bit (own_count b.args.every (rule_at b.args.s.now i))) own i
-          c.as_bit.result
+          c.from.result
           (omega (arith, l.loop-i.invariant.1, b.requires.1))
-          (c.as_bit.ensures ∙ ap as_bit (c.counts.ensures
+          (c.from.ensures ∙ ap as_bit (c.counts.ensures
           ∙ ap (own_count b.args.every) c.rule_at.ensures)) l.loop-i.invariant.2,
     )
 

@@ -2,7 +2,7 @@ use mathlib.Core.Path.{◌≡◌, sym, ap, ap₂, ◌∙◌}
 use mathlib.Core.Bool.{Bool, true, ◌||◌}
 use Prim.Native.Nat.{suc, ◌+◌}
 use native.Mathlib.Omega.{arith}
-use Rattle.foundation.specs.Tests.{pick, not-true, not-false}
+use Rattle.foundation.specs.Tests.{pick}
 use Rattle.foundation.specs.BitMasks.{as_bit, bit_le}
 use Rattle.model.specs.declared.Rule.{Rule}
 use Rattle.model.specs.Stratification.{feeds, links, weight}
@@ -50,10 +50,10 @@ returns c =
     let l = e in
     let f = l in
     let a = f.args in
-    let w : 1 + c.as_bit.result + c.as_bit-2.result ≡ suc (weight a.q a.r) = omega (
+    let w : 1 + c.from.result + c.from-2.result ≡ suc (weight a.q a.r) = omega (
       arith,
-      c.as_bit.ensures ∙ ap as_bit n.negates.ensures,
-      c.as_bit-2.ensures ∙ ap as_bit l.links-linked.ensures,
+      c.from.ensures ∙ ap as_bit n.negates.ensures,
+      c.from-2.ensures ∙ ap as_bit l.links-linked.ensures,
       weight_is a.q a.r,
     ) in
     w
@@ -63,15 +63,15 @@ returns c =
     e.if-not-fed-linked.false
 
 pub overflow_add-result : goal.overflow_add-result
-overflow_add-result c = omega (arith, c.as_bit.ensures, bit_le c.negates.result)
+overflow_add-result c = omega (arith, c.from.ensures, bit_le c.negates.result)
 
 pub overflow_add-result-2 : goal.overflow_add-result-2
 overflow_add-result-2 c =
     let n = c in
     omega (
       arith,
-      c.as_bit.ensures,
-      c.as_bit-2.ensures,
+      c.from.ensures,
+      c.from-2.ensures,
       bit_le n.negates.result,
       bit_le n.links-linked.result,
     )
