@@ -52,7 +52,7 @@ fn right_needs(right: &[u8], r: usize, mode: usize) -> u16
         × (get_or right.now (4 * r + 3) 0 < 4) × (256 ≤ length right.now) }
     ensures { result ≡ right_needs right.now r mode }
 {
-    let signs = fields::u16_of(right[4 * r + 3]);
+    let signs = u16::from(right[4 * r + 3]);
     let m = turn(right[4 * r + 2], mode);
     needs_of(signs, m)
 }

@@ -6,10 +6,10 @@ use Rattle.reach.proofs.right_needs.Goals as goal
 pub needs_of-requires : goal.needs_of-requires
 needs_of-requires c =
     let p = c.requires in
-    (rw c.u16_of-signs.ensures.0 p.2, rw c.turn-m.ensures p.1)
+    (rw c.from-signs.ensures p.2, rw c.turn-m.ensures p.1)
 
 pub returns : goal.returns
 unfolding right_needs
 returns c =
     c.needs_of.ensures
-    ∙ ap₂ needs_of c.u16_of-signs.ensures.0 c.turn-m.ensures
+    ∙ ap₂ needs_of c.from-signs.ensures c.turn-m.ensures
