@@ -55,7 +55,7 @@ pub fn cell_of(h: Head, x: Access, coordinates: &[u8]) -> Cell
 pub fn sign_of(negative: bool) -> u32
     ensures { result ≡ as_bit negative }
 {
-    fields::as_bit(negative) as u32
+    u32::from(negative)
 }
 
 // Whether an authorization is needed, c being its coordinates.

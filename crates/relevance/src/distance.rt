@@ -9,7 +9,6 @@ ghost use Rattle.relevance.specs.Chosen.{Picks, picked, selected};
 ghost use Rattle.relevance.specs.Distance.{edge, line_edges, rule_edges, Away, reached};
 
 use encoding::{authorization_at, rule_at};
-use fields::lesser;
 use foundation::Interval;
 use model::{AUTHORIZATION_BYTES, RULE_BYTES};
 use std::num::wrapping_sub_u32;
@@ -29,7 +28,7 @@ fn distance_of(i: Interval, ends: bool, t: u32) -> u32
 fn nearer_mark(best: u64, i: Interval, ends: bool, t: u32) -> u64
     ensures { reached t result ≡ sooner t (edge ends i) (reached t best) }
 {
-    lesser(best, distance_of(i, ends, t) as u64)
+    best.min(distance_of(i, ends, t) as u64)
 }
 
 // The mark at a distance, or 2^32 where that lies behind the last instant.
