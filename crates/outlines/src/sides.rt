@@ -6,7 +6,6 @@ ghost use Rattle.outlines.specs.Coordinates.{WellFormed, Ranged};
 ghost use Rattle.outlines.specs.Outline.{mode_code, CodedAt, RightSides, LeftSides};
 
 use encoding::rule_at;
-use fields::as_bit;
 use model::{RULE_BYTES, Side};
 use sections::{OBJECTS, RIGHT, SIDES, SUBJECTS};
 
@@ -75,7 +74,7 @@ pub fn draw_left(body: &[u8], n: usize, coordinates: &mut [u8])
     while i < n {
         let r = rule_at(body, i * RULE_BYTES);
         let side = r.left;
-        let signs = as_bit(side.negative) + 2 * as_bit(r.right.negative);
+        let signs = u8::from(side.negative) + 2 * u8::from(r.right.negative);
         put_side(coordinates, SIDES + 4 * i, side, signs);
         i += 1;
     }
