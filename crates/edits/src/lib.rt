@@ -227,7 +227,7 @@ pub fn replace_authorizations(s: &mut [u8], built: &[u8], m: usize)
         AUTHORIZATION_BYTES * m,
         with_authorization_count(c, m as u16),
     );
-    fields::copy(s, at, built, AUTHORIZATION_BYTES * m);
+    s[at..at + AUTHORIZATION_BYTES * m].copy_from_slice(&built[..AUTHORIZATION_BYTES * m]);
 }
 
 // Sets the clock.

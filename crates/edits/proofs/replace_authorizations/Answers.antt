@@ -5,6 +5,7 @@ use mathlib.Core.Bool.{true}
 use mathlib.Core.List.{List}
 use Prim.Native.Nat.{ℕ, ◌+◌, ◌*◌, ◌≤◌}
 use lib.ListN.{length, take}
+use lib.Seq.{length-take-le}
 use Rattle.foundation.specs.Bytes.{records}
 use Rattle.foundation.specs.ByteRecords.{length-records}
 use Rattle.foundation.specs.Lists.{each}
@@ -12,6 +13,7 @@ use Rattle.model.specs.Ranges.{most_authorizations}
 use Rattle.model.specs.Effects.{with_authorizations}
 use Rattle.model.specs.Encoding.{encode, decode, authorization_of, authorization_bytes}
 use Rattle.fields.specs.Field.{splice}
+use Rattle.fields.proofs.ByteLaws.{part-put}
 use Rattle.encoding.specs.declared.Counts.{Counts}
 use Rattle.encoding.specs.Format.{counts_of, counts_fit, contents_of, authorizations_at}
 use Rattle.edits.specs.Edits.{Written, resized, with_authorization_count}
@@ -51,8 +53,14 @@ counts_of-c-requires = λ c. search edit-rules
 pub reshape-requires : goal.reshape-requires
 reshape-requires = λ c. search (all_place, all_room, all_counts, edit-rules)
 
-pub copy-requires : goal.copy-requires
-copy-requires = λ c. (search (all_room, edit-rules), search rules)
+pub slice_bounds-copy_from_slice-end : goal.slice_bounds-copy_from_slice-end
+slice_bounds-copy_from_slice-end = λ c. search (all_room, edit-rules)
 
 pub returns : goal.returns
-returns = λ c. search (all_written, rules)
+returns c =
+    let at = c.authorizations_at-at.result in
+    let m = c.args.m in
+    all_written c.args.s.now c.requires.0 _ c.counts_of-c.ensures at m _ c.authorizations_at-at.ensures
+    c.with_authorization_count.ensures c.requires.1 c.args.built.now _ _ c.reshape.ensures
+    (part-put at (at + 24 * m) c.reshape.new.s c.copy_from_slice.ensures.after
+    (ap (λ (n : ℕ). at + n) (length-take-le (24 * m) c.args.built.now (omega arith)))) c.requires.3
