@@ -109,6 +109,11 @@ part-put at e s {ys} {bs} p l =
     let n : at + (e - at) ≡ at + length bs = omega arith in
     rw (p, drop-drop (e - at) at s, ← append_assoc (take at s) bs (drop (at + (e - at)) s), n) refl
 
+-- the first e bytes, after others were copied there
+pub front-put : (e : ℕ) (s : List ℕ) {ys bs : List ℕ} → ys ≡ bs → length bs ≡ e → ys ++ drop e s ≡ splice 0 bs s
+unfolding splice
+front-put e s {ys} {bs} p l = rw (p, zero-add (length bs), l) refl
+
 -- a second store right behind a first, as what two calls ensure
 pub splice-then : (at n : ℕ) (a b s : List ℕ) {s₁ s₂ : List ℕ} → at + n ≤ length s → length a ≡ n →
     s₁ ≡ splice at a s → s₂ ≡ splice (at + n) b s₁ → s₂ ≡ splice at (a ++ b) s
