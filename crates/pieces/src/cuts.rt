@@ -3,7 +3,6 @@ ghost use Rattle.std.specs.Prelude.{◌≡◌};
 ghost use Rattle.pieces.specs.Cuts.{cut_names, all_if, named_of, taken_of};
 
 use crate::{Cut, CutKind, Stretch};
-use fields::alike;
 use model::Head;
 
 // Whether an authorization has the grantor, subject, object, mode and sign of a cut.
@@ -14,7 +13,7 @@ fn is_named(c: Cut, h: Head) -> bool
         & (h.subject == c.subject)
         & (h.object == c.object)
         & (h.mode == c.mode)
-        & alike(h.negative, c.negative)
+        & (h.negative == c.negative)
 }
 
 // Every instant, or none.

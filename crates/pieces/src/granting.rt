@@ -9,7 +9,6 @@ ghost use Rattle.pieces.specs.Nearest.{near_of};
 ghost use Rattle.pieces.specs.CutParts.{may_grant};
 
 use cover::Want;
-use fields::larger;
 use model::AUTHORIZATION_BYTES;
 
 // The first instant from a on that the authorization at a place covers, if it is wanted and that is before d;
@@ -20,7 +19,7 @@ fn nearest(s: &[u8], at: usize, w: Want, a: u64, d: u64) -> u64
 {
     let x = encoding::authorization_at(s, at);
     let i = x.interval;
-    let t = larger(i.start as u64, a);
+    let t = (i.start as u64).max(a);
     if (t <= i.end as u64) & (t < d) & cover::may_support(w, x) {
         return t;
     }

@@ -13,7 +13,6 @@ mod granting;
 
 use cover::Want;
 pub use cuts::taken_stretch;
-use fields::{larger, lesser};
 use foundation::Interval;
 use granting::{granting_from, granting_gap_from};
 use model::{Authorization, Head};
@@ -145,8 +144,8 @@ pub fn put_pieces(
     let i = x.interval;
     let start = i.start as u64;
     let e = i.end as u64 + 1;
-    let b = lesser(e, taken.from);
-    let a = larger(start, taken.to);
+    let b = e.min(taken.from);
+    let a = start.max(taken.to);
     let Put::Lines(k) = put_part(out, sorted, m, pos, h, root, start, b) else {
         return Put::Full;
     };

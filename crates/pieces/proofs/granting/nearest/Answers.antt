@@ -27,8 +27,8 @@ returns-then-t-i c =
     let r = c₁.authorization_at-x in
     let a = c₁.args in
     answer a.w a.a a.d r.result (authorization_of (drop a.at a.s.now))
-    c₁.larger-t.result true
-    r.ensures c₁.larger-t.ensures (rw (← c.may_support.ensures) c.if-t-i.true)
+    c₁.max-t.result true
+    r.ensures c₁.max-t.ensures (rw (← c.may_support.ensures) c.if-t-i.true)
 
 pub returns : goal.returns
 returns c =
@@ -36,5 +36,5 @@ returns c =
     let r = c₁.authorization_at-x in
     let a = c₁.args in
     answer a.w a.a a.d r.result (authorization_of (drop a.at a.s.now))
-    c₁.larger-t.result false
-    r.ensures c₁.larger-t.ensures (rw (← c.may_support.ensures) c.if-t-i.false)
+    c₁.max-t.result false
+    r.ensures c₁.max-t.ensures (rw (← c.may_support.ensures) c.if-t-i.false)
