@@ -15,7 +15,6 @@ ghost use Rattle.facts.specs.Facts.{pair_for, place_for};
 ghost use Rattle.facts.specs.Facts.{Usable, HasPlace, LinesReady, LineStep, LineSteps};
 
 use encoding::{authorization_at, rule_at};
-use fields::alike;
 use masks::with_if;
 use model::{AUTHORIZATION_BYTES, Access, Authorization, Head, RULE_BYTES, Rule};
 use places::{Grid, Pair, Point, pair_index};
@@ -54,7 +53,7 @@ fn fits_kind(h: Head, r: Rule) -> bool
 {
     let side = r.right;
     let o = r.option;
-    let sign = alike(h.negative, side.negative);
+    let sign = h.negative == side.negative;
     let option = fits_option(o, h.option);
     sign & ((r.grantor == 0) | (r.grantor == h.grantor)) & option
 }

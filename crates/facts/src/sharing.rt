@@ -9,7 +9,6 @@ ghost use Rattle.facts.specs.Sharing.{TablesArranged};
 
 use crate::TablePlan;
 use encoding::rule_at;
-use fields::alike;
 use masks::with_if;
 use model::{RULE_BYTES, Rule};
 use places::{Grid, Region};
@@ -25,9 +24,9 @@ fn is_same_kind(q: Rule, r: Rule) -> bool
     let b = r.right;
     let o = q.option;
     let p = r.option;
-    let with = alike(fits_option(o, true), fits_option(p, true));
-    let without = alike(fits_option(o, false), fits_option(p, false));
-    alike(a.negative, b.negative) & (q.grantor == r.grantor) & with & without
+    let with = fits_option(o, true) == fits_option(p, true);
+    let without = fits_option(o, false) == fits_option(p, false);
+    (a.negative == b.negative) & (q.grantor == r.grantor) & with & without
 }
 
 // Whether two regions are one.

@@ -8,31 +8,25 @@ use Rattle.facts.proofs.sharing.is_same_kind.Goals as goal
 
 pub returns : goal.returns
 returns c =
-    let h = c in
-    let k = h in
-    let j = k in
-    let s = j in
-    let q = s.args.q in
-    let r = s.args.r in
-    let sign : h.alike.result ≡ beq q.right.negative r.right.negative = h.alike.ensures in
-    let with : j.alike-with.result ≡ beq (fits_option q.option true) (fits_option r.option true) =
-    j.alike-with.ensures
-    ∙ ap₂ beq j.fits_option.ensures j.fits_option-2.ensures in
-    let without : k.alike-without.result ≡ beq (fits_option q.option false) (fits_option r.option false) =
-    k.alike-without.ensures
-    ∙ ap₂ beq k.fits_option-3.ensures k.fits_option-4.ensures in
-    let w = and-four h.alike.result (eqb q.grantor r.grantor) j.alike-with.result
-    k.alike-without.result in (
-      (λ t. let v = w.0 t in
+    let q = c.args.q in
+    let r = c.args.r in
+    let sign = beq q.right.negative r.right.negative in
+    let w : beq c.fits_option.result c.fits_option-2.result ≡ beq (fits_option q.option true) (fits_option r.option true) =
+    ap₂ beq c.fits_option.ensures c.fits_option-2.ensures in
+    let o : beq c.fits_option-3.result c.fits_option-4.result ≡ beq (fits_option q.option false) (fits_option r.option false) =
+    ap₂ beq c.fits_option-3.ensures c.fits_option-4.ensures in
+    let all = and-four sign (eqb q.grantor r.grantor) (beq c.fits_option.result c.fits_option-2.result)
+    (beq c.fits_option-3.result c.fits_option-4.result) in (
+      (λ t. let v = all.0 t in
           record {
-            sign = beq_eq q.right.negative r.right.negative (sym sign ∙ v.0);
+            sign = beq_eq q.right.negative r.right.negative v.0;
             grantor = true_eq q.grantor r.grantor v.1;
-            option = options_same q.option r.option (sym with ∙ v.2) (sym without ∙ v.3);
+            option = options_same q.option r.option (sym w ∙ v.2) (sym o ∙ v.3);
           }),
-      (λ e. w.1 (
-        sign ∙ rw e.sign (beq_self r.right.negative),
+      (λ e. all.1 (
+        rw e.sign (beq_self r.right.negative),
         eq_true q.grantor r.grantor e.grantor,
-        with ∙ rw e.option (beq_self (fits_option r.option true)),
-        without ∙ rw e.option (beq_self (fits_option r.option false)),
+        w ∙ rw e.option (beq_self (fits_option r.option true)),
+        o ∙ rw e.option (beq_self (fits_option r.option false)),
       )),
     )
