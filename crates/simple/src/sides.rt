@@ -89,7 +89,7 @@ pub fn right_of(r: Rule, x: Access) -> Pattern
     Pattern {
         access: Access {
             subject: number_or(right.subject, x.subject),
-            mode: number_or(fields::u16_of(right.mode), x.mode),
+            mode: number_or(u16::from(right.mode), x.mode),
             object: number_or(right.object, x.object),
         },
         negative: right.negative,
