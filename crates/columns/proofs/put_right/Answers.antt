@@ -10,6 +10,6 @@ returns c =
     let text = c.args.text.now in
     let n = w - length text in
     part-put n (length c.fill.new.self) c.fill.new.self c.copy_from_slice.ensures.after
-        (omega (arith, c.requires, c.fill.ensures.len))
+    (omega (arith, c.requires, c.fill.ensures.len))
     ∙ ap (splice n text) (c.fill.ensures.after (λ y e. e))
     ∙ right w text c.requires

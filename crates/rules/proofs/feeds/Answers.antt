@@ -19,7 +19,6 @@ pub returns : goal.returns
 returns c =
     rw (
       feeds_eq _ _,
-      
       c.meets-object.ensures,
       c.meets-subject.ensures,
       c.meets-mode.ensures,

@@ -78,8 +78,15 @@ put_rule-requires c =
     let l = (goal.at.put_rule-requires c).After-rules_at-at in
     let n = c.counts_of-c.result.rules * 28 in
     let z : List ℕ = replicate 1820 0 in
-    omega (arith, length-append c.copy_from_slice.new.self (drop n z), length-drop n z, c.copy_from_slice.ensures.len,
-        room l, length-replicate {A = ℕ} 1820 0, (fits l).counts)
+    omega (
+      arith,
+      length-append c.copy_from_slice.new.self (drop n z),
+      length-drop n z,
+      c.copy_from_slice.ensures.len,
+      room l,
+      length-replicate {A = ℕ} 1820 0,
+      (fits l).counts,
+    )
 
 pub overflow_add-n : goal.overflow_add-n
 overflow_add-n c = omega (arith, (fits (goal.at.overflow_add-n c).After-rules_at-at).counts)
@@ -101,7 +108,7 @@ returns c =
     let z : List ℕ = replicate 1820 0 in
     let t : List ℕ = c.copy_from_slice.new.self ++ drop (n.rules * 28) z in
     let copied = front-put (n.rules * 28) z c.copy_from_slice.ensures.after
-        (length-take-le (n.rules * 28) (lent s at) (long d)) in
+    (length-take-le (n.rules * 28) (lent s at) (long d)) in
     let all : rules_in (n.rules + 1) c.put_rule.new.s ≡ rules_in n.rules (lent s at) ++ (new_rule 1 q ∷ []) =
     added_rules n.rules (lent s at) z t
     c.put_rule.new.s (new_rule 1 q) w.rule (long d) (omega (arith, (fits d).counts)) copied

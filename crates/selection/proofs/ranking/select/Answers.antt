@@ -92,4 +92,3 @@ returns c =
           ∙ up_same a.needed a.body.now a.n l.r (omega (arith, s.requires.0, l.invariant.0))
           (λ i p q. cases (bit i a.needed) (λ e. absurd (omega (arith, s.requires.2 i e))) (λ e. e)),
     )
-
