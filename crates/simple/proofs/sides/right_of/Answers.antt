@@ -8,6 +8,6 @@ returns c =
       right_eq _ _,
       w.number_or.ensures,
       c.number_or-2.ensures,
-      w.u16_of.ensures.0,
+      w.from.ensures,
       c.number_or-3.ensures,
     )
