@@ -3,7 +3,6 @@ ghost use Rattle.std.specs.Prelude.{◌≡◌};
 ghost use Rattle.pieces.specs.Cuts.{cut_names, all_if, named_of, taken_of};
 
 use crate::cut::{Cut, Named, Stretch};
-use fields::alike;
 use model::Head;
 
 // Whether an authorization has the grantor, subject, object, mode and sign.
@@ -14,7 +13,7 @@ fn is_named(n: Named, h: Head) -> bool
         & (h.subject == n.subject)
         & (h.object == n.object)
         & (h.mode == n.mode)
-        & alike(h.negative, n.negative)
+        & (h.negative == n.negative)
 }
 
 // Every instant, or none.
