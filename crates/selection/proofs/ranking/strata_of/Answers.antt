@@ -3,6 +3,8 @@ use native.Mathlib.Omega.{arith}
 use mathlib.Core.Path.{◌≡◌, sym, ap, ap₂, ◌∙◌, subst}
 use mathlib.Core.Bool.{true}
 use mathlib.Core.List.{List}
+use Prim.Native.Nat.{ℕ, ◌<◌}
+use lib.ListN.{get_or}
 use Rattle.foundation.specs.Lists.{Mem}
 use Rattle.model.specs.declared.Rule.{Rule}
 use Rattle.model.specs.Stratification.{stratified, stratum}
@@ -31,9 +33,10 @@ returns-then-not-counts_some c =
     let w = selected-rule a.needed a.n body q m in
     subst Plain (sym w.2) (k.ensures t.if-not-counts_some.true
     w.0 w.1) in
+    let zeroed : (r : ℕ) → r < 64 → get_or c.fill.new.self r 0 ≡ 0 = search rules in
     λ r b.
     let h = s.requires.2 r b in
-    t.clear_words.ensures.0 r (omega (arith, s.requires.0))
+    zeroed r (omega (arith, s.requires.0))
     ∙ sym (stratum_none (selected a.needed (rules_in a.n body)) plain (rule_at body r)
     (rule-selected a.needed a.n r body h b))
 
