@@ -1,8 +1,10 @@
 -- What was read by the trace, one read or none at a time.
-use Rattle.std.specs.Prelude.{◌≡◌, refl, List, [], ◌++◌, ℕ, ℤ}
+use Rattle.std.specs.Prelude.{◌≡◌, refl, List, [], ◌++◌, ℕ}
 use Rattle.std.proofs.Common.{sym, ap, ◌∙◌, arith}
 use Rattle.channel.specs.Digests.{digest}
 use Rattle.channel.specs.declared.Channel.{Channel}
+use Rattle.channel.specs.declared.Got.{Got}
+use Rattle.channel.specs.declared.Got.TheVariants.{Unasked, End}
 use Rattle.channel.specs.Trace.{arrived, Opened, Fetched, Unread, Read}
 use Rattle.channel.proofs.DigestFacts.{digest_none, digest-twice}
 
@@ -10,7 +12,7 @@ use Rattle.channel.proofs.DigestFacts.{digest_none, digest-twice}
 pub read_none : {c : Channel} → Opened c → Read [] c
 read_none o = record {
   seen = o.seen ∙ sym (digest_none 0);
-  asked = λ z. let n : ◌≡◌ {A = ℕ} 1 0 = cc in omega arith;
+  asked = λ z. let n : ◌≡◌ {A = Got} Unasked End = sym o.got ∙ z in absurd cc;
 }
 
 -- one read more
@@ -25,7 +27,7 @@ read_more {input} {buf} {c} {r} w f = record {
 -- and nothing between that read and `r`
 pub fetched_then : {buf : List ℕ} {b c r : Channel} → Fetched b buf c → Unread c r → Fetched b buf r
 fetched_then {buf} {b} f u = record {
-  seen = u.seen ∙ f.seen ∙ ap (λ (z : ℤ). digest b.seen (arrived z buf)) (sym u.got);
+  seen = u.seen ∙ f.seen ∙ ap (λ (z : Got). digest b.seen (arrived z buf)) (sym u.got);
   reads = u.reads ∙ f.reads;
 }
 

@@ -1,14 +1,16 @@
 -- What has passed a channel: the digests of the bytes that were read and of those that were handed to be
 -- written, how many reads there were, what the last one answered, and whether every write worked. That a read
 -- gives what was sent, and that what is handed over is written, is left to trust.
-use Rattle.std.specs.Prelude.{◌≡◌, ◌⊎◌, true, List, ℕ, ◌+◌, ◌≤◌, ◌<◌, ℤ, pos, negsuc, length, take}
-use Rattle.std.proofs.Common.{⊎_elim, arith}
+use Rattle.std.specs.Prelude.{◌≡◌, ◌⊎◌, true, List, ℕ, ◌+◌, ◌≤◌, ◌<◌, length, take}
+use Rattle.std.proofs.Common.{⊎_elim, arith, sym, ◌∙◌}
 use Rattle.channel.specs.Counts.{clamp_len}
 use Rattle.channel.specs.Digests.{digest}
 use Rattle.channel.specs.declared.Channel.{Channel}
+use Rattle.channel.specs.declared.Got.{Got}
+use Rattle.channel.specs.declared.Got.TheVariants.{Unasked, End, Failed}
 
 -- what a read that answered `got` left at the front of the buffer
-abbrev pub arrived : ℤ → List ℕ → List ℕ
+abbrev pub arrived : Got → List ℕ → List ℕ
 arrived got buf = take (clamp_len got (length buf)) buf
 
 -- nothing has passed, and no read has said that the input has ended
@@ -16,7 +18,7 @@ pub record Opened (c : Channel) : Type 0 where
   pub seen : c.seen ≡ 0
   pub sent : c.sent ≡ 0
   pub reads : c.reads ≡ 0
-  pub got : c.got ≡ pos 1
+  pub got : c.got ≡ Unasked
   pub ok : c.ok ≡ true
 
 -- `r` has one read more than `c`, whose bytes are at the front of `buf`
@@ -41,15 +43,15 @@ pub record Handed (c : Channel) (bytes : List ℕ) (r : Channel) : Type 0 where
   pub unread : Unread c r
   pub ok : r.ok ≡ true → c.ok ≡ true
 
--- `input` has the digest that was kept of what was read; and where the last read is said to have answered 0,
--- one was counted
+-- `input` has the digest that was kept of what was read; and where the last read is said to have said that the
+-- input has ended, one was counted
 pub record Read (input : List ℕ) (c : Channel) : Type 0 where
   pub seen : c.seen ≡ digest 0 input
-  pub asked : c.got ≡ pos 0 → 0 < c.reads
+  pub asked : c.got ≡ End → 0 < c.reads
 
 -- the last read said that the input has ended, or failed
 abbrev pub Through : Channel → Type 0
-Through c = (c.got ≡ pos 0) ⊎ (c.got ≡ negsuc 0)
+Through c = (c.got ≡ End) ⊎ (c.got ≡ Failed)
 
 -- where every write worked, that is why the program stopped, or its reads can no longer be counted
 abbrev pub Stopped : Channel → Type 0
@@ -59,7 +61,7 @@ Stopped c = c.ok ≡ true → Through c ⊎ (18446744073709551615 ≤ c.reads)
 pub unread_goes_on : {b c : Channel} → Opened b → Unread b c → c.ok ≡ true → Stopped c → ⊥
 unread_goes_on o u ok stop = ⊎_elim
     (λ t. ⊎_elim
-    (λ z. let n : ◌≡◌ {A = ℕ} 1 0 = cc in omega arith)
-    (λ z. let n : ◌≡◌ {A = ℕ} 1 0 = cc in omega arith) t)
+    (λ z. let n : ◌≡◌ {A = Got} Unasked End = sym o.got ∙ sym u.got ∙ z in cc)
+    (λ z. let n : ◌≡◌ {A = Got} Unasked Failed = sym o.got ∙ sym u.got ∙ z in cc) t)
     (λ h. omega (arith, o.reads, u.reads))
     (stop ok)

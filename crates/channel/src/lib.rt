@@ -2,12 +2,22 @@
 // private: another crate makes and changes a channel by `open`, `fetch` and `put` only.
 #![tactic(auto)]
 
-ghost use Rattle.std.specs.Prelude.{◌≡◌, true, false, ◌<◌, pos, length};
+ghost use Rattle.std.specs.Prelude.{◌≡◌, true, false, ◌<◌, length};
+ghost use Rattle.channel.specs.declared.Got.TheVariants.{End};
 ghost use Rattle.channel.specs.Counts.{IsPrefixLen, clamp_len};
 ghost use Rattle.channel.specs.Digests.{mixed, digest};
 ghost use Rattle.channel.specs.Trace.{Opened, Fetched, Unwritten, Handed, Stopped};
 
 use std::io::{Read, Write};
+
+// What the last read answered: nothing was read yet, some bytes, that the input has ended, or that it failed.
+#[derive(Clone, Copy)]
+pub enum Got {
+    Unasked,
+    Bytes(usize),
+    End,
+    Failed,
+}
 
 // The digests of the bytes that were read and of those that were handed to be written, how many reads there
 // were, what the last one answered, and whether every write worked. The digests stand side by side: nothing
@@ -17,7 +27,7 @@ pub struct Channel {
     seen: u32,
     sent: u32,
     reads: u64,
-    got: isize,
+    got: Got,
     ok: bool,
 }
 
@@ -34,15 +44,13 @@ fn mix_all(before: u32, bytes: &[u8]) -> u32
     ensures { result ≡ digest before bytes.now }
 {
     let mut d = before;
-    let mut i = 0;
-    while i < bytes.len() {
-        d = mix(d, bytes[i]);
-        i += 1;
+    for b in bytes {
+        d = mix(d, *b);
     }
     d
 }
 
-// Nothing was read or written yet. That is not a place to stop: the answer is neither 0 nor -1.
+// Nothing was read or written yet. That is not a place to stop.
 pub fn open() -> Channel
     ensures { Opened result }
 {
@@ -50,28 +58,28 @@ pub fn open() -> Channel
         seen: 0,
         sent: 0,
         reads: 0,
-        got: 1,
+        got: Got::Unasked,
         ok: true,
     }
 }
 
 // How many bytes a read that answered `got` left at the front of `buf`.
-fn count(got: isize, buf: &[u8]) -> usize
+fn count(got: Got, buf: &[u8]) -> usize
     ensures prefix_len { IsPrefixLen result buf.now }
     ensures value { result ≡ clamp_len got (length buf.now) }
 {
-    if got <= 0 {
-        return 0;
+    match got {
+        Got::Bytes(n) => n.min(buf.len()),
+        Got::Unasked | Got::End | Got::Failed => 0,
     }
-    let n = got as usize;
-    if buf.len() < n { buf.len() } else { n }
 }
 
-// Reads once into the front of `buf`: how many bytes, or -1 where the read failed.
-fn read_once<R: Read>(input: &mut R, buf: &mut [u8]) -> isize {
+// Reads once into the front of `buf`.
+fn read_once<R: Read>(input: &mut R, buf: &mut [u8]) -> Got {
     match input.read(buf) {
-        Ok(n) => n as isize,
-        Err(_) => -1,
+        Ok(0) => Got::End,
+        Ok(n) => Got::Bytes(n),
+        Err(_) => Got::Failed,
     }
 }
 
@@ -84,11 +92,10 @@ pub fn fetch<R: Read>(input: &mut R, c: Channel, buf: &mut [u8]) -> Channel
     let n = count(got, buf);
     let seen = mix_all(c.seen, &buf[..n]);
     Channel {
-        seen: seen,
-        sent: c.sent,
+        seen,
         reads: c.reads + 1,
-        got: got,
-        ok: c.ok,
+        got,
+        ..c
     }
 }
 
@@ -101,17 +108,14 @@ pub fn last_read(c: Channel, buf: &[u8]) -> usize
 }
 
 // Writes all of the bytes. False where a write takes nothing or fails: then some of them may be written.
+// The `write_all` of std would go on after a write that a signal interrupts.
 fn write_whole<W: Write>(output: &mut W, bytes: &[u8]) -> bool {
-    let mut done = 0;
-    while done < bytes.len() {
-        let n = match output.write(&bytes[done..]) {
-            Ok(n) => n,
-            Err(_) => 0,
-        };
-        if n == 0 {
-            return false;
+    let mut rest = bytes;
+    while !rest.is_empty() {
+        match output.write(rest) {
+            Ok(0) | Err(_) => return false,
+            Ok(n) => rest = &rest[n..],
         }
-        done += n;
     }
     true
 }
@@ -123,11 +127,9 @@ pub fn put<W: Write>(output: &mut W, c: Channel, bytes: &[u8]) -> Channel
     let sent = mix_all(c.sent, bytes);
     let ok = write_whole(output, bytes);
     Channel {
-        seen: c.seen,
-        sent: sent,
-        reads: c.reads,
-        got: c.got,
+        sent,
         ok: c.ok & ok,
+        ..c
     }
 }
 
@@ -149,13 +151,13 @@ pub fn goes_on(c: Channel) -> bool
     ensures { (result ≡ true → (c.ok ≡ true) × (c.reads < 18446744073709551615))
         × (result ≡ false → Stopped c) }
 {
-    c.ok & (c.reads < u64::MAX) & !((c.got == 0) | (c.got == -1))
+    c.ok & (c.reads < u64::MAX) & !matches!(c.got, Got::End | Got::Failed)
 }
 
 // The input has ended, and every write worked.
 pub fn has_ended(c: Channel) -> bool
-    ensures { (result ≡ true → (c.ok ≡ true) × (c.got ≡ pos 0))
-        × (c.ok ≡ true → c.got ≡ pos 0 → result ≡ true) }
+    ensures { (result ≡ true → (c.ok ≡ true) × (c.got ≡ End))
+        × (c.ok ≡ true → c.got ≡ End → result ≡ true) }
 {
-    c.ok & (c.got == 0)
+    c.ok & matches!(c.got, Got::End)
 }

@@ -14,7 +14,7 @@ use Rattle.model.specs.ReportFacts.{aligned-width}
 
 -- blanks, with the text at their end
 pub right : (w : ℕ) (text : List ℕ) → length text ≤ w →
-    splice (w - length text) (take (length text) text) (replicate w space) ≡ aligned w text
+    splice (w - length text) text (replicate w space) ≡ aligned w text
 unfolding splice aligned
 right w text h =
     let n = w - length text in
@@ -27,7 +27,7 @@ right w text h =
     let behind : drop (n + length text) (replicate w space) ≡ [] =
     drop_of_length-le (replicate w space) {i = n + length text}
     (rw (length-replicate w space) (omega arith)) in
-    rw (take-length text, front, behind) (append-nil (replicate n space ++ text))
+    rw (front, behind) (append-nil (replicate n space ++ text))
 
 -- s with y in the place of its part from a to e, as it comes back from who was lent it
 abbrev pub put : List ℕ → ℕ → ℕ → List ℕ → List ℕ

@@ -16,8 +16,8 @@ fn put_right(column: &mut [u8], text: &[u8])
     ensures { column.new ≡ aligned (length column.old) text.now }
 {
     let n = column.len() - text.len();
-    fields::fill_bytes(column, b' ');
-    fields::copy(column, n, text, text.len());
+    column.fill(b' ');
+    column[n..].copy_from_slice(text);
 }
 
 // Fills a column with a number.
@@ -72,7 +72,7 @@ fn put_head(row: &mut [u8], h: Head)
     put_number(&mut row[5..10], h.grantor as u32);
     put_number(&mut row[10..15], h.subject as u32);
     put_number(&mut row[15..17], h.mode as u32);
-    fields::put4(row, 17, b' ', sign_byte(h), b' ', option_byte(h));
+    row[17..21].copy_from_slice(&[b' ', sign_byte(h), b' ', option_byte(h)]);
 }
 
 // Fills a row.

@@ -9,7 +9,7 @@ ghost use Rattle.cover.specs.Sweep.{end_from, sweep_of};
 ghost use Rattle.cover.specs.Gaps.{FirstGap};
 
 use encoding::Records;
-use model::Authorization;
+use model::{Authorization, Head};
 
 // What is wanted of an authorization that is to stand directly before another in a chain: it is to `grantor`,
 // on an object and mode, and was granted before an instant.
@@ -22,6 +22,24 @@ pub struct Want {
     // options are digits a chain compares both
     pub option: bool,
     pub before: u32,
+}
+
+// What is wanted of one that is to stand directly before an authorization of that head.
+impl From<Head> for Want {
+    ghost use Rattle.std.specs.Prelude.{◌≡◌};
+    ghost use Rattle.cover.specs.Cover.{want_of};
+
+    ghost from_gives = { λ h w. w ≡ want_of h };
+
+    fn from(h: Head) -> Want {
+        Want {
+            object: h.object,
+            mode: h.mode,
+            grantor: h.grantor,
+            option: h.option,
+            before: h.granted,
+        }
+    }
 }
 
 // Whether an authorization is what is wanted: positive, with the option, to the grantor, granted strictly

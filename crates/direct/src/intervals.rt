@@ -33,11 +33,9 @@ fn choose_for(lines: &[u8], total: usize, x: Access, which: &mut [u16]) -> usize
         result }
 {
     let mut n = 0;
-    let mut i = 0;
-    while i < total {
+    for i in 0..total {
         which[n] = i as u16;
         n = counted(n, is_for_at(lines, i, x));
-        i += 1;
     }
     n
 }
@@ -49,14 +47,11 @@ fn holds_among(lines: &[u8], which: &[u16], n: usize, t: u32) -> bool
 {
     let mut granted = false;
     let mut denied = false;
-    let mut i = 0;
-    while i < n {
-        let at = which[i] as usize;
-        let a = authorization_at(lines, at * AUTHORIZATION_BYTES);
+    for w in &which[..n] {
+        let a = authorization_at(lines, *w as usize * AUTHORIZATION_BYTES);
         let live = has_instant(a.interval, t);
-        granted = granted | (live & !a.head.negative);
-        denied = denied | (live & a.head.negative);
-        i += 1;
+        granted |= live & !a.head.negative;
+        denied |= live & a.head.negative;
     }
     granted & !denied
 }
@@ -75,8 +70,7 @@ fn walk_among(lines: &[u8], which: &[u16], n: usize, list: &mut [u32]) -> Track
     };
     let mut w = Track {
         count: 0,
-        inside: false,
-        from: 0,
+        began: None,
     };
     let mut t: u64 = 0;
     let mut near = nothing_near();

@@ -24,12 +24,10 @@ pub fn stands_some(s: &[u8], body: &[u8], n: usize, x: Access) -> bool
         ((o u : ℕ) → controls b o u ≡ controls (decode s.now) o u) →
         result ≡ anyb (λ q. stands_for b q x) b.rules }
 {
-    let mut i = 0;
-    while i < n {
+    for i in 0..n {
         if stands_for(s, encoding::rule_at(body, i * RULE_BYTES), x) {
             return true;
         }
-        i += 1;
     }
     false
 }
@@ -54,8 +52,7 @@ pub fn holds_directly(lines: &[u8], total: usize, x: Access, t: u32) -> bool
 {
     let both = x.subject + 65536 * x.object;
     let mut granted = false;
-    let mut i = 0;
-    while i < total {
+    for i in 0..total {
         if fields::le32(lines, i * AUTHORIZATION_BYTES + 4) == both {
             let a = encoding::authorization_at(lines, i * AUTHORIZATION_BYTES);
             if is_live_for(a, x, t) {
@@ -65,7 +62,6 @@ pub fn holds_directly(lines: &[u8], total: usize, x: Access, t: u32) -> bool
                 granted = true;
             }
         }
-        i += 1;
     }
     granted
 }

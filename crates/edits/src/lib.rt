@@ -199,7 +199,7 @@ pub fn replace_authorizations(s: &mut [u8], built: &[u8], m: usize)
             ..c
         },
     );
-    fields::copy(s, at, built, AUTHORIZATION_BYTES * m);
+    s[at..at + AUTHORIZATION_BYTES * m].copy_from_slice(&built[..AUTHORIZATION_BYTES * m]);
 }
 
 // Sets the clock.

@@ -91,7 +91,7 @@ pub fn put_authorization(s: &mut [u8], at: usize, a: Authorization)
     let i = a.interval;
     put_pair(s, at, h.label, h.grantor);
     put_pair(s, at + 4, h.subject, h.object);
-    fields::put4(s, at + 8, h.mode, head_flags(h.negative, h.option), 0, 0);
+    s[at + 8..at + 12].copy_from_slice(&[h.mode, head_flags(h.negative, h.option), 0, 0]);
     fields::put32(s, at + 12, h.granted);
     put_interval(s, at + 16, i);
 }
@@ -143,8 +143,14 @@ fn put_modes(s: &mut [u8], at: usize, r: Rule)
     let operator = r.operator;
     let option = r.option;
     let flags = rule_flags(left.negative, right.negative, option);
-    fields::put4(s, at, left.mode, right.mode, u8::from(operator), flags);
-    fields::put16(s, at + 4, 0);
+    s[at..at + 6].copy_from_slice(&[
+        left.mode,
+        right.mode,
+        u8::from(operator),
+        flags,
+        0,
+        0,
+    ]);
 }
 
 // Writes a rule at a place.

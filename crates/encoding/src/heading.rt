@@ -16,7 +16,7 @@ fn marked(s: &[u8]) -> bool
     requires { 4 ≤ length s.now }
     ensures { result ≡ eq_list (take 4 s.now) mark }
 {
-    fields::same(&s[..4], b"MRB1")
+    &s[..4] == b"MRB1".as_slice()
 }
 
 // Writes the mark of a base.
@@ -24,8 +24,7 @@ fn put_mark(s: &mut [u8])
     requires { 4 ≤ length s.old }
     ensures { s.new ≡ splice 0 mark s.old }
 {
-    let m = b"MRB1";
-    fields::put4(s, 0, m[0], m[1], m[2], m[3]);
+    s[..4].copy_from_slice(b"MRB1");
 }
 
 // The counts that the contents of a base name.
@@ -115,7 +114,7 @@ pub fn heading_fits(s: &[u8]) -> bool
 {
     let mut wanted = [0u8; 20];
     put_contents(&mut wanted, 0, counts_of(s));
-    marked(s) & (fields::le16(s, 10) == 0) & fields::same(&s[12..32], &wanted)
+    marked(s) & (fields::le16(s, 10) == 0) & (s[12..32] == wanted[..])
 }
 
 // Makes an empty base in a lent buffer; one of another length is refused with 2.
@@ -126,7 +125,7 @@ pub fn create(s: &mut [u8]) -> Reply
     if s.len() != BASE_BYTES {
         return Reply::Refused(2);
     }
-    fields::clear_bytes(s);
+    s.fill(0);
     put_mark(s);
     put_counts(
         s,

@@ -31,10 +31,11 @@ use Rattle.relevance.specs.declared.filling.Filled.{Filled}
 use Rattle.relevance.specs.Chosen.{picked, selected, marks_for}
 use Rattle.relevance.specs.Filling.{Fills}
 use Rattle.relevance.specs.Forgotten.{ends_from, during, Forgets}
+use Rattle.std.specs.Prelude.{None}
 use Rattle.scan.specs.declared.Track.{Track}
 use Rattle.scan.specs.Filled.{filled}
-use Rattle.scan.specs.Runs.{ScannedTo, Answered, instant_at}
-use Rattle.scan.proofs.RunFacts.{counted}
+use Rattle.scan.specs.Runs.{inside, ScannedTo, Answered, instant_at}
+use Rattle.scan.proofs.RunFacts.{counted, held_open}
 use Rattle.words.specs.Fields.{field_of}
 use Rattle.tables.specs.declared.Place.{Place}
 use Rattle.tables.specs.TableLayout.{field_in}
@@ -101,7 +102,7 @@ pub walk-starts : {lines which : List ℕ} {c : Chosen} {lasting : ℕ} {q : Que
     q.from ≤ 4294967296 → (list : List ℕ) → Going lines c lasting q C p
     (start_of base x which words bits list) strata which words bits list (record {
       next = q.from;
-      track = record { count = 0; inside = false; from = 0 };
+      track = record { count = 0; began = None };
       yes = false;
       left = c.authorizations;
       ranked = false;
@@ -209,10 +210,10 @@ module _ {lines : List ℕ} {c : Chosen} {lasting : ℕ} {q : Query} {C : Chart}
 
   -- the intervals can be noted from the next instant on
   noting : (t : ℕ) → t ≡ s.next → q.listing ≡ true →
-      (s.track.inside ≡ true → 0 < t) × (s.track.count ≤ 1089)
+      (inside s.track ≡ true → 0 < t) × (s.track.count ≤ 1089)
   noting t e l =
       let r = g.listed l in (
-        λ i. omega (arith, (r.held i).0, up_to-most q.to s.next),
+        λ i. omega (arith, held_open answer q.to o.list (capped_at q.to s.next) s.track list r i, up_to-most q.to s.next),
         omega (
           arith,
           g.walks.few,
@@ -284,7 +285,7 @@ module _ {lines : List ℕ} {c : Chosen} {lasting : ℕ} {q : Query} {C : Chart}
     given = subst (λ (n : ℕ). LinesReady (setting_for posed ms r.count) lines which s.left n)
         (sym g.words_size) (ready posed g.picks views)
 
-    pub notable : q.listing ≡ true → (s.track.inside ≡ true → 0 < get_or ms 0 0) × (s.track.count ≤ 1089)
+    pub notable : q.listing ≡ true → (inside s.track ≡ true → 0 < get_or ms 0 0) × (s.track.count ≤ 1089)
     notable = noting (get_or ms 0 0) fills.first
 
     -- the intervals are known up to the first instant

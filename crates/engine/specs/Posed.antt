@@ -1,6 +1,6 @@
 -- A question as it is put to the tables (`Posed`), what is kept for it of the time before (`CarriedAt`), and
 -- what the walk from window to window starts with (`Walks`) and finds (`Finds`).
-use Rattle.std.specs.Prelude.{◌≡◌, true, false, List, ℕ, suc, ◌≤◌, length}
+use Rattle.std.specs.Prelude.{◌≡◌, true, false, List, ℕ, suc, ◌≤◌, length, None}
 use Rattle.foundation.specs.Lists.{Mem, keep_if}
 use Rattle.foundation.specs.Intervals.{maximal}
 use Rattle.foundation.specs.BitMasks.{bit}
@@ -71,7 +71,7 @@ pub record Walks (lines which : List ℕ) (c : Chosen) (lasting : ℕ) (q : Quer
 
 -- no interval, and no
 abbrev pub nothing : Found
-nothing = record { track = record { count = 0; inside = false; from = 0 }; yes = false }
+nothing = record { track = record { count = 0; began = None }; yes = false }
 
 -- what it finds
 pub record Finds (q : Query) (base : Base) (x : Access) (r : Found) (old new : List ℕ) : Type 0 where

@@ -3,7 +3,7 @@ ghost use Rattle.std.specs.Prelude.{◌≡◌, Bool, true, List, ℕ, ◌^◌, �
 ghost use Rattle.model.specs.Base.{Base};
 ghost use Rattle.model.specs.declared.Access.{Access};
 ghost use Rattle.windows.specs.Windows.{Rising};
-ghost use Rattle.scan.specs.Runs.{ScannedTo, Answered};
+ghost use Rattle.scan.specs.Runs.{inside, ScannedTo, Answered};
 ghost use Rattle.engine.specs.Posed.{Finds};
 ghost use Rattle.engine.specs.Going.{Start, GoingIn, WalksIn, Roomy};
 
@@ -48,7 +48,7 @@ fn noted(
     yes: u64,
 ) -> Track
     requires { (1 ≤ count) × (count ≤ 63) × Rising count marks.now × (listing ≡ true →
-        (w.inside ≡ true → 0 < get_or marks.now 0 0) × (w.count ≤ 1089)) }
+        (inside w ≡ true → 0 < get_or marks.now 0 0) × (w.count ≤ 1089)) }
     ensures { listing ≡ true → (f : ℕ → Bool) (e : ℕ) (lent : List ℕ) (m : ℕ) →
         ScannedTo f e lent (get_or marks.now 0 0) w list.old →
         Answered f e count marks.now m yes → ScannedTo f e lent m result list.new }
@@ -196,8 +196,7 @@ pub fn walk_windows(
     let to = q.to;
     let none = Track {
         count: 0,
-        inside: false,
-        from: 0,
+        began: None,
     };
     let mut s = Progress {
         next: q.from as u64,

@@ -70,12 +70,13 @@ fn derive_rest(
     let f = w.frame;
     put_strata(body, w, outline);
     let mut todo = rest;
-    let mut k: u64 = 0;
-    while (todo != 0) & (k <= 128) {
+    for k in 0..129 {
+        if todo == 0 {
+            break;
+        }
         let now = of_stratum(&outline[STRATA..OUTLINE], todo, k);
         close(body, now, f, outline, coordinates, need, numbers, work);
-        todo = todo - (todo & now);
-        k += 1;
+        todo -= todo & now;
     }
 }
 

@@ -1,20 +1,23 @@
 -- Rules that share a table: options that fit the same are one, each rule shares with itself, and what the
 -- loops over rules keep of sharing.
 use mathlib.Core.Path.{◌≡◌, refl, sym, ap, ◌∙◌, subst}
+use Rattle.std.specs.Prelude.{Option, None, Some, MatchOption, not}
+use Rattle.std.specs.Option.{is_some}
 use mathlib.Core.Bool.{Bool, true, false, ◌&&◌, ◌||◌, beq, true≢false, false≢true}
 use mathlib.Core.List.{List}
-use mathlib.Core.Logic.{◌≢◌}
+use mathlib.Core.Logic.{◌≢◌, ◌↔◌}
 use Prim.Native.Nat.{ℕ, ◌+◌, ◌*◌, ◌≤◌, ◌<◌}
-use lib.Dec.{leb, eqb}
+use lib.Dec.{eqb}
 use lib.ListN.{length, get_or, set}
 use lib.Seq.{get_or-set_same, get_or-set_other}
-use Rattle.foundation.specs.Tests.{cases, eq_true, true_eq, false-le, and_intro, and-true}
+use Rattle.foundation.specs.Tests.{cases, eq_true, true_eq, and_intro, and-true}
 use Rattle.foundation.specs.Tests.{or_cases, or_intro_left, or_true_right}
 use Rattle.foundation.specs.BitMasks.{bit}
 use Rattle.model.specs.declared.OptionTerm.{OptionTerm}
 use Rattle.model.specs.declared.OptionTerm.TheVariants.{With, Without, Either}
 use Rattle.model.specs.Stratification.{fits_option}
 use Rattle.places.specs.declared.Grid.{Grid}
+use Rattle.places.specs.declared.Region.{Region}
 use Rattle.places.specs.Regions.{size_of}
 use Rattle.tables.specs.TableLayout.{TablesLaid, all_tables, room_of, whole_region}
 use Rattle.tables.specs.TableGiving.{shapes_by}
@@ -34,6 +37,23 @@ options_same Either With t f = absurd (false≢true f)
 options_same Either Without t f = absurd (false≢true t)
 options_same Either Either t f = refl
 
+-- regions are one where their fields are
+pub same_region : (a b : Region) →
+    (eqb a.subject b.subject && (eqb a.mode b.mode && eqb a.object b.object) ≡ true) ↔ (a ≡ b)
+same_region a b = (
+  (λ t. let v = and-true (eqb a.subject b.subject) (eqb a.mode b.mode && eqb a.object b.object) t in
+      let w = and-true (eqb a.mode b.mode) (eqb a.object b.object) v.1 in
+      let s = true_eq a.subject b.subject v.0 in
+      let m = true_eq a.mode b.mode w.0 in
+      let o = true_eq a.object b.object w.1 in
+      λ i. record { subject = s i; mode = m i; object = o i }),
+  (λ e. and_intro (eqb a.subject b.subject) (eqb a.mode b.mode && eqb a.object b.object)
+      (eq_true a.subject b.subject (ap (λ (x : Region). x.subject) e))
+      (and_intro (eqb a.mode b.mode) (eqb a.object b.object)
+      (eq_true a.mode b.mode (ap (λ (x : Region). x.mode) e))
+      (eq_true a.object b.object (ap (λ (x : Region). x.object) e)))),
+)
+
 pub shares_self : (body right : List ℕ) (c : ℕ) → SharesTable body right c c
 shares_self body right c =
     record { kind = record { sign = refl; grantor = refl; option = refl }; region = refl }
@@ -45,29 +65,36 @@ module _ (body right : List ℕ) where
   abbrev pub Served : ℕ → ℕ → Type 0
   Served tables i = (d : ℕ) × (bit d tables ≡ true) × SharesTable body right i d
 
-  -- rule c gets a table if it can share none; k is that which it can share, or 64
-  module _ (c k old new : ℕ) (found : k < 64 → (bit k old ≡ true) × SharesTable body right c k)
-      (grown : (i : ℕ) → bit i new ≡ bit i old || (eqb i c && leb 64 k)) where
+  -- where one was found, rule i can share it
+  pub found_one : (tables i : ℕ) (No : Type 0) (o : Option ℕ) (alone : Bool) → is_some o ≡ not alone →
+      MatchOption o No (λ d. (bit d tables ≡ true) × SharesTable body right i d) → alone ≡ false →
+      Served tables i
+  found_one tables i No None alone e m f = absurd (false≢true (e ∙ ap not f))
+  found_one tables i No (Some d) alone e m f = (d, m.0, m.1)
+
+  -- rule c gets a table if it can share none
+  module _ (c old new : ℕ) (alone : Bool) (found : alone ≡ false → Served old c)
+      (grown : (i : ℕ) → bit i new ≡ bit i old || (eqb i c && alone)) where
     kept : (i : ℕ) → bit i old ≡ true → bit i new ≡ true
-    kept i e = grown i ∙ or_intro_left (bit i old) (eqb i c && leb 64 k) e
+    kept i e = grown i ∙ or_intro_left (bit i old) (eqb i c && alone) e
 
     pub served_still : (i : ℕ) → Served old i → Served new i
     served_still i w = (w.0, kept w.0 w.1, w.2)
 
     pub served_new : Served new c
-    served_new = cases (leb 64 k)
+    served_new = cases alone
         (λ y. (
           c,
-          grown c ∙ or_true_right (bit c old) (eqb c c && leb 64 k)
-              (and_intro (eqb c c) (leb 64 k) (eq_true c c refl) y),
+          grown c ∙ or_true_right (bit c old) (eqb c c && alone)
+              (and_intro (eqb c c) alone (eq_true c c refl) y),
           shares_self body right c,
         ))
-        (λ y. let w = found (false-le 64 k y) in (k, kept k w.0, w.1))
+        (λ y. served_still c (found y))
 
     pub only-new : (rules : ℕ) → bit c rules ≡ true → ((i : ℕ) → bit i old ≡ true → bit i rules ≡ true) →
         (i : ℕ) → bit i new ≡ true → bit i rules ≡ true
-    only-new rules r h i e = or_cases (bit i old) (eqb i c && leb 64 k) (sym (grown i) ∙ e) (h i)
-        (λ y. rw (true_eq i c (and-true (eqb i c) (leb 64 k) y).0) r)
+    only-new rules r h i e = or_cases (bit i old) (eqb i c && alone) (sym (grown i) ∙ e) (h i)
+        (λ y. rw (true_eq i c (and-true (eqb i c) alone y).0) r)
 
   -- rule c, which has no table, is let look at that of rule d
   module _ (tables c d : ℕ) (old new : List ℕ) (none : bit c tables ≡ false) (there : bit d tables ≡ true)

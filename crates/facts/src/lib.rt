@@ -15,8 +15,7 @@ ghost use Rattle.facts.specs.Facts.{pair_for, place_for};
 ghost use Rattle.facts.specs.Facts.{Usable, HasPlace, LinesReady, LineStep, LineSteps};
 
 use encoding::{authorization_at, rule_at};
-use fields::alike;
-use masks::with_if;
+use masks::those;
 use model::{AUTHORIZATION_BYTES, Access, Authorization, Head, RULE_BYTES, Rule};
 use places::{Grid, Pair, Point, pair_index};
 use relevance::{Chosen, cell_of, sign_of};
@@ -25,7 +24,6 @@ use sections::{FIRST, RIGHT, STARTS, SUBJECTS};
 pub use sharing::lay_tables;
 use tables::{Frame, Place, give};
 use windows::span;
-use words::next_bit;
 
 // A window: what was chosen, where the bytes of the rules start behind those of the authorizations, the
 // access that coordinate 0 stands for, how many instants there are, the frame of the tables, and whether the
@@ -52,10 +50,8 @@ pub struct TablePlan {
 fn fits_kind(h: Head, r: Rule) -> bool
     ensures { result ≡ fits_kind h r }
 {
-    let side = r.right;
-    let o = r.option;
-    let sign = alike(h.negative, side.negative);
-    let option = fits_option(o, h.option);
+    let sign = h.negative == r.right.negative;
+    let option = fits_option(r.option, h.option);
     sign & ((r.grantor == 0) | (r.grantor == h.grantor)) & option
 }
 
@@ -65,14 +61,10 @@ pub fn takers_of(h: Head, body: &[u8], rules: u64) -> u64
     ensures { (result ≡ takers_in body.now rules h)
         × ((c : ℕ) → bit c result ≡ bit c rules && fits_rule body.now h c) }
 {
-    let mut m = 0;
-    let mut c = next_bit(rules, 0);
-    while c < 64 {
-        let r = rule_at(body, (c as usize) * RULE_BYTES);
-        m = with_if(m, c, fits_kind(h, r));
-        c = next_bit(rules, c + 1);
-    }
-    m
+    those(
+        rules,
+        |c| fits_kind(h, rule_at(body, (c as usize) * RULE_BYTES)),
+    )
 }
 
 // The place of an authorization, x being asked.
@@ -89,10 +81,10 @@ fn place_for(h: Head, x: Access, coordinates: &[u8], number: &[u16], g: Grid) ->
     };
     let j = pair_index(p, g.subjects as usize);
     Place {
-        pair: number[j] as u32,
+        pair: u32::from(number[j]),
         point: Point {
             subject: c.subject,
-            mode: h.mode as u32 - 1,
+            mode: u32::from(h.mode) - 1,
             object: c.object,
         },
     }
@@ -159,15 +151,10 @@ pub fn give_lines(
         words.old words.new
         × (length words.new ≡ length words.old) }
 {
-    let from = w.offset;
-    let c = w.chosen;
-    let n = c.authorizations;
-    let body = &records[from..];
-    let mut i = 0;
-    while i < n {
-        let at = which[i] as usize;
+    let body = &records[w.offset..];
+    for i in 0..w.chosen.authorizations {
+        let at = usize::from(which[i]);
         let a = authorization_at(records, at * AUTHORIZATION_BYTES);
         give_line(a, body, w, outline, coordinates, number, marks, words);
-        i += 1;
     }
 }

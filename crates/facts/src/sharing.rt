@@ -1,6 +1,6 @@
 // Rules that look for the same share a table: the first of them has it. It has the places of their right
 // sides, where these are the same, or all places.
-ghost use Rattle.std.specs.Prelude.{◌≡◌, true, ◌↔◌, ℕ, ◌+◌, ◌*◌, ◌≤◌, ◌<◌, length, get_or};
+ghost use Rattle.std.specs.Prelude.{◌≡◌, true, ◌↔◌, ℕ, ◌+◌, ◌*◌, ◌≤◌, ◌<◌, length, get_or, MatchOption};
 ghost use Rattle.foundation.specs.BitMasks.{bit};
 ghost use Rattle.masks.specs.RuleMasks.{RulesIn};
 ghost use Rattle.tables.specs.TableLayout.{SmallGrid};
@@ -9,32 +9,20 @@ ghost use Rattle.facts.specs.Sharing.{TablesArranged};
 
 use crate::TablePlan;
 use encoding::rule_at;
-use fields::alike;
 use masks::with_if;
 use model::{RULE_BYTES, Rule};
-use places::{Grid, Region};
+use places::Grid;
 use rules::fits_option;
 use tables::{lay_all, region_at};
-use words::next_bit;
+use words::ones;
 
 // Whether the same fits the right sides of two rules, but for the access.
 fn is_same_kind(q: Rule, r: Rule) -> bool
     ensures { (result ≡ true) ↔ SameKind q r }
 {
-    let a = q.right;
-    let b = r.right;
-    let o = q.option;
-    let p = r.option;
-    let with = alike(fits_option(o, true), fits_option(p, true));
-    let without = alike(fits_option(o, false), fits_option(p, false));
-    alike(a.negative, b.negative) & (q.grantor == r.grantor) & with & without
-}
-
-// Whether two regions are one.
-fn is_same_region(a: Region, b: Region) -> bool
-    ensures { (result ≡ true) ↔ (a ≡ b) }
-{
-    (a.subject == b.subject) & (a.mode == b.mode) & (a.object == b.object)
+    let with = fits_option(q.option, true) == fits_option(r.option, true);
+    let without = fits_option(q.option, false) == fits_option(r.option, false);
+    (q.right.negative == r.right.negative) & (q.grantor == r.grantor) & with & without
 }
 
 // Whether two rules can share a table.
@@ -46,26 +34,18 @@ fn shares_table(body: &[u8], right: &[u8], c: u32, d: u32) -> bool
     let i = c as usize;
     let j = d as usize;
     let kind = is_same_kind(rule_at(body, i * RULE_BYTES), rule_at(body, j * RULE_BYTES));
-    kind & is_same_region(region_at(right, i), region_at(right, j))
+    kind & (region_at(right, i) == region_at(right, j))
 }
 
-// The first rule of a mask that rule c can share a table with, or 64.
-fn first_sharing(body: &[u8], right: &[u8], rules: u64, c: u32) -> u32
+// The first rule of a mask that rule c can share a table with.
+fn first_sharing(body: &[u8], right: &[u8], rules: u64, c: u32) -> Option<u32>
     requires { RulesIn rules body.now × (c < 64) × (c * 28 + 28 ≤ length body.now)
         × (256 ≤ length right.now) }
-    ensures { (result < 64 → (bit result rules ≡ true)
-        × SharesTable body.now right.now c result)
-        × (64 ≤ result → (i : ℕ) → bit i rules ≡ true →
-        SharesTable body.now right.now c i → ⊥) }
+    ensures { MatchOption result
+        ((i : ℕ) → bit i rules ≡ true → SharesTable body.now right.now c i → ⊥)
+        (λ d. (bit d rules ≡ true) × SharesTable body.now right.now c d) }
 {
-    let mut d = next_bit(rules, 0);
-    while d < 64 {
-        if shares_table(body, right, c, d) {
-            return d;
-        }
-        d = next_bit(rules, d + 1);
-    }
-    64
+    ones(rules).find(|d| shares_table(body, right, c, *d))
 }
 
 // Of the rules of a mask that can share a table the first: those that have one.
@@ -74,11 +54,9 @@ fn rules_with_tables(body: &[u8], right: &[u8], rules: u64) -> u64
     ensures { TablesEnough body.now right.now rules result }
 {
     let mut tables = 0;
-    let mut c = next_bit(rules, 0);
-    while c < 64 {
-        let alone = 64 <= first_sharing(body, right, tables, c);
+    for c in ones(rules) {
+        let alone = first_sharing(body, right, tables, c).is_none();
         tables = with_if(tables, c, alone);
-        c = next_bit(rules, c + 1);
     }
     tables
 }
@@ -92,13 +70,10 @@ fn share_starts(body: &[u8], right: &[u8], rules: u64, tables: u64, first: &mut 
         × (length first.new ≡ length first.old) }
 {
     let rest = rules - (rules & tables);
-    let mut c = next_bit(rest, 0);
-    while c < 64 {
-        let d = first_sharing(body, right, tables, c) as usize;
-        if d < 64 {
-            first[c as usize] = first[d];
+    for c in ones(rest) {
+        if let Some(d) = first_sharing(body, right, tables, c) {
+            first[c as usize] = first[d as usize];
         }
-        c = next_bit(rest, c + 1);
     }
 }
 
@@ -120,7 +95,7 @@ pub fn lay_tables(body: &[u8], right: &[u8], rules: u64, g: Grid, first: &mut [u
             return TablePlan {
                 tables: kinds,
                 wide: true,
-                fields: fields,
+                fields,
             };
         }
         lay_all(right, rules, g, first);

@@ -1,23 +1,17 @@
 -- The laws of `bytes_of` and `splice`, at any width. Assumes nothing.
 use mathlib.Core.Path.{◌≡◌, refl, sym, ap, ◌∙◌}
-use mathlib.Core.Bool.{Bool, true, false, ◌&&◌}
-use mathlib.Core.List.{List, [], ◌∷◌, ◌++◌, append_assoc, append-nil}
+use mathlib.Core.List.{List, [], ◌∷◌, ◌++◌, append_assoc}
 use Prim.Native.Nat.{ℕ, zero, suc, ◌+◌, ◌*◌, ◌/◌, ◌%◌, ◌^◌, ◌-◌, ◌≤◌, ◌<◌}
-use native.Mathlib.Nat.{sub-zero, zero-sub, suc-sub-suc, le_trans, le-add_right, add-sub_of_le, add_assoc}
-use native.Mathlib.Nat.{add_comm, zero-add, suc-add, pow-succ', pow-suc, div-one, div-div-eq-div-mul}
+use native.Mathlib.Nat.{sub-zero, zero-sub, suc-sub-suc, add_assoc}
+use native.Mathlib.Nat.{zero-add, suc-add, pow-succ', pow-suc, div-one, div-div-eq-div-mul}
 use native.Mathlib.Omega.{arith}
-use lib.Dec.{lit<, eqb}
-use native.Mathlib.Numerals.{add-one}
+use lib.Dec.{lit<}
 use lib.Arith.{mod-mul, digits_div, digits_mod}
-use lib.ListN.{length, take, drop, get_or, set, length-append, length-take, length-drop, get_or-append}
-use lib.ListN.{replicate, length-replicate, drop_of_length-le}
-use lib.Seq.{take_at, drop_at, length-take-le, drop-drop, sets, sets-eq, take-take}
-use lib.Seq.{take-nil, take-add, get_or-append-add, get_or-take, get_or-drop, drop-cons, take-suc, set_at}
-use lib.Seq.{append_snoc}
-use Rattle.foundation.specs.Tests.{and-false}
-use Rattle.foundation.specs.Lists.{allb}
-use Rattle.foundation.specs.Bytes.{bytes_of, length-bytes_of, eq_list}
-use Rattle.fields.specs.Field.{splice, gapped, gap_closed}
+use lib.ListN.{length, take, drop, length-append, length-take, length-drop}
+use lib.Seq.{take_at, drop_at, length-take-le, drop-drop, sets, sets-eq}
+use lib.Seq.{take-nil}
+use Rattle.foundation.specs.Bytes.{bytes_of, length-bytes_of}
+use Rattle.fields.specs.Field.{splice}
 
 -- ---- numbers
 
@@ -90,52 +84,6 @@ put-join v w at n s h =
     (ap (λ (i : ℕ). splice (at + i) (bytes_of w (n / 256 ^ v)) (splice at (bytes_of v n) s))
     (sym (length-bytes_of v n)) ∙ j)
 
--- ---- moves
-
-suc-sub : {w j : ℕ} → w ≤ j → suc (j - w) ≡ suc j - w
-suc-sub h = omega arith
-
--- a turn of `move_up`: the byte w places below is stored at j
-pub up_step : (s : List ℕ) (w j : ℕ) → w ≤ j → j < length s
-    → set (take (suc j) s ++ drop (suc j - w) (take (length s - w) s)) j
-    (get_or (take (suc j) s ++ drop (suc j - w) (take (length s - w) s)) (j - w) 0)
-    ≡ take j s ++ drop (j - w) (take (length s - w) s)
-up_step s w j h k =
-    let m : List ℕ = take (length s - w) s in
-    let r : List ℕ = drop (suc j - w) m in
-    let lm : length m ≡ length s - w = length-take-le (length s - w) s (omega arith) in
-    let lt : length (take (suc j) s) ≡ suc j = length-take-le (suc j) s k in
-    let g : get_or (take (suc j) s ++ r) (j - w) 0 ≡ get_or s (j - w) 0 =
-    get_or-append (take (suc j) s) r 0 (j - w) (rw lt (omega arith))
-    ∙ get_or-take (suc j) s (j - w) 0 (omega arith) in
-    let g' : get_or m (j - w) 0 ≡ get_or s (j - w) 0 = get_or-take (length s - w) s (j - w) 0 (omega arith) in
-    let d : drop (j - w) m ≡ get_or s (j - w) 0 ∷ drop (suc j - w) m =
-    drop-cons m (j - w) 0 (rw lm (omega arith)) ∙ (λ i. g' i ∷ drop (suc-sub h i) m) in
-    ap (set (take (suc j) s ++ r) j) g
-    ∙ ap (λ (x : List ℕ). set (x ++ r) j (get_or s (j - w) 0)) (take-suc s j 0 k)
-    ∙ ap (λ (x : List ℕ). set x j (get_or s (j - w) 0)) (append_assoc (take j s) (get_or s j 0 ∷ []) r)
-    ∙ set_at (take j s) (get_or s j 0) r (get_or s (j - w) 0) j (length-take-le j s (omega arith))
-    ∙ ap (λ (x : List ℕ). take j s ++ x) (sym d)
-
--- a turn of `move_down`: the byte w places above is stored at i
-pub down_step : (s : List ℕ) (w i : ℕ) → i + w < length s
-    → set (take i (drop w s) ++ drop i s) i (get_or (take i (drop w s) ++ drop i s) (i + w) 0)
-    ≡ take (i + 1) (drop w s) ++ drop (i + 1) s
-down_step s w i h =
-    let d : List ℕ = drop w s in
-    let ld : length d ≡ length s - w = length-drop w s in
-    let li : length (take i d) ≡ i = length-take-le i d (rw ld (omega arith)) in
-    let g : get_or (take i d ++ drop i s) (i + w) 0 ≡ get_or d i 0 =
-    ap (λ (x : ℕ). get_or (take i d ++ drop i s) (x + w) 0) (sym li) ∙ get_or-append-add (take i d) (drop i s) w 0
-    ∙ get_or-drop i s w 0
-    ∙ ap (λ (x : ℕ). get_or s x 0) (add_comm i w) ∙ sym (get_or-drop w s i 0) in
-    ap (set (take i d ++ drop i s) i) g
-    ∙ ap (λ (x : List ℕ). set (take i d ++ x) i (get_or d i 0)) (drop-cons s i 0 (omega arith))
-    ∙ set_at (take i d) (get_or s i 0) (drop (suc i) s) (get_or d i 0) i li
-    ∙ sym (append_snoc (take i d) (get_or d i 0) (drop (suc i) s))
-    ∙ ap (λ (x : List ℕ). x ++ drop (suc i) s) (sym (take-suc d i 0 (rw ld (omega arith))))
-    ∙ rw (add-one i)
-
 -- dropping from a front
 pub drop-take : (w n : ℕ) (s : List ℕ) → drop w (take n s) ≡ take (n - w) (drop w s)
 drop-take zero n s = rw (sub-zero n)
@@ -146,32 +94,6 @@ drop-take (suc w) (suc n) (x ∷ s) = drop-take w n s
 
 -- ---- a part that was lent and came back
 
-module _ (s : List ℕ) (from to w : ℕ) (h : from + w ≤ to) (k : to ≤ length s) where
-  pub part_length : length (take (to - from) (drop from s)) ≡ to - from
-  part_length = length-take-le (to - from) (drop from s) (rw (length-drop from s) (omega arith))
-
-  behind : drop (to - from) (drop from s) ≡ drop to s
-  behind = drop-drop (to - from) from s ∙ ap (λ (n : ℕ). drop n s)
-      (add-sub_of_le (le_trans (le-add_right from w) h))
-
-  -- the part moved up
-  pub gapped-part : take from s ++ (take w (take (to - from) (drop from s))
-      ++ take (length (take (to - from) (drop from s)) - w) (take (to - from) (drop from s))
-      ++ drop (to - from) (drop from s))
-      ≡ gapped from to w s
-  unfolding gapped
-  gapped-part =
-      let a : w ≤ to - from = omega arith in
-      let b : to - from - w ≤ to - from = omega arith in
-      rw (
-        part_length,
-        behind,
-        take-take w (to - from) (drop from s) a,
-        take-take (to - from - w) (to - from) (drop from s) b,
-        take-add from w s,
-      )
-      (simp append_assoc)
-
 -- what the borrow checker says of a part that came back is a splice
 pub part-back : (s : List ℕ) (a e : ℕ) (ys : List ℕ) → a ≤ e → e ≤ length s → length ys ≡ e - a →
     take a s ++ (ys ++ drop (e - a) (drop a s)) ≡ splice a ys s
@@ -179,33 +101,18 @@ unfolding splice
 part-back s a e ys h k l =
     rw (drop-drop (e - a) a s, ← append_assoc (take a s) ys (drop (a + (e - a)) s), l)
 
--- w bytes taken off the front, and w zeros at the end
-pub shifted_out : (s : List ℕ) (w : ℕ) → w ≤ length s →
-    splice (length s - w) (replicate w 0) (drop w s ++ drop (length s - w) s) ≡ drop w s ++ replicate w 0
+-- the bytes from a place up to e, after others were copied there
+pub part-put : (at e : ℕ) (s : List ℕ) {ys bs : List ℕ} → ys ≡ bs → at + length bs ≡ e →
+    take at s ++ (ys ++ drop (e - at) (drop at s)) ≡ splice at bs s
 unfolding splice
-shifted_out s w h =
-    let n : ℕ = length s - w in
-    let d : length (drop w s) ≡ length s - w = length-drop w s in
-    let z : length (replicate {A = ℕ} w 0) ≡ w = length-replicate w 0 in
-    let e : length (drop w s ++ drop (length s - w) s) ≤ length s - w + length (replicate {A = ℕ} w 0) =
-    rw z (simp (length-append, length-drop) (omega arith)) in
-    rw (
-      take_at (drop w s) (drop (length s - w) s) (length s - w) d,
-      drop_of_length-le (drop w s ++ drop (length s - w) s) e,
-      append-nil (drop w s ++ replicate {A = ℕ} w 0),
-    )
+part-put at e s {ys} {bs} p l =
+    let n : at + (e - at) ≡ at + length bs = omega arith in
+    rw (p, drop-drop (e - at) at s, ← append_assoc (take at s) bs (drop (at + (e - at)) s), n) refl
 
--- the part from `from` to `to` with its first w bytes taken out
-pub gap_closed-part : (s : List ℕ) (from to w : ℕ) → from + w ≤ to → to ≤ length s
-    → splice from (drop w (take (to - from) (drop from s)) ++ replicate w 0) s ≡ gap_closed from to w s
-unfolding splice gap_closed
-gap_closed-part s from to w h k =
-    let pl : length (take (to - from) (drop from s)) ≡ to - from = part_length s from to w h k in
-    let e : from + length (drop w (take (to - from) (drop from s)) ++ replicate {A = ℕ} w 0) ≡ to =
-    simp (length-append, length-drop, length-take, length-replicate) (omega arith) in
-    let a : drop w (take (to - from) (drop from s)) ≡ take (to - from - w) (drop (from + w) s) =
-    drop-take w (to - from) (drop from s) ∙ ap (take (to - from - w)) (drop-drop w from s) in
-    rw (e, a) (simp append_assoc)
+-- the first e bytes, after others were copied there
+pub front-put : (e : ℕ) (s : List ℕ) {ys bs : List ℕ} → ys ≡ bs → length bs ≡ e → ys ++ drop e s ≡ splice 0 bs s
+unfolding splice
+front-put e s {ys} {bs} p l = rw (p, zero-add (length bs), l) refl
 
 -- a second store right behind a first, as what two calls ensure
 pub splice-then : (at n : ℕ) (a b s : List ℕ) {s₁ s₂ : List ℕ} → at + n ≤ length s → length a ≡ n →
@@ -214,27 +121,3 @@ splice-then at n a b s h l p q =
     let k : at + length a ≤ length s = rw l h in
     q ∙ ap (splice (at + n) b) p ∙ ap (λ (m : ℕ). splice (at + m) b (splice at a s)) (sym l)
     ∙ splice-join at a b s k
-
--- ---- tests of bytes, from the front
-
--- a turn of `same`, by what the comparison of the i-th bytes says
-pub eq_step : (a b : List ℕ) (i : ℕ) (t : Bool) → i < length a → length a ≡ length b
-    → eqb (get_or a i 0) (get_or b i 0) ≡ t
-    → eq_list (drop i a) (drop i b) ≡ t && eq_list (drop (i + 1) a) (drop (i + 1) b)
-eq_step a b i t h l e =
-    let k : i < length b = omega arith in
-    rw (drop-cons a i 0 h, drop-cons b i 0 k, e, add-one i)
-
-pub eq_end : (a b : List ℕ) (i : ℕ) → length a ≤ i → length b ≤ i → eq_list (drop i a) (drop i b) ≡ true
-eq_end a b i h k = rw (drop_of_length-le a h, drop_of_length-le b k)
-
-pub eq_length : (a b : List ℕ) → (length a ≡ length b → ⊥) → eq_list a b ≡ false
-eq_length [] [] h = absurd (h refl)
-eq_length [] (y ∷ b) h = refl
-eq_length (x ∷ a) [] h = refl
-eq_length (x ∷ a) (y ∷ b) h = rw (eq_length a b (λ e. h (ap suc e))) (and-false (eqb x y))
-
--- a turn of `zeros`, by what the test of the i-th byte says
-pub all_bytes_step : (p : ℕ → Bool) (s : List ℕ) (i : ℕ) (t : Bool) → i < length s → p (get_or s i 0) ≡ t
-    → allb p (drop i s) ≡ t && allb p (drop (i + 1) s)
-all_bytes_step p s i t h e = rw (drop-cons s i 0 h, e, add-one i)

@@ -2,6 +2,8 @@
 // before its rules have their turn: their instants, empty fields, and how wide a field can be.
 #![tactic(auto)]
 
+mod subset;
+
 ghost use Rattle.std.specs.Prelude.{◌≡◌, true, not, ◌&&◌, ◌||◌, ℕ, ◌+◌, ◌*◌, ◌/◌, ◌%◌, ◌^◌, ◌≤◌, ◌<◌, eqb, ltb, length, get_or};
 ghost use Rattle.foundation.specs.BitMasks.{bit};
 ghost use Rattle.encoding.specs.Format.{rule_at};
@@ -12,6 +14,7 @@ use encoding::rule_at;
 use model::RULE_BYTES;
 use places::{pair_index, pair_of_code};
 use sections::{LEFT_MODES, LEFT_SUBJECTS};
+pub use subset::those;
 use words::next_bit;
 
 // A rule of a mask, and whether one goes upwards from it.

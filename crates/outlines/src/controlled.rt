@@ -5,13 +5,12 @@ ghost use Rattle.model.specs.Soundness.{sound_bytes};
 ghost use Rattle.outlines.specs.Coordinates.{Apart};
 ghost use Rattle.outlines.specs.LeftMasks.{controlled_by, Controlled};
 
-use crate::left::{put_word, usize_of};
+use crate::left::put_word;
 use encoding::rule_at;
 use lookup::controls;
-use masks::with_if;
+use masks::those;
 use model::RULE_BYTES;
 use sections::STARRED_OBJECTS;
-use words::next_bit;
 
 // Of some rules those whose author controls an object.
 fn by_control(s: &[u8], body: &[u8], n: usize, f: u64, o: u32) -> u64
@@ -20,14 +19,10 @@ fn by_control(s: &[u8], body: &[u8], n: usize, f: u64, o: u32) -> u64
     ensures { (q : ℕ) → bit q result
         ≡ bit q f && controlled_by s.now body.now o q }
 {
-    let mut m = 0;
-    let mut q = next_bit(f, 0);
-    while q < 64 {
+    those(f, |q| {
         let r = rule_at(body, (q as usize) * RULE_BYTES);
-        m = with_if(m, q, controls(s, o, r.author as u32));
-        q = next_bit(f, q + 1);
-    }
-    m
+        controls(s, o, u32::from(r.author))
+    })
 }
 
 // Joins to the word of object v, at `at`, the starred rules whose author controls it; where v has no word,
@@ -64,10 +59,8 @@ fn join_each(s: &[u8], body: &[u8], n: usize, objects: &[u8], left: &mut [u64])
         left.old left.new }
 {
     let starred = left[STARRED_OBJECTS];
-    let mut v = 0;
-    while v < 130 {
-        join_controlled(s, body, n, starred, v, usize_of(objects[v]), left);
-        v += 1;
+    for (v, code) in objects.iter().enumerate() {
+        join_controlled(s, body, n, starred, v, usize::from(*code), left);
     }
 }
 

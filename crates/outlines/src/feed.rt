@@ -12,24 +12,22 @@ ghost use Rattle.outlines.specs.LeftMasks.{CodesPlaced};
 ghost use Rattle.outlines.specs.Feed.{right_mode_word, meeting_word, linkers_word, is_choosy, Outlined};
 ghost use Rattle.outlines.specs.Feed.{feeders_of, FeedTable};
 
-use crate::left::{put_word, usize_of};
+use crate::left::put_word;
 use encoding::rule_at;
-use masks::{hand_on, with_if};
+use masks::{hand_on, those};
 use model::{OptionTerm, RULE_BYTES, Rule};
 use sections::{
     FEED, FIRST, LEFT, LEFT_DENIALS, LEFT_MODES, LEFT_SIGNS, LEFT_SUBJECTS, RIGHT, SIDES,
     STARRED_OBJECTS, SUBJECTS,
 };
-use words::next_bit;
+use words::ones;
 
 // Whether a rule's right side names a grantor or an option.
 fn is_choosy(r: Rule) -> bool
     ensures { result ≡ is_choosy r }
 {
-    let o = r.option;
-    match o {
-        OptionTerm::With => true,
-        OptionTerm::Without => true,
+    match r.option {
+        OptionTerm::With | OptionTerm::Without => true,
         OptionTerm::Either => r.grantor != 0,
     }
 }
@@ -40,10 +38,8 @@ pub fn choosy_of(body: &[u8], n: usize) -> u64
     ensures { result ≡ mask_of is_choosy (rules_in n body.now) }
 {
     let mut m = 0;
-    let mut i = n;
-    while 0 < i {
-        i -= 1;
-        m = 2 * m + is_choosy(rule_at(body, i * RULE_BYTES)) as u64;
+    for i in (0..n).rev() {
+        m = 2 * m + u64::from(is_choosy(rule_at(body, i * RULE_BYTES)));
     }
     m
 }
@@ -53,14 +49,10 @@ fn by_author(body: &[u8], n: usize, f: u64, author: u16) -> u64
     requires { (n * 28 ≤ length body.now) × ((q : ℕ) → bit q f ≡ true → q < n) }
     ensures { (q : ℕ) → bit q result ≡ bit q f && eqb author (rule_at body.now q).author }
 {
-    let mut m = 0;
-    let mut q = next_bit(f, 0);
-    while q < 64 {
-        let r = rule_at(body, (q as usize) * RULE_BYTES);
-        m = with_if(m, q, author == r.author);
-        q = next_bit(f, q + 1);
-    }
-    m
+    those(
+        f,
+        |q| rule_at(body, (q as usize) * RULE_BYTES).author == author,
+    )
 }
 
 // Of some rules those whose author fits a right side's grantor.
@@ -82,11 +74,9 @@ fn by_grantor_and_option(body: &[u8], n: usize, f: u64, r: Rule) -> u64
         && fits_grantor r.grantor (rule_at body.now q).author
         && fits_option r.option false }
 {
-    let o = r.option;
-    match o {
+    match r.option {
         OptionTerm::With => 0,
-        OptionTerm::Without => by_grantor(body, n, f, r.grantor),
-        OptionTerm::Either => by_grantor(body, n, f, r.grantor),
+        OptionTerm::Without | OptionTerm::Either => by_grantor(body, n, f, r.grantor),
     }
 }
 
@@ -130,9 +120,9 @@ fn meeting(left: &[u64], right: &[u8], i: usize, sign: usize) -> u64
         × (256 ≤ length right.now) }
     ensures { result ≡ meeting_word left.now right.now i sign }
 {
-    let w = right_mode_word(usize_of(right[4 * i + 2]), sign);
-    let f = meet_subject(left, left[w], usize_of(right[4 * i + 1]));
-    meet_object(left, f, usize_of(right[4 * i]))
+    let w = right_mode_word(usize::from(right[4 * i + 2]), sign);
+    let f = meet_subject(left, left[w], usize::from(right[4 * i + 1]));
+    meet_object(left, f, usize::from(right[4 * i]))
 }
 
 // The rules that feed rule i.
@@ -141,7 +131,7 @@ fn feeders(body: &[u8], n: usize, i: usize, left: &[u64], right: &[u8], sides: &
         × (length left.now ≡ 152) × (256 ≤ length right.now) × (256 ≤ length sides.now) }
     ensures { result ≡ feeders_of (rules_in n body.now) (rule_at body.now i) }
 {
-    let f = meeting(left, right, i, usize_of(sides[4 * i + 3]) / 2);
+    let f = meeting(left, right, i, usize::from(sides[4 * i + 3]) / 2);
     by_grantor_and_option(body, n, f, rule_at(body, i * RULE_BYTES))
 }
 
@@ -155,8 +145,7 @@ fn draw_feeders(body: &[u8], n: usize, coordinates: &[u8], outline: &mut [u64])
         get_or (feed_of outline.new) k 0 ≡ get_or (feed_of outline.old) k 0)
         × (left_of outline.new ≡ left_of outline.old) }
 {
-    let mut i = 0;
-    while i < n {
+    for i in 0..n {
         let f = feeders(
             body,
             n,
@@ -166,7 +155,6 @@ fn draw_feeders(body: &[u8], n: usize, coordinates: &[u8], outline: &mut [u64])
             &coordinates[SIDES..RIGHT],
         );
         put_word(outline, FEED + i, f);
-        i += 1;
     }
 }
 
@@ -177,11 +165,9 @@ fn draw_fed(choosy: u64, feed: &mut [u64])
         × ((i c : ℕ) → i < 64 → c < 64 → bit c (get_or feed.new (64 + i) 0)
         ≡ bit c choosy && bit i (get_or feed.old c 0)) }
 {
-    let mut c = next_bit(choosy, 0);
-    while c < 64 {
+    for c in ones(choosy) {
         let f = feed[c as usize];
         hand_on(feed, 64, f, c);
-        c = next_bit(choosy, c + 1);
     }
 }
 
@@ -191,7 +177,7 @@ fn linkers(left: &[u64], right: &[u8], sides: &[u8], i: usize) -> u64
         × (256 ≤ length sides.now) }
     ensures { result ≡ linkers_word left.now right.now sides.now i }
 {
-    if usize_of(sides[4 * i + 3]) / 2 == 0 {
+    if usize::from(sides[4 * i + 3]) / 2 == 0 {
         return meeting(left, right, i, 1);
     }
     0
@@ -208,16 +194,14 @@ fn draw_linkers(n: usize, coordinates: &[u8], outline: &mut [u64])
         (get_or (feed_of outline.old) w 0))
         × (left_of outline.new ≡ left_of outline.old) }
 {
-    let mut i = 0;
-    while i < n {
+    for i in 0..n {
         let f = linkers(
             &outline[LEFT..FEED],
             &coordinates[RIGHT..SUBJECTS],
             &coordinates[SIDES..RIGHT],
             i,
         );
-        outline[FEED + i] = outline[FEED + i] | f;
-        i += 1;
+        outline[FEED + i] |= f;
     }
 }
 

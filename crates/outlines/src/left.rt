@@ -21,14 +21,7 @@ fn put_mask(left: &mut [u64], at: usize, i: u32)
     ensures { (w r : ℕ) → bit r (get_or left.new w 0)
         ≡ bit r (get_or left.old w 0) || (eqb r i && eqb w at) }
 {
-    left[at] = left[at] | (1 << i);
-}
-
-// A byte as a number of the size of an index.
-pub fn usize_of(x: u8) -> usize
-    ensures { (result ≡ x) × (result < 256) }
-{
-    x as usize
+    left[at] |= 1 << i;
 }
 
 // The word of an object's code.
@@ -83,10 +76,10 @@ fn put_masks(left: &mut [u64], sides: &[u8], i: usize)
     ensures { (w r : ℕ) → bit r (get_or left.new w 0)
         ≡ bit r (get_or left.old w 0) || (eqb r i && in_word sides.now i w) }
 {
-    let sign = usize_of(sides[4 * i + 3]) % 2;
-    let object = object_word(usize_of(sides[4 * i]));
-    let subject = subject_word(usize_of(sides[4 * i + 1]));
-    let mode = mode_word(usize_of(sides[4 * i + 2]), sign);
+    let sign = usize::from(sides[4 * i + 3]) % 2;
+    let object = object_word(usize::from(sides[4 * i]));
+    let subject = subject_word(usize::from(sides[4 * i + 1]));
+    let mode = mode_word(usize::from(sides[4 * i + 2]), sign);
     put_four(left, i as u32, object, subject, mode, LEFT_SIGNS + sign);
 }
 
@@ -98,10 +91,8 @@ fn gather(left: &mut [u64], sides: &[u8], n: usize)
     ensures { (w r : ℕ) → bit r (get_or left.new w 0)
         ≡ ltb r n && in_word sides.now r w }
 {
-    let mut i = 0;
-    while i < n {
+    for i in 0..n {
         put_masks(left, sides, i);
-        i += 1;
     }
 }
 
@@ -111,10 +102,8 @@ fn spread(left: &mut [u64], from: usize, to: usize, rules: u64)
     ensures { (w r : ℕ) → bit r (get_or left.new w 0)
         ≡ bit r (get_or left.old w 0) || (leb from w && ltb w to && bit r rules) }
 {
-    let mut w = from;
-    while w < to {
-        left[w] = left[w] | rules;
-        w += 1;
+    for w in from..to {
+        left[w] |= rules;
     }
 }
 
@@ -151,14 +140,12 @@ pub fn own_masks(s: &[u8], body: &[u8], n: usize, x: Access, left: &mut [u64])
 {
     let mut objects = 0;
     let mut subjects = 0;
-    let mut i = n;
-    while 0 < i {
-        i -= 1;
+    for i in (0..n).rev() {
         let r = rule_at(body, i * RULE_BYTES);
         let object = stands_on(s, r, x.object);
-        let subject = (r.left.subject == 0) | (r.left.subject as u32 == x.subject);
-        objects = 2 * objects + object as u64;
-        subjects = 2 * subjects + subject as u64;
+        let subject = (r.left.subject == 0) | (u32::from(r.left.subject) == x.subject);
+        objects = 2 * objects + u64::from(object);
+        subjects = 2 * subjects + u64::from(subject);
     }
     put_word(left, 0, objects);
     put_word(left, LEFT_SUBJECTS, subjects);

@@ -34,20 +34,18 @@ pub fn number_sides(body: &[u8], n: usize, coordinates: &mut [u8]) -> Sizes
 {
     let mut s = 1;
     let mut o = 1;
-    let mut i = 0;
-    while i < n {
-        let r = rule_at(body, i * RULE_BYTES);
+    for i in 0..n {
+        let side = rule_at(body, i * RULE_BYTES).right;
         s = add(
             &mut coordinates[SUBJECTS..OBJECTS],
-            r.right.subject as usize,
+            usize::from(side.subject),
             s,
         );
         o = add(
             &mut coordinates[OBJECTS..COORDINATES],
-            r.right.object as usize,
+            usize::from(side.object),
             o,
         );
-        i += 1;
     }
     Sizes {
         subjects: s,

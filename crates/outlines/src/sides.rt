@@ -6,7 +6,6 @@ ghost use Rattle.outlines.specs.Coordinates.{WellFormed, Ranged};
 ghost use Rattle.outlines.specs.Outline.{mode_code, CodedAt, RightSides, LeftSides};
 
 use encoding::rule_at;
-use fields::as_bit;
 use model::{RULE_BYTES, Side};
 use sections::{OBJECTS, RIGHT, SIDES, SUBJECTS};
 
@@ -14,20 +13,14 @@ use sections::{OBJECTS, RIGHT, SIDES, SUBJECTS};
 fn coded(v: u16, c: u8) -> u8
     ensures { result ≡ pick (eqb v 0) 255 c }
 {
-    if v == 0 {
-        return 255;
-    }
-    c
+    if v == 0 { 255 } else { c }
 }
 
 // The code of a mode.
 fn mode_code(m: u8) -> u8
     ensures { result ≡ mode_code m }
 {
-    if m == 0 {
-        return 255;
-    }
-    m - 1
+    if m == 0 { 255 } else { m - 1 }
 }
 
 // Puts the codes of a side to the four bytes from `at` on.
@@ -38,8 +31,8 @@ fn put_side(coordinates: &mut [u8], at: usize, s: Side, signs: u8)
         × ((k : ℕ) → (k < at) ⊎ (at + 4 ≤ k) →
         get_or coordinates.new k 0 ≡ get_or coordinates.old k 0) }
 {
-    let subject = s.subject as usize;
-    let object = s.object as usize;
+    let subject = usize::from(s.subject);
+    let object = usize::from(s.object);
     coordinates[at] = coded(s.object, coordinates[OBJECTS + object]);
     coordinates[at + 1] = coded(s.subject, coordinates[SUBJECTS + subject]);
     coordinates[at + 2] = mode_code(s.mode);
@@ -55,12 +48,9 @@ pub fn draw_right(body: &[u8], n: usize, coordinates: &mut [u8])
         get_or (rights_of coordinates.new) k 0 ≡ get_or (rights_of coordinates.old) k 0)
         × (drop 512 coordinates.new ≡ drop 512 coordinates.old) }
 {
-    let mut i = 0;
-    while i < n {
+    for i in 0..n {
         let r = rule_at(body, i * RULE_BYTES);
-        let side = r.right;
-        put_side(coordinates, RIGHT + 4 * i, side, 3);
-        i += 1;
+        put_side(coordinates, RIGHT + 4 * i, r.right, 3);
     }
 }
 
@@ -71,12 +61,9 @@ pub fn draw_left(body: &[u8], n: usize, coordinates: &mut [u8])
         n body.now (sides_of coordinates.new)
         × (drop 256 coordinates.new ≡ drop 256 coordinates.old) }
 {
-    let mut i = 0;
-    while i < n {
+    for i in 0..n {
         let r = rule_at(body, i * RULE_BYTES);
-        let side = r.left;
-        let signs = as_bit(side.negative) + 2 * as_bit(r.right.negative);
-        put_side(coordinates, SIDES + 4 * i, side, signs);
-        i += 1;
+        let signs = u8::from(r.left.negative) + 2 * u8::from(r.right.negative);
+        put_side(coordinates, SIDES + 4 * i, r.left, signs);
     }
 }

@@ -1,5 +1,5 @@
 -- What a cut takes out of an authorization is one stretch of instants (`taken_is`).
-use mathlib.Core.Path.{◌≡◌, refl}
+use mathlib.Core.Path.{◌≡◌}
 use Prim.Native.Nat.{ℕ, suc, ◌+◌, ◌≤◌, ◌<◌}
 use native.Mathlib.Omega.{arith}
 use mathlib.Core.Bool.{Bool, true, false, ◌&&◌}
@@ -7,12 +7,12 @@ use lib.Dec.{leb, eqb}
 use Rattle.foundation.specs.Tests.{cases, le-true, le-false, true-le, false-le}
 use Rattle.foundation.specs.Intervals.{in_interval}
 use Rattle.model.specs.declared.Head.{Head}
-use Rattle.pieces.specs.declared.Cut.{Cut}
-use Rattle.pieces.specs.declared.CutKind.{CutKind}
-use Rattle.pieces.specs.declared.CutKind.TheVariants.{Label, Grantor, Name}
+use Rattle.pieces.specs.declared.cut.Cut.{Cut}
+use Rattle.pieces.specs.declared.cut.Cut.TheVariants.{Label, Grantor, Name}
+use Rattle.pieces.specs.declared.cut.Named.{Named}
 use Rattle.pieces.specs.Stretches.{in_stretch}
 use Rattle.pieces.proofs.StretchFacts.{in_stretch_lem}
-use Rattle.pieces.specs.Cuts.{cut_names, cut_takes, CutOrdered, behind_all, all_if, taken_of}
+use Rattle.pieces.specs.Cuts.{cut_names, cut_takes, behind_all, all_if, taken_of}
 
 -- ---- as a stretch
 
@@ -24,31 +24,25 @@ all_gap : (b : Bool) (e : ℕ) → e ≤ behind_all → (all_if b).to < e → (a
 all_gap true e h k = absurd (omega arith)
 all_gap false e h k = absurd (omega arith)
 
+window : (n : Named) (t : ℕ) → in_stretch n.interval.start (n.interval.end + 1) t ≡ in_interval n.interval t
+window n t = cases (leb t n.interval.end)
+    (λ q. let k = true-le t n.interval.end q in
+    rw (q, le-true (suc t) (n.interval.end + 1) (omega arith)))
+    (λ q. let k = false-le t n.interval.end q in
+    rw (q, le-false (suc t) (n.interval.end + 1) (omega arith)))
+
 -- an instant is taken exactly if it lies in the stretch
 pub taken_is : (c : Cut) (h : Head) (t : ℕ) → t < behind_all →
     in_stretch (taken_of c h).from (taken_of c h).to t ≡ cut_takes c h t
-taken_is c h t l = by c.kind refl
-  where
-    window : (t : ℕ) → in_stretch c.interval.start (c.interval.end + 1) t ≡ in_interval c.interval t
-    window t = cases (leb t c.interval.end)
-        (λ q. let k = true-le t c.interval.end q in
-        rw (q, le-true (suc t) (c.interval.end + 1) (omega arith)))
-        (λ q. let k = false-le t c.interval.end q in
-        rw (q, le-false (suc t) (c.interval.end + 1) (omega arith)))
-
-    by : (k : CutKind) → c.kind ≡ k → in_stretch (taken_of c h).from (taken_of c h).to t ≡ cut_takes c h t
-    by Label e = rw e (all_if_lem (eqb h.label c.label) t l)
-    by Grantor e = rw e (all_if_lem (eqb h.object c.object && eqb h.grantor c.grantor) t l)
-    by Name e = cases (cut_names c h) (λ g. rw (e, g) (window t)) (λ g. rw (e, g) (all_if_lem false t l))
+taken_is (Label label) h t l = all_if_lem (eqb h.label label) t l
+taken_is (Grantor object grantor) h t l = all_if_lem (eqb h.object object && eqb h.grantor grantor) t l
+taken_is (Name n) h t l =
+    cases (cut_names n h) (λ g. rw g (window n t)) (λ g. rw g (all_if_lem false t l))
 
 -- where an authorization goes on behind the stretch, the stretch is not empty
-pub taken-gap : (c : Cut) (h : Head) (e : ℕ) → CutOrdered c → e ≤ behind_all → (taken_of c h).to < e →
+pub taken-gap : (c : Cut) (h : Head) (e : ℕ) → e ≤ behind_all → (taken_of c h).to < e →
     (taken_of c h).from < (taken_of c h).to
-taken-gap c h e o l = by c.kind refl
-  where
-    by : (k : CutKind) → c.kind ≡ k → (taken_of c h).to < e → (taken_of c h).from < (taken_of c h).to
-    by Label p = rw p (all_gap (eqb h.label c.label) e l)
-    by Grantor p = rw p (all_gap (eqb h.object c.object && eqb h.grantor c.grantor) e l)
-    by Name p =
-        let i = o p in
-        cases (cut_names c h) (λ r. rw (p, r) (λ k. omega arith)) (λ r. rw (p, r) (all_gap false e l))
+taken-gap (Label label) h e l = all_gap (eqb h.label label) e l
+taken-gap (Grantor object grantor) h e l = all_gap (eqb h.object object && eqb h.grantor grantor) e l
+taken-gap (Name n) h e l =
+    cases (cut_names n h) (λ r. rw r (λ k. omega (arith, n.ordered))) (λ r. rw r (all_gap false e l))

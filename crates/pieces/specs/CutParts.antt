@@ -6,7 +6,7 @@ use Rattle.model.specs.declared.Authorization.{Authorization}
 use Rattle.model.specs.Withdrawal.{pieces}
 use Rattle.cover.specs.declared.Want.{Want}
 use Rattle.cover.specs.Cover.{want_of, covered_by}
-use Rattle.pieces.specs.declared.Stretch.{Stretch}
+use Rattle.pieces.specs.declared.cut.Stretch.{Stretch}
 use Rattle.pieces.specs.Stretches.{maximal_to}
 
 -- the grantor may grant at t: as a root, or covered by ys

@@ -2,46 +2,39 @@
 ghost use Rattle.std.specs.Prelude.{◌≡◌};
 ghost use Rattle.pieces.specs.Cuts.{cut_names, all_if, named_of, taken_of};
 
-use crate::{Cut, CutKind, Stretch};
-use fields::alike;
+use crate::cut::{Cut, Named, Stretch};
 use model::Head;
 
-// Whether an authorization has the grantor, subject, object, mode and sign of a cut.
-fn is_named(c: Cut, h: Head) -> bool
-    ensures { result ≡ cut_names c h }
+// Whether an authorization has the grantor, subject, object, mode and sign.
+fn is_named(n: Named, h: Head) -> bool
+    ensures { result ≡ cut_names n h }
 {
-    (h.grantor == c.grantor)
-        & (h.subject == c.subject)
-        & (h.object == c.object)
-        & (h.mode == c.mode)
-        & alike(h.negative, c.negative)
+    (h.grantor == n.grantor)
+        & (h.subject == n.subject)
+        & (h.object == n.object)
+        & (h.mode == n.mode)
+        & (h.negative == n.negative)
 }
 
 // Every instant, or none.
 fn all_if(b: bool) -> Stretch
     ensures { result ≡ all_if b }
 {
-    if b {
-        return Stretch {
-            from: 0,
-            to: 4294967296,
-        };
-    }
+    let to = 4294967296;
     Stretch {
-        from: 4294967296,
-        to: 4294967296,
+        from: if b { 0 } else { to },
+        to,
     }
 }
 
 // The instants that a cut by name takes out of an authorization.
-fn named(c: Cut, h: Head) -> Stretch
-    ensures { result ≡ named_of c h }
+fn named_stretch(n: Named, h: Head) -> Stretch
+    ensures { result ≡ named_of n h }
 {
-    if is_named(c, h) {
-        let i = c.interval;
+    if is_named(n, h) {
         return Stretch {
-            from: i.start as u64,
-            to: i.end as u64 + 1,
+            from: n.interval.start as u64,
+            to: n.interval.end as u64 + 1,
         };
     }
     all_if(false)
@@ -51,10 +44,9 @@ fn named(c: Cut, h: Head) -> Stretch
 pub fn taken_stretch(c: Cut, h: Head) -> Stretch
     ensures { result ≡ taken_of c h }
 {
-    let kind = c.kind;
-    match kind {
-        CutKind::Label => all_if(h.label == c.label),
-        CutKind::Grantor => all_if((h.object == c.object) & (h.grantor == c.grantor)),
-        CutKind::Name => named(c, h),
+    match c {
+        Cut::Label(label) => all_if(h.label == label),
+        Cut::Grantor { object, grantor } => all_if((h.object == object) & (h.grantor == grantor)),
+        Cut::Name(n) => named_stretch(n, h),
     }
 }

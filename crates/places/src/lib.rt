@@ -12,7 +12,7 @@ ghost use Rattle.foundation.specs.Tests.{pick};
 ghost use Rattle.places.specs.Regions.{free, mode_size, size_of, Within, index_in};
 
 // What is reached: how many subjects, objects and pairs, and as bits which modes.
-#[derive(Clone, Copy)]
+#[derive(Clone, Copy, PartialEq, Eq)]
 pub struct Grid {
     pub subjects: u32,
     pub objects: u32,
@@ -20,8 +20,9 @@ pub struct Grid {
     pub modes: u32,
 }
 
-// Places of which subject, mode and object are named, or free: 255.
-#[derive(Clone, Copy)]
+// Places of which subject, mode and object are named, or free: 255, as in the tables of codes; the definition `free`
+// says so, and what lies in a region is said by it.
+#[derive(Clone, Copy, PartialEq, Eq)]
 pub struct Region {
     pub subject: u8,
     pub mode: u8,
@@ -29,7 +30,7 @@ pub struct Region {
 }
 
 // A place.
-#[derive(Clone, Copy)]
+#[derive(Clone, Copy, PartialEq, Eq)]
 pub struct Point {
     pub subject: u32,
     pub mode: u32,
@@ -37,7 +38,7 @@ pub struct Point {
 }
 
 // A pair, by the coordinates of its object and its subject.
-#[derive(Clone, Copy)]
+#[derive(Clone, Copy, PartialEq, Eq)]
 pub struct Pair {
     pub object: usize,
     pub subject: usize,
@@ -75,8 +76,8 @@ pub fn pair_of_code(code: u16) -> Pair
     ensures { (result.object ≡ code_object code) × (result.subject ≡ code_subject code) }
 {
     Pair {
-        object: (code / 256) as usize,
-        subject: (code % 256) as usize,
+        object: usize::from(code / 256),
+        subject: usize::from(code % 256),
     }
 }
 
@@ -85,10 +86,7 @@ fn counted(n: u16, x: u16) -> u16
     requires { n < 65535 }
     ensures { result ≡ n + as_bit (used x) }
 {
-    if x == 0 {
-        return n;
-    }
-    n + 1
+    n + u16::from(x != 0)
 }
 
 // Numbers the pairs at which something is needed; how many they are.
@@ -99,13 +97,11 @@ pub fn number_pairs(need: &[u16], number: &mut [u16]) -> usize
         get_or number.new j 0 ≡ used_before need.now j) }
 {
     let mut n = 0;
-    let mut j = 0;
-    while j < need.len() {
+    for (j, x) in need.iter().enumerate() {
         number[j] = n;
-        n = counted(n, need[j]);
-        j += 1;
+        n = counted(n, *x);
     }
-    n as usize
+    usize::from(n)
 }
 
 // The code of the pair that lies at j.
@@ -125,13 +121,11 @@ pub fn list_pairs(need: &[u16], subjects: u32, codes: &mut [u16])
         get_or codes.new (used_before need.now j) 0 ≡ code_of subjects j }
 {
     let mut n = 0;
-    let mut j = 0;
-    while j < need.len() {
-        if need[j] != 0 {
+    for (j, x) in need.iter().enumerate() {
+        if *x != 0 {
             codes[n] = code_at(j as u32, subjects);
             n += 1;
         }
-        j += 1;
     }
 }
 
@@ -164,14 +158,14 @@ pub fn is_needed_both(w: u16, m: u32) -> bool
 pub fn modes_with_both(w: u16) -> u64
     ensures { (m : ℕ) → bit m result ≡ ltb m 8 && both_at w m }
 {
-    (w & (w >> 8) & 255) as u64
+    u64::from(w & (w >> 8) & 255)
 }
 
 // The modes that are needed with either, as bits.
 fn either_sign(x: u16) -> u32
     ensures { (k : ℕ) → k < 8 → bit k result ≡ either_at x k }
 {
-    let y = x as u32;
+    let y = u32::from(x);
     (y % 256) | (y / 256)
 }
 
@@ -181,10 +175,8 @@ pub fn modes_of(need: &[u16]) -> u32
         either_at (get_or need.now j 0) k ≡ true → bit k result ≡ true }
 {
     let mut all = 0;
-    let mut j = 0;
-    while j < need.len() {
-        all = all | need[j];
-        j += 1;
+    for x in need {
+        all |= *x;
     }
     either_sign(all)
 }
@@ -196,19 +188,17 @@ pub fn rank_of(modes: u32, m: u32) -> u32
 {
     let below: u32 = (1 << m) - 1;
     if modes & below == below {
-        return m;
+        m
+    } else {
+        u32::count_ones(modes & below)
     }
-    u32::count_ones(modes & below)
 }
 
 // The first number where a code is free, else the second.
 fn chosen(code: u8, a: u32, b: u32) -> u32
     ensures { result ≡ pick (free code) a b }
 {
-    if code == 255 {
-        return a;
-    }
-    b
+    if code == 255 { a } else { b }
 }
 
 // How many numbers the modes of a region take.

@@ -15,8 +15,9 @@ fn put_bytes(out: &mut [u8], at: usize, text: &[u8]) -> usize
     requires { at + length text.now ≤ length out.old }
     ensures { Printed at text.now out.old out.new result }
 {
-    fields::copy(out, at, text, text.len());
-    at + text.len()
+    let end = at + text.len();
+    out[at..end].copy_from_slice(text);
+    end
 }
 
 // Writes a number to the end of a text; where it starts. Its digits are found from the last one back.

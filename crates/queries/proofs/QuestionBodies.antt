@@ -42,7 +42,7 @@ use Rattle.questions.specs.RuleNumbers.{Numbering}
 use Rattle.relevance.proofs.ChoiceFacts.{placed_in}
 use Rattle.scan.specs.declared.Track.{Track}
 use Rattle.scan.specs.Filled.{filled}
-use Rattle.scan.specs.Runs.{ScannedTo}
+use Rattle.scan.specs.Runs.{inside, ScannedTo}
 use Rattle.scan.proofs.RunFacts.{fewer}
 use Rattle.scan.specs.Listing.{Filling, Listing}
 use Rattle.scan.proofs.FilledFacts.{filled_all, listed_if_room_all, listed_if_room-short}
@@ -278,7 +278,7 @@ module _ {holder : Base} {lines : List ℕ} {total : ℕ} {body : List ℕ} {n :
 
   -- an interval that is open behind the last instant is one of them
   pub open_few : (lent : List ℕ) (w : Track) (list : List ℕ) →
-      ScannedTo (may base x) 4294967295 lent 4294967296 w list → w.inside ≡ true → w.count < 1089
+      ScannedTo (may base x) 4294967295 lent 4294967296 w list → inside w ≡ true → w.count < 1089
   unfolding when
   open_few lent w list r o = omega (
     arith,

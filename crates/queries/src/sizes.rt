@@ -301,8 +301,7 @@ fn nothing_found() -> Found
 {
     let none = Track {
         count: 0,
-        inside: false,
-        from: 0,
+        began: None,
     };
     Found {
         track: none,

@@ -3,18 +3,20 @@
 -- is closed (`closed-end`).
 use mathlib.Core.Path.{◌≡◌, refl, sym, ap, ◌∙◌}
 use mathlib.Core.Logic.{◌⊎◌, inl, inr, ⊎_elim}
-use mathlib.Core.Bool.{Bool, true, false, not, ◌&&◌, ◌||◌, false≢true}
-use mathlib.Core.List.{List}
-use Prim.Native.Nat.{ℕ, suc, ◌+◌, ◌-◌, ◌/◌, ◌%◌, ◌≤◌, ◌<◌}
+use mathlib.Core.Bool.{Bool, true, false, ◌&&◌, ◌||◌, false≢true}
+use mathlib.Core.List.{List, [], ◌∷◌, ◌++◌}
+use Prim.Native.Nat.{ℕ, suc, ◌/◌, ◌%◌, ◌≤◌, ◌<◌}
 use native.Mathlib.Omega.{arith}
 use lib.Bits.{bit_or, or_add_and, and_comm, or_lt, and_le_l}
-use lib.Dec.{eqb, leb, ltb}
+use lib.Dec.{eqb, ltb}
 use lib.ListN.{length, get_or, set, length-set}
-use Rattle.foundation.specs.Tests.{cases, true_eq, false_eq, or_intro_left, or_true_right}
+use Rattle.foundation.specs.Tests.{cases, or_cases, true_eq, false_eq, or_intro_left, or_true_right}
 use Rattle.foundation.specs.Tests.{and_intro, and-true, eq_true, true-le, false-le}
 use Rattle.foundation.specs.BitMasks.{bit, none_set}
 use Rattle.foundation.specs.BitLaws.{bit_or_lem}
 use Rattle.words.specs.Bits.{less}
+use Rattle.words.specs.SetBits.{among}
+use Rattle.words.proofs.SetBitLoops.{among_more}
 use Rattle.words.proofs.CutBit.{bit-less}
 use Rattle.words.proofs.SumFacts.{sum-set}
 use Rattle.reach.specs.Net.{Net, has, standing, right_pair, right_needs, Followed, ClosedBut, ClosedNet}
@@ -134,25 +136,20 @@ grown_then a b = record {
 
 -- ---- what rules look at
 
-module _ (right : List ℕ) (rules subjects o s m : ℕ) where
-  -- what the first r of the rules look at is needed
-  abbrev pub RightsNeeded : ℕ → List ℕ → Type 0
-  RightsNeeded r need = (q : ℕ) → q < r → bit q rules ≡ true → (b : ℕ) → bit b (right_needs right q m) ≡ true →
+module _ (right : List ℕ) (subjects o s m : ℕ) where
+  -- what the rules in a list look at is needed
+  abbrev pub RightsNeeded : List ℕ → List ℕ → Type 0
+  RightsNeeded rules need = (q : ℕ) → among q rules ≡ true → (b : ℕ) → bit b (right_needs right q m) ≡ true →
       has need (right_pair right subjects q o s) b ≡ true
 
-  pub done-start : (r : ℕ) (need : List ℕ) → ((i : ℕ) → i < r → bit i rules ≡ false) → RightsNeeded r need
-  done-start r need z q l e = absurd (false≢true (sym (z q l) ∙ e))
-
-  pub done-turn : (r r' : ℕ) {n t n' t' : List ℕ} → RightsNeeded r n → Grown n t n' t' →
+  pub done-turn : (r : ℕ) (rules : List ℕ) {n t n' t' : List ℕ} → RightsNeeded rules n → Grown n t n' t' →
       ((b : ℕ) → bit b (right_needs right r m) ≡ true → has n' (right_pair right subjects r o s) b ≡ true) →
-      ((i : ℕ) → r + 1 ≤ i → i < r' → bit i rules ≡ false) → RightsNeeded r' n'
-  done-turn r r' {n' = n'} d g now z q l e b f = cases (leb q r)
-      (λ x. let y = true-le q r x in cases (eqb q r)
-      (λ u. let v : q ≡ r = true_eq q r u in
+      RightsNeeded (rules ++ r ∷ []) n'
+  done-turn r rules {n' = n'} d g now q e b f = or_cases (among q rules) (eqb q r) (sym (among_more q r rules) ∙ e)
+      (λ l. g.more (right_pair right subjects q o s) b (d q l b f))
+      (λ u. let v = true_eq q r u in
       ap (λ (q : ℕ). has n' (right_pair right subjects q o s) b) v
       ∙ now b (ap (λ (q : ℕ). bit b (right_needs right q m)) (sym v) ∙ f))
-      (λ u. let v = false_eq q r u in g.more (right_pair right subjects q o s) b (d q (omega arith) e b f)))
-      (λ x. let y = false-le q r x in absurd (false≢true (sym (z q (omega arith) l) ∙ e)))
 
 -- where nothing is, P need hold nowhere
 pub none_within : (P : ℕ → Bool) (l : List ℕ) → ((i : ℕ) → get_or l i 0 ≡ 0) → OnlyWhere P l

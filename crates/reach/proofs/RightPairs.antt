@@ -1,16 +1,16 @@
 -- Where rules lead, from a pair of the net to one, and words of 16 bits.
 use mathlib.Core.Path.{◌≡◌, sym, ◌∙◌}
-use mathlib.Core.Bool.{true, false, not, true≢false}
+use mathlib.Core.Bool.{true, not, true≢false}
 use mathlib.Core.List.{List}
 use Prim.Native.Nat.{ℕ, suc, ◌+◌, ◌*◌, ◌/◌, ◌%◌, ◌^◌, ◌≤◌, ◌<◌}
 use native.Mathlib.Nat.{mod-lt, mod-eq_of_lt, div-lt_iff_lt-mul, mul-le-mul_right, one-mul}
 use native.Mathlib.Omega.{arith}
 use lib.Pow.{pow-lt}
-use lib.Dec.{eqb, ltb}
+use lib.Dec.{eqb}
 use lib.ListN.{get_or}
-use Rattle.foundation.specs.Tests.{cases, and-true, and_intro, true-le, false-le}
+use Rattle.foundation.specs.Tests.{cases, and-true, and_intro}
 use Rattle.foundation.specs.BitMasks.{bit}
-use Rattle.foundation.specs.BitLaws.{power_only, no_bits}
+use Rattle.foundation.specs.BitLaws.{power_only}
 use Rattle.words.specs.Bits.{less}
 use Rattle.words.proofs.CutBit.{bit-less}
 use Rattle.reach.specs.Net.{turned, right_pair, Formed, Led}
@@ -49,15 +49,6 @@ module _ (right : List ℕ) (subjects size p : ℕ) (f : Formed right subjects s
 
 pub shifted : (k : ℕ) → k < 16 → 1 * 2 ^ k % 65536 ≡ 2 ^ k
 shifted k h = rw (one-mul (2 ^ k)) (mod-eq_of_lt (pow-lt h))
-
--- the first bit of one that is not 0
-pub low_bit : (x k : ℕ) → 0 < x → x < 65536 → ((i : ℕ) → i < k → bit i x ≡ false) → (k < 64 →
-    bit k x ≡ true) →
-    (k < 16) × (bit k x ≡ true)
-low_bit x k h l z o = cases (ltb k 16)
-    (λ e. let g = true-le (suc k) 16 e in (g, o (omega arith)))
-    (λ e. let g = false-le (suc k) 16 e in
-    absurd (omega (arith, no_bits 16 x l (λ i m. z i (omega arith)))))
 
 module _ (x k : ℕ) where
   pub cut_in : (i : ℕ) → bit i (less x (2 ^ k)) ≡ true → bit i x ≡ true

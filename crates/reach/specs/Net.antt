@@ -7,6 +7,7 @@ use Rattle.foundation.specs.Tests.{pick}
 use Rattle.foundation.specs.BitMasks.{bit}
 use Rattle.places.specs.ReachedNumbers.{pair_index, index_object, index_subject}
 use Rattle.places.specs.Needs.{needs_of}
+use Rattle.reach.specs.declared.net.RuleNet.{RuleNet}
 
 -- `left` has the rules that stand on an object, 65 words, on a subject, 65, and on a mode with a sign, 16
 -- (what is behind those is not looked at); `right` four numbers a rule: object, subject and mode of its right
@@ -15,6 +16,10 @@ pub record Net : Type 0 where
   pub left : List ℕ
   pub right : List ℕ
   pub subjects : ℕ
+
+-- as the code holds it
+abbrev pub net_of : RuleNet → Net
+net_of n = record { left = n.left.now; right = n.right.now; subjects = n.subjects }
 
 -- the rules that stand at an object o and a subject s with bit k
 unfoldable pub standing : List ℕ → ℕ → ℕ → ℕ → ℕ

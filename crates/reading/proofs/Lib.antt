@@ -1,5 +1,4 @@
--- `FieldReaders` has the laws of the fields from a place on, `DigitValues` those of digits, and `Codes` those
--- of fixed words.
-pub mod Codes
-pub mod FieldReaders
+pub mod FirstField
+pub mod WordSearch
 pub mod DigitValues
+pub mod WholeLines

@@ -5,7 +5,6 @@ ghost use Rattle.records.specs.Pages.{padded, record_bytes, numbers_of};
 ghost use Rattle.records.specs.declared.Body.TheVariants.{Heading, Objects, Authorizations, Rules};
 
 use crate::Body;
-use fields::as_bit;
 use model::OptionTerm;
 
 // The option of a rule's right side.
@@ -81,8 +80,8 @@ fn authorization_numbers(s: &[u8], at: usize) -> [u32; 15]
         h.subject as u32,
         h.object as u32,
         h.mode as u32,
-        as_bit(h.negative) as u32,
-        as_bit(h.option) as u32,
+        h.negative as u32,
+        h.option as u32,
         h.granted,
         i.start,
         i.end,
@@ -111,12 +110,12 @@ fn rule_numbers(s: &[u8], at: usize) -> [u32; 15]
         left.subject as u32,
         left.mode as u32,
         left.object as u32,
-        as_bit(left.negative) as u32,
+        left.negative as u32,
         u8::from(operator) as u32,
         right.subject as u32,
         right.mode as u32,
         right.object as u32,
-        as_bit(right.negative) as u32,
+        right.negative as u32,
         r.grantor as u32,
         option_number(option),
         i.start,

@@ -21,8 +21,9 @@ pub fn not_stratified(base: &SoundBase<'_>, q: Request) -> bool
     let c = encoding::counts_of(s);
     let at = encoding::rules_at(c);
     let n = c.rules as usize;
+    let body = &s[at..];
     let mut all = [0u8; 65 * RULE_BYTES];
-    fields::copy(&mut all, 0, &s[at..], n * RULE_BYTES);
+    all[..n * RULE_BYTES].copy_from_slice(&body[..n * RULE_BYTES]);
     encoding::put_rule(&mut all, n * RULE_BYTES, new_rule(q, 1));
     !rules::is_stratified(&all, n + 1)
 }

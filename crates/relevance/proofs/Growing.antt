@@ -1,6 +1,6 @@
 -- A window that is being filled: each instant is the next mark behind the one before.
-use Rattle.std.proofs.Common.{◌≡◌, ℕ, zero, suc, ◌+◌, ◌-◌, ◌<◌, ◌≤◌, true, false, ◌&&◌, ltb, leb, List, length, get_or, set, sym, refl, ap, ◌∙◌, arith, length-set, get_or-set_other, get_or-set_same}
-use Rattle.foundation.specs.Tests.{cases, le-true, true-le, false-le, and_intro}
+use Rattle.std.proofs.Common.{◌≡◌, ℕ, zero, suc, ◌+◌, ◌-◌, ◌<◌, ◌≤◌, ltb, leb, List, length, get_or, set, sym, refl, ap, ◌∙◌, arith, length-set, get_or-set_other, get_or-set_same}
+use Rattle.foundation.specs.Tests.{cases, true-le, false-le}
 use Rattle.foundation.specs.Marks.{next, next_above, next_le, next_clear}
 use Rattle.windows.specs.Windows.{Rising}
 use Rattle.relevance.specs.Filling.{Fills}
@@ -102,23 +102,16 @@ module _ (ms : List ℕ) (from to width : ℕ) where
     }
 
   module _ (marks : List ℕ) (count t : ℕ) (g : MarksGrown marks count t) (h : from ≤ to) (b : to < 4294967296)
-      (w : 1 ≤ width) (stop : ltb count width && leb t to ≡ false) where
+      (w : 1 ≤ width) (stop : t ≤ to → width ≤ count) where
     some : 1 ≤ count
     some = cases (leb count 0)
         (λ e. let z : count ≡ 0 = omega (arith, true-le count 0 e) in
-        let q = and_intro (ltb count width) (leb t to) (le-true (suc count) width (omega arith))
-        (le-true t to (omega (arith, g.start z))) in
-        let n : ◌≡◌ false true = sym stop ∙ q in
-        let k : ◌≡◌ {A = ℕ} 0 1 = cc in
-        absurd (omega arith))
+        let k = stop (omega (arith, g.start z)) in absurd (omega arith))
         (λ e. false-le count 0 e)
 
     whole : count < width → to < t
     whole k = cases (leb t to)
-        (λ e. let q = and_intro (ltb count width) (leb t to) (le-true (suc count) width k) e in
-        let n : ◌≡◌ false true = sym stop ∙ q in
-        let k : ◌≡◌ {A = ℕ} 0 1 = cc in
-        absurd (omega arith))
+        (λ e. let n = stop (true-le t to e) in absurd (omega arith))
         (λ e. false-le t to e)
 
     up : (i : ℕ) → i < count → get_or marks i 0 < after ms (get_or marks i 0)

@@ -13,7 +13,6 @@ ghost use Rattle.relevance.specs.Ahead.{IsNext, NearAt, Standing};
 
 use crate::Chosen;
 use crate::distance::{nearest_line, nearest_rule};
-use fields::lesser;
 
 // The next start, and the next instant behind an end; 2^32 where there is none.
 #[derive(Clone, Copy)]
@@ -97,5 +96,5 @@ pub fn next_of(n: Near) -> u64
 {
     let l = n.lines;
     let r = n.rules;
-    lesser(l.starts, lesser(l.ends, lesser(r.starts, r.ends)))
+    l.starts.min(l.ends.min(r.starts.min(r.ends)))
 }

@@ -1,6 +1,6 @@
 // The authorizations that matter: those that have an asked instant and whose mode is needed at their place,
 // with both signs, and of these, as time goes on, those that have not ended.
-ghost use Rattle.std.specs.Prelude.{◌≡◌, ◌+◌, ◌<◌, ◌≤◌, length, ◌==◌};
+ghost use Rattle.std.specs.Prelude.{◌≡◌, true, ◌+◌, ◌<◌, ◌≤◌, length, ◌==◌};
 ghost use Rattle.foundation.specs.Tests.{pick};
 ghost use Rattle.foundation.specs.BitMasks.{as_bit};
 ghost use Rattle.foundation.specs.Intervals.{interval};
@@ -55,7 +55,7 @@ pub fn cell_of(h: Head, x: Access, coordinates: &[u8]) -> Cell
 pub fn sign_of(negative: bool) -> u32
     ensures { result ≡ as_bit negative }
 {
-    fields::as_bit(negative) as u32
+    u32::from(negative)
 }
 
 // Whether an authorization is needed, c being its coordinates.
@@ -80,15 +80,13 @@ pub fn counted(n: usize, more: bool) -> usize
     requires { n < 18446744073709551615 }
     ensures { result ≡ pick more (n + 1) n }
 {
-    if more {
-        return n + 1;
-    }
-    n
+    n + usize::from(more)
 }
 
 // Writes down the numbers of those of `total` authorizations that have one of the asked instants and are
-// needed; how many they are. The instants come first: where few are asked, few authorizations pass.
-fn choose_during(
+// needed; how many they are. The instants come first: where few are asked, few authorizations pass. Where all
+// of time is asked, each authorization has an instant of it, and a test would only cost.
+fn choose_in<const EVER: bool>(
     lines: &[u8],
     total: usize,
     x: Access,
@@ -98,54 +96,26 @@ fn choose_during(
     need: &[u16],
     which: &mut [u16],
 ) -> usize
-    requires { ChoiceReadyBy lines.now total coordinates.now stride need.now which.old }
+    requires { ChoiceReadyBy lines.now total coordinates.now stride need.now which.old
+        × (EVER ≡ true → asked ≡ interval 0 4294967295) }
     ensures { Choice
         (is_chosen_by coordinates.now asked x stride need.now)
         lines.now total which.old which.new result }
 {
     let mut n = 0;
-    let mut i = 0;
-    while i < total {
+    for i in 0..total {
         let a = authorization_at(lines, i * AUTHORIZATION_BYTES);
         let h = a.head;
         let v = a.interval;
-        if (asked.start <= v.end) & (v.start <= asked.end) {
+        if EVER | ((asked.start <= v.end) & (v.start <= asked.end)) {
             which[n] = i as u16;
             n = counted(n, is_needed(h, cell_of(h, x, coordinates), stride, need));
         }
-        i += 1;
     }
     n
 }
 
-// The same where all of time is asked: each authorization has an instant of it, and a test would only cost.
-fn choose_needed(
-    lines: &[u8],
-    total: usize,
-    x: Access,
-    coordinates: &[u8],
-    stride: u32,
-    need: &[u16],
-    which: &mut [u16],
-) -> usize
-    requires { ChoiceReadyBy lines.now total coordinates.now stride need.now which.old }
-    ensures { Choice
-        (is_chosen_by coordinates.now (interval 0 4294967295) x stride need.now)
-        lines.now total which.old which.new result }
-{
-    let mut n = 0;
-    let mut i = 0;
-    while i < total {
-        let a = authorization_at(lines, i * AUTHORIZATION_BYTES);
-        let h = a.head;
-        which[n] = i as u16;
-        n = counted(n, is_needed(h, cell_of(h, x, coordinates), stride, need));
-        i += 1;
-    }
-    n
-}
-
-// The same for whatever is asked.
+// The same, by what is asked.
 pub fn choose(
     lines: &[u8],
     total: usize,
@@ -162,9 +132,9 @@ pub fn choose(
         lines.now total which.old which.new result }
 {
     if (asked.start == 0) & (asked.end == 4294967295) {
-        return choose_needed(lines, total, x, coordinates, stride, need, which);
+        return choose_in::<true>(lines, total, x, asked, coordinates, stride, need, which);
     }
-    choose_during(lines, total, x, asked, coordinates, stride, need, which)
+    choose_in::<false>(lines, total, x, asked, coordinates, stride, need, which)
 }
 
 // Forgets those of n authorizations that end before t; how many are left.
@@ -173,15 +143,11 @@ pub fn forget(lines: &[u8], which: &mut [u16], n: usize, t: u32) -> usize
     ensures { Forgets lines.now n t which.old which.new result }
 {
     let mut kept = 0;
-    let mut i = 0;
-    while i < n {
+    for i in 0..n {
         let w = which[i];
-        let at = w as usize;
-        let a = authorization_at(lines, at * AUTHORIZATION_BYTES);
-        let iv = a.interval;
+        let a = authorization_at(lines, w as usize * AUTHORIZATION_BYTES);
         which[kept] = w;
-        kept = counted(kept, t <= iv.end);
-        i += 1;
+        kept = counted(kept, t <= a.interval.end);
     }
     kept
 }

@@ -9,27 +9,25 @@ ghost use Rattle.relevance.specs.Chosen.{Picks, picked, selected};
 ghost use Rattle.relevance.specs.Distance.{edge, line_edges, rule_edges, Away, reached};
 
 use encoding::{authorization_at, rule_at};
-use fields::lesser;
 use foundation::Interval;
 use model::{AUTHORIZATION_BYTES, RULE_BYTES};
-use std::num::wrapping_sub_u32;
-use words::{next_bit, without_lowest};
+use words::ones;
 
 // The distance of an interval's start, or of the instant behind its end.
 fn distance_of(i: Interval, ends: bool, t: u32) -> u32
     ensures { Away t (edge ends i) result }
 {
     if ends {
-        return wrapping_sub_u32(i.end, t);
+        return i.end.wrapping_sub(t);
     }
-    wrapping_sub_u32(wrapping_sub_u32(i.start, t), 1)
+    i.start.wrapping_sub(t).wrapping_sub(1)
 }
 
 // The lesser of a distance and that of an interval's mark.
 fn nearer_mark(best: u64, i: Interval, ends: bool, t: u32) -> u64
     ensures { reached t result ≡ sooner t (edge ends i) (reached t best) }
 {
-    lesser(best, distance_of(i, ends, t) as u64)
+    best.min(distance_of(i, ends, t) as u64)
 }
 
 // The mark at a distance, or 2^32 where that lies behind the last instant.
@@ -49,13 +47,9 @@ pub fn nearest_line(lines: &[u8], which: &[u16], n: usize, ends: bool, t: u32) -
         ≡ next t (line_edges ends (picked lines.now which.now n)) 4294967296 }
 {
     let mut best = 4294967295;
-    let mut i = 0;
-    while i < n {
-        let at = which[i] as usize;
-        let a = authorization_at(lines, at * AUTHORIZATION_BYTES);
-        let iv = a.interval;
-        best = nearer_mark(best, iv, ends, t);
-        i += 1;
+    for w in &which[..n] {
+        let a = authorization_at(lines, *w as usize * AUTHORIZATION_BYTES);
+        best = nearer_mark(best, a.interval, ends, t);
     }
     mark_at(t, best)
 }
@@ -67,14 +61,12 @@ pub fn nearest_rule(body: &[u8], k: usize, needed: u64, ends: bool, t: u32) -> u
         ≡ next t (rule_edges ends (selected needed (rules_in k body.now))) 4294967296 }
 {
     let mut best = 4294967295;
-    let mut rest = needed;
-    let mut r = next_bit(rest, 0);
-    while (r as usize) < k {
-        let q = rule_at(body, (r as usize) * RULE_BYTES);
-        let iv = q.interval;
-        best = nearer_mark(best, iv, ends, t);
-        rest = without_lowest(rest);
-        r = next_bit(rest, 0);
+    for r in ones(needed) {
+        if k <= r as usize {
+            break;
+        }
+        let q = rule_at(body, r as usize * RULE_BYTES);
+        best = nearer_mark(best, q.interval, ends, t);
     }
     mark_at(t, best)
 }

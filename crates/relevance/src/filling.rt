@@ -37,17 +37,21 @@ pub fn fill(
             next: from + 1,
         };
     }
-    let mut count = 0;
     let mut t = from;
     let mut near = nothing_near();
-    while (count < width) & (t <= to as u64) {
+    for count in 0..width {
+        if t > to as u64 {
+            return Filled {
+                count: count,
+                next: t,
+            };
+        }
         marks[count] = t as u32;
-        count += 1;
         near = near_at(lines, which, body, c, near, t as u32);
         t = next_of(near);
     }
     Filled {
-        count: count,
+        count: width,
         next: t,
     }
 }

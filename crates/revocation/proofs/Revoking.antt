@@ -211,14 +211,6 @@ pub effect_administrator : (b : Base) (q : Request) → is q (REVOKEADM ∷ []) 
     (with_administrators (without q.object q.subject b.administrators) b)))
 effect_administrator b q k = rw (kind_is q REVOKEADM k)
 
--- a copy of all of s
-pub copied : (s t : List ℕ) (n : ℕ) → length s ≡ n → length t ≡ n → splice 0 (take n s) t ≡ s
-unfolding splice
-copied s t n e f =
-    let a : take n s ≡ s = take_all n s (omega arith) in
-    let l : 0 + length (take n s) ≡ length t = omega (arith, ap length a) in
-    (λ i. a i ++ drop (l i) t) ∙ ap (λ (x : List ℕ). s ++ x) (drop-length t) ∙ append-nil s
-
 module _ (s : List ℕ) (q : Request) (p : PassesEarly s q) (k : is q (REVOKEADM ∷ []) ≡ true) where
   abbrev old : Base
   old = decode s

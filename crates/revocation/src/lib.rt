@@ -136,7 +136,7 @@ pub fn revoke_administrator(s: &mut [u8], q: Request) -> Reply
     ensures { CarriedOut s.old q result s.new }
 {
     let mut after = [0u8; BASE_BYTES];
-    fields::copy(&mut after, 0, s, BASE_BYTES);
+    after.copy_from_slice(s);
     effects::remove_administrator(&mut after, q);
     let mut out = [0u8; BODY_BYTES];
     let mut sorted = [0u8; BODY_BYTES];

@@ -18,7 +18,7 @@ use Rattle.model.specs.declared.Rule.{Rule}
 use Rattle.model.specs.Stratification.{precedes}
 use Rattle.rules.specs.RankTables.{count_of, own_count, ranks_found}
 use Rattle.rules.specs.Edges.{row_of, shown, best_of, StepsFit}
-use Rattle.rules.specs.declared.ranks.Row.{Row}
+use Rattle.rules.specs.declared.row.Row.{Row}
 use Rattle.rules.specs.declared.ranks.Counting.{Counting}
 use Rattle.rules.proofs.Steps.{count_small, row_raised, steps_fit, all_cons}
 

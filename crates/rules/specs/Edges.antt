@@ -8,7 +8,7 @@ use Rattle.model.specs.declared.Rule.{Rule}
 use Rattle.model.specs.Stratification.{precedes}
 use Rattle.rules.specs.RankTables.{count_of, own_count}
 use Rattle.rules.specs.declared.ranks.Counting.{Counting}
-use Rattle.rules.specs.declared.ranks.Row.{Row}
+use Rattle.rules.specs.declared.row.Row.{Row}
 
 -- the steps into r from rules of which the first has the number i
 abbrev pub steps_into : Counting → Rule → List Rule → ℕ → List ℕ

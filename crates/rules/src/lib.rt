@@ -6,6 +6,7 @@ ghost use Rattle.std.specs.Prelude.{◌≡◌};
 ghost use Rattle.model.specs.Stratification as model;
 
 mod ranks;
+mod row;
 
 use model::{Operator, OptionTerm, Rule};
 pub use ranks::{is_circular, is_stratified, stratify};

@@ -7,6 +7,7 @@ ghost use Rattle.model.specs.Circles.{circular};
 ghost use Rattle.rules.specs.RankTables.{own_count, step_of, ranks_found, strata};
 ghost use Rattle.rules.specs.Edges.{shown, row_of, best_of, StepsFit};
 
+use crate::row::Row;
 use crate::{feeds, links, negates};
 use encoding::Records;
 use model::Rule;
@@ -47,32 +48,24 @@ impl Counting {
     }
 }
 
-// What a rule counts by itself, and the steps into it: each is three times the number of the rule that it
-// comes from, and what it counts.
-#[derive(Clone, Copy)]
-struct Row {
-    own: u16,
-    steps: [u8; 65],
-    len: u8,
-}
-
 // The row of a rule.
 fn row_of(rules: &Records<'_, Rule>, counting: Counting, r: Rule) -> Row
     requires { length rules.now ≤ 65 }
     ensures { shown result ≡ row_of counting rules.now r }
 {
-    let mut row = Row {
-        own: u16::from(counting.own(r)),
-        steps: [0; 65],
-        len: 0,
-    };
+    let mut steps = [0; 65];
+    let mut len = 0;
     for i in 0..rules.len() {
         if let Some(count) = counting.step(rules.get(i), r) {
-            row.steps[row.len as usize] = 3 * (i as u8) + count;
-            row.len += 1;
+            steps[len] = 3 * (i as u8) + count;
+            len += 1;
         }
     }
-    row
+    Row {
+        own: u16::from(counting.own(r)),
+        steps,
+        len: len as u8,
+    }
 }
 
 // The most of what a row's rule counts by itself and of what the steps into it make of the ranks.
@@ -80,9 +73,8 @@ fn best_of(row: &Row, ranks: &[u16; 65]) -> u16
     requires { StepsFit ranks.now (shown row.now) }
     ensures { result ≡ best_of ranks.now (shown row.now) }
 {
-    row.steps
+    row.steps[..row.len as usize]
         .iter()
-        .take(row.len as usize)
         .map(|x| (x % 3) as u16 + ranks[(x / 3) as usize])
         .fold(row.own, |a, b| a.max(b))
 }

@@ -17,7 +17,9 @@ use Rattle.foundation.specs.MaximalRuns.{maximal_past, maximal_skip, maximal_run
 use Rattle.windows.specs.Windows.{Rising}
 use Rattle.scan.specs.declared.Track.{Track}
 use Rattle.scan.specs.Filled.{filled, with_pair}
-use Rattle.scan.specs.Runs.{instant_at, Answered, Listed, Holding, ScannedTo, AskedAt}
+use Rattle.std.specs.Prelude.{Option, Some, None}
+use Rattle.std.specs.Option.{is_some, unwrap_or}
+use Rattle.scan.specs.Runs.{inside, open_from, instant_at, Answered, Listed, Holding, ScannedTo, AskedAt}
 use Rattle.scan.proofs.FilledFacts.{filled_more}
 
 pub instant-there : (n : ℕ) (ms : List ℕ) (m i : ℕ) → i < n → instant_at n ms m i ≡ get_or ms i 0
@@ -26,6 +28,11 @@ instant-there n ms m i h = ap (λ (b : Bool). pick b (get_or ms i 0) m) (le-true
 pub instant_behind : (n : ℕ) (ms : List ℕ) (m i : ℕ) → n ≤ i → instant_at n ms m i ≡ m
 instant_behind n ms m i h = ap (λ (b : Bool). pick b (get_or ms i 0) m) (le-false (suc i) n (omega arith))
 
+-- what is there, where something is
+opened : (o : Option ℕ) → is_some o ≡ true → (from : ℕ) × (o ≡ Some from)
+opened None e = absurd (false≢true e)
+opened (Some from) e = (from, refl)
+
 -- how many are done; `lent` is the list as it was lent
 module _ (f : ℕ → Bool) (e : ℕ) (lent : List ℕ) where
   -- no more are done than there are
@@ -33,7 +40,7 @@ module _ (f : ℕ → Bool) (e : ℕ) (lent : List ℕ) where
       w.count ≤ length (maximal 0 e f)
   counted t w list r =
       let l = r.listed in
-      let others = maximal (pick w.inside w.from t) e f in
+      let others = maximal (open_from w t) e f in
       omega (
         arith,
         l.count_is,
@@ -43,23 +50,24 @@ module _ (f : ℕ → Bool) (e : ℕ) (lent : List ℕ) where
 
   module _ (t : ℕ) (w : Track) (list : List ℕ) (r : ScannedTo f e lent t w list) where
     -- the interval that ends before m, which is t where f fails, or behind the end
-    pub ended : (m : ℕ) → w.inside ≡ true → m ≡ t → m ≤ suc e → (m ≤ e → f m ≡ false) →
-        maximal 0 e f ≡ (r.listed.done ++ (interval w.from (m - 1) ∷ [])) ++ maximal m e f
-    ended m o q h stop =
+    pub ended : (m from : ℕ) → w.began ≡ Some from → m ≡ t → m ≤ suc e → (m ≤ e → f m ≡ false) →
+        maximal 0 e f ≡ (r.listed.done ++ (interval from (m - 1) ∷ [])) ++ maximal m e f
+    ended m from o q h stop =
         let l = r.listed in
-        let z = r.held o in
-        let p : pick w.inside w.from t ≡ w.from = ap (λ (b : Bool). pick b w.from t) o in
+        let z = r.held from o in
+        let p : open_from w t ≡ from = ap (λ (b : Option ℕ). unwrap_or b t) o in
         l.all ∙ ap (λ (k : ℕ). l.done ++ maximal k e f) p
         ∙ ap (λ (rest : List Interval). l.done ++ rest)
-        (maximal_run w.from m e f (omega (arith, z.0)) h (λ u x y. z.1 u x (omega arith)) stop)
-        ∙ sym (append_assoc l.done (interval w.from (m - 1) ∷ []) (maximal m e f))
+        (maximal_run from m e f (omega (arith, z.0)) h (λ u x y. z.1 u x (omega arith)) stop)
+        ∙ sym (append_assoc l.done (interval from (m - 1) ∷ []) (maximal m e f))
 
     -- there are never more than all
-    pub fewer : w.inside ≡ true → t ≤ suc e → (t ≤ e → f t ≡ false) → suc w.count ≤ length (maximal 0 e f)
-    fewer o h stop =
+    pub fewer : inside w ≡ true → t ≤ suc e → (t ≤ e → f t ≡ false) → suc w.count ≤ length (maximal 0 e f)
+    fewer i h stop =
+        let o = opened w.began i in
         let l = r.listed in
-        let run = interval w.from (t - 1) ∷ [] in
-        let n = ap (λ (x : List Interval). length x) (ended t o refl h stop) in
+        let run = interval o.0 (t - 1) ∷ [] in
+        let n = ap (λ (x : List Interval). length x) (ended t o.0 o.1 refl h stop) in
         omega (
           arith,
           n,
@@ -70,59 +78,63 @@ module _ (f : ℕ → Bool) (e : ℕ) (lent : List ℕ) where
 
 -- from instant to instant
 module _ (f : ℕ → Bool) (e : ℕ) (lent : List ℕ) where
+  -- an interval that is open began before
+  pub held_open : (t : ℕ) (w : Track) (list : List ℕ) → ScannedTo f e lent t w list → inside w ≡ true → 0 < t
+  held_open t w list r i = let o = opened w.began i in omega (arith, (r.held o.0 o.1).0)
+
   -- at the start there is nothing
-  pub start : (from : ℕ) → ScannedTo f e lent 0 (record { count = 0; inside = false; from = from }) lent
+  pub start : ScannedTo f e lent 0 (record { count = 0; began = None }) lent
   unfolding filled
-  start from = record {
+  start = record {
     listed = record { done = []; all = refl; count_is = refl; list_is = refl };
-    held = λ z. absurd (false≢true z);
+    held = λ from z. cc;
   }
 
   -- ---- asked at t
 
   module _ (t : ℕ) (w : Track) (list : List ℕ) (r : ScannedTo f e lent t w list) where
     -- it goes on as it was
-    pub same : w.inside ≡ f t → AskedAt f e lent t w list
+    pub same : inside w ≡ f t → AskedAt f e lent t w list
     same a = record {
       listed = r.listed;
-      held = λ o. let z = r.held o in (omega (arith, z.0), z.1);
+      held = λ from o. let z = r.held from o in (omega (arith, z.0), z.1);
       answer = a;
     }
 
     -- an interval opens
-    pub opens : w.inside ≡ false → f t ≡ true → AskedAt f e lent t
-        (record { count = w.count; inside = true; from = t }) list
+    pub opens : w.began ≡ None → f t ≡ true → AskedAt f e lent t
+        (record { count = w.count; began = Some t }) list
     opens o a =
         let l = r.listed in
-        let p : pick w.inside w.from t ≡ t = ap (λ (b : Bool). pick b w.from t) o in
+        let p : open_from w t ≡ t = ap (λ (b : Option ℕ). unwrap_or b t) o in
         record {
           listed = subst (λ (k : ℕ). Listed f e lent w.count k list) p l;
-          held = λ z. (omega arith, λ u x y. absurd (omega arith));
+          held = λ from z. let y : t ≡ from = cc in (omega arith, λ u h l. absurd (omega arith));
           answer = sym a;
         }
 
     -- it closes: one more is done
-    pub closes : w.inside ≡ true → t ≤ suc e → (t ≤ e → f t ≡ false) → (list' : List ℕ) →
-        list' ≡ with_pair w.count w.from (t - 1) list → Listed f e lent (suc w.count) t list'
-    closes o h stop list' k =
+    pub closes : (from : ℕ) → w.began ≡ Some from → t ≤ suc e → (t ≤ e → f t ≡ false) → (list' : List ℕ) →
+        list' ≡ with_pair w.count from (t - 1) list → Listed f e lent (suc w.count) t list'
+    closes from o h stop list' k =
         let l = r.listed in
-        let run = interval w.from (t - 1) ∷ [] in
+        let run = interval from (t - 1) ∷ [] in
         record {
           done = l.done ++ run;
-          all = ended f e lent t w list r t o refl h stop;
+          all = ended f e lent t w list r t from o refl h stop;
           count_is = omega (arith, l.count_is, length-append l.done run);
-          list_is = k ∙ (λ i. with_pair (l.count_is i) w.from (t - 1) (l.list_is i))
-              ∙ sym (filled_more l.done (interval w.from (t - 1)) lent);
+          list_is = k ∙ (λ i. with_pair (l.count_is i) from (t - 1) (l.list_is i))
+              ∙ sym (filled_more l.done (interval from (t - 1)) lent);
         }
 
     -- it closes at t, where f fails
-    pub closed_run : w.inside ≡ true → t ≤ e → f t ≡ false → (list' : List ℕ) →
-        list' ≡ with_pair w.count w.from (t - 1) list →
-        AskedAt f e lent t (record { count = w.count + 1; inside = false; from = t }) list'
-    closed_run o h a list' k = record {
+    pub closed_run : (from : ℕ) → w.began ≡ Some from → t ≤ e → f t ≡ false → (list' : List ℕ) →
+        list' ≡ with_pair w.count from (t - 1) list →
+        AskedAt f e lent t (record { count = w.count + 1; began = None }) list'
+    closed_run from o h a list' k = record {
       listed = subst (λ (n : ℕ). Listed f e lent n t list') (sym (add-one w.count))
-          (closes o (omega arith) (λ z. a) list' k);
-      held = λ z. absurd (false≢true z);
+          (closes from o (omega arith) (λ z. a) list' k);
+      held = λ u z. cc;
       answer = sym a;
     }
 
@@ -130,35 +142,39 @@ module _ (f : ℕ → Bool) (e : ℕ) (lent : List ℕ) where
 
   pub onward : (t m : ℕ) (w : Track) (list : List ℕ) → t < m → ((u : ℕ) → t ≤ u → u < m → f u ≡ f t) →
       AskedAt f e lent t w list → ScannedTo f e lent m w list
-  onward t m w list h steady a = cases w.inside
-      (λ o. let z = a.held o in
-      let p : pick w.inside w.from t ≡ pick w.inside w.from m =
-      ap (λ (b : Bool). pick b w.from t) o ∙ sym (ap (λ (b : Bool). pick b w.from m) o) in
-      record {
-        listed = subst (λ (k : ℕ). Listed f e lent w.count k list) p a.listed;
-        held = λ q. (omega (arith, z.0), λ u x y. further o z u x y);
-      })
-      (λ o. let l = a.listed in
-      let p : pick w.inside w.from t ≡ t = ap (λ (b : Bool). pick b w.from t) o in
-      let q : pick w.inside w.from m ≡ m = ap (λ (b : Bool). pick b w.from m) o in
-      record {
-        listed = record {
-          done = l.done;
-          all = l.all ∙ ap (λ (k : ℕ). l.done ++ maximal k e f) p
-              ∙ ap (λ (rest : List Interval). l.done ++ rest)
-              (maximal_skip t m e f (omega arith) (λ u x y. steady u x y ∙ sym a.answer ∙ o))
-              ∙ ap (λ (k : ℕ). l.done ++ maximal k e f) (sym q);
-          count_is = l.count_is;
-          list_is = l.list_is;
-        };
-        held = λ z. absurd (false≢true (sym o ∙ z));
-      })
+  onward t m w list h steady a = split w.began refl
     where
-      further : w.inside ≡ true → (w.from ≤ t) × Holding f e lent w.from t → Holding f e lent w.from m
-      further o z u x y = cases (ltb u t)
-          (λ l. z.1 u x (true-le (suc u) t l))
+      further : (from : ℕ) → w.began ≡ Some from → Holding f e lent from m
+      further from o u x y = cases (ltb u t)
+          (λ l. (a.held from o).1 u x (true-le (suc u) t l))
           (λ l. let k = false-le (suc u) t l in
-          steady u (omega arith) y ∙ sym a.answer ∙ o)
+          steady u (omega arith) y ∙ sym a.answer ∙ ap (λ (b : Option ℕ). is_some b) o)
+
+      split : (began : Option ℕ) → w.began ≡ began → ScannedTo f e lent m w list
+      split (Some from) o =
+          let p : open_from w t ≡ open_from w m =
+          ap (λ (b : Option ℕ). unwrap_or b t) o ∙ sym (ap (λ (b : Option ℕ). unwrap_or b m) o) in
+          record {
+            listed = subst (λ (k : ℕ). Listed f e lent w.count k list) p a.listed;
+            held = λ u q. (omega (arith, (a.held u q).0), further u q);
+          }
+      split None o =
+          let l = a.listed in
+          let p : open_from w t ≡ t = ap (λ (b : Option ℕ). unwrap_or b t) o in
+          let q : open_from w m ≡ m = ap (λ (b : Option ℕ). unwrap_or b m) o in
+          let n : inside w ≡ false = ap (λ (b : Option ℕ). is_some b) o in
+          record {
+            listed = record {
+              done = l.done;
+              all = l.all ∙ ap (λ (k : ℕ). l.done ++ maximal k e f) p
+                  ∙ ap (λ (rest : List Interval). l.done ++ rest)
+                  (maximal_skip t m e f (omega arith) (λ u x y. steady u x y ∙ sym a.answer ∙ n))
+                  ∙ ap (λ (k : ℕ). l.done ++ maximal k e f) (sym q);
+              count_is = l.count_is;
+              list_is = l.list_is;
+            };
+            held = λ u z. cc;
+          }
 
   -- ---- a window
 
@@ -200,18 +216,18 @@ module _ (f : ℕ → Bool) (e : ℕ) (lent : List ℕ) where
 
   -- behind the end, where an interval was open that is now done, or none was
   module _ (w : Track) (list : List ℕ) (r : ScannedTo f e lent (suc e) w list) where
-    pub complete_open : w.inside ≡ true → (list' : List ℕ) → list' ≡ with_pair w.count w.from e list →
+    pub complete_open : (from : ℕ) → w.began ≡ Some from → (list' : List ℕ) → list' ≡ with_pair w.count from e list →
         (w.count + 1 ≡ length (maximal 0 e f)) × (list' ≡ filled (maximal 0 e f) lent)
-    complete_open o list' k =
+    complete_open from o list' k =
         let m : e ≡ suc e - 1 = omega arith in
         complete (w.count + 1) list'
         (subst (λ (n : ℕ). Listed f e lent n (suc e) list') (sym (add-one w.count))
-        (closes (suc e) w list r o (omega arith) (λ z. absurd (omega arith)) list'
-        (k ∙ ap (λ (u : ℕ). with_pair w.count w.from u list) m)))
+        (closes (suc e) w list r from o (omega arith) (λ z. absurd (omega arith)) list'
+        (k ∙ ap (λ (u : ℕ). with_pair w.count from u list) m)))
 
-    pub complete_none : w.inside ≡ false →
+    pub complete_none : w.began ≡ None →
         (w.count ≡ length (maximal 0 e f)) × (list ≡ filled (maximal 0 e f) lent)
     complete_none o =
         complete w.count list
-        (subst (λ (k : ℕ). Listed f e lent w.count k list) (ap (λ (b : Bool). pick b w.from (suc e)) o)
+        (subst (λ (k : ℕ). Listed f e lent w.count k list) (ap (λ (b : Option ℕ). unwrap_or b (suc e)) o)
         r.listed)

@@ -1,6 +1,7 @@
 -- The maximal intervals where a test holds, written down from left to right: what is counted, and in the
 -- list, when an instant is reached (`ScannedTo`), and when it has been asked there (`AskedAt`).
-use Rattle.std.specs.Prelude.{◌≡◌, ℕ, suc, ◌-◌, ◌≤◌, ◌<◌, Bool, true, List, ◌++◌, ltb, length, get_or}
+use Rattle.std.specs.Prelude.{◌≡◌, ℕ, suc, ◌-◌, ◌≤◌, ◌<◌, Bool, true, List, ◌++◌, ltb, length, get_or, Some}
+use Rattle.std.specs.Option.{is_some, unwrap_or}
 use Rattle.foundation.specs.Tests.{pick}
 use Rattle.foundation.specs.BitMasks.{bit}
 use Rattle.foundation.specs.declared.Interval.{Interval}
@@ -21,6 +22,14 @@ pub record Answered (f : ℕ → Bool) (e n : ℕ) (ms : List ℕ) (m yes : ℕ)
   pub behind : get_or ms (n - 1) 0 < m
   pub within : m ≤ suc e
 
+-- the instants are inside an interval
+abbrev pub inside : Track → Bool
+inside w = is_some w.began
+
+-- where it began, or t
+abbrev pub open_from : Track → ℕ → ℕ
+open_from w t = unwrap_or w.began t
+
 -- `lent` is the list as it was lent
 module _ (f : ℕ → Bool) (e : ℕ) (lent : List ℕ) where
   -- `count` intervals are done, as many of them in the list as it has room for, and the others begin at
@@ -37,11 +46,11 @@ module _ (f : ℕ → Bool) (e : ℕ) (lent : List ℕ) where
 
   -- the instant t is reached: an interval is open that began before t, or none is
   pub record ScannedTo (t : ℕ) (w : Track) (list : List ℕ) : Type 0 where
-    pub listed : Listed w.count (pick w.inside w.from t) list
-    pub held : w.inside ≡ true → (w.from < t) × Holding w.from t
+    pub listed : Listed w.count (open_from w t) list
+    pub held : (from : ℕ) → w.began ≡ Some from → (from < t) × Holding from t
 
   -- and f has been asked there
   pub record AskedAt (t : ℕ) (w : Track) (list : List ℕ) : Type 0 where
-    pub listed : Listed w.count (pick w.inside w.from t) list
-    pub held : w.inside ≡ true → (w.from ≤ t) × Holding w.from t
-    pub answer : w.inside ≡ f t
+    pub listed : Listed w.count (open_from w t) list
+    pub held : (from : ℕ) → w.began ≡ Some from → (from ≤ t) × Holding from t
+    pub answer : inside w ≡ f t

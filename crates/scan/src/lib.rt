@@ -5,11 +5,10 @@ mod runs;
 
 pub use runs::{finish_runs, note, note_word};
 
-// What is known of the intervals while they are written down: how many are done, whether the instants are
-// inside one, and where that began.
+// What is known of the intervals while they are written down: how many are done, and where the one began
+// that the instants are inside of.
 #[derive(Clone, Copy)]
 pub struct Track {
     pub count: usize,
-    pub inside: bool,
-    pub from: u32,
+    pub began: Option<u32>,
 }

@@ -24,8 +24,9 @@ fn select(body: &[u8], n: usize, needed: u64, few: &mut [u8; 64 * RULE_BYTES]) -
     let mut k = 0;
     let mut r = next_bit(needed, 0);
     while r < 64 {
-        let at = (r as usize) * RULE_BYTES;
-        fields::copy(few, k * RULE_BYTES, &body[at..], RULE_BYTES);
+        let rule = &body[(r as usize) * RULE_BYTES..];
+        let at = k * RULE_BYTES;
+        few[at..at + RULE_BYTES].copy_from_slice(&rule[..RULE_BYTES]);
         k += 1;
         r = next_bit(needed, r + 1);
     }

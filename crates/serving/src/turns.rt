@@ -9,7 +9,7 @@ ghost use Rattle.serving.specs.LineTurns.{Turned};
 ghost use Rattle.serving.specs.Replies.{PrintedLine};
 
 use model::{Access, Question, Reply, Request};
-use reading::{Asked, Parsed};
+use reading::Asked;
 
 // Prints a reply and a newline at the front of `out`; how many bytes that is.
 fn put_reply_line(out: &mut [u8], r: Reply, list: &[u32]) -> usize
@@ -68,7 +68,7 @@ pub fn serve_line(s: &mut [u8], line: &[u8], out: &mut [u8]) -> usize
     ensures { Turned s.old line.now result out.new s.new
         × (length out.new ≡ length out.old) }
 {
-    let Parsed::Line(a) = reading::read_line(line) else {
+    let Some(a) = reading::read_line(line) else {
         return put_short_line(out, Reply::Refused(1));
     };
     match a {

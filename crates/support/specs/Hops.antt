@@ -1,17 +1,12 @@
 -- That each authorization is supported at each of its instants (01, "Support"), and the one step of it that
 -- the code asks.
-use Rattle.std.specs.Prelude.{ℕ, Bool, List}
+use Rattle.std.specs.Prelude.{Bool, List}
 use Rattle.foundation.specs.Lists.{allb}
 use Rattle.foundation.specs.Intervals.{always}
 use Rattle.model.specs.declared.Head.{Head}
 use Rattle.model.specs.declared.Authorization.{Authorization}
-use Rattle.model.specs.Support.{root_in, supported, live}
+use Rattle.model.specs.Support.{supported, live}
 use Rattle.model.specs.Support.{hop}
-use Rattle.encoding.specs.Format.{privileges_in}
-
--- who owns or administers, by n privileges and m
-abbrev pub roots_in : ℕ → List ℕ → ℕ → List ℕ → Head → Bool
-roots_in n owners m administrators = root_in (privileges_in n owners) (privileges_in m administrators)
 
 -- each is supported at each of its instants
 abbrev pub each_supported : (Head → Bool) → List Authorization → Bool

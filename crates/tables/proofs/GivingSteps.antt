@@ -2,7 +2,7 @@
 -- a sign. And the tables that are there have the place (`reaches`).
 use mathlib.Core.Path.{◌≡◌, refl, sym, ap, ◌∙◌}
 use mathlib.Core.Bool.{Bool, true, false, ◌&&◌, ◌||◌, true≢false, false≢true}
-use mathlib.Core.List.{List}
+use mathlib.Core.List.{List, [], ◌∷◌, ◌++◌}
 use Prim.Native.Nat.{ℕ, zero, suc, ◌+◌, ◌*◌, ◌^◌, ◌≤◌, ◌<◌}
 use native.Mathlib.Nat.{mul-lt-mul_of_pos_right}
 use native.Mathlib.Omega.{arith}
@@ -10,11 +10,14 @@ use lib.Bits.{bit_or, or_zero_r}
 use lib.Dec.{eqb, ltb}
 use lib.ListN.{length}
 use lib.Pow.{pow_pos}
-use Rattle.foundation.specs.Tests.{pick, cases, agree, eq_true, true_eq, ne_false, false_eq, le-true, true-le}
-use Rattle.foundation.specs.Tests.{false-le, and-true, and_intro, and-false, or_cases, or_false}
-use Rattle.foundation.specs.Tests.{or_intro_left, or_true_right, and_three}
-use Rattle.foundation.specs.BitMasks.{bit, bit-inside}
+use Rattle.foundation.specs.Tests.{pick, cases, eq_true, true_eq, ne_false, true-le}
+use Rattle.foundation.specs.Tests.{and-true, and_intro, or_false}
+use Rattle.foundation.specs.Tests.{and_three}
+use Rattle.foundation.specs.BitMasks.{bit}
+use Rattle.std.proofs.lemmas.Bool.Decides.{nat_tests}
 use Rattle.words.specs.Fields.{starts, field_of, joined}
+use Rattle.words.specs.SetBits.{set_bits, among}
+use Rattle.words.proofs.SetBitLoops.{Turn, among_more, among_all}
 use Rattle.places.specs.declared.Point.{Point}
 use Rattle.places.specs.Regions.{size_of, index_in, Within, In}
 use Rattle.tables.specs.declared.Frame.{Frame}
@@ -161,67 +164,44 @@ module _ (f : Frame) (right first : List ℕ) (laid : TablesLaid (tables_of f ri
 
 -- ---- the tables of rules, one after the other
 
--- those of the rules of a mask below the c-th
-abbrev pub taken_below : ℕ → ℕ → ℕ → Bool
-taken_below takers c zero = false
-taken_below takers c (suc zero) = false
-taken_below takers c (suc (suc d)) = bit d takers && ltb d c
+-- those of the rules in a list
+abbrev pub taken_by : List ℕ → ℕ → Bool
+taken_by rules zero = false
+taken_by rules (suc zero) = false
+taken_by rules (suc (suc d)) = among d rules
 
-pub below_none : (takers c : ℕ) → ((i : ℕ) → 0 ≤ i → i < c → bit i takers ≡ false) → (d : ℕ) →
-    taken_below takers c d ≡ false
-below_none takers c z zero = refl
-below_none takers c z (suc zero) = refl
-below_none takers c z (suc (suc d)) = cases (ltb d c)
-    (λ e. rw (z d (omega arith) (true-le (suc d) c e)))
-    (λ e. rw e (and-false (bit d takers)))
+pub taken_none : (d : ℕ) → taken_by [] d ≡ false
+taken_none zero = refl
+taken_none (suc zero) = refl
+taken_none (suc (suc d)) = refl
 
-pub below-once : (takers c d : ℕ) → taken_below takers c d ≡ true → rule_table c d ≡ false
-below-once takers c zero e = absurd (false≢true e)
-below-once takers c (suc zero) e = absurd (false≢true e)
-below-once takers c (suc (suc d)) e =
-    let l = true-le (suc d) c (and-true (bit d takers) (ltb d c) e).1 in
+pub taken_once : {takers c : ℕ} {rules : List ℕ} → Turn takers rules c → (d : ℕ) →
+    taken_by rules d ≡ true → rule_table c d ≡ false
+taken_once t zero e = absurd (false≢true e)
+taken_once t (suc zero) e = absurd (false≢true e)
+taken_once {takers} {c} t (suc (suc d)) e =
+    let l = true-le (suc d) c (and-true (ltb d c) (bit d takers) (sym (t.seen d) ∙ e)).0 in
     ne_false (suc (suc d)) (suc (suc c)) (λ q. omega arith)
 
--- up to the next rule of the mask
-pub below_step : (takers c k : ℕ) → bit c takers ≡ true → c < k →
-    ((i : ℕ) → suc c ≤ i → i < k → bit i takers ≡ false) → (d : ℕ) →
-    taken_below takers c d || rule_table c d ≡ taken_below takers k d
-below_step takers c k b h z zero = ne_false 0 (suc (suc c)) (λ q. omega arith)
-below_step takers c k b h z (suc zero) = ne_false 1 (suc (suc c)) (λ q. omega arith)
-below_step takers c k b h z (suc (suc d)) = agree (bit d takers && ltb d c || eqb (suc (suc d)) (suc (suc c)))
-    (bit d takers && ltb d k)
-    (λ e. or_cases (bit d takers && ltb d c) (eqb (suc (suc d)) (suc (suc c))) e
-    (λ w. let v = and-true (bit d takers) (ltb d c) w in
-    and_intro (bit d takers) (ltb d k) v.0
-    (le-true (suc d) k (omega (arith, true-le (suc d) c v.1))))
-    (λ w. let q = true_eq (suc (suc d)) (suc (suc c)) w in
-    let r : d ≡ c = omega arith in
-    and_intro (bit d takers) (ltb d k) (rw r b) (le-true (suc d) k (omega arith))))
-    (λ e. let v = and-true (bit d takers) (ltb d k) e in
-    let l = true-le (suc d) k v.1 in
-    cases (ltb d c)
-    (λ w. or_intro_left (bit d takers && ltb d c) (eqb (suc (suc d)) (suc (suc c)))
-    (and_intro (bit d takers) (ltb d c) v.0 w))
-    (λ w. or_true_right (bit d takers && ltb d c) (eqb (suc (suc d)) (suc (suc c)))
-    (eq_true (suc (suc d)) (suc (suc c)) (last d l v.0 (false-le (suc d) c w)))))
+pub taken_more : (c : ℕ) (rules : List ℕ) (d : ℕ) →
+    taken_by rules d || rule_table c d ≡ taken_by (rules ++ c ∷ []) d
+taken_more c rules zero = ne_false 0 (suc (suc c)) (λ q. omega arith)
+taken_more c rules (suc zero) = ne_false 1 (suc (suc c)) (λ q. omega arith)
+taken_more c rules (suc (suc d)) = ap (λ (b : Bool). among d rules || b) same ∙ sym (among_more d c rules)
   where
-    last : (d : ℕ) → d < k → bit d takers ≡ true → c < suc d → suc (suc d) ≡ suc (suc c)
-    last d l t g = cases (eqb d c)
-        (λ y. let q = true_eq d c y in omega arith)
-        (λ y. let q = false_eq d c y in absurd (true≢false (sym t ∙ z d (omega arith) l)))
+    same : eqb (suc (suc d)) (suc (suc c)) ≡ eqb d c
+    same = grind (arith, nat_tests)
 
-pub plain-once : (sign takers c : ℕ) → sign < 2 → (d : ℕ) → eqb d sign ≡ true → taken_below takers c d ≡ false
-plain-once sign takers c h zero e = refl
-plain-once sign takers c h (suc zero) e = refl
-plain-once sign takers c h (suc (suc d)) e = absurd (omega (arith, true_eq (suc (suc d)) sign e))
+pub plain_once : (sign : ℕ) (rules : List ℕ) → sign < 2 → (d : ℕ) → eqb d sign ≡ true → taken_by rules d ≡ false
+plain_once sign rules h zero e = refl
+plain_once sign rules h (suc zero) e = refl
+plain_once sign rules h (suc (suc d)) e = absurd (omega (arith, true_eq (suc (suc d)) sign e))
 
 -- at the end all are given that take
-pub below_all : (sign takers : ℕ) → sign < 2 → takers < 2 ^ 64 → (d : ℕ) →
-    eqb d sign || taken_below takers 64 d ≡ table_takes sign takers d
-below_all sign takers h s zero = or_false (eqb 0 sign)
-below_all sign takers h s (suc zero) = or_false (eqb 1 sign)
-below_all sign takers h s (suc (suc d)) =
+pub taken_all : (sign takers : ℕ) (rules : List ℕ) → sign < 2 → takers < 2 ^ 64 → rules ≡ set_bits takers → (d : ℕ) →
+    eqb d sign || taken_by rules d ≡ table_takes sign takers d
+taken_all sign takers rules h s a zero = or_false (eqb 0 sign)
+taken_all sign takers rules h s a (suc zero) = or_false (eqb 1 sign)
+taken_all sign takers rules h s a (suc (suc d)) =
     let n : eqb (suc (suc d)) sign ≡ false = ne_false (suc (suc d)) sign (λ q. omega arith) in
-    rw n (agree (bit d takers && ltb d 64) (bit d takers)
-    (λ e. (and-true (bit d takers) (ltb d 64) e).0)
-    (λ e. and_intro (bit d takers) (ltb d 64) e (le-true (suc d) 64 (bit-inside 64 takers d s e))))
+    rw n (among_all d takers rules s a)

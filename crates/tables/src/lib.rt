@@ -15,7 +15,7 @@ ghost use Rattle.tables.specs.TableGiving.{rule_table};
 ghost use Rattle.tables.specs.TableGiving.{table_takes};
 
 use places::{Grid, Point, Region};
-use words::{field_at, join_at, next_bit};
+use words::{field_at, join_at, ones};
 
 // The grid, the width of fields (2^width bits), how many fields there are, the rules that look at the table
 // of a rule, those that have a table, and whether these tables have all places.
@@ -103,12 +103,10 @@ pub fn lay_out(codes: &[u8], rules: u64, g: Grid, from: u32, first: &mut [u64]) 
         × (length first.new ≡ length first.old) }
 {
     let mut n = from;
-    let mut r = next_bit(rules, 0);
-    while r < 64 {
+    for r in ones(rules) {
         let i = r as usize;
         first[i] = n as u64;
         n = n + places::size_of(g, region_at(codes, i));
-        r = next_bit(rules, r + 1);
     }
     n
 }
@@ -202,10 +200,8 @@ pub fn give(
     let g = f.grid;
     let b = all_places();
     let mut fresh = join_in(words, f, sign * denials_start(g), b, p, v);
-    let mut c = next_bit(takers, 0);
-    while c < 64 {
+    for c in ones(takers) {
         fresh = fresh | give_rule(words, right, first, f, p, c, v);
-        c = next_bit(takers, c + 1);
     }
     fresh
 }

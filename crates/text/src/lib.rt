@@ -11,7 +11,7 @@ ghost use Rattle.printing.specs.Print.{Short};
 ghost use Rattle.text.specs.Writing.{Wrote, written_text, answer_to};
 
 use model::{Access, Question, Reply, Request};
-use reading::{Asked, Parsed};
+use reading::Asked;
 
 // 0 or the refusal's number, and how many bytes were written.
 #[derive(Clone, Copy)]
@@ -92,7 +92,7 @@ pub fn text(base: &mut [u8], line: &[u8], out: &mut [u8]) -> TextReply
             count: 0,
         };
     }
-    let Parsed::Line(a) = reading::read_line(line) else {
+    let Some(a) = reading::read_line(line) else {
         return put_short(out, Reply::Refused(1));
     };
     if !soundness::is_sound(base) {

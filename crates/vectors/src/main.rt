@@ -13,7 +13,6 @@ ghost use Rattle.model.specs.Text.{lines};
 ghost use Rattle.vectors.specs.Transcripts.{fresh, agrees};
 
 use checks::check;
-use fields::as_bit;
 use messages::{put_number, put_text, say, say_stands, say_wrong};
 use model::REPLY_BYTES;
 use std::env::{Env, FillError};
@@ -116,7 +115,7 @@ fn main(rt: HostRuntime) {
     let mut good = 0;
     let mut i = 1;
     while i < end {
-        good += as_bit(check_file(&rt, &mut output, i)) as usize;
+        good += usize::from(check_file(&rt, &mut output, i));
         i += 1;
     }
     put_number(&mut output, good);

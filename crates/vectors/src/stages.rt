@@ -28,7 +28,7 @@ fn tells_owed(line: &[u8], owed: &[u8]) -> bool
     }
     let last = owed.len() - 1;
     let from = 2;
-    fields::same(&line[from..], &owed[..last]) & (owed[last] == 10)
+    (line[from..] == owed[..last]) & (owed[last] == 10)
 }
 
 // Whether a line stands where a reply is owed, or none.

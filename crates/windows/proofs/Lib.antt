@@ -1,3 +1,2 @@
--- `Halves` has the search for the first instant that is not below another; `Spans` an interval as a word.
-pub mod Halves
+-- `Spans` has an interval as a word.
 pub mod Spans

@@ -14,7 +14,6 @@ ghost use Rattle.withdrawal.specs.RoundTurns.{piece_of, leading, in_of, by_of, T
 ghost use Rattle.withdrawal.specs.WithdrawalRounds.{stayers};
 
 use crate::RoundStep;
-use fields::lesser;
 use model::{AUTHORIZATION_BYTES, Authorization};
 use pieces::{Cut, Put, put_pieces, taken_stretch};
 
@@ -147,7 +146,7 @@ fn pull(t: u64, g: u64, top: u64, d: u64) -> u64
     ensures { result ≡ pull_of t g top d }
 {
     if (t <= g) & (g < top) {
-        return lesser(d, g + 1);
+        return d.min(g + 1);
     }
     d
 }

@@ -4,5 +4,11 @@
 pub mod FieldLaws
 pub mod OnesFacts
 pub mod LowestBit
+pub mod HighestBit
+pub mod PartBits
 pub mod CutBit
 pub mod SumFacts
+pub mod RangeBits
+pub mod SetBitFacts
+pub mod SetBitLoops
+pub mod SetBitChains

@@ -1,18 +1,15 @@
-use mathlib.Core.Path.{ap, ◌∙◌}
-use mathlib.Core.List.{List}
-use Prim.Native.Nat.{ℕ, ◌-◌}
-use lib.ListN.{length, take}
+use Rattle.std.proofs.Common.{◌≡◌, ap, ◌∙◌, List, ℕ, ◌-◌, length, arith}
 use Rattle.fields.specs.Field.{splice}
+use Rattle.fields.proofs.ByteLaws.{part-put}
 use Rattle.columns.proofs.RowFilling.{right}
 use Rattle.columns.proofs.put_right.Goals as goal
 
 pub returns : goal.returns
 returns c =
-    let copied = c in
-    let filled = copied in
-    let start = filled in
-    let w = length start.args.column.now in
-    let text = start.args.text.now in
-    copied.copy.ensures
-    ∙ ap (λ (s : List ℕ). splice (w - length text) (take (length text) text) s) filled.fill_bytes.ensures
-    ∙ right w text start.requires
+    let w = length c.args.column.now in
+    let text = c.args.text.now in
+    let n = w - length text in
+    part-put n (length c.fill.new.self) c.fill.new.self c.copy_from_slice.ensures.after
+    (omega (arith, c.requires, c.fill.ensures.len))
+    ∙ ap (splice n text) (c.fill.ensures.after (λ y e. e))
+    ∙ right w text c.requires

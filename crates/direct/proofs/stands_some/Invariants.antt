@@ -1,4 +1,3 @@
-use Prim.Native.Nat.{◌-◌}
 use Rattle.model.specs.Encoding.{rule_of, decode}
 use Rattle.model.specs.Rules.{stands_for}
 use Rattle.foundation.specs.RecordLoops.{AnyFrom}
@@ -6,6 +5,3 @@ use Rattle.direct.proofs.stands_some.Given as goal
 
 abbrev pub invariant-loop-i : goal.invariant-loop-i
 invariant-loop-i l = AnyFrom 28 rule_of (λ q. stands_for (decode l.s) q l.x) l.n l.body l.i
-
-abbrev pub decreases-loop-i : goal.decreases-loop-i
-decreases-loop-i l = l.n - l.i

@@ -1,5 +1,5 @@
 use native.Mathlib.Omega.{arith}
-use mathlib.Core.Path.{◌≡◌, refl, ◌∙◌}
+use mathlib.Core.Path.{◌≡◌}
 use Prim.Native.Nat.{◌-◌}
 use lib.ListN.{length, take, drop}
 use Rattle.foundation.specs.Lists.{lent_rest}
@@ -11,7 +11,7 @@ use Rattle.facts.proofs.give_lines.Goals as goal
 pub loop-i-init : goal.loop-i-init
 loop-i-init c =
     let a = c.args in
-    (omega arith, picked-start a.records.now a.which.now, refl)
+    picked-start a.records.now a.which.now
 
 pub bounds-which-i : goal.bounds-which-i
 bounds-which-i c =
@@ -37,8 +37,8 @@ give_line-requires c =
     let l = b.loop-i in
     let s = b in
     let q = lent_rest s.args.w.offset s.args.records.now in (
-      rw (l.invariant.2, q) s.requires.0.usable,
-      rw (r.ensures, q) (s.requires.0.places l.i (omega arith)),
+      rw (l.auto.words, q) s.requires.0.usable,
+      rw (r.ensures, c.from-at.ensures, q) (s.requires.0.places l.i (omega arith)),
       s.requires.2,
       s.requires.3,
     )
@@ -51,12 +51,9 @@ loop-i-preserved c =
     let b = g in
     let l = b.loop-i in
     let s = b in
-    let a = s.args in (
-      omega arith,
-      picked-turn a.records.now a.which.now l.i r.result
-          (omega (arith, t, s.requires.0.picks.room)) r.ensures l.invariant.1 g.give_line.ensures,
-      g.give_line.ensures.given.lengths ∙ l.invariant.2,
-    )
+    let a = s.args in
+    picked-turn a.records.now a.which.now l.i r.result
+    (omega (arith, t, s.requires.0.picks.room)) (rw c.from-at.ensures at r.ensures) l.invariant g.give_line.ensures
 
 pub returns : goal.returns
 returns c =
@@ -64,9 +61,9 @@ returns c =
     let a = c.args in
     let w = a.w in
     let records = a.records.now in
-    let z : l.i ≡ w.chosen.authorizations = omega (arith, l.invariant.0) in
+    let z : l.i ≡ w.chosen.authorizations = omega arith in
     let r : LineSteps (setting_in (take (length records - w.offset) (drop w.offset records)) w
     a.outline.now a.coordinates.now a.number.now a.marks.now)
     (picked records a.which.now w.chosen.authorizations) a.words.now l.words =
-    rw (← z) l.invariant.1 in
-    (rw (lent_rest w.offset records) at r, l.invariant.2)
+    rw (← z) l.invariant in
+    (rw (lent_rest w.offset records) at r, l.auto.words)

@@ -1,15 +1,7 @@
-use mathlib.Core.Path.{◌≡◌}
-use Prim.Native.Nat.{◌-◌, ◌≤◌}
-use lib.ListN.{length}
 use Rattle.relevance.specs.Chosen.{picked}
 use Rattle.facts.specs.Facts.{setting_in, LineSteps}
 use Rattle.facts.proofs.give_lines.Given as goal
 
 abbrev pub invariant-loop-i : goal.invariant-loop-i
 invariant-loop-i l =
-    (l.i ≤ l.n)
-    × LineSteps (setting_in l.body l.w l.outline l.coordinates l.number l.marks) (picked l.records l.which l.i) l.initial.words l.words
-    × (length l.words ≡ length l.initial.words)
-
-abbrev pub decreases-loop-i : goal.decreases-loop-i
-decreases-loop-i l = l.n - l.i
+    LineSteps (setting_in l.body l.w l.outline l.coordinates l.number l.marks) (picked l.records l.which l.i) l.initial.words l.words

@@ -33,7 +33,7 @@ returns c =
     let e = c in
     let a = e.args in
     let i = c.pair_index-j.ensures in
-    rw i (ap (λ (r : Cell). record {
+    rw (c.from.ensures, c.from-2.ensures, i) (ap (λ (r : Cell). record {
       pair = get_or a.number.now (pair_index a.g.subjects r.object r.subject) 0;
       point = record { subject = r.subject; mode = a.h.mode - 1; object = r.object };
     }) e.cell_of-c.ensures.0)

@@ -25,5 +25,5 @@ returns-then-modes-below c =
     sym (masked a.modes a.m h) ∙ c.if-modes-below.true ∙ ap (λ (x : ℕ). x - 1) (shifted a.m h) in
     sym (ap ones all ∙ ones-ones a.m)
 
-pub returns : goal.returns
-returns c = ap ones (masked c.args.modes c.args.m c.requires)
+pub returns-else-modes-below : goal.returns-else-modes-below
+returns-else-modes-below c = ap ones (masked c.args.modes c.args.m c.requires)

@@ -1,16 +1,10 @@
-use mathlib.Core.Path.{refl, ◌∙◌, ap}
-use mathlib.Core.List.{List}
-use Prim.Native.Nat.{ℕ}
-use lib.Seq.{take-length}
-use Rattle.fields.specs.Field.{splice}
+use Rattle.std.proofs.Common.{refl, ◌+◌, length}
+use Rattle.fields.proofs.ByteLaws.{part-put}
 use Rattle.printing.proofs.put_bytes.Goals as goal
 
 pub returns : goal.returns
 returns c =
-    let c₁ = c in
-    let a = c₁.args in
-    record {
+    let a = c.args in record {
       ends = refl;
-      bytes = c₁.copy.ensures
-          ∙ ap (λ (t : List ℕ). splice a.at t a.out.now) (take-length a.text.now);
+      bytes = part-put a.at (a.at + length a.text.now) a.out.now c.copy_from_slice.ensures.after refl;
     }

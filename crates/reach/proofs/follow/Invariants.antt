@@ -1,7 +1,6 @@
-use borrow.Author.Rules.{rules}
 use mathlib.Core.Path.{◌≡◌}
 use mathlib.Core.Bool.{Bool, true}
-use Prim.Native.Nat.{ℕ, ◌-◌, ◌≤◌, ◌<◌}
+use Prim.Native.Nat.{ℕ, ◌<◌}
 use Rattle.foundation.specs.BitMasks.{bit}
 use Rattle.reach.specs.Net.{right_pair}
 use Rattle.reach.specs.Reach.{Grown, KeepsWithin}
@@ -10,12 +9,8 @@ use Rattle.reach.proofs.follow.Given as goal
 
 abbrev pub invariant-loop-r : goal.invariant-loop-r
 invariant-loop-r l =
-    (l.r ≤ 64) × Grown l.initial.need l.initial.todo l.need l.todo
-    × RightsNeeded l.right l.rules l.at.subjects l.at.object l.at.subject l.at.mode l.r l.need
-    × (l.r < 64 → bit l.r l.rules ≡ true)
+    Grown l.initial.need l.initial.todo l.need l.todo
+    × RightsNeeded l.net.right.now l.net.subjects l.at.object l.at.subject l.at.mode l.yielded l.need
     × ((P : ℕ → Bool) → ((q : ℕ) → q < 64 → bit q l.rules ≡ true →
-    P (right_pair l.right l.at.subjects q l.at.object l.at.subject) ≡ true) → KeepsWithin P l.initial.need l.initial.todo l.need
+    P (right_pair l.net.right.now l.net.subjects q l.at.object l.at.subject) ≡ true) → KeepsWithin P l.initial.need l.initial.todo l.need
     l.todo)
-
-abbrev pub decreases-loop-r : goal.decreases-loop-r
-decreases-loop-r l = 64 - l.r

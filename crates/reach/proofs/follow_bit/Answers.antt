@@ -1,9 +1,9 @@
-use borrow.Author.Rules.{rules}
 use native.Mathlib.Omega.{arith}
 use mathlib.Core.Path.{sym, ap, ◌∙◌}
 use Prim.Native.Nat.{◌%◌, ◌<◌}
 use lib.ListN.{length}
 use Rattle.foundation.specs.BitMasks.{bit}
+use Rattle.reach.specs.Net.{net_of}
 use Rattle.reach.proofs.RightPairs.{object-below, subject-below, led}
 use Rattle.reach.proofs.Growth.{step-law}
 use Rattle.reach.proofs.follow_bit.Goals as goal
@@ -18,10 +18,9 @@ stand-requires c =
     let e = c.pair_of_index-p.ensures in
     let f = p.0 in
     let n = length a.need.now in (
-      omega (arith, e.0, object-below a.right.now a.subjects n a.pair f p.2, f.few),
-      omega (arith, e.1, subject-below a.right.now a.subjects n a.pair f p.2, f.low),
+      omega (arith, e.0, object-below a.net.now.right.now a.net.now.subjects n a.pair f p.2, f.few),
+      omega (arith, e.1, subject-below a.net.now.right.now a.net.now.subjects n a.pair f p.2, f.low),
       c.lowest-k.ensures.0,
-      p.4,
     )
 
 pub follow-requires : goal.follow-requires
@@ -32,9 +31,8 @@ follow-requires c =
     let e = c.pair_of_index-p.ensures in
     let m : k % 8 < 8 = omega arith in (
       p.1,
-      λ r l. rw (e.0, e.1) (led a.right.now a.subjects (length a.need.now) a.pair p.0
+      λ r l. rw (e.0, e.1) (led a.net.now.right.now a.net.now.subjects (length a.need.now) a.pair p.0
           p.2 (k % 8) r m l),
-      p.5,
     )
 
 pub bounds-todo-pair-2 : goal.bounds-todo-pair-2
@@ -67,7 +65,7 @@ returns c =
     let s = rw (e.0, e.1) at h.stand.ensures in
     let led = rw (e.0, e.1) at f.ensures.1 in
     let keeps = rw (e.0, e.1) at f.ensures.2 in
-    step-law (record { left = a.left.now; right = a.right.now; subjects = a.subjects })
+    step-law (net_of a.net.now)
     a.need.now a.todo.now f.new.need f.new.todo a.pair k.result
     c.without_bit.result g (omega (arith, g.todos, p.1, p.2))
     (λ r l o. led r l (ap (bit r) s ∙ o))

@@ -1,8 +1,11 @@
 use native.Mathlib.Omega.{arith}
-use Rattle.reach.proofs.RightPairs.{low_bit}
+use borrow.Author.Numbers.{trailing_lt}
+use Prim.Native.Nat.{◌<◌}
+use lib.Count.{count_trailing_zeros}
+use Rattle.words.proofs.FieldLaws.{lowest_set}
 use Rattle.reach.proofs.lowest.Goals as goal
 
 pub returns : goal.returns
-returns c = let e = c.next_bit.ensures in
-    low_bit c.args.x c.next_bit.result c.requires (omega arith) (λ i l. e.2 i (omega
-    arith) l) e.3
+returns c =
+    let l : count_trailing_zeros 16 c.args.x < 16 = trailing_lt 16 c.args.x c.requires (omega arith) in
+    (l, lowest_set 16 c.args.x l)

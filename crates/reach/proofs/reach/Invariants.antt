@@ -1,7 +1,7 @@
 use mathlib.Core.Path.{◌≡◌}
 use mathlib.Core.Bool.{true}
-use Prim.Native.Nat.{ℕ, ◌≤◌, ◌<◌}
-use lib.ListN.{length, get_or}
+use Prim.Native.Nat.{ℕ, ◌≤◌}
+use lib.ListN.{length}
 use Rattle.foundation.specs.BitMasks.{bit}
 use Rattle.reach.specs.Net.{has, ClosedBut, Only}
 use Rattle.reach.specs.Reach.{remaining}
@@ -11,8 +11,7 @@ abbrev pub invariant-loop-j : goal.invariant-loop-j
 invariant-loop-j l =
     ClosedBut (record { left = l.left; right = l.right; subjects = l.subjects }) l.need l.todo
     × ((b : ℕ) → bit b l.bits ≡ true → has l.need l.pair b ≡ true)
-    × (l.j < length l.todo → 0 < get_or l.todo l.j 0)
-    × (length l.todo ≤ l.j → (i : ℕ) → i < length l.todo → get_or l.todo i 0 ≡ 0)
+    × (l.from ≤ length l.todo)
     × (length l.need ≡ length l.initial.need) × (length l.todo ≡ length l.initial.need)
     × Only (record { left = l.left; right = l.right; subjects = l.subjects }) l.pair l.need
     × Only (record { left = l.left; right = l.right; subjects = l.subjects }) l.pair l.todo

@@ -1,8 +1,9 @@
 use borrow.Author.Rules.{rules}
-use mathlib.Core.Path.{◌≡◌, refl, ap, ◌∙◌}
+use mathlib.Core.Path.{◌≡◌, refl, sym, ap, ◌∙◌}
 use mathlib.Core.List.{List}
 use Prim.Native.Nat.{ℕ}
 use native.Mathlib.Omega.{arith}
+use lib.ListN.{length-replicate}
 use Rattle.model.specs.Base.{refers}
 use Rattle.model.specs.Encoding.{encode, decode}
 use Rattle.model.specs.Requests.{without}
@@ -12,32 +13,26 @@ use Rattle.model.specs.Effects.{with_administrators}
 use Rattle.edits.proofs.EditedBytes.{written-length}
 use Rattle.revocation.proofs.Revoking.{AuthorizationsLeft, carried_full, lines_left_lem, carried_done}
 use Rattle.revocation.proofs.Revoking.{replace_ready}
-use Rattle.revocation.proofs.Revoking.{replaced_holds, clocked, administrator_withdraws, copied}
+use Rattle.revocation.proofs.Revoking.{replaced_holds, clocked, administrator_withdraws}
 use Rattle.revocation.proofs.Revoking.{remove_ready, removed_holds, roots_objects}
 use Rattle.revocation.proofs.Revoking.{roots_administrators, dropped, administrator_done}
 use Rattle.revocation.proofs.revoke_administrator.Goals as goal
 
-pub copy-requires : goal.copy-requires
-copy-requires c =
-    (search rules, omega (arith, written-length _ (written-sound _ c.requires.0.sound)))
+pub copy_from_slice-requires : goal.copy_from_slice-requires
+copy_from_slice-requires c =
+    length-replicate {A = ℕ} 27936 0 ∙ sym (written-length _ (written-sound _ c.requires.0.sound))
 
 pub remove_administrator-requires : goal.remove_administrator-requires
 remove_administrator-requires c =
-    let copy_is : c.copy.new.s ≡ c.args.s.now =
-    c.copy.ensures
-    ∙ copied c.args.s.now _ 27936 (written-length _ (written-sound _ c.requires.0.sound)) (search rules) in
-    remove_ready c.args.s.now c.args.q c.requires.0 c.requires.1 _ (copy_is)
+    remove_ready c.args.s.now c.args.q c.requires.0 c.requires.1 _ c.copy_from_slice.ensures.after
 
 pub build_remaining-requires : goal.build_remaining-requires
 build_remaining-requires c =
-    let copy_is : c.copy.new.s ≡ c.args.s.now =
-    c.copy.ensures
-    ∙ copied c.args.s.now _ 27936 (written-length _ (written-sound _ c.requires.0.sound)) (search rules) in
     let copy-left : let a = c.args in let b = decode a.s.now in c.remove_administrator.new.s ≡ encode (with_administrators (without a.q.object a.q.subject b.administrators) b) =
     let q = c.args.q in
     c.remove_administrator.ensures
     ∙ ap (λ (l : List ℕ). encode (with_administrators
-    (without q.object q.subject (decode l).administrators) (decode l))) (copy_is) in
+    (without q.object q.subject (decode l).administrators) (decode l))) c.copy_from_slice.ensures.after in
     let s = c.args.s.now in
     let q = c.args.q in
     let e = copy-left in record {

@@ -27,8 +27,8 @@ returns-in_default c =
 pub returns-then-not-is_sound : goal.returns-then-not-is_sound
 returns-then-not-is_sound c =
     let a = c.args in
-    let q = c.in-Line.a in
-    answers-line a.base.now a.line.now a.out.now (asked_of q) (sym (ap line_of c.in-Line.is) ∙ c.read_line.ensures)
+    let q = c.in-Some.a in
+    answers-line a.base.now a.line.now a.out.now (asked_of q) (sym (ap line_of c.in-Some.is) ∙ c.read_line.ensures)
     (short-written a.base.now (asked_of q) a.out.now (omega arith) (omega arith)
     (unsound_turn a.base.now q (sym c.is_sound.ensures ∙ c.if-not-is_sound.true))
     c.put_short-then-not-is_sound.ensures)
@@ -37,19 +37,19 @@ pub returns-in-Order : goal.returns-in-Order
 returns-in-Order c =
     let a = c.args in
     answers-line a.base.now a.line.now a.out.now (order c.in-Order.q)
-    (sym (ap asked_of c.in-Order.is) ∙ sym (ap line_of c.in-Line.is) ∙ c.read_line.ensures) c.text_order.ensures
+    (sym (ap asked_of c.in-Order.is) ∙ sym (ap line_of c.in-Some.is) ∙ c.read_line.ensures) c.text_order.ensures
 
 pub returns-in-May : goal.returns-in-May
 returns-in-May c =
     let a = c.args in
     answers-line a.base.now a.line.now a.out.now (asks_may c.in-May.q)
-    (sym (ap asked_of c.in-May.is) ∙ sym (ap line_of c.in-Line.is) ∙ c.read_line.ensures) c.text_may.ensures
+    (sym (ap asked_of c.in-May.is) ∙ sym (ap line_of c.in-Some.is) ∙ c.read_line.ensures) c.text_may.ensures
 
 pub returns-in-When : goal.returns-in-When
 returns-in-When c =
     let a = c.args in
     answers-line a.base.now a.line.now a.out.now (asks_when c.in-When.x)
-    (sym (ap asked_of c.in-When.is) ∙ sym (ap line_of c.in-Line.is) ∙ c.read_line.ensures) c.text_when.ensures
+    (sym (ap asked_of c.in-When.is) ∙ sym (ap line_of c.in-Some.is) ∙ c.read_line.ensures) c.text_when.ensures
 
 pub text_order-requires : goal.text_order-requires
 text_order-requires c = (omega arith, sym c.is_sound.ensures ∙ c.if-not-is_sound.false)

@@ -15,7 +15,7 @@ use Rattle.relevance.proofs.PickedFacts.{marks_for_lem}
 use Rattle.relevance.specs.Ahead.{NearAt, Standing}
 use Rattle.relevance.specs.declared.ahead.Near.{Near}
 use Rattle.scan.specs.Runs.{ScannedTo}
-use Rattle.scan.proofs.RunFacts.{fewer, start, onward}
+use Rattle.scan.proofs.RunFacts.{fewer, start, onward, held_open}
 use Rattle.direct.specs.Among.{held_among}
 use Rattle.direct.proofs.Choosing.{few, among_ahead, among-onward, among-few}
 use Rattle.direct.proofs.intervals.walk_among.Goals as goal
@@ -38,7 +38,7 @@ pub loop-t-init : goal.loop-t-init
 loop-t-init c =
     let a = c.args in (
       omega arith,
-      start (held_among (picked a.lines.now a.which.now a.n)) 4294967295 a.list.now 0,
+      start (held_among (picked a.lines.now a.which.now a.n)) 4294967295 a.list.now,
       refl,
       c.nothing_near-near.ensures (picked a.lines.now a.which.now a.n)
           (selected 0 (rules_in 0 a.lines.now)) 0,
@@ -56,7 +56,7 @@ note-w-requires c =
     let r = l.invariant.1 in
     let f : ℕ → Bool = held_among (picked a.lines.now a.which.now a.n) in
     λ i y. (
-      omega (arith, (r.held i).0),
+      held_open f 4294967295 a.list.now l.t l.w l.list r i,
       omega (
         arith,
         fewer f 4294967295 a.list.now l.t l.w l.list r i (omega (arith, l.invariant.0))

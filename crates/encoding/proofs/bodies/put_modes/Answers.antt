@@ -1,11 +1,7 @@
-use native.Mathlib.Omega.{arith}
-use mathlib.Core.Path.{refl}
-use Rattle.fields.proofs.ByteLaws.{splice-then}
+use Rattle.std.proofs.Common.{refl, ◌+◌}
+use Rattle.fields.proofs.ByteLaws.{part-put}
 use Rattle.encoding.proofs.bodies.put_modes.Goals as goal
 
 pub returns : goal.returns
-returns c =
-    let a = c.args in
-    splice-then a.at 4 _ _ a.s.now (omega arith) refl
-    (rw (c.from.ensures, c.rule_flags-flags.ensures) at c.put4.ensures)
-    c.put16.ensures
+returns c = part-put c.args.at (c.args.at + 6) c.args.s.now
+    (rw (c.from.ensures, c.rule_flags-flags.ensures) at c.copy_from_slice.ensures.after) refl

@@ -27,7 +27,7 @@ returns c =
     let b : c₃.put_counts.new.s ≡ encode empty_base =
     c₃.put_counts.ensures
     ∙ ap (splice 12 (contents_of no_records)) c₂.put_mark.ensures
-    ∙ ap (λ (l : List ℕ). splice 12 (contents_of no_records) (splice 0 mark l)) c₁.clear_bytes.ensures
+    ∙ ap (λ (l : List ℕ). splice 12 (contents_of no_records) (splice 0 mark l)) (c₁.fill.ensures.after (λ y h. h))
     ∙ ap (λ (n : ℕ). splice 12 (contents_of no_records) (splice 0 mark (replicate n 0))) fits
     ∙ empty_bytes in
     (ap (λ (a : Answer). a.reply) e, b ∙ ap (λ (a : Answer). a.lent) e)

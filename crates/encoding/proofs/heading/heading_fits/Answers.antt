@@ -24,4 +24,4 @@ returns c =
     c₁.put_contents.ensures ∙ contents-alone n.result ∙ ap contents_of n.ensures in
     λ k.
     c.marked.ensures k && eqb (c.le16.ensures k) 0
-    && (c.same.ensures ∙ ap (eq_list (take 20 (drop 12 s))) w) k
+    && (c.eq.ensures ∙ ap (eq_list (take 20 (drop 12 s))) w) k

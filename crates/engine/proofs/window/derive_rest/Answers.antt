@@ -2,14 +2,14 @@ use borrow.Author.Rules.{rules}
 use native.Mathlib.Omega.{arith}
 use native.Mathlib.Numerals.{add-one}
 use mathlib.Core.Path.{◌≡◌, refl, sym, ap, ◌∙◌}
-use mathlib.Core.Bool.{Bool, true, false, not, ◌&&◌}
+use mathlib.Core.Bool.{Bool}
 use mathlib.Core.List.{List}
-use mathlib.Core.Logic.{◌⊎◌, inl, inr}
-use Prim.Native.Nat.{ℕ, ◌+◌, ◌≤◌, ◌<◌}
+use mathlib.Core.Logic.{inl, inr}
+use Prim.Native.Nat.{ℕ}
 use lib.Bits.{and_le_l}
-use lib.Dec.{eqb, leb}
+use lib.Dec.{eqb}
 use lib.ListN.{length, get_or, take}
-use Rattle.foundation.specs.Tests.{cases, eq_true, true_eq, true-le, false-le, and-true}
+use Rattle.foundation.specs.Tests.{eq_true, true_eq}
 use Rattle.foundation.specs.BitMasks.{bit}
 use Rattle.sections.specs.Sections.{active_of, strata_of}
 use Rattle.sections.proofs.SectionWrites.{part_long, front_same}
@@ -57,8 +57,8 @@ put_strata-requires c =
     let p = s.requires.by_index_2 in
     (p.0, p.1, p.2, p.3, p.4, s.requires.by_index.1.outlined)
 
-pub loop-todo-init : goal.loop-todo-init
-loop-todo-init c = ((λ w t. t), (λ q e. e), refl, refl, omega arith)
+pub loop-k-init : goal.loop-k-init
+loop-k-init c = ((λ w t. t), (λ q e. e), refl, refl)
 
 pub slice_bounds-of_stratum-end : goal.slice_bounds-of_stratum-end
 slice_bounds-of_stratum-end c =
@@ -72,7 +72,7 @@ pub close-requires : goal.close-requires
 close-requires c =
     let o = c in
     let t = o in
-    let l = t.loop-todo in
+    let l = t.loop-k in
     let r = (goal.at.close-requires c).After-put_strata in
     let v = l.invariant in
     let f = (s r).args.w.frame in
@@ -96,29 +96,17 @@ close-requires c =
 pub overflow_sub-todo : goal.overflow_sub-todo
 overflow_sub-todo c =
     let o = c in
-    and_le_l o.loop-todo.todo o.of_stratum-now.result
+    and_le_l o.loop-k.todo o.of_stratum-now.result
 
-pub loop-todo-smaller : goal.loop-todo-smaller
-loop-todo-smaller c =
-    let low : c.loop-todo.k + 1 ≤ 129 =
-    let l = c.loop-todo in
-    let w = and-true (not (eqb l.todo 0)) (leb l.k 128) c.loop-todo-test.true in
-    omega (arith, true-le l.k 128 w.1) in
-    let h = low in omega arith
-
-pub loop-todo-preserved : goal.loop-todo-preserved
-loop-todo-preserved c =
-    let low : c.loop-todo.k + 1 ≤ 129 =
-    let l = c.loop-todo in
-    let w = and-true (not (eqb l.todo 0)) (leb l.k 128) c.loop-todo-test.true in
-    omega (arith, true-le l.k 128 w.1) in
+pub loop-k-preserved : goal.loop-k-preserved
+loop-k-preserved c =
     let d = c in
     let o = d.of_stratum-now in
     let t = d in
-    let l = t.loop-todo in
+    let l = t.loop-k in
     let i = l.invariant in
     let ran = d.close.ensures.0 in
-    let strata : List ℕ = strata_of (new (goal.at.loop-todo-preserved c).After-put_strata) in
+    let strata : List ℕ = strata_of (new (goal.at.loop-k-preserved c).After-put_strata) in
     let level : ℕ → Bool = λ i. eqb (get_or strata i 0) l.k in (
       (λ w t. i.0 w (then
           (λ q h e f. passes level l.todo o.result o.ensures q h e
@@ -130,24 +118,27 @@ loop-todo-preserved c =
       (λ q e. i.1 q (less_in l.todo o.result q e)),
       d.close.ensures.1 ∙ i.2,
       search rules,
-      low,
     )
 
-pub shape_of-outline : goal.shape_of-outline
-shape_of-outline c = long (goal.at.shape_of-outline c).After-put_strata
+-- none is left
+pub returns-then-todo-eq0 : goal.returns-then-todo-eq0
+returns-then-todo-eq0 c =
+    let l = c.loop-k in
+    let r = (goal.at.returns-then-todo-eq0 c).After-put_strata in
+    let ran = l.invariant.0 _ (none (inl (λ q h e. none_set q (ap (bit q) (sym c.if-todo-eq0.true) ∙ e)))) in
+    let known = r.put_strata.ensures in (
+      record { strata = _; numbered = known.0; ran = rw (prepared r, active r) at ran },
+      l.invariant.2,
+      known.0,
+      known.1,
+    )
 
-pub shape_of-work : goal.shape_of-work
-shape_of-work c = c.loop-todo.invariant.3
-
-pub returns : goal.returns
-returns c =
-    let l = c.loop-todo in
-    let r = (goal.at.returns c).After-put_strata in
-    let t : not (eqb l.todo 0) && leb l.k 128 ≡ false = c.loop-todo-test.false in
-    let e : ((q : ℕ) → q < 64 → bit q l.todo ≡ true → ⊥) ⊎ (128 < l.k) = cases (eqb l.todo 0)
-    (λ y. inl (λ q h e. none_set q (ap (bit q) (sym (true_eq l.todo 0 y)) ∙ e)))
-    (λ y. inr (false-le l.k 128 (rw y at t))) in
-    let ran = l.invariant.0 _ (none e) in
+-- all strata had their turn
+pub returns-after-loop-k : goal.returns-after-loop-k
+returns-after-loop-k c =
+    let l = c.loop-k in
+    let r = (goal.at.returns-after-loop-k c).After-put_strata in
+    let ran = l.invariant.0 _ (none (inr (omega arith))) in
     let known = r.put_strata.ensures in (
       record { strata = _; numbered = known.0; ran = rw (prepared r, active r) at ran },
       l.invariant.2,

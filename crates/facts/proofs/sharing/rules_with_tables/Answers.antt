@@ -1,56 +1,58 @@
-use borrow.Author.Rules.{rules}
 use native.Mathlib.Omega.{arith}
-use mathlib.Core.Bool.{true}
+use mathlib.Core.Path.{◌≡◌, sym, ◌∙◌, subst}
+use mathlib.Core.Bool.{false, false≢true}
+use lib.Dec.{eqb}
 use Rattle.foundation.specs.BitMasks.{none_set}
-use Rattle.masks.proofs.BitLoops.{passed_start, passed_turn}
-use Rattle.facts.proofs.TableSharing.{Served, served_still, served_new, only-new}
+use Rattle.foundation.specs.Tests.{or_cases, true_eq}
+use Rattle.words.specs.SetBits.{among}
+use Rattle.words.proofs.SetBitLoops.{Turn, turn, finished, among_more, among_all}
+use Rattle.facts.proofs.TableSharing.{found_one, Served, served_still, served_new, only-new}
 use Rattle.facts.proofs.sharing.rules_with_tables.Goals as goal
+use Rattle.facts.proofs.sharing.rules_with_tables.Goals.{In-Some}
+
+at : (c : In-Some) → Turn c.args.rules c.loop-c.yielded c.in-Some.c
+at c = turn c.loop-c.c-iterator (cc) c.loop-c.yielded_by c.in-Some.ensures.steps
 
 pub loop-c-init : goal.loop-c-init
-loop-c-init c =
-    let a = c.args in
-    let e = c.next_bit-c.ensures in (
-      e.1,
-      e.3,
-      (λ i t. absurd (none_set i t)),
-      passed_start a.rules (Served a.body.now a.right.now 0) c.next_bit-c.result e.2,
-    )
+loop-c-init c = (
+  (λ i t. absurd (none_set i t)),
+  λ i t. absurd (false≢true t),
+)
 
-pub first_sharing-alone-requires : goal.first_sharing-alone-requires
-first_sharing-alone-requires c =
-    let l = c.loop-c in
+pub first_sharing-requires : goal.first_sharing-requires
+first_sharing-requires c =
+    let t = at (goal.at.first_sharing-requires c).In-Some in
     let p = c.requires in
-    let w = p.0 l.c (l.invariant.1 c.loop-c-test.true) in
-    ((λ i e. p.0 i (l.invariant.2 i e)), w.0, w.1, p.1)
+    let w = p.0 c.in-Some.c t.own in
+    ((λ i e. p.0 i (c.loop-c.invariant.0 i e)), w.0, w.1, p.1)
+
+pub with_if-tables-requires : goal.with_if-tables-requires
+with_if-tables-requires c = (at (goal.at.with_if-tables-requires c).In-Some).low
 
 pub loop-c-preserved : goal.loop-c-preserved
 loop-c-preserved c =
-    let w = c in
-    let f = w in
-    let l = f.loop-c in
-    let a = f.args in
-    let body = a.body.now in
-    let right = a.right.now in
-    let e = c.next_bit-c-in-loop-c.ensures in
-    let k = f.first_sharing-alone.result in
-    let found = f.first_sharing-alone.ensures.0 in
-    let new = w.with_if-tables.result in
-    let grown = w.with_if-tables.ensures in (
-      e.1,
-      e.3,
-      only-new body right l.c k l.tables new found grown a.rules
-          (l.invariant.1 f.loop-c-test.true) l.invariant.2,
-      passed_turn a.rules (Served body right l.tables) (Served body right new) l.c
-          c.next_bit-c-in-loop-c.result l.invariant.3
-          (λ i h v. served_still body right l.c k l.tables new found grown i v)
-          (served_new body right l.c k l.tables new found grown) e.2,
+    let t = at (goal.at.loop-c-preserved c).In-Some in
+    let l = c.loop-c in
+    let r = c.in-Some.c in
+    let body = c.args.body.now in
+    let right = c.args.right.now in
+    let alone = c.is_none-alone.result in
+    let found : alone ≡ false → Served body right l.tables r =
+    found_one body right l.tables r _ c.first_sharing.result alone c.is_none-alone.ensures c.first_sharing.ensures in
+    let new = c.with_if-tables.result in
+    let grown = c.with_if-tables.ensures in (
+      only-new body right r l.tables new alone found grown c.args.rules t.own l.invariant.0,
+      λ i e. or_cases (among i l.yielded) (eqb i r) (sym (among_more i r l.yielded) ∙ e)
+          (λ y. served_still body right r l.tables new alone found grown i (l.invariant.1 i y))
+          (λ y. subst (Served body right new) (sym (true_eq i r y))
+          (served_new body right r l.tables new alone found grown)),
     )
 
 pub returns : goal.returns
 returns c =
     let l = c.loop-c in
-    let p = c.requires in
     record {
-      some = l.invariant.2;
-      enough = λ i e. l.invariant.3 i (omega (arith, (p.0 i e).0, c.loop-c-test.false)) e;
+      some = l.invariant.0;
+      enough = λ i e. l.invariant.1 i (among_all i c.args.rules l.yielded (omega arith)
+          (finished l.c-iterator (cc) l.yielded_by c.in-None.ensures.steps) ∙ e);
     }

@@ -1,19 +1,20 @@
-use borrow.Author.Rules.{rules}
 use native.Mathlib.Omega.{arith}
-use mathlib.Core.Path.{◌≡◌, refl, sym, ap, ◌∙◌}
-use mathlib.Core.Bool.{Bool, true, false, not, ◌&&◌, true≢false}
+use mathlib.Core.Path.{◌≡◌, refl, sym, ap, ◌∙◌, subst}
+use mathlib.Core.Bool.{Bool, true, false, not, ◌&&◌, true≢false, false≢true}
 use Prim.Native.Nat.{ℕ, ◌<◌}
 use lib.Bits.{and_le_l}
-use lib.ListN.{length, get_or, set, length-set}
-use Rattle.foundation.specs.Tests.{cases, and-true, and_intro, and-false, not-true}
+use lib.Dec.{eqb}
+use lib.ListN.{length, get_or, set}
+use Rattle.foundation.specs.Tests.{cases, and-true, and_intro, and-false, not-true, or_cases, true_eq, false_eq}
 use Rattle.foundation.specs.BitMasks.{bit}
 use Rattle.words.specs.Bits.{less}
+use Rattle.words.specs.SetBits.{among}
 use Rattle.words.proofs.CutBit.{bit-less}
+use Rattle.words.proofs.SetBitLoops.{Turn, turn, finished, among_more, among_all}
 use Rattle.facts.specs.Sharing.{UsesTable}
-use Rattle.masks.proofs.BitLoops.{passed_start, passed_turn}
 use Rattle.facts.proofs.TableSharing.{shares_self, uses_still, start_still, uses_new}
 use Rattle.facts.proofs.sharing.share_starts.Goals as goal
-use Rattle.facts.proofs.sharing.share_starts.Goals.{then-d-lt64, else-d-lt64}
+use Rattle.facts.proofs.sharing.share_starts.Goals.{In-Some}
 
 -- a rule without a table is of the mask and not of the tables
 rest_is : (rules tables i : ℕ) → bit i (less rules tables) ≡ true →
@@ -31,84 +32,73 @@ rest_not : (rules tables i : ℕ) → bit i tables ≡ true → bit i (less rule
 rest_not rules tables i e = bit-less i rules tables
     ∙ ap (λ (b : Bool). bit i rules && not b) e ∙ and-false (bit i rules)
 
+at : (c : In-Some) → Turn (less c.args.rules c.args.tables) c.loop-c.yielded c.in-Some.c
+at c = turn c.loop-c.c-iterator (cc) c.loop-c.yielded_by c.in-Some.ensures.steps
+
 pub overflow_sub-rest : goal.overflow_sub-rest
 overflow_sub-rest c = and_le_l c.args.rules _
 
 pub loop-c-init : goal.loop-c-init
-loop-c-init c =
-    let a = c.args in
-    let e = c.next_bit-c.ensures in (
-      e.1,
-      refl,
-      e.3,
-      (λ i h. refl),
-      passed_start (less a.rules a.tables)
-          (λ i. (d : ℕ) × UsesTable a.body.now a.right.now a.first.now a.tables i d)
-          c.next_bit-c.result e.2,
-    )
+loop-c-init c = ((λ i h. refl), λ i e. absurd (false≢true e))
 
-pub first_sharing-d-requires : goal.first_sharing-d-requires
-first_sharing-d-requires c =
-    let l = c.loop-c in
-    let s = c in
-    let p = s.requires in
-    let h = rest_is s.args.rules s.args.tables l.c (l.invariant.2 c.loop-c-test.true) in
-    let w = p.0 l.c h.0 in
+pub first_sharing-requires : goal.first_sharing-requires
+first_sharing-requires c =
+    let p = c.requires in
+    let t = at (goal.at.first_sharing-requires c).In-Some in
+    let h = rest_is c.args.rules c.args.tables c.in-Some.c t.own in
+    let w = p.0 c.in-Some.c h.0 in
     ((λ i e. p.0 i (p.3.some i e)), w.0, w.1, p.1)
 
-pub loop-c-preserved : goal.loop-c-preserved
-loop-c-preserved c =
-    let f = c in
-    let l = f.loop-c in
-    let s = f in
-    let a = s.args in
+pub bounds-first-c : goal.bounds-first-c
+bounds-first-c c =
+    omega (arith, (at (goal.at.bounds-first-c c).In-Some).low, c.loop-c.auto.first, c.requires.2)
+
+pub loop-c-preserved-in-Some-first_sharing : goal.loop-c-preserved-in-Some-first_sharing
+loop-c-preserved-in-Some-first_sharing c =
+    let t = at (goal.at.loop-c-preserved-in-Some-first_sharing c).In-Some in
+    let l = c.loop-c in
+    let a = c.args in
     let body = a.body.now in
     let right = a.right.now in
     let rest = less a.rules a.tables in
-    let next = c.if-d-lt64.first in
-    let d = f.first_sharing-d.result in
-    let e = c.next_bit-c-in-loop-c.ensures in
-    let here : bit l.c rest ≡ true = l.invariant.2 f.loop-c-test.true in
-    let h = rest_is a.rules a.tables l.c here in
-    let room : l.c < length l.first = omega (arith, l.invariant.1, s.requires.2, f.loop-c-test.true) in
-    let moved : (d < 64) × (next ≡ set l.first l.c (get_or l.first d 0)) =
-    elim c.if-d-lt64.branch [
-      | then-d-lt64 w ↦ (w.if-d-lt64.true, w.first-is)
-      | else-d-lt64 w ↦ let y = s.requires.3.enough l.c h.0 in
-          absurd (f.first_sharing-d.ensures.1 w.if-d-lt64.false y.0 y.1 y.2)
-    ] in
-    let found = f.first_sharing-d.ensures.0 moved.0 in (
-      e.1,
-      rw moved.1 (simp length-set l.invariant.1),
-      e.3,
-      (λ i t. start_still body right a.tables l.c d l.first next h.1 found.0 room moved.1 i
-          (λ q. true≢false (sym here ∙ ap (λ (n : ℕ). bit n rest) (sym q) ∙ t)) ∙ l.invariant.3 i t),
-      passed_turn rest (λ i. (k : ℕ) × UsesTable body right l.first a.tables i k)
-          (λ i. (k : ℕ) × UsesTable body right next a.tables i k) l.c c.next_bit-c-in-loop-c.result l.invariant.4
-          (λ i m v. (
+    let r = c.in-Some.c in
+    let d = c.in-Some-first_sharing.d in
+    let new = set l.first r (get_or l.first d 0) in
+    let found = c.in-Some-first_sharing.ensures in
+    let h = rest_is a.rules a.tables r t.own in
+    let room : r < length l.first = omega (arith, t.low, l.auto.first, c.requires.2) in (
+      (λ i e. start_still body right a.tables r d l.first new h.1 found.0 room refl i
+          (λ q. true≢false (sym t.own ∙ ap (λ (n : ℕ). bit n rest) (sym q) ∙ e)) ∙ l.invariant.0 i e),
+      (λ i e. cases (eqb i r)
+          (λ y. subst (λ (n : ℕ). (k : ℕ) × UsesTable body right new a.tables n k) (sym (true_eq i r y))
+          (d, uses_new body right a.tables r d l.first new h.1 found.0 room refl found.1))
+          (λ n. let v = l.invariant.1 i (or_cases (among i l.yielded) (eqb i r)
+          (sym (among_more i r l.yielded) ∙ e) (λ y. y) (λ y. absurd (true≢false (sym y ∙ n)))) in (
             v.0,
-            uses_still body right a.tables l.c d l.first next h.1 found.0 room moved.1 i
-                v.0 (λ q. omega arith) v.1,
-          )) (
-            d,
-            uses_new body right a.tables l.c d l.first next h.1 found.0 room moved.1
-                found.1,
-          )
-          e.2,
+            uses_still body right a.tables r d l.first new h.1 found.0 room refl i v.0
+                (false_eq i r n) v.1,
+          ))),
     )
+
+pub loop-c-preserved : goal.loop-c-preserved
+loop-c-preserved c =
+    let t = at (goal.at.loop-c-preserved c).In-Some in
+    let r = c.in-Some.c in
+    let y = c.requires.3.enough r (rest_is c.args.rules c.args.tables r t.own).0 in
+    absurd (c.in_default.ensures y.0 y.1 y.2)
 
 pub returns : goal.returns
 returns c =
     let l = c.loop-c in
-    let s = c in
-    let a = s.args in (
+    let a = c.args in
+    let rest = less a.rules a.tables in (
       (λ i e. cases (bit i a.tables)
           (λ t. (
             i,
             record { there = t; shares = shares_self a.body.now a.right.now i; start = refl },
           ))
-          (λ t. l.invariant.4 i (omega (arith, (s.requires.0 i e).0, c.loop-c-test.false))
-          (rest_so a.rules a.tables i e t))),
-      (λ i t. l.invariant.3 i (rest_not a.rules a.tables i t)),
-      l.invariant.1,
+          (λ t. l.invariant.1 i (among_all i rest l.yielded (omega arith)
+          (finished l.c-iterator (cc) l.yielded_by c.in-None.ensures.steps) ∙ rest_so a.rules a.tables i e t))),
+      (λ i t. l.invariant.0 i (rest_not a.rules a.tables i t)),
+      l.auto.first,
     )

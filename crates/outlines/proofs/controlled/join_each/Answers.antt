@@ -20,7 +20,7 @@ join_controlled-requires c =
       b.requires.1,
       b.requires.3,
       omega arith,
-      omega (arith, c.usize_of.ensures.0, b.requires.2.below l.v),
+      omega (arith, c.from.ensures, b.requires.2.below l.v),
       l.invariant.2,
     )
 
@@ -31,7 +31,7 @@ loop-v-preserved c =
     let j = c.join_controlled.ensures in (
       search rules,
       upto_turn b.requires.2 l.invariant.1
-          (rw c.usize_of.ensures.0 at j.0) j.1,
+          (rw c.from.ensures at j.0) j.1,
       c.join_controlled.auto.left ∙ l.invariant.2,
     )
 

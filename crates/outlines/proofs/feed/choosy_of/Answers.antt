@@ -37,8 +37,8 @@ loop-i-preserved c =
     let a = c.args in
     let l = c.loop-i in (
       search rules,
-      build_turn 28 rule_of is_choosy a.n a.body.now l.m l.i c.is_choosy.result (omega arith)
-          l.invariant.0 l.invariant.1 (c.is_choosy.ensures ∙ ap is_choosy c.rule_at.ensures),
+      rw c.from.ensures (build_turn 28 rule_of is_choosy a.n a.body.now l.m l.i c.is_choosy.result (omega arith)
+          l.invariant.0 l.invariant.1 (c.is_choosy.ensures ∙ ap is_choosy c.rule_at.ensures)),
     )
 
 pub returns : goal.returns

@@ -7,6 +7,3 @@ use Rattle.outlines.proofs.feed.choosy_of.Given as goal
 abbrev pub invariant-loop-i : goal.invariant-loop-i
 invariant-loop-i l =
     (l.i ≤ l.n) × MaskBuilt 28 rule_of is_choosy l.n l.body l.m l.i
-
-abbrev pub decreases-loop-i : goal.decreases-loop-i
-decreases-loop-i l = l.i

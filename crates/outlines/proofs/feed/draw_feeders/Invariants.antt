@@ -1,5 +1,5 @@
 use mathlib.Core.Path.{◌≡◌}
-use Prim.Native.Nat.{ℕ, ◌≤◌, ◌-◌}
+use Prim.Native.Nat.{ℕ, ◌≤◌}
 use lib.ListN.{length, get_or}
 use Rattle.encoding.specs.Format.{rules_in}
 use Rattle.rules.specs.RankTables.{RuleTable}
@@ -12,6 +12,3 @@ invariant-loop-i l =
     (l.i ≤ l.n) × RuleTable l.i l.body (feeders_of (rules_in l.n l.body)) (feed_of l.outline)
     × ((k : ℕ) → l.i ≤ k → get_or (feed_of l.outline) k 0 ≡ get_or (feed_of l.initial.outline) k 0)
     × (left_of l.outline ≡ left_of l.initial.outline) × (length l.outline ≡ length l.initial.outline)
-
-abbrev pub decreases-loop-i : goal.decreases-loop-i
-decreases-loop-i l = l.n - l.i

@@ -1,5 +1,5 @@
 use mathlib.Core.Path.{◌≡◌}
-use Prim.Native.Nat.{ℕ, ◌≤◌, ◌-◌}
+use Prim.Native.Nat.{ℕ, ◌≤◌}
 use lib.Bits.{bit_or}
 use lib.Dec.{ltb}
 use lib.ListN.{length, get_or}
@@ -15,6 +15,3 @@ invariant-loop-i l =
     (linkers_word (left_of l.initial.outline) (rights_of l.coordinates) (sides_of l.coordinates) w))
     (get_or (feed_of l.initial.outline) w 0))
     × (left_of l.outline ≡ left_of l.initial.outline) × (length l.outline ≡ length l.initial.outline)
-
-abbrev pub decreases-loop-i : goal.decreases-loop-i
-decreases-loop-i l = l.n - l.i

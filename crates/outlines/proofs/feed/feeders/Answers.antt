@@ -26,7 +26,7 @@ meeting-f-requires c =
     let i = b.args.i in
     let s = bit_le (rule_at b.args.body.now i).right.negative in (
       omega (arith, o.well_formed.few),
-      omega (arith, s, sign_bit o i h, c.usize_of.ensures.0),
+      omega (arith, s, sign_bit o i h, c.from.ensures),
       right_placed o i h,
       b.requires.2,
       b.requires.3,
@@ -47,7 +47,7 @@ by_grantor_and_option-requires c =
       b.requires.1.well_formed.there,
       meeting_inside b.requires.1 a.i b.requires.0 _ (c.meeting-f.ensures
           ∙ ap (λ (k : ℕ). meeting_word a.left.now a.right.now a.i (k / 2))
-          c.usize_of.ensures.0),
+          c.from.ensures),
     )
 
 pub returns : goal.returns
@@ -58,5 +58,5 @@ returns c =
     c.by_grantor_and_option.result
     (c.meeting-f.ensures
     ∙ ap (λ (k : ℕ). meeting_word a.left.now a.right.now a.i (k / 2))
-    c.usize_of.ensures.0)
+    c.from.ensures)
     (λ q. rw c.rule_at.ensures at (c.by_grantor_and_option.ensures q))

@@ -5,12 +5,12 @@ use Rattle.foundation.specs.Tests.{eq_true, ne_false}
 use Rattle.outlines.specs.Feed.{linkers_word}
 use Rattle.outlines.proofs.feed.linkers.Goals as goal
 
-pub returns-then-usize_of-eq0 : goal.returns-then-usize_of-eq0
+pub returns-then-from-eq0 : goal.returns-then-from-eq0
 unfolding linkers_word
-returns-then-usize_of-eq0 c =
+returns-then-from-eq0 c =
     let a = c.args in
     let s : get_or a.sides.now (4 * a.i + 3) 0 / 2 ≡ 0 =
-    ap (λ (k : ℕ). k / 2) (sym c.usize_of.ensures.0) ∙ c.if-usize_of-eq0.true in
+    ap (λ (k : ℕ). k / 2) (sym c.from.ensures) ∙ c.if-from-eq0.true in
     rw (eq_true (get_or a.sides.now (4 * a.i + 3) 0 / 2) 0 s) c.meeting.ensures
 
 pub returns : goal.returns
@@ -18,4 +18,4 @@ unfolding linkers_word
 returns c =
     let a = c.args in
     rw (ne_false (get_or a.sides.now (4 * a.i + 3) 0 / 2) 0
-    (λ z. c.if-usize_of-eq0.false (ap (λ (k : ℕ). k / 2) c.usize_of.ensures.0 ∙ z)))
+    (λ z. c.if-from-eq0.false (ap (λ (k : ℕ). k / 2) c.from.ensures ∙ z)))

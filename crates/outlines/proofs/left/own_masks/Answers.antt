@@ -2,6 +2,8 @@ use borrow.Author.Rules.{rules}
 use native.Mathlib.Omega.{arith}
 use mathlib.Core.Path.{ap, ◌∙◌}
 use mathlib.Core.Bool.{false}
+use mathlib.Core.Bool.{◌||◌}
+use lib.Dec.{eqb}
 use Rattle.foundation.specs.Tests.{ne_false}
 use Rattle.foundation.specs.BitMasks.{build_start, build_room, build_turn, build_end}
 use Rattle.model.specs.Encoding.{rule_of}
@@ -58,8 +60,8 @@ overflow_add-subjects c =
     omega (
       arith,
       build_room 28 rule_of t b.args.n b.args.body.now l.subjects l.i
-          (t c.rule_at-r.result) (omega arith) b.requires.2
-          l.invariant.2,
+          (eqb c.rule_at-r.result.left.subject 0 || eqb c.from.result b.args.x.subject) (omega arith)
+          b.requires.2 l.invariant.2,
     )
 
 pub loop-i-preserved : goal.loop-i-preserved
@@ -71,11 +73,11 @@ loop-i-preserved c =
     let t = on_object b.args.s.now b.args.x.object in
     let u = on_subject b.args.x.subject in (
       search rules,
-      build_turn 28 rule_of t b.args.n b.args.body.now l.objects l.i o.result
+      rw c.from-in-loop-i.ensures (build_turn 28 rule_of t b.args.n b.args.body.now l.objects l.i o.result
           (omega arith)
-          l.invariant.0 l.invariant.1 (o.ensures ∙ ap t r.ensures),
-      build_turn 28 rule_of u b.args.n b.args.body.now l.subjects l.i (u r.result)
-          (omega arith) l.invariant.0 l.invariant.2 (ap u r.ensures),
+          l.invariant.0 l.invariant.1 (o.ensures ∙ ap t r.ensures)),
+      rw (c.from-in-loop-i-2.ensures, c.from.ensures) (build_turn 28 rule_of u b.args.n b.args.body.now l.subjects l.i
+          (u r.result) (omega arith) l.invariant.0 l.invariant.2 (ap u r.ensures)),
     )
 
 pub returns : goal.returns

@@ -15,6 +15,3 @@ abbrev pub invariant-loop-i : goal.invariant-loop-i
 invariant-loop-i l =
     (l.i ≤ l.n) × MaskBuilt 28 rule_of (on_object l.s l.x.object) l.n l.body l.objects l.i
     × MaskBuilt 28 rule_of (on_subject l.x.subject) l.n l.body l.subjects l.i
-
-abbrev pub decreases-loop-i : goal.decreases-loop-i
-decreases-loop-i l = l.i

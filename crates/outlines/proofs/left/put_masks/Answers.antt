@@ -17,11 +17,11 @@ put_four-requires c =
     let s = b.args.sides.now in
     let i = b.args.i in
     let p = b.requires.1 in
-    let d = k.object_word-object.ensures ∙ ap object_word k.usize_of.ensures.0 in
-    let e = j.subject_word-subject.ensures ∙ ap subject_word j.usize_of-2.ensures.0 in
+    let d = k.object_word-object.ensures ∙ ap object_word k.from.ensures in
+    let e = j.subject_word-subject.ensures ∙ ap subject_word j.from-2.ensures in
     let f = c.mode_word-mode.ensures
-    ∙ ap₂ (λ (m g : ℕ). mode_word m (g % 2)) c.usize_of-3.ensures.0
-    k.usize_of-sign.ensures.0 in (
+    ∙ ap₂ (λ (m g : ℕ). mode_word m (g % 2)) c.from-3.ensures
+    k.from-sign.ensures in (
       b.requires.0,
       omega (arith, object-below s i p),
       omega (arith, subject-below s i p),
@@ -37,13 +37,13 @@ returns c =
     let b = g in
     let s = b.args.sides.now in
     let i = b.args.i in
-    let d = k.object_word-object.ensures ∙ ap object_word k.usize_of.ensures.0 in
-    let e = j.subject_word-subject.ensures ∙ ap subject_word j.usize_of-2.ensures.0 in
+    let d = k.object_word-object.ensures ∙ ap object_word k.from.ensures in
+    let e = j.subject_word-subject.ensures ∙ ap subject_word j.from-2.ensures in
     let f = c.mode_word-mode.ensures
-    ∙ ap₂ (λ (m x : ℕ). mode_word m (x % 2)) c.usize_of-3.ensures.0
-    g.usize_of-sign.ensures.0 in
+    ∙ ap₂ (λ (m x : ℕ). mode_word m (x % 2)) c.from-3.ensures
+    g.from-sign.ensures in
     λ w r. c.put_four.ensures w r
     ∙ ap (λ (x : Bool). bit r (get_or b.args.left.now w 0) || (eqb r i && x))
     (in_word_lem s i w k.object_word-object.result j.subject_word-subject.result
-    c.mode_word-mode.result (146 + g.usize_of-sign.result % 2) d e f
-    (ap (λ (x : ℕ). 146 + x % 2) g.usize_of-sign.ensures.0))
+    c.mode_word-mode.result (146 + g.from-sign.result % 2) d e f
+    (ap (λ (x : ℕ). 146 + x % 2) g.from-sign.ensures))

@@ -26,7 +26,7 @@ pub add-s-requires : goal.add-s-requires
 add-s-requires c =
     let l = c.loop-i in
     let b = c in
-    let e = ap subject_on_right c.rule_at-r.ensures in
+    let e = ap subject_on_right c.rule_at.ensures in
     let g = (b.requires.0.right l.i (omega arith)).subject in (
       omega (arith, part_long 512 1024 l.coordinates (omega (arith, l.invariant.4))),
       omega (arith, l.invariant.1.few, b.requires.0.few),
@@ -36,7 +36,7 @@ pub add-o-requires : goal.add-o-requires
 add-o-requires c =
     let l = c.loop-i in
     let b = c in
-    let e = ap object_on_right c.rule_at-r.ensures in
+    let e = ap object_on_right c.rule_at.ensures in
     let g = (b.requires.0.right l.i (omega arith)).object in
     let a = c.add-s in
     let long : length l.coordinates ≡ 1666 = l.invariant.4 in
@@ -46,15 +46,10 @@ add-o-requires c =
       omega (arith, l.invariant.2.few, b.requires.0.few),
     )
 
-pub overflow_add-i : goal.overflow_add-i
-overflow_add-i c =
-    let l = c in
-    omega (arith, l.loop-i.invariant.0, l.requires.0.few)
-
 pub loop-i-preserved : goal.loop-i-preserved
 loop-i-preserved c =
     let l = c.loop-i in
-    let e = c.rule_at-r.ensures in
+    let e = c.rule_at.ensures in
     let f = c.add-s in
     let g = c.add-o in
     let s = l.coordinates in
@@ -67,9 +62,9 @@ loop-i-preserved c =
     g.auto.table ∙ part_long 1536 130 (put_back l.coordinates 512 1024 f.new.table) (omega arith) in (
       search rules,
       rw (both-subjects s y z long p q) (numbered_turn l.invariant.1
-          (rw (ap subject_on_right e) at f.ensures)),
+          (rw (c.from.ensures, ap subject_on_right e) at f.ensures)),
       rw (both-objects s y z long p q) (numbered_turn l.invariant.2
-          (rw (ap object_on_right e, objects-between s y z long p q) at g.ensures)),
+          (rw (c.from-in-loop-i.ensures, ap object_on_right e, objects-between s y z long p q) at g.ensures)),
       (λ v h. both_front s y z long p q v h ∙ l.invariant.3 v h),
       both_long s y z long p q,
     )

@@ -21,25 +21,21 @@ loop-i-init c = (search rules, c.requires.1, (λ i h. absurd (omega arith)), ref
 
 pub overflow_mul-signs : goal.overflow_mul-signs
 overflow_mul-signs c = omega
-    (arith, c.as_bit-in-loop-i.ensures, bit_le c.rule_at-r.result.right.negative)
+    (arith, c.from-in-loop-i.ensures, bit_le c.rule_at-r.result.right.negative)
 
 pub overflow_add-signs : goal.overflow_add-signs
 overflow_add-signs c =
     let r = c.rule_at-r.result in
     omega (
       arith,
-      c.as_bit-in-loop-i.ensures,
+      c.from-in-loop-i.ensures,
       bit_le r.right.negative,
-      c.as_bit.ensures,
+      c.from.ensures,
       bit_le r.left.negative,
     )
 
 pub overflow_mul-i-in-loop-i : goal.overflow_mul-i-in-loop-i
 overflow_mul-i-in-loop-i c =
-    omega (arith, c.requires.0.few)
-
-pub overflow_add-i : goal.overflow_add-i
-overflow_add-i c =
     omega (arith, c.requires.0.few)
 
 pub put_side-requires : goal.put_side-requires
@@ -61,8 +57,8 @@ loop-i-preserved c =
     let c₀ = b.args.coordinates.now in
     let r = c.rule_at-r in
     let j = c in
-    let g : j.as_bit.result + 2 * j.as_bit-in-loop-i.result ≡ signs_of (rule_at s l.i) =
-    ap₂ (λ (x y : ℕ). x + 2 * y) j.as_bit.ensures j.as_bit-in-loop-i.ensures
+    let g : j.from.result + 2 * j.from-in-loop-i.result ≡ signs_of (rule_at s l.i) =
+    ap₂ (λ (x y : ℕ). x + 2 * y) j.from.ensures j.from-in-loop-i.ensures
     ∙ ap signs_of r.ensures in
     let p = c.put_side in
     let w = p.ensures in

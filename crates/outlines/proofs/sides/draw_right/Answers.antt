@@ -20,9 +20,6 @@ loop-i-init c =
 pub overflow_mul-i-in-loop-i : goal.overflow_mul-i-in-loop-i
 overflow_mul-i-in-loop-i c = omega (arith, c.requires.0.few)
 
-pub overflow_add-i : goal.overflow_add-i
-overflow_add-i c = omega (arith, c.requires.0.few)
-
 pub put_side-requires : goal.put_side-requires
 put_side-requires c =
     let l = c.loop-i in

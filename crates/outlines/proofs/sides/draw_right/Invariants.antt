@@ -1,5 +1,5 @@
 use mathlib.Core.Path.{◌≡◌}
-use Prim.Native.Nat.{ℕ, ◌/◌, ◌≤◌, ◌-◌}
+use Prim.Native.Nat.{ℕ, ◌/◌, ◌≤◌}
 use lib.ListN.{length, get_or, drop}
 use Rattle.sections.specs.Sections.{rights_of, subjects_of, objects_of}
 use Rattle.outlines.specs.Outline.{RightSides}
@@ -11,6 +11,3 @@ invariant-loop-i l =
     × RightSides (subjects_of l.initial.coordinates) (objects_of l.initial.coordinates) l.i l.body (rights_of l.coordinates)
     × ((k : ℕ) → l.i ≤ k / 4 → get_or (rights_of l.coordinates) k 0 ≡ get_or (rights_of l.initial.coordinates) k 0)
     × (drop 512 l.coordinates ≡ drop 512 l.initial.coordinates)
-
-abbrev pub decreases-loop-i : goal.decreases-loop-i
-decreases-loop-i l = l.n - l.i

@@ -1,8 +1,8 @@
 use mathlib.Core.Path.{sym, ap, ◌∙◌}
-use Prim.Native.Nat.{◌+◌, ◌<◌}
+use Prim.Native.Nat.{ℕ, ◌+◌, ◌<◌}
 use native.Mathlib.Omega.{arith}
 use lib.Dec.{eqb}
-use lib.ListN.{length-set}
+use lib.ListN.{length-set, get_or, set}
 use lib.Seq.{get_or-set_other}
 use Rattle.foundation.specs.Tests.{pick}
 use Rattle.sections.proofs.SectionWrites.{in_part}
@@ -53,8 +53,10 @@ returns c =
     let h = rw (← b.requires.1) at h in (
       record {
         object = four-first l a.at f.result g.result m.result a.signs h ∙ f.ensures
+            ∙ ap (λ (n : ℕ). pick (eqb o 0) 255 (get_or l (1536 + n) 0)) c.from-object.ensures
             ∙ ap (pick (eqb o 0) 255) (sym (in_part 1536 130 l o (omega (arith, b.requires.2.object))));
         subject = four_second l a.at f.result g.result m.result a.signs h ∙ g.ensures
+            ∙ ap (λ (n : ℕ). pick (eqb s 0) 255 (get_or (set l a.at f.result) (512 + n) 0)) c.from-subject.ensures
             ∙ ap (pick (eqb s 0) 255)
             (get_or-set_other l a.at (512 + s) f.result 0 (λ z. omega (arith, b.requires.0))
             ∙ sym (in_part 512 1024 l s (omega (arith, b.requires.2.subject))));

@@ -1,65 +1,36 @@
 use borrow.Author.Rules.{rules}
-use native.Mathlib.Omega.{arith}
-use mathlib.Core.Path.{◌≡◌, refl, sym, ap, ◌∙◌}
-use mathlib.Core.List.{List, []}
-use Prim.Native.Nat.{ℕ, ◌+◌, ◌*◌, ◌≤◌}
-use lib.ListN.{drop}
+use Rattle.std.proofs.Common.{◌≡◌, refl, sym, ◌∙◌, arith, List, [], ◌∷◌, ℕ, ◌≤◌}
+use Rattle.std.proofs.lemmas.List.{at_drop_all}
 use Rattle.model.specs.declared.Authorization.{Authorization}
-use Rattle.model.specs.Encoding.{authorization_of}
+use Rattle.cover.specs.declared.Want.{Want}
 use Rattle.cover.specs.First.{first}
 use Rattle.cover.proofs.FirstFacts.{first_past}
 use Rattle.cover.specs.Cover.{covered_by}
-use Rattle.encoding.specs.Format.{authorizations_in, authorizations_from}
-use Rattle.foundation.specs.ByteRecords.{rest_all, rest_step, rest_end}
+use Rattle.pieces.specs.Nearest.{near_of}
 use Rattle.pieces.proofs.NearestFacts.{near_low, near_step, nearest_none}
 use Rattle.pieces.proofs.granting.cover_from.Goals as goal
 
-pub loop-i-init : goal.loop-i-init
-loop-i-init c =
-    let a = c.args in (
-      search rules,
-      search rules,
-      ap (λ (xs : List Authorization). first (covered_by a.w xs) a.a a.b)
-          (sym (rest_all 24 authorization_of a.n a.s.now)),
-    )
+-- a turn, over the rest x ∷ xs of ys
+turn : (w : Want) (a d r : ℕ) (ys xs : List Authorization) (x : Authorization) → ys ≡ x ∷ xs →
+    r ≡ near_of w a d x → a ≤ d → (a ≤ r) × (first (covered_by w ys) a d ≡ first (covered_by w xs) a r)
+turn w a d r ys xs x e q h = rw (e, q) (near_low w a d x h, near_step w a d x h xs)
 
 pub returns-then-d-a : goal.returns-then-d-a
 returns-then-d-a c =
-    let turned : (let a = c.args in let i = c.loop-i.i in (a.a ≤ c.nearest-d.result) × (first (covered_by a.w (authorizations_in a.n a.s.now)) a.a a.b ≡ first (covered_by a.w (authorizations_from a.n a.s.now (i + 1))) a.a c.nearest-d.result)) =
-    let a = c.args in
-    let l = c.loop-i in
-    let x = authorization_of (drop (l.i * 24) a.s.now) in
-    let xs = authorizations_from a.n a.s.now (l.i + 1) in (
-      omega (arith, near_low a.w a.a l.d x l.invariant.1, c.nearest-d.ensures),
-      l.invariant.2
-          ∙ ap (λ (ys : List Authorization). first (covered_by a.w ys) a.a l.d)
-          (rest_step 24 authorization_of a.n a.s.now l.i (search rules))
-          ∙ near_step a.w a.a l.d x l.invariant.1 xs
-          ∙ ap (λ (d : ℕ). first (covered_by a.w xs) a.a d) (sym c.nearest-d.ensures),
-    ) in
-    sym ((turned).1 ∙ first_past _ _ _ c.if-d-a.true)
+    let l = c.loop-i.invariant in
+    let t = turn _ _ _ _ _ _ _ c.get.ensures c.nearest-d.ensures l.1 in
+    sym (l.2 ∙ t.1 ∙ first_past _ _ _ c.if-d-a.true)
 
 pub loop-i-preserved : goal.loop-i-preserved
 loop-i-preserved c =
-    let turned : (let a = c.args in let i = c.loop-i.i in (a.a ≤ c.nearest-d.result) × (first (covered_by a.w (authorizations_in a.n a.s.now)) a.a a.b ≡ first (covered_by a.w (authorizations_from a.n a.s.now (i + 1))) a.a c.nearest-d.result)) =
-    let a = c.args in
-    let l = c.loop-i in
-    let x = authorization_of (drop (l.i * 24) a.s.now) in
-    let xs = authorizations_from a.n a.s.now (l.i + 1) in (
-      omega (arith, near_low a.w a.a l.d x l.invariant.1, c.nearest-d.ensures),
-      l.invariant.2
-          ∙ ap (λ (ys : List Authorization). first (covered_by a.w ys) a.a l.d)
-          (rest_step 24 authorization_of a.n a.s.now l.i (search rules))
-          ∙ near_step a.w a.a l.d x l.invariant.1 xs
-          ∙ ap (λ (d : ℕ). first (covered_by a.w xs) a.a d) (sym c.nearest-d.ensures),
-    ) in
-    let t = turned in (search rules, t.0, t.1)
+    let l = c.loop-i.invariant in
+    let t = turn _ _ _ _ _ _ _ c.get.ensures c.nearest-d.ensures l.1 in
+    (search rules, t.0, l.2 ∙ t.1)
 
 pub returns : goal.returns
 returns c =
     let a = c.args in
     let l = c.loop-i in
     sym (l.invariant.2
-    ∙ ap (λ (xs : List Authorization). first (covered_by a.w xs) a.a l.d)
-    (rest_end 24 authorization_of a.n a.s.now l.i (search rules))
+    ∙ at_drop_all (λ (xs : List Authorization). first (covered_by a.w xs) a.a l.d) a.authorizations.now l.i (omega arith)
     ∙ nearest_none (covered_by a.w []) a.a l.d l.invariant.1 (λ t. refl))

@@ -10,6 +10,6 @@ returns c =
     let read = c.authorization_at-a in
     let h = read.result.head in
     let i = read.result.interval in
-    (λ k. h.label ∷ h.grantor ∷ h.subject ∷ h.object ∷ h.mode ∷ c.as_bit.ensures k
-    ∷ c.as_bit-2.ensures k ∷ h.granted ∷ i.start ∷ i.end ∷ 0 ∷ 0 ∷ 0 ∷ 0 ∷ 0 ∷ [])
+    (λ k. h.label ∷ h.grantor ∷ h.subject ∷ h.object ∷ h.mode ∷ c.from.ensures k
+    ∷ c.from-2.ensures k ∷ h.granted ∷ i.start ∷ i.end ∷ 0 ∷ 0 ∷ 0 ∷ 0 ∷ 0 ∷ [])
     ∙ ap (λ (a : Authorization). padded (authorization_numbers a)) read.ensures

@@ -10,7 +10,7 @@ returns c =
     let read = c.rule_at-r in
     let r = read.result in
     (λ k. r.label ∷ r.author ∷ r.left.subject ∷ r.left.mode ∷ r.left.object
-    ∷ c.as_bit.ensures k ∷ c.operator_number.ensures k
-    ∷ r.right.subject ∷ r.right.mode ∷ r.right.object ∷ c.as_bit-2.ensures k
+    ∷ c.from.ensures k ∷ c.operator_number.ensures k
+    ∷ r.right.subject ∷ r.right.mode ∷ r.right.object ∷ c.from-2.ensures k
     ∷ r.grantor ∷ c.option_number.ensures k ∷ r.interval.start ∷ r.interval.end ∷ [])
     ∙ ap (λ (r : Rule). padded (rule_numbers r)) read.ensures

@@ -7,5 +7,5 @@ pub returns : goal.returns
 returns c =
     let a = c.args in
     let d = c.distance_of in
-    ap (reached a.t) c.lesser.ensures
+    ap (reached a.t) c.min.ensures
     ∙ closer a.t a.best d.result (edge a.ends a.i) (omega arith) d.ensures

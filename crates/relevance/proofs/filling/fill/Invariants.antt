@@ -1,4 +1,3 @@
-use Rattle.std.proofs.Common.{◌-◌, rules}
 use Rattle.encoding.specs.Format.{rules_in}
 use Rattle.relevance.specs.Ahead.{Standing}
 use Rattle.relevance.specs.Chosen.{marks_for, picked, selected}
@@ -10,6 +9,3 @@ invariant-loop-count l =
     MarksGrown (marks_for l.lines l.which l.body l.c) l.from l.to l.width l.marks l.count l.t
     × Standing (picked l.lines l.which l.c.authorizations) (selected l.c.needed (rules_in l.c.rules l.body)) l.t
     l.near
-
-abbrev pub decreases-loop-count : goal.decreases-loop-count
-decreases-loop-count l = l.width - l.count

@@ -5,5 +5,5 @@ use Rattle.serving.proofs.turns.serve_line.Goals as goal
 
 pub returns-in-Order : goal.returns-in-Order
 returns-in-Order c =
-    line-turned c.args.s.now _ c.requires.0 (sym (ap asked_of c.in-Order.is) ∙ c.in-Line.ensures)
+    line-turned c.args.s.now _ c.requires.0 (sym (ap asked_of c.in-Order.is) ∙ c.in-Some.ensures)
     c.serve_order.ensures.0 c.serve_order.ensures.1

@@ -1,5 +1,0 @@
-use Rattle.foundation.specs.Tests.{beq-pick}
-use Rattle.pieces.proofs.cuts.is_named.Goals as goal
-
-pub returns : goal.returns
-returns c = rw (c.alike.ensures, beq-pick)

@@ -1,9 +1,0 @@
-use borrow.Author.Rules.{rules}
-use Rattle.foundation.specs.Tests.{eq_true, ne_false}
-use Rattle.reach.proofs.turn.Goals as goal
-
-pub returns-then-code-eq255 : goal.returns-then-code-eq255
-returns-then-code-eq255 c = rw (eq_true c.args.code 255 (search rules))
-
-pub returns : goal.returns
-returns c = rw (ne_false c.args.code 255 (search rules))

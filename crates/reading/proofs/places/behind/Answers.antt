@@ -1,7 +1,0 @@
-use Rattle.reading.proofs.places.behind.Goals as goal
-
-pub returns-then-known : goal.returns-then-known
-returns-then-known c = rw c.if-known.true
-
-pub returns-else-known : goal.returns-else-known
-returns-else-known c = rw c.if-known.false

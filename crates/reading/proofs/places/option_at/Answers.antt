@@ -1,5 +1,0 @@
-use Rattle.reading.proofs.FieldReaders.{field-read}
-use Rattle.reading.proofs.places.option_at.Goals as goal
-
-pub returns : goal.returns
-returns = λ c. search field-read

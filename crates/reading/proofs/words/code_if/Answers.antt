@@ -1,8 +1,0 @@
-use mathlib.Core.Path.{sym, ◌∙◌}
-use Rattle.reading.proofs.words.code_if.Goals as goal
-
-pub returns-then-same : goal.returns-then-same
-returns-then-same c = rw (sym c.same.ensures ∙ c.if-same.true)
-
-pub returns-else-same : goal.returns-else-same
-returns-else-same c = rw (sym c.same.ensures ∙ c.if-same.false)
