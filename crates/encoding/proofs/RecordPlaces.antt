@@ -1,7 +1,8 @@
 -- Where a record lies among those of some bytes, and a turn of a loop that asks them one by one.
-use Rattle.std.proofs.Common.{sym, ap, ap₂, ◌∙◌, arith, add-mul, one-mul, length-drop}
+use Rattle.std.proofs.Common.{sym, ap, ap₂, ◌∙◌, inl, inr, arith, add-mul, one-mul, length-drop}
 use Rattle.std.proofs.Math.Nat.{mul-le-mul_right}
-use Rattle.std.specs.Prelude.{◌≡◌, refl, Bool, true, List, [], ◌∷◌, ℕ, suc, ◌+◌, ◌-◌, ◌*◌, ◌≤◌, ◌<◌, length, drop}
+use Rattle.std.specs.Prelude.{◌≡◌, refl, Bool, true, List, [], ◌∷◌, ℕ, zero, suc, ◌+◌, ◌-◌, ◌*◌, ◌≤◌, ◌<◌, length, drop}
+use Rattle.foundation.specs.Lists.{Mem}
 use Rattle.foundation.specs.ByteRecords.{length-records, record_nth}
 use Rattle.foundation.specs.Bytes.{records}
 use Rattle.model.specs.Soundness.{chained}
@@ -24,6 +25,14 @@ module _ {R : Type 0} (w : ℕ) (f : List ℕ → R) (n : ℕ) (s : List ℕ) (x
       let a : i + 1 ≡ suc i = omega arith in
       rw a (ap (drop i) (sym e) ∙ record_nth w f n s i k
       ∙ ap₂ {C = List R} (λ (x : R) (ys : List R). x ∷ ys) (sym q) (ap (drop (suc i)) e))
+
+-- the one that a list has at a place is one of it
+pub mem_at : {R : Type 0} (i : ℕ) (xs ys : List R) (r : R) → drop i xs ≡ r ∷ ys → Mem r xs
+mem_at {R = R} i [] ys r e =
+    let z : length (drop i []) ≡ suc (length ys) = ap length e in
+    absurd (omega (arith, z, length-drop {A = R} i []))
+mem_at zero (x ∷ xs) ys r e = let p : r ≡ x = cc in inl p
+mem_at (suc i) (x ∷ xs) ys r e = inr (mem_at i xs ys r e)
 
 short : {R : Type 0} (p : R → R → Bool) (xs : List R) → length xs ≤ 1 → chained p xs ≡ true
 short p [] h = refl

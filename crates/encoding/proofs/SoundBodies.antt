@@ -10,6 +10,7 @@ use Rattle.foundation.specs.Lists.{allb, lent_rest}
 use Rattle.model.specs.Encoding.{decode}
 use Rattle.model.specs.EncodingFacts.{sound-length}
 use Rattle.model.specs.Soundness.{sound_bytes, privilege_in, authorization_in, rule_in}
+use Rattle.model.specs.FitsFacts.{CountsFit, counts_fit_lem}
 use Rattle.model.specs.SoundnessFacts.{Sound, decoded-sound}
 use Rattle.model.specs.SoundTests.{ranges_test}
 use Rattle.encoding.specs.declared.Counts.{Counts}
@@ -33,6 +34,9 @@ module _ (s : List ℕ) (e : sound_bytes s ≡ true) where
 
   pub base-sound : Sound (decode s)
   base-sound = decoded-sound s e
+
+  pub counts_in : CountsFit (decode s)
+  counts_in = counts_fit_lem (decode s) base-sound.counts
 
   pub objects_in : allb privilege_in (decode s).objects ≡ true
   objects_in = ranges_test (decode s) base-sound _ (inr (inr (inl refl)))

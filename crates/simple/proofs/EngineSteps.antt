@@ -10,8 +10,6 @@ use Rattle.foundation.specs.Tests.{cases, true_eq, false_eq, and-false, not-true
 use Rattle.foundation.specs.Tests.{or_none}
 use Rattle.foundation.specs.Lists.{Mem, anyb}
 use Rattle.foundation.specs.Intervals.{in_interval, always, always_all}
-use Rattle.foundation.specs.Bytes.{records}
-use Rattle.foundation.specs.ByteRecords.{record_mem}
 use Rattle.model.specs.declared.Rule.{Rule}
 use Rattle.model.specs.declared.Operator.{Operator}
 use Rattle.model.specs.declared.Pattern.{Pattern}
@@ -21,34 +19,19 @@ use Rattle.model.specs.Rules.{derives_for, right_of, asked, operate, holds}
 use Rattle.model.proofs.RightFacts.{right_positive, right_denial}
 use Rattle.model.specs.Rules.{holding}
 use Rattle.model.proofs.HoldsLaws.{holds-law, derived-law}
-use Rattle.model.specs.Encoding.{rule_of, decode}
-use Rattle.encoding.specs.Format.{counts_of}
-use Rattle.encoding.proofs.FormatFacts.{decoded_rules}
-use Rattle.simple.specs.Stored.{rules_from, stored_rule}
+use Rattle.model.specs.Encoding.{decode}
 use Rattle.simple.specs.Engine.{granted_at, gives_in}
 
 -- ---- held
-
--- the rules that are asked are those of the base
-pub rule-mem : (s : List ℕ) (i : ℕ) (r : Rule) → r ≡ stored_rule s i → i < (counts_of s).rules →
-    Mem r (decode s).rules
-rule-mem s i r e h = rw (e, decoded_rules s) (record_mem 28 rule_of (counts_of s).rules (rules_from s) i h)
-
--- some rule of n gives p at t
-abbrev pub given : List ℕ → Pattern → ℕ → ℕ → Bool
-given s p t n = anyb (gives_in (decode s) p t) (records 28 rule_of n (rules_from s))
 
 -- where an authorization gives it, or else a rule
 pub held_granted : (s : List ℕ) (p : Pattern) (t : ℕ) → granted_at s p t ≡ true →
     true ≡ holds always (decode s) t p
 held_granted s p t e = sym (holds-law (decode s) t p ∙ rw e)
 
-pub held-given : (s : List ℕ) (p : Pattern) (t n : ℕ) → n ≡ (counts_of s).rules →
-    granted_at s p t ≡ false → given s p t n ≡ holds always (decode s) t p
-held-given s p t n k e =
-    ap (given s p t) k
-    ∙ ap (anyb (gives_in (decode s) p t)) (sym (decoded_rules s))
-    ∙ sym (holds-law (decode s) t p ∙ rw e)
+pub held-given : (s : List ℕ) (p : Pattern) (t : ℕ) (rules : List Rule) → rules ≡ (decode s).rules →
+    granted_at s p t ≡ false → anyb (gives_in (decode s) p t) rules ≡ holds always (decode s) t p
+held-given s p t rules q e = ap (anyb (gives_in (decode s) p t)) q ∙ sym (holds-law (decode s) t p ∙ rw e)
 
 -- ---- in force
 

@@ -1,5 +1,5 @@
 -- What the engine's functions are to say of lent bytes, in the words of crate model.
-use Rattle.std.specs.Prelude.{◌≡◌, Bool, true, false, not, ◌&&◌, List, ℕ}
+use Rattle.std.specs.Prelude.{Bool, not, ◌&&◌, List, ℕ}
 use Rattle.foundation.specs.Tests.{pick}
 use Rattle.foundation.specs.Lists.{Mem, anyb}
 use Rattle.foundation.specs.Intervals.{always}
@@ -7,16 +7,9 @@ use Rattle.model.specs.declared.Rule.{Rule}
 use Rattle.model.specs.declared.Pattern.{Pattern}
 use Rattle.model.specs.Base.{Base}
 use Rattle.model.specs.Support.{live}
-use Rattle.model.specs.Circles.{circular}
 use Rattle.model.specs.Rules.{fact, fits, derives_for, holds}
 use Rattle.model.specs.Rules.{derived, holding}
 use Rattle.model.specs.Encoding.{decode}
-use Rattle.model.specs.Soundness.{sound_bytes}
-
--- 02: "It serves rule sets in which feeding has no circle of any sort"; "such links count as feeding"
-pub record ServedRules (s : List ℕ) : Type 0 where
-  pub sound : sound_bytes s ≡ true
-  pub uncircular : circular (decode s).rules ≡ false
 
 -- p is held at t
 abbrev pub held_at : List ℕ → Pattern → ℕ → Bool

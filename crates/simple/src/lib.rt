@@ -52,10 +52,13 @@ pub fn simple_may(s: &[u8], q: Question) -> Reply
         return Reply::Refused(15);
     }
     let base = ServedBase { sound: base };
-    if held(&base, asked(x, false), t) && !held(&base, asked(x, true), t) {
-        return Reply::Yes;
+    if !held(&base, asked(x, false), t) {
+        return Reply::No;
     }
-    Reply::No
+    if held(&base, asked(x, true), t) {
+        return Reply::No;
+    }
+    Reply::Yes
 }
 
 // Whether p is held at t: an authorization gives it, or one of the rules does.

@@ -28,9 +28,9 @@ fn fits(h: Head, p: Pattern) -> bool
     ensures { result ≡ model.fits p h }
 {
     let x = p.access;
-    (u32::from(h.subject) == x.subject)
-        & (u32::from(h.mode) == x.mode)
-        & (u32::from(h.object) == x.object)
+    (h.subject as u32 == x.subject)
+        & (h.mode as u32 == x.mode)
+        & (h.object as u32 == x.object)
         & (h.negative == p.negative)
         & ((p.grantor == 0) | (p.grantor == h.grantor))
         & fits_option(p.option, h.option)
@@ -58,7 +58,7 @@ pub fn may_give(base: &SoundBase<'_>, r: Rule, p: Pattern) -> bool
 fn number_or(n: u16, x: u32) -> u32
     ensures { result ≡ pick (is_star n) x n }
 {
-    if n == 0 { x } else { u32::from(n) }
+    if n == 0 { x } else { n as u32 }
 }
 
 // The right side of a rule whose left side is x.

@@ -3,6 +3,8 @@ use mathlib.Core.Path.{◌≡◌, refl, sym, ap, ◌∙◌}
 use mathlib.Core.Bool.{Bool, true, false, not, ◌&&◌, and-true}
 use mathlib.Core.List.{List, [], ◌∷◌}
 use Prim.Native.Nat.{ℕ, ◌≤◌}
+use lib.ListN.{length}
+use Rattle.encoding.proofs.SoundBodies.{counts_in}
 use Rattle.foundation.specs.Tests.{le-true}
 use Rattle.foundation.specs.Intervals.{always}
 use Rattle.model.specs.declared.Pattern.{Pattern}
@@ -20,7 +22,7 @@ use Rattle.model.specs.Answers.{access_in, may_reply}
 use Rattle.model.specs.Simple.{simple_answer}
 use Rattle.simple.specs.Engine.{held_at}
 use Rattle.simple.proofs.simple_may.Goals as goal
-use Rattle.simple.proofs.simple_may.Goals.{Else-has_circle}
+use Rattle.simple.proofs.simple_may.Goals.{Else-is_circular}
 
 -- the reply by what is asked of the base, in this order
 abbrev replied : (sound? in? there? circle? held? denied? : Bool) → Reply
@@ -56,14 +58,14 @@ said_in : (q : Question) (in? : Bool) → in? ≡ access_in q.access → q.insta
 said_in q in? e h = (λ k. sym e k && le-true q.instant last_instant h k) ∙ and-true in?
 
 -- behind the rows, `denied?` being left open where nothing is held
-answered : (c : Else-has_circle) (held? denied? : Bool) →
+answered : (c : Else-is_circular) (held? denied? : Bool) →
     positive c.args.s.now c.args.q ≡ held? → denial c.args.s.now c.args.q ≡ denied? →
     replied true true true false held? denied? ≡ simple_answer c.args.s.now c.args.q
 answered c held? denied? p d =
     by_tests c.args.s.now c.args.q true true true false held? denied?
     (sym c.is_sound.ensures ∙ c.if-not-is_sound.false)
     (said_in c.args.q c.access_in.result c.access_in.ensures (omega arith) ∙ c.if-not-access_in.false)
-    (sym c.exists.ensures ∙ c.if-not-exists.false) (sym c.has_circle.ensures ∙ c.if-has_circle.false) p d
+    (sym c.exists.ensures ∙ c.if-not-exists.false) (sym (ap circular c.rules.ensures) ∙ sym c.is_circular.ensures ∙ c.if-is_circular.false) p d
 
 -- what is asked about
 said : (s : List ℕ) (q : Question) (negative held? : Bool) (p : Pattern) → p ≡ asked q.access negative →
@@ -83,45 +85,32 @@ returns-then-not-access_in c =
     (said_in c.args.q c.access_in.result c.access_in.ensures (omega arith) ∙ c.if-not-access_in.true)
     refl refl refl refl
 
-pub exists-requires : goal.exists-requires
-exists-requires c = sym c.is_sound.ensures ∙ c.if-not-is_sound.false
-
 pub returns-then-not-exists : goal.returns-then-not-exists
 returns-then-not-exists c =
     by_tests c.args.s.now c.args.q true true false _ _ _ (sym c.is_sound.ensures ∙ c.if-not-is_sound.false)
     (said_in c.args.q c.access_in.result c.access_in.ensures (omega arith) ∙ c.if-not-access_in.false)
     (sym c.exists.ensures ∙ c.if-not-exists.true) refl refl refl
 
-pub has_circle-requires : goal.has_circle-requires
-has_circle-requires c = sym c.is_sound.ensures ∙ c.if-not-is_sound.false
+pub is_circular-requires : goal.is_circular-requires
+is_circular-requires c =
+    let sound = sym c.is_sound.ensures ∙ c.if-not-is_sound.false in
+    omega (arith, (counts_in c.args.s.now sound).rules, ap length c.rules.ensures)
 
-pub returns-then-has_circle : goal.returns-then-has_circle
-returns-then-has_circle c =
+pub returns-then-is_circular : goal.returns-then-is_circular
+returns-then-is_circular c =
     by_tests c.args.s.now c.args.q true true true true _ _ (sym c.is_sound.ensures ∙ c.if-not-is_sound.false)
     (said_in c.args.q c.access_in.result c.access_in.ensures (omega arith) ∙ c.if-not-access_in.false)
-    (sym c.exists.ensures ∙ c.if-not-exists.false) (sym c.has_circle.ensures ∙ c.if-has_circle.true) refl refl
-
-pub held-requires : goal.held-requires
-held-requires c = record {
-  sound = sym c.is_sound.ensures ∙ c.if-not-is_sound.false;
-  uncircular = sym c.has_circle.ensures ∙ c.if-has_circle.false;
-}
-
-pub held-requires-2 : goal.held-requires-2
-held-requires-2 c = record {
-  sound = sym c.is_sound.ensures ∙ c.if-not-is_sound.false;
-  uncircular = sym c.has_circle.ensures ∙ c.if-has_circle.false;
-}
+    (sym c.exists.ensures ∙ c.if-not-exists.false) (sym (ap circular c.rules.ensures) ∙ sym c.is_circular.ensures ∙ c.if-is_circular.true) refl refl
 
 pub returns-then-not-held : goal.returns-then-not-held
 returns-then-not-held c =
-    answered (goal.at.returns-then-not-held c).Else-has_circle false _
+    answered (goal.at.returns-then-not-held c).Else-is_circular false _
     (said c.args.s.now c.args.q false c.held.result c.asked.result c.asked.ensures c.held.ensures
     ∙ c.if-not-held.true) refl
 
 pub returns-then-held : goal.returns-then-held
 returns-then-held c =
-    answered (goal.at.returns-then-held c).Else-has_circle true true
+    answered (goal.at.returns-then-held c).Else-is_circular true true
     (said c.args.s.now c.args.q false c.held.result c.asked.result c.asked.ensures c.held.ensures
     ∙ c.if-not-held.false)
     (said c.args.s.now c.args.q true c.held-2.result c.asked-2.result c.asked-2.ensures c.held-2.ensures
@@ -129,7 +118,7 @@ returns-then-held c =
 
 pub returns : goal.returns
 returns c =
-    answered (goal.at.returns c).Else-has_circle true false
+    answered (goal.at.returns c).Else-is_circular true false
     (said c.args.s.now c.args.q false c.held.result c.asked.result c.asked.ensures c.held.ensures
     ∙ c.if-not-held.false)
     (said c.args.s.now c.args.q true c.held-2.result c.asked-2.result c.asked-2.ensures c.held-2.ensures
