@@ -8,11 +8,10 @@ ghost use Rattle.model.specs.Encoding.{authorization_of, authorization_bytes, ru
 ghost use Rattle.encoding.specs.Format.{authorization_clean, rule_clean};
 
 use crate::flags::{
-    has_option, head_flags, head_flags_known, is_negative, operator_number, operator_of, option_of,
-    rule_flags, rule_flags_known,
+    has_option, head_flags, head_flags_known, is_negative, option_of, rule_flags, rule_flags_known,
 };
 use foundation::Interval;
-use model::{Authorization, Head, Privilege, Rule, Side};
+use model::{Authorization, Head, Operator, Privilege, Rule, Side};
 
 // Writes two 16-bit numbers at a place, one behind the other.
 pub fn put_pair(s: &mut [u8], at: usize, first: u16, second: u16)
@@ -120,7 +119,7 @@ pub fn rule_at(s: &[u8], at: usize) -> Rule
             object: fields::le16(s, at + 6),
             negative: flags & 1 == 1,
         },
-        operator: operator_of(s[at + 16]),
+        operator: Operator::from(s[at + 16]),
         right: Side {
             subject: fields::le16(s, at + 8),
             mode: s[at + 15],
@@ -144,14 +143,7 @@ fn put_modes(s: &mut [u8], at: usize, r: Rule)
     let operator = r.operator;
     let option = r.option;
     let flags = rule_flags(left.negative, right.negative, option);
-    fields::put4(
-        s,
-        at,
-        left.mode,
-        right.mode,
-        operator_number(operator),
-        flags,
-    );
+    fields::put4(s, at, left.mode, right.mode, u8::from(operator), flags);
     fields::put16(s, at + 4, 0);
 }
 

@@ -1,10 +1,8 @@
-// The flag bytes of authorizations and rules, and the numbers of the operators.
+// The flag bytes of authorizations and rules.
 ghost use Rattle.std.specs.Prelude.{◌≡◌, ltb};
-ghost use Rattle.model.specs.Requests.{operator_of};
 ghost use Rattle.model.specs.Encoding.{is_negative, has_option, head_flags, option_flags, option_of, rule_flags};
-ghost use Rattle.model.specs.Encoding.{operator_number};
 
-use model::{Operator, OptionTerm};
+use model::OptionTerm;
 
 // Bit 0 of an authorization's flags: it is a denial.
 pub fn is_negative(f: u8) -> bool
@@ -70,28 +68,4 @@ pub fn rule_flags(left: bool, right: bool, option: OptionTerm) -> u8
     ensures { result ≡ rule_flags left right option }
 {
     (left as u8) | ((right as u8) << 1) | option_flags(option)
-}
-
-// The operator with a number of a rule's bytes.
-pub fn operator_of(n: u8) -> Operator
-    ensures { result ≡ operator_of n }
-{
-    match n {
-        1 => Operator::Whenever,
-        2 => Operator::AsLongAs,
-        3 => Operator::WheneverNot,
-        _ => Operator::Unless,
-    }
-}
-
-// The number of an operator in a rule's bytes.
-pub fn operator_number(o: Operator) -> u8
-    ensures { result ≡ operator_number o }
-{
-    match o {
-        Operator::Whenever => 1,
-        Operator::AsLongAs => 2,
-        Operator::WheneverNot => 3,
-        Operator::Unless => 4,
-    }
 }

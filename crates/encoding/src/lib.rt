@@ -13,8 +13,7 @@ pub use bodies::{
     put_rule, rule_at, rule_clean,
 };
 pub use flags::{
-    has_option, head_flags, head_flags_known, is_negative, operator_number, operator_of, option_of,
-    rule_flags, rule_flags_known,
+    has_option, head_flags, head_flags_known, is_negative, option_of, rule_flags, rule_flags_known,
 };
 pub use heading::{
     administrators_at, authorizations_at, counts_fit, counts_of, create, end_at, heading_fits,

@@ -4,8 +4,7 @@ ghost use Rattle.std.specs.Prelude.{◌≡◌, ◌<◌};
 ghost use Rattle.model.specs.Requests.{new_rule, number_of, side_of};
 ghost use Rattle.model.specs.FitsFacts.{SideFits, RuleFits};
 
-use crate::flags::operator_of;
-use model::{Request, Rule, Side, SideTerms, Term};
+use model::{Operator, Request, Rule, Side, SideTerms, Term};
 
 // A number, or 0 for a star.
 pub fn number_of(t: Term) -> u32
@@ -48,7 +47,7 @@ pub fn new_rule(q: Request, label: u16) -> Rule
         label: label,
         author: q.requester as u16,
         left: side_of(left),
-        operator: operator_of(rule.operator as u8),
+        operator: Operator::from(rule.operator as u8),
         right: side_of(right),
         grantor: number_of(grantor) as u16,
         option: option,

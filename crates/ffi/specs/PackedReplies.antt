@@ -1,13 +1,11 @@
 -- Requests and replies as C passes them: numbers and truth values alone. A star has a truth value of its own
 -- beside its number, so that no number is a star; a reply is one number of 64 bits, in three parts that C
 -- takes out by shifts: `refusal-back`, `label-back` and `number-back` say that it gets what the reply holds.
-use Rattle.std.specs.Prelude.{◌≡◌, refl, Bool, List, ℕ, ◌+◌, ◌*◌, ◌/◌, ◌%◌, ◌<◌}
+use Rattle.std.specs.Prelude.{Result, Ok, Err, ◌≡◌, refl, Bool, List, ℕ, ◌+◌, ◌*◌, ◌/◌, ◌%◌, ◌<◌}
 use Rattle.std.proofs.Common.{arith}
 use Rattle.foundation.specs.Tests.{pick}
 use Rattle.model.specs.declared.Reply.{Reply}
 use Rattle.model.specs.declared.Reply.TheVariants.{Done, Refused, Unsupported, Yes, No, Runs}
-use Rattle.model.specs.declared.Counted.{Counted}
-use Rattle.model.specs.declared.Counted.TheVariants.{Count, Refused as Declined}
 use Rattle.model.specs.declared.Term.{Term}
 use Rattle.model.specs.declared.Term.TheVariants.{Any, Number}
 use Rattle.model.specs.declared.OptionTerm.{OptionTerm}
@@ -53,9 +51,9 @@ packed No = 0
 packed (Runs n) = n * 4294967296
 
 -- a count: the refusal in bits 0 to 15, how many from bit 32 on
-abbrev pub packed_count : Counted → ℕ
-packed_count (Count n) = n % 4294967296 * 4294967296
-packed_count (Declined k) = k % 65536
+abbrev pub packed_count : Result ℕ ℕ → ℕ
+packed_count (Ok n) = n % 4294967296 * 4294967296
+packed_count (Err k) = k % 65536
 
 -- a line of text: the refusal in bits 0 to 15, the bytes written from bit 32 on
 abbrev pub packed_text : WrittenText → ℕ
@@ -96,14 +94,14 @@ number-back Yes = refl
 number-back No = refl
 number-back (Runs n) = omega arith
 
-pub counted_refusal-back : (r : Counted) → counted_refusal r < 65536 → packed_count r % 65536 ≡ counted_refusal r
-counted_refusal-back (Count n) h = omega arith
-counted_refusal-back (Declined k) h = omega arith
+pub counted_refusal-back : (r : Result ℕ ℕ) → counted_refusal r < 65536 → packed_count r % 65536 ≡ counted_refusal r
+counted_refusal-back (Ok n) h = omega arith
+counted_refusal-back (Err k) h = omega arith
 
-pub counted_number-back : (r : Counted) → counted_number r < 4294967296 →
+pub counted_number-back : (r : Result ℕ ℕ) → counted_number r < 4294967296 →
     packed_count r / 4294967296 ≡ counted_number r
-counted_number-back (Count n) h = omega arith
-counted_number-back (Declined k) h = omega arith
+counted_number-back (Ok n) h = omega arith
+counted_number-back (Err k) h = omega arith
 
 -- ---- what the contract of the exported request says: the reply as a number, and the bytes
 

@@ -2,15 +2,13 @@
 -- its label and its number (PackedReplies), a packed reply to a request says what the request's definition
 -- says (`request-parts`), and so does one to a line of text (`text-parts`) and one with a rights sheet
 -- (`report-parts`).
-use Rattle.std.specs.Prelude.{◌≡◌, refl, Bool, true, false, not, List, [], ◌∷◌, ◌++◌, ℕ, suc, ◌*◌, ◌/◌, ◌%◌, ◌≤◌, ◌<◌, ltb, eqb, length, drop}
+use Rattle.std.specs.Prelude.{Ok, Result, ◌≡◌, refl, Bool, true, false, not, List, [], ◌∷◌, ◌++◌, ℕ, suc, ◌*◌, ◌/◌, ◌%◌, ◌≤◌, ◌<◌, ltb, eqb, length, drop}
 use Rattle.std.proofs.Common.{ap, ◌∙◌, inl, ⊎_elim, arith}
 use Rattle.foundation.specs.Tests.{true-le, not-false}
 use Rattle.foundation.specs.Lists.{allb, kept_length}
 use Rattle.model.specs.declared.Request.{Request}
 use Rattle.model.specs.declared.Access.{Access}
 use Rattle.model.specs.declared.Question.{Question}
-use Rattle.model.specs.declared.Counted.{Counted}
-use Rattle.model.specs.declared.Counted.TheVariants.{Count}
 use Rattle.model.specs.declared.Reply.{Reply}
 use Rattle.model.specs.declared.Reply.TheVariants.{Done, Refused, Unsupported, Yes, No, Runs}
 use Rattle.model.specs.Base.{empty_base}
@@ -166,7 +164,7 @@ report_most s o e =
     )
 
 -- what the number that the exported report gives says of the sheet's definition
-pub record CountParts (r : Counted) (n : ℕ) : Type 0 where
+pub record CountParts (r : Result ℕ ℕ) (n : ℕ) : Type 0 where
   pub refusal : n % 65536 ≡ counted_refusal r
   pub label : n / 65536 % 65536 ≡ 0
   pub number : n / 4294967296 ≡ counted_number r
@@ -178,7 +176,7 @@ report_parts s o page =
     let text = report_of (decode s) o in
     let n = length text in
     let rows = row 2 (not (sound_bytes s)) ∷ report_table (decode s) o (length page) n in
-    by_rows rows (declining page) (counting (Count n) (text ++ drop n page))
+    by_rows rows (declining page) (counting (Ok n) (text ++ drop n page))
     (λ (a : Counting). CountParts a.reply (packed_count a.reply))
     (let h = (refused_small rows refl).refusal in
     record { refusal = omega arith; label = omega arith; number = omega arith })

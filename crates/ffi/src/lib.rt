@@ -18,7 +18,7 @@ ghost use Rattle.ffi.specs.PackedReplies.{term_of, option_from, side_from, acces
 ghost use Rattle.ffi.specs.PackedReplies.{packed_text, AnsweredBy};
 
 use foundation::Interval;
-use model::{Access, Counted, OptionTerm, Question, Reply, Request, RuleTerms, SideTerms, Term};
+use model::{Access, OptionTerm, Question, Reply, Request, RuleTerms, SideTerms, Term};
 
 // A star, or else the number.
 fn term(any: bool, n: u32) -> Term
@@ -59,12 +59,12 @@ fn pack(r: Reply) -> u64
 }
 
 // A reply that counts as one number.
-fn pack_count(r: Counted) -> u64
+fn pack_count(r: Result<u64, u32>) -> u64
     ensures { result ≡ packed_count r }
 {
     match r {
-        Counted::Count(n) => n % 4294967296 * 4294967296,
-        Counted::Refused(k) => (k as u64) % 65536,
+        Ok(n) => n % 4294967296 * 4294967296,
+        Err(k) => (k as u64) % 65536,
     }
 }
 

@@ -1,10 +1,9 @@
 -- The rights sheet of an object, which is hung up in the meter room (02, change request 1).
-use Rattle.std.specs.Prelude.{ℕ, ◌-◌, Bool, not, List, [], ◌∷◌, ◌++◌, ltb, eqb, length, drop, replicate}
+use Rattle.std.specs.Prelude.{Ok, ℕ, ◌-◌, Bool, not, List, [], ◌∷◌, ◌++◌, ltb, eqb, length, drop, replicate}
 use Rattle.foundation.specs.Tests.{pick}
 use Rattle.foundation.specs.Lists.{keep_if, each}
 use Rattle.model.specs.declared.Head.{Head}
 use Rattle.model.specs.declared.Authorization.{Authorization}
-use Rattle.model.specs.declared.Counted.TheVariants.{Count}
 use Rattle.model.specs.Ranges.{is_object}
 use Rattle.model.specs.Base.{Base, exists}
 use Rattle.model.specs.Step.{Row, row, refused_or}
@@ -74,5 +73,5 @@ unfoldable pub report_answer : List ℕ → ℕ → List ℕ → Counting
 report_answer s o page =
     let text = report_of (decode s) o in
     let n = length text in
-    let a = counting (Count n) (text ++ drop n page) in
+    let a = counting (Ok n) (text ++ drop n page) in
     refused_or (row 2 (not (sound_bytes s)) ∷ report_table (decode s) o (length page) n) (declining page) a

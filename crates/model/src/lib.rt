@@ -2,6 +2,8 @@
 // value.
 #![tactic(auto)]
 
+ghost use Rattle.std.specs.Prelude.{◌≡◌};
+
 use foundation::Interval;
 
 // The bytes of a base, of an object with a subject, of an authorization and of a rule in it.
@@ -45,14 +47,14 @@ pub const GRANTREF: u32 = 11;
 pub const REVOKEREF: u32 = 12;
 
 // An object with a subject: the object's owner, one of its administrators, or one of its referrers.
-#[derive(Clone, Copy)]
+#[derive(Clone, Copy, PartialEq, Eq, PartialOrd, Ord)]
 pub struct Privilege {
     pub object: u16,
     pub subject: u16,
 }
 
 // What the authorizations of one label share.
-#[derive(Clone, Copy)]
+#[derive(Clone, Copy, PartialEq, Eq)]
 pub struct Head {
     pub label: u16,
     pub grantor: u16,
@@ -65,30 +67,57 @@ pub struct Head {
 }
 
 // A temporal authorization (01: a line).
-#[derive(Clone, Copy)]
+#[derive(Clone, Copy, PartialEq, Eq)]
 pub struct Authorization {
     pub head: Head,
     pub interval: Interval,
 }
 
-#[derive(Clone, Copy)]
+// With their numbers in a rule's bytes.
+#[derive(Clone, Copy, PartialEq, Eq)]
 pub enum Operator {
-    Whenever,
-    AsLongAs,
-    WheneverNot,
-    Unless,
+    Whenever = 1,
+    AsLongAs = 2,
+    WheneverNot = 3,
+    Unless = 4,
+}
+
+// The operator with a number. Whether a number is one is asked apart.
+impl From<u8> for Operator {
+    ghost use Rattle.model.specs.Requests.{operator_of};
+
+    ghost from_gives = { λ n r. r ≡ operator_of n };
+
+    fn from(n: u8) -> Operator {
+        match n {
+            1 => Operator::Whenever,
+            2 => Operator::AsLongAs,
+            3 => Operator::WheneverNot,
+            _ => Operator::Unless,
+        }
+    }
+}
+
+impl From<Operator> for u8 {
+    ghost use Rattle.model.specs.Encoding.{operator_number};
+
+    ghost from_gives = { λ o n. n ≡ operator_number o };
+
+    fn from(o: Operator) -> u8 {
+        o as u8
+    }
 }
 
 // The option of a rule's right side: with the grant option, without it, or starred.
-#[derive(Clone, Copy)]
+#[derive(Clone, Copy, PartialEq, Eq)]
 pub enum OptionTerm {
-    With,
-    Without,
-    Either,
+    With = 1,
+    Without = 0,
+    Either = 2,
 }
 
 // One side of a rule in the base. A subject, a mode or an object of 0 is the star.
-#[derive(Clone, Copy)]
+#[derive(Clone, Copy, PartialEq, Eq)]
 pub struct Side {
     pub subject: u16,
     pub mode: u8,
@@ -97,7 +126,7 @@ pub struct Side {
 }
 
 // A derivation rule. `grantor` and `option` belong to the right side; a grantor of 0 is the star.
-#[derive(Clone, Copy)]
+#[derive(Clone, Copy, PartialEq, Eq)]
 pub struct Rule {
     pub label: u16,
     pub author: u16,
@@ -111,14 +140,14 @@ pub struct Rule {
 
 // A number of a request where a star may stand instead. The star is no number, so that 0 remains out of
 // range.
-#[derive(Clone, Copy)]
+#[derive(Clone, Copy, PartialEq, Eq)]
 pub enum Term {
     Any,
     Number(u32),
 }
 
 // One side of a rule as a request words it.
-#[derive(Clone, Copy)]
+#[derive(Clone, Copy, PartialEq, Eq)]
 pub struct SideTerms {
     pub subject: Term,
     pub mode: Term,
@@ -128,7 +157,7 @@ pub struct SideTerms {
 
 // A rule as a request words it; its interval is the request's. The operator is its number in the base's
 // bytes, 1 to 4.
-#[derive(Clone, Copy)]
+#[derive(Clone, Copy, PartialEq, Eq)]
 pub struct RuleTerms {
     pub left: SideTerms,
     pub operator: u32,
@@ -139,7 +168,7 @@ pub struct RuleTerms {
 
 // A request of any kind. The kind is a number, so that an unknown one can be said; a field that the kind does
 // not name is not looked at.
-#[derive(Clone, Copy)]
+#[derive(Clone, Copy, PartialEq, Eq)]
 pub struct Request {
     pub now: u32,
     pub requester: u32,
@@ -154,7 +183,7 @@ pub struct Request {
 }
 
 // What the question WHEN asks about.
-#[derive(Clone, Copy)]
+#[derive(Clone, Copy, PartialEq, Eq)]
 pub struct Access {
     pub subject: u32,
     pub mode: u32,
@@ -163,7 +192,7 @@ pub struct Access {
 
 // What is looked for: an access, positive or denied, from a grantor or from any (0), with an option or with
 // either.
-#[derive(Clone, Copy)]
+#[derive(Clone, Copy, PartialEq, Eq)]
 pub struct Pattern {
     pub access: Access,
     pub negative: bool,
@@ -172,14 +201,34 @@ pub struct Pattern {
 }
 
 // The question MAY: an access at an instant.
-#[derive(Clone, Copy)]
+#[derive(Clone, Copy, PartialEq, Eq)]
 pub struct Question {
     pub access: Access,
     pub instant: u32,
 }
 
+// The rows of the table of refusals, by their numbers.
+#[derive(Clone, Copy, PartialEq, Eq)]
+pub enum Row {
+    Unreadable = 1,
+    NotSound = 2,
+    OutOfRange = 3,
+    BehindClock = 4,
+    BadInterval = 5,
+    NoObject = 6,
+    NoLabel = 7,
+    NotPermitted = 8,
+    Uncovered = 9,
+    AlreadyThere = 10,
+    NotHeld = 11,
+    NotStratified = 12,
+    Full = 13,
+    Barred = 14,
+    Circular = 15,
+}
+
 // The reply to a request or a question.
-#[derive(Clone, Copy)]
+#[derive(Clone, Copy, PartialEq, Eq)]
 pub enum Reply {
     // accepted, with the new label or 0 and the number of authorizations (01: lines) now in the base
     Done { label: u32, count: u32 },
@@ -191,11 +240,4 @@ pub enum Reply {
     No,
     // the number of maximal intervals (01: runs) written to the list
     Runs(u32),
-}
-
-// The answer of a call that counts: how many, or refused with a number of the table.
-#[derive(Clone, Copy)]
-pub enum Counted {
-    Count(u64),
-    Refused(u32),
 }

@@ -12,11 +12,7 @@ use model::OptionTerm;
 fn option_number(o: OptionTerm) -> u32
     ensures { result ≡ option_number o }
 {
-    match o {
-        OptionTerm::Without => 0,
-        OptionTerm::With => 1,
-        OptionTerm::Either => 2,
-    }
+    o as u32
 }
 
 // The heading at a place: the clock, the last label, and how many records each body has.
@@ -116,7 +112,7 @@ fn rule_numbers(s: &[u8], at: usize) -> [u32; 15]
         left.mode as u32,
         left.object as u32,
         as_bit(left.negative) as u32,
-        encoding::operator_number(operator) as u32,
+        u8::from(operator) as u32,
         right.subject as u32,
         right.mode as u32,
         right.object as u32,

@@ -1,22 +1,23 @@
 // Row 12 of the table of refusals: whether a new rule would close a forbidden circle.
-ghost use Rattle.std.specs.Prelude.{◌≡◌, true, false};
+ghost use Rattle.std.specs.Prelude.{◌≡◌, false};
 ghost use Rattle.model.specs.Encoding.{decode};
-ghost use Rattle.model.specs.Soundness.{sound_bytes};
 ghost use Rattle.model.specs.Step.{out_of_range, not_stratified};
 
 use encoding::new_rule;
+use lookup::SoundBase;
 use model::{ADDRULE, RULE_BYTES, Request};
 
 // Row 12: the base's rules with the new one behind them have a forbidden circle. They are tested in a copy,
 // where the new rule has the label 1: the next one may be too large for its bytes, and labels do not matter
 // for circles.
-pub fn not_stratified(s: &[u8], q: Request) -> bool
-    requires { (sound_bytes s.now ≡ true) × (out_of_range q ≡ false) }
-    ensures { result ≡ not_stratified (decode s.now) q }
+pub fn not_stratified(base: &SoundBase<'_>, q: Request) -> bool
+    requires { out_of_range q ≡ false }
+    ensures { result ≡ not_stratified (decode base.now.bytes.now) q }
 {
     if q.kind != ADDRULE {
         return false;
     }
+    let s = base.bytes;
     let c = encoding::counts_of(s);
     let at = encoding::rules_at(c);
     let n = c.rules as usize;

@@ -12,13 +12,11 @@ pub use circles::not_stratified;
 pub use grants::first_uncovered;
 pub use ranges::{bad_interval, out_of_range};
 pub use rows::{already_there, behind_clock, no_label, no_object, not_held, not_permitted};
-pub use table::early_refusal;
+pub use table::refuse_early;
 
-// The first of the rows before 13 that applies: none; its number; or row 9, with the earliest uncovered
-// instant.
+// What a request is refused with by a row before 13: its number; or row 9, with the earliest uncovered instant.
 #[derive(Clone, Copy)]
-pub enum Early {
-    Passed,
+pub enum Refusal {
     Number(u32),
     Uncovered(u32),
 }

@@ -1,6 +1,5 @@
 // Row 3 of the table of refusals: fields outside their ranges. Row 5: intervals.
-ghost use Rattle.std.specs.Prelude.{◌≡◌};
-ghost use Rattle.model.specs.Ranges.{is_subject, is_object, is_mode};
+ghost use Rattle.std.specs.Prelude.{◌≡◌, Bool, ℕ};
 ghost use Rattle.model.specs.Step.{term_in, stars_agree, side_terms_in, rule_terms_in, out_of_range, bad_interval};
 
 use lookup::{
@@ -9,33 +8,16 @@ use lookup::{
 };
 use model::{ADDRULE, Request, RuleTerms, SideTerms, Term};
 
-// A subject, or the star.
-fn subject_term_in(t: Term) -> bool
-    ensures { result ≡ term_in is_subject t }
+// A number in its range, or the star. (Callers wrap the functions of lookup in closures: the check takes no
+// function of another crate by its name alone.)
+fn term_in<F: Fn(u32) -> bool>(in_range: F, t: Term) -> bool
+    requires { F.IsAlwaysCallable in_range }
+    ensures { (p : ℕ → Bool) → ((n : ℕ) (b : Bool) → F.post in_range n b → b ≡ p n) →
+        result ≡ term_in p t }
 {
     match t {
         Term::Any => true,
-        Term::Number(n) => subject_in(n),
-    }
-}
-
-// A mode, or the star.
-fn mode_term_in(t: Term) -> bool
-    ensures { result ≡ term_in is_mode t }
-{
-    match t {
-        Term::Any => true,
-        Term::Number(n) => mode_in(n),
-    }
-}
-
-// An object, or the star.
-fn object_term_in(t: Term) -> bool
-    ensures { result ≡ term_in is_object t }
-{
-    match t {
-        Term::Any => true,
-        Term::Number(n) => object_in(n),
+        Term::Number(n) => in_range(n),
     }
 }
 
@@ -43,26 +25,16 @@ fn object_term_in(t: Term) -> bool
 fn stars_agree(a: Term, b: Term) -> bool
     ensures { result ≡ stars_agree a b }
 {
-    match a {
-        Term::Any => match b {
-            Term::Any => true,
-            Term::Number(_) => false,
-        },
-        Term::Number(_) => match b {
-            Term::Any => false,
-            Term::Number(_) => true,
-        },
-    }
+    matches!(a, Term::Any) == matches!(b, Term::Any)
 }
 
 // One side of a rule.
 fn side_terms_in(s: SideTerms) -> bool
     ensures { result ≡ side_terms_in s }
 {
-    let subject = s.subject;
-    let mode = s.mode;
-    let object = s.object;
-    subject_term_in(subject) & mode_term_in(mode) & object_term_in(object)
+    term_in(|n| subject_in(n), s.subject)
+        & term_in(|n| mode_in(n), s.mode)
+        & term_in(|n| object_in(n), s.object)
 }
 
 // The fields of a rule, its stars, and the option of a denial on the right.
@@ -71,22 +43,14 @@ fn rule_terms_in(u: RuleTerms) -> bool
 {
     let left = u.left;
     let right = u.right;
-    let grantor = u.grantor;
-    let option = u.option;
-    let left_subject = left.subject;
-    let right_subject = right.subject;
-    let left_mode = left.mode;
-    let right_mode = right.mode;
-    let left_object = left.object;
-    let right_object = right.object;
     side_terms_in(left)
         & side_terms_in(right)
-        & ((1 <= u.operator) & (u.operator <= 4))
-        & subject_term_in(grantor)
-        & stars_agree(left_subject, right_subject)
-        & stars_agree(left_mode, right_mode)
-        & stars_agree(left_object, right_object)
-        & option_fits(right.negative, option)
+        & (1..=4).contains(&u.operator)
+        & term_in(|n| subject_in(n), u.grantor)
+        & stars_agree(left.subject, right.subject)
+        & stars_agree(left.mode, right.mode)
+        & stars_agree(left.object, right.object)
+        & option_fits(right.negative, u.option)
 }
 
 // Row 3: the kind is unknown, or a field that it names is outside its range, or a star or option of a rule is

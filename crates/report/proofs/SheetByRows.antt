@@ -7,7 +7,6 @@ use native.Mathlib.Omega.{arith}
 use lib.Dec.{ltb}
 use lib.ListN.{length, drop}
 use Rattle.foundation.specs.Tests.{le-true, le-false}
-use Rattle.model.specs.declared.Counted.TheVariants.{Count}
 use Rattle.model.specs.Ranges.{is_object}
 use Rattle.model.specs.Base.{exists}
 use Rattle.model.specs.Step.{row, refused_or}
@@ -20,7 +19,7 @@ use Rattle.report.specs.Sheet.{sheet_filled}
 -- row 13 applies, or not
 module _ (text page : List ℕ) where
   abbrev written : Counting
-  written = counting (Count (length text)) (text ++ drop (length text) page)
+  written = counting (Ok (length text)) (text ++ drop (length text) page)
 
   abbrev by_room : Bool → Counting
   by_room short? = refused_or (row 13 short? ∷ []) (declining page) written

@@ -1,7 +1,6 @@
 -- What the contracts of the sheet's inner functions say.
-use Rattle.std.specs.Prelude.{◌≡◌, ℕ, ◌*◌, ◌≤◌, true, List, [], ◌∷◌, ◌++◌, ltb, length, drop}
+use Rattle.std.specs.Prelude.{Ok, ◌≡◌, ℕ, ◌*◌, ◌≤◌, true, List, [], ◌∷◌, ◌++◌, ltb, length, drop}
 use Rattle.foundation.specs.Lists.{allb}
-use Rattle.model.specs.declared.Counted.TheVariants.{Count}
 use Rattle.model.specs.Step.{row, refused_or}
 use Rattle.model.specs.Soundness.{authorization_in}
 use Rattle.model.specs.Counting.{Counting, counting, declining}
@@ -17,4 +16,4 @@ pub record Lines (s : List ℕ) (n : ℕ) : Type 0 where
 abbrev pub sheet_filled : List ℕ → List ℕ → Counting
 sheet_filled text page =
     let n = length text in
-    refused_or (row 13 (ltb (length page) n) ∷ []) (declining page) (counting (Count n) (text ++ drop n page))
+    refused_or (row 13 (ltb (length page) n) ∷ []) (declining page) (counting (Ok n) (text ++ drop n page))

@@ -7,16 +7,15 @@ ghost use Rattle.model.specs.Report.{report_answer};
 
 mod sheet;
 
-use model::Counted;
 
 // Writes the sheet of an object to the front of a page: a row of 44 bytes for each authorization on it, in
 // base order. The reply is how many bytes that is, or a refusal; the bytes behind them are as they were.
-pub fn report(base: &[u8], object: u32, page: &mut [u8]) -> Counted
+pub fn report(base: &[u8], object: u32, page: &mut [u8]) -> Result<u64, u32>
     ensures { counting result page.new
         ≡ report_answer base.now object page.old }
 {
     if !soundness::is_sound(base) {
-        return Counted::Refused(2);
+        return Err(2);
     }
     sheet::report_sound(base, object, page)
 }

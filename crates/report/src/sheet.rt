@@ -10,7 +10,7 @@ ghost use Rattle.printing.specs.Print.{Printed};
 ghost use Rattle.report.specs.Sheet.{Lines, sheet_filled};
 
 use columns::put_row;
-use model::{AUTHORIZATION_BYTES, Authorization, Counted};
+use model::{AUTHORIZATION_BYTES, Authorization};
 
 // Whether an authorization is on the object.
 fn is_on(a: Authorization, object: u32) -> bool
@@ -69,30 +69,30 @@ fn put_rows(lines: &[u8], n: usize, object: u32, page: &mut [u8])
 }
 
 // The sheet of n authorizations, if the page has room for it.
-fn fill_page(lines: &[u8], n: usize, object: u32, page: &mut [u8]) -> Counted
+fn fill_page(lines: &[u8], n: usize, object: u32, page: &mut [u8]) -> Result<u64, u32>
     requires { Lines lines.now n }
     ensures { counting result page.new
         ≡ sheet_filled (rows_on object (authorizations_in n lines.now)) page.old }
 {
     let need = 44 * count_on(lines, n, object);
     if page.len() < need {
-        return Counted::Refused(13);
+        return Err(13);
     }
     put_rows(lines, n, object, page);
-    Counted::Count(need as u64)
+    Ok(need as u64)
 }
 
 // The sheet over a base that is known to be sound.
-pub fn report_sound(base: &[u8], object: u32, page: &mut [u8]) -> Counted
+pub fn report_sound(base: &[u8], object: u32, page: &mut [u8]) -> Result<u64, u32>
     requires { sound_bytes base.now ≡ true }
     ensures { counting result page.new
         ≡ report_answer base.now object page.old }
 {
     if !lookup::object_in(object) {
-        return Counted::Refused(3);
+        return Err(3);
     }
     if !lookup::exists(base, object) {
-        return Counted::Refused(6);
+        return Err(6);
     }
     let c = encoding::counts_of(base);
     let at = encoding::authorizations_at(c);

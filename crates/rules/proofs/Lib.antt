@@ -1,2 +1,3 @@
-pub mod RankRounds
-pub mod EdgeFacts
+pub mod Steps
+pub mod Rounds
+pub mod Tables

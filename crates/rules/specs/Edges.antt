@@ -1,39 +1,34 @@
--- Which rule looks at which, as a table of edges with weights: a row of 65 bytes for each rule, in it a byte
--- for each rule that it looks at, which is three times that rule's number and the weight of the step.
-use Rattle.std.specs.Prelude.{◌≡◌, Bool, ℕ, zero, suc, ◌+◌, ◌*◌, ◌/◌, ◌%◌, ◌≤◌, ◌<◌, max, List, get_or}
+-- Which rule looks at which, as a row of bytes for each rule: a byte for each rule that it looks at, which is
+-- three times that rule's number and what the step from it counts.
+use Rattle.std.specs.Prelude.{ℕ, suc, ◌+◌, ◌*◌, ◌/◌, ◌%◌, ◌<◌, max, List, [], ◌∷◌, get_or, take, map, fold}
+use Rattle.std.specs.List.{All}
 use Rattle.foundation.specs.Tests.{pick}
+use Rattle.foundation.specs.BitMasks.{as_bit}
 use Rattle.model.specs.declared.Rule.{Rule}
 use Rattle.model.specs.Stratification.{precedes}
-use Rattle.encoding.specs.Format.{rule_at}
-use Rattle.rules.specs.RankTables.{count_of}
+use Rattle.rules.specs.RankTables.{count_of, own_count}
+use Rattle.rules.specs.declared.ranks.Counting.{Counting}
+use Rattle.rules.specs.declared.ranks.Row.{Row}
 
--- what the step from q to r counts, and one more; 0 if r does not look at q
-abbrev pub step_of : Bool → Rule → Rule → ℕ
-step_of every q r = pick (precedes q r) (suc (count_of every q r)) 0
+-- the steps into r from rules of which the first has the number i
+abbrev pub steps_into : Counting → Rule → List Rule → ℕ → List ℕ
+steps_into counting r [] i = []
+steps_into counting r (q ∷ qs) i =
+    let more = steps_into counting r qs (suc i) in
+    pick (precedes q r) ((3 * i + count_of counting q r) ∷ more) more
 
--- the e-th byte of row j
-abbrev pub edge_at : List ℕ → ℕ → ℕ → ℕ
-edge_at edges j e = get_or edges (j * 65 + e) 0
+-- what r counts by itself, and the steps into it
+abbrev pub row_of : Counting → List Rule → Rule → ℕ × List ℕ
+row_of counting rules r = (as_bit (own_count counting r), steps_into counting r rules 0)
 
--- the first c bytes of row j are the edges from the rules before the i-th
-pub record EdgeRow (every : Bool) (i : ℕ) (s : List ℕ) (j : ℕ) (edges : List ℕ) (c : ℕ) : Type 0 where
-  pub few : c ≤ i
-  pub inside : (e : ℕ) → e < c → edge_at edges j e / 3 < i
-  pub steps : (e : ℕ) → e < c → step_of every (rule_at s (edge_at edges j e / 3)) (rule_at s j)
-      ≡ suc (edge_at edges j e % 3)
-  pub all : (q : ℕ) → q < i → 0 < step_of every (rule_at s q) (rule_at s j) →
-      (e : ℕ) × (e < c) × (edge_at edges j e / 3 ≡ q)
+-- a row as code has it
+abbrev pub shown : Row → ℕ × List ℕ
+shown row = (row.own, take row.len row.steps)
 
--- the rows of n rules, each with its count
-abbrev pub EdgeRows : Bool → ℕ → List ℕ → List ℕ → List ℕ → Type 0
-EdgeRows every n s edges counts = (j : ℕ) → j < n → EdgeRow every n s j edges (get_or counts j 0)
+-- the steps of a row come from rules that have a rank, and none is too large
+abbrev pub StepsFit : List ℕ → ℕ × List ℕ → Type 0
+StepsFit ranks row = All (λ x. (x / 3 < 65) × (get_or ranks (x / 3) 0 < 65000)) row.1
 
--- the edges come from the first n rules
-abbrev pub Inside : ℕ → List ℕ → List ℕ → Type 0
-Inside n edges counts =
-    (j : ℕ) → j < n → (get_or counts j 0 ≤ n) × ((e : ℕ) → e < get_or counts j 0 → edge_at edges j e / 3 < n)
-
--- the most of b and of what c edges make of the numbers l
-abbrev pub best_of : ℕ → (ℕ → ℕ) → List ℕ → ℕ → ℕ
-best_of zero row l b = b
-best_of (suc e) row l b = max (best_of e row l b) (row e % 3 + get_or l (row e / 3) 0)
+-- the most of what a row's rule counts by itself and of what the steps into it make of the ranks
+abbrev pub best_of : List ℕ → ℕ × List ℕ → ℕ
+best_of ranks row = fold max row.0 (map (λ x. x % 3 + get_or ranks (x / 3) 0) row.1)

@@ -7,7 +7,6 @@ ghost use Rattle.model.specs.Stratification as model;
 
 mod ranks;
 
-use fields::alike;
 use model::{Operator, OptionTerm, Rule};
 pub use ranks::{is_circular, is_stratified, stratify};
 
@@ -34,47 +33,35 @@ pub fn fits_option(o: OptionTerm, has: bool) -> bool
 pub fn feeds(q: Rule, r: Rule) -> bool
     ensures { result ≡ model.feeds q r }
 {
-    let object = meets(q.left.object, r.right.object);
-    if !object {
-        return false;
-    }
-    let sign = alike(q.left.negative, r.right.negative);
-    let subject = meets(q.left.subject, r.right.subject);
-    let mode = meets(fields::u16_of(q.left.mode), fields::u16_of(r.right.mode));
-    let o = r.option;
-    let option = fits_option(o, false);
-    sign & object & subject & mode & ((r.grantor == 0) | (r.grantor == q.author)) & option
+    meets(q.left.object, r.right.object)
+        && (q.left.negative == r.right.negative)
+            & meets(q.left.subject, r.right.subject)
+            & meets(u16::from(q.left.mode), u16::from(r.right.mode))
+            & ((r.grantor == 0) | (r.grantor == q.author))
+            & fits_option(r.option, false)
 }
 
 // Whether q's left side is a denial of what r's positive right side looks for.
 pub fn links(q: Rule, r: Rule) -> bool
     ensures { result ≡ model.links q r }
 {
-    let object = meets(q.left.object, r.right.object);
-    if !object {
-        return false;
-    }
-    let subject = meets(q.left.subject, r.right.subject);
-    let mode = meets(fields::u16_of(q.left.mode), fields::u16_of(r.right.mode));
-    q.left.negative & !r.right.negative & object & subject & mode
+    meets(q.left.object, r.right.object)
+        && q.left.negative
+            & !r.right.negative
+            & meets(q.left.subject, r.right.subject)
+            & meets(u16::from(q.left.mode), u16::from(r.right.mode))
 }
 
 // Whether an operator wants the right side not held.
 pub fn is_negating(o: Operator) -> bool
     ensures { result ≡ model.negating o }
 {
-    match o {
-        Operator::Whenever => false,
-        Operator::AsLongAs => false,
-        Operator::WheneverNot => true,
-        Operator::Unless => true,
-    }
+    matches!(o, Operator::WheneverNot | Operator::Unless)
 }
 
 // Whether a rule says WHENEVERNOT or UNLESS.
 pub fn negates(r: Rule) -> bool
     ensures { result ≡ model.negates r }
 {
-    let o = r.operator;
-    is_negating(o)
+    is_negating(r.operator)
 }

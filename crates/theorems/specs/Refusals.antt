@@ -1,6 +1,6 @@
 -- Which numbers each public function refuses with, and that a refusal leaves what was lent (demand 1): one
 -- theorem a function, each an instance of `refused`.
-use Rattle.std.specs.Prelude.{◌≡◌, refl, ◌≢◌, ℕ, suc, ◌*◌, ◌/◌, ◌≤◌, true, false, not, List, [], ◌∷◌, ◌++◌, map, ltb, eqb, length, drop}
+use Rattle.std.specs.Prelude.{Ok, ◌≡◌, refl, ◌≢◌, ℕ, suc, ◌*◌, ◌/◌, ◌≤◌, true, false, not, List, [], ◌∷◌, ◌++◌, map, ltb, eqb, length, drop}
 use Rattle.std.proofs.Common.{sym, ap, ◌∙◌, subst, inl, inr, ⊎_elim, arith}
 use Rattle.foundation.specs.Tests.{cases, true_eq, false_eq, and-true, le-false, not-false}
 use Rattle.foundation.specs.Lists.{Mem, anyb, allb, any_mem, mem-map, keep_if}
@@ -26,7 +26,6 @@ use Rattle.model.specs.Answers.{request}
 use Rattle.model.specs.Answers.{may_table, when_table, words, may_reply, may_answer, when_answer}
 use Rattle.model.specs.Simple.{simple_table, simple_answer}
 use Rattle.model.proofs.SimpleFacts.{replied}
-use Rattle.model.specs.declared.Counted.TheVariants.{Count}
 use Rattle.model.specs.Counting.{Counting, counting, declining, counted_refusal}
 use Rattle.model.specs.Report.{is_on, report_of, report_table, report_answer}
 use Rattle.model.specs.ReportFacts.{report_length}
@@ -135,7 +134,7 @@ report_refuses s o page n =
     let text = report_of (decode s) o in
     let k = length text in
     let rows = row 2 (not (sound_bytes s)) ∷ report_table (decode s) o (length page) k in
-    let w = refused rows (declining page) (counting (Count k) (text ++ drop k page))
+    let w = refused rows (declining page) (counting (Ok k) (text ++ drop k page))
     (λ (a : Counting). counted_refusal a.reply) (λ k. refl) refl n in
     (w.0, ap (λ (a : Counting). a.lent) w.1)
 
@@ -147,7 +146,7 @@ report_rises s o room need = refl
 -- a page of 44 bytes for each authorization on the object suffices, and none is needed where there is none
 pub report_fills : (s : List ℕ) (o : ℕ) (page : List ℕ) → sound_bytes s ≡ true → is_object o ≡ true →
     exists (decode s) o ≡ true → 44 * length (keep_if (is_on o) (decode s).authorizations) ≤ length page →
-    (report_answer s o page).reply ≡ Count (44 * length (keep_if (is_on o) (decode s).authorizations))
+    (report_answer s o page).reply ≡ Ok (44 * length (keep_if (is_on o) (decode s).authorizations))
 unfolding report_answer
 report_fills s o page sound? object there room =
     let text = report_of (decode s) o in
@@ -157,8 +156,8 @@ report_fills s o page sound? object there room =
     le-false (suc (length page)) (length text) (omega (arith, n)) in
     let none : first_number rows ≡ 0 = rw (sound?, object, there, fits) in
     ap (λ (a : Counting). a.reply) (answered rows (declining page)
-    (counting (Count (length text)) (text ++ drop (length text) page)) none)
-    ∙ ap Count n
+    (counting (Ok (length text)) (text ++ drop (length text) page)) none)
+    ∙ ap Ok n
 
 -- ---- the same about the code
 

@@ -1,29 +1,24 @@
-use mathlib.Core.Path.{◌≡◌, sym, ◌∙◌}
-use mathlib.Core.Bool.{false, beq}
-use Rattle.foundation.specs.Tests.{and-false, not-true}
-use Rattle.model.specs.declared.Rule.{Rule}
-use Rattle.model.specs.Stratification.{meets, feeds}
+use Rattle.std.proofs.Common.{sym, ◌∙◌}
+use mathlib.Core.Bool.{beq}
+use Rattle.foundation.specs.Tests.{and-false, and_yes}
 use Rattle.model.proofs.SideFacts.{feeds_eq}
 use Rattle.rules.proofs.feeds.Goals as goal
 
-other_object : (q r : Rule) → meets q.left.object r.right.object ≡ false → false ≡ feeds q r
-other_object q r n = rw (feeds_eq q r, n, and-false (beq q.left.negative r.right.negative))
-
-pub returns-then-not-object : goal.returns-then-not-object
-returns-then-not-object c =
-    let m = c.meets-object in
+pub returns-then-meets : goal.returns-then-meets
+returns-then-meets c =
     let a = c.args in
-    other_object a.q a.r (sym m.ensures ∙ c.if-not-object.true)
-
-pub returns : goal.returns
-returns c =
     rw (
-      feeds_eq _ _,
-      c.alike-sign.ensures,
-      c.meets-object.ensures,
-      c.meets-subject.ensures,
-      c.meets-mode.ensures,
-      c.u16_of.ensures.0,
-      c.u16_of-2.ensures.0,
-      c.fits_option-option.ensures,
+      feeds_eq a.q a.r,
+      sym c.meets.ensures ∙ c.if-meets.true,
+      c.meets-then-meets.ensures,
+      c.meets-then-meets-2.ensures,
+      c.from.ensures,
+      c.from-then-meets.ensures,
+      c.fits_option.ensures,
+      and_yes (beq a.q.left.negative a.r.right.negative),
     )
+
+pub returns-else-meets : goal.returns-else-meets
+returns-else-meets c =
+    let a = c.args in
+    rw (c.if-meets.false, feeds_eq a.q a.r, sym c.meets.ensures ∙ c.if-meets.false, and-false (beq a.q.left.negative a.r.right.negative))

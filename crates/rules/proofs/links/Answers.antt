@@ -1,29 +1,23 @@
-use mathlib.Core.Path.{◌≡◌, sym, ◌∙◌}
-use mathlib.Core.Bool.{false, not, ◌&&◌}
-use Rattle.foundation.specs.Tests.{and-false, not-true}
-use Rattle.model.specs.declared.Rule.{Rule}
-use Rattle.model.specs.Stratification.{meets, links}
+use Rattle.std.proofs.Common.{sym, ◌∙◌}
+use mathlib.Core.Bool.{◌&&◌, not}
+use Rattle.foundation.specs.Tests.{and-false, and_yes}
 use Rattle.model.proofs.SideFacts.{links_eq}
 use Rattle.rules.proofs.links.Goals as goal
 
-other_object : (q r : Rule) → meets q.left.object r.right.object ≡ false → false ≡ links q r
-other_object q r n = rw (links_eq q r, n, and-false (q.left.negative && not r.right.negative))
-
-pub returns-then-not-object : goal.returns-then-not-object
-returns-then-not-object c =
-    let m = c.meets-object in
+pub returns-then-meets : goal.returns-then-meets
+returns-then-meets c =
     let a = c.args in
-    other_object a.q a.r (sym m.ensures ∙ c.if-not-object.true)
-
-pub returns : goal.returns
-returns c =
-    let w = c in
-    let m = w in
     rw (
-      links_eq _ _,
-      m.meets-object.ensures,
-      m.meets-subject.ensures,
-      c.meets-mode.ensures,
-      w.u16_of.ensures.0,
-      w.u16_of-2.ensures.0,
+      links_eq a.q a.r,
+      sym c.meets.ensures ∙ c.if-meets.true,
+      c.meets-then-meets.ensures,
+      c.meets-then-meets-2.ensures,
+      c.from.ensures,
+      c.from-then-meets.ensures,
+      and_yes (a.q.left.negative && not a.r.right.negative),
     )
+
+pub returns-else-meets : goal.returns-else-meets
+returns-else-meets c =
+    let a = c.args in
+    rw (c.if-meets.false, links_eq a.q a.r, sym c.meets.ensures ∙ c.if-meets.false, and-false (a.q.left.negative && not a.r.right.negative))

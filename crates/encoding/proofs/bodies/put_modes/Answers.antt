@@ -5,10 +5,7 @@ use Rattle.encoding.proofs.bodies.put_modes.Goals as goal
 
 pub returns : goal.returns
 returns c =
-    let c₂ = c in
-    let c₁ = c₂ in
-    let f = c₁ in
-    let a = f.args in
+    let a = c.args in
     splice-then a.at 4 _ _ a.s.now (omega arith) refl
-    (rw (c₁.operator_number.ensures, f.rule_flags-flags.ensures) at c₁.put4.ensures)
-    c₂.put16.ensures
+    (rw (c.from.ensures, c.rule_flags-flags.ensures) at c.put4.ensures)
+    c.put16.ensures

@@ -24,7 +24,7 @@ returns c =
         object = (c₁.le16-4.ensures ∙ le_at 2 s a.at 6) k;
         negative = (mask_test 0 f ∙ ap (bit 0) (byte_at s a.at 17)) k;
       };
-      operator = (c₁.operator_of.ensures ∙ ap operator_of (byte_at s a.at 16)) k;
+      operator = (c₁.from.ensures ∙ ap operator_of (byte_at s a.at 16)) k;
       right = record {
         subject = (c₁.le16-5.ensures ∙ le_at 2 s a.at 8) k;
         mode = byte_at s a.at 15 k;

@@ -12,30 +12,29 @@ use Rattle.model.specs.Requests.{new_rule}
 use Rattle.model.specs.Stratification.{stratified}
 use Rattle.fields.specs.Field.{splice}
 use Rattle.encoding.specs.Format.{rules_at, rules_in}
-use Rattle.refusals.proofs.AskedFacts.{rule-request_in}
 use Rattle.encoding.proofs.SoundBodies.{lent, Fitting, fitting, there, rules_lent}
-use Rattle.refusals.proofs.ByKind.{strata-rule, strata_none}
+use Rattle.refusals.proofs.AskedFacts.{rule-request_in, strata-rule, strata_none}
 use Rattle.refusals.proofs.Added.{added_rules}
 use Rattle.refusals.proofs.circles.not_stratified.Goals as goal
 use Rattle.refusals.proofs.circles.not_stratified.Goals.{After-rules_at-at}
 
 -- behind the counts: the bodies fit
-fits : (c : After-rules_at-at) → Fitting c.args.s.now c.counts_of-c.result
-fits c = fitting c.args.s.now c.requires.0 c.counts_of-c.result c.counts_of-c.ensures
+fits : (c : After-rules_at-at) → Fitting c.args.base.now.bytes.now c.counts_of-c.result
+fits c = fitting c.args.base.now.bytes.now c.args.base.now.sound c.counts_of-c.result c.counts_of-c.ensures
 
 -- the rules lie in what is lent from their place on
-long : (c : After-rules_at-at) → c.counts_of-c.result.rules * 28 ≤ length (lent c.args.s.now c.rules_at-at.result)
+long : (c : After-rules_at-at) → c.counts_of-c.result.rules * 28 ≤ length (lent c.args.base.now.bytes.now c.rules_at-at.result)
 long c =
-    there c.args.s.now c.rules_at-at.result (rules_at c.counts_of-c.result) _
+    there c.args.base.now.bytes.now c.rules_at-at.result (rules_at c.counts_of-c.result) _
     c.rules_at-at.ensures (omega (arith, fits c))
 
 pub returns-then-q-ne-ADDRULE : goal.returns-then-q-ne-ADDRULE
 returns-then-q-ne-ADDRULE c =
     let a = c.args in
-    strata_none (decode a.s.now) a.q c.if-q-ne-ADDRULE.true
+    strata_none (decode a.base.now.bytes.now) a.q c.if-q-ne-ADDRULE.true
 
 pub counts_of-c-requires : goal.counts_of-c-requires
-counts_of-c-requires c = omega (arith, sound-length c.args.s.now c.requires.0)
+counts_of-c-requires c = omega (arith, sound-length c.args.base.now.bytes.now c.args.base.now.sound)
 
 pub slice_bounds-copy-count : goal.slice_bounds-copy-count
 slice_bounds-copy-count c =
@@ -52,7 +51,7 @@ copy-requires c =
 
 pub new_rule-requires : goal.new_rule-requires
 new_rule-requires c =
-    let w = rule-request_in c.args.q c.requires.1 c.if-q-ne-ADDRULE.false in
+    let w = rule-request_in c.args.q c.requires c.if-q-ne-ADDRULE.false in
     (w.rule, w.operator)
 
 pub put_rule-requires : goal.put_rule-requires
@@ -74,9 +73,9 @@ returns c =
     let d = (goal.at.returns c).After-rules_at-at in
     let n = c.counts_of-c.result in
     let at = c.rules_at-at.result in
-    let s = c.args.s.now in
+    let s = c.args.base.now.bytes.now in
     let q = c.args.q in
-    let w = rule-request_in q c.requires.1 c.if-q-ne-ADDRULE.false in
+    let w = rule-request_in q c.requires c.if-q-ne-ADDRULE.false in
     let all : rules_in (n.rules + 1) c.put_rule.new.s ≡ rules_in n.rules (lent s at) ++ (new_rule 1 q ∷ []) =
     added_rules n.rules (lent s at) (replicate 1820 0) c.copy.new.s
     c.put_rule.new.s (new_rule 1 q) w.rule (long d) (omega (arith, (fits d).counts)) c.copy.ensures

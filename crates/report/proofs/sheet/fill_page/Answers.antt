@@ -1,3 +1,4 @@
+use Rattle.std.specs.Prelude.{Ok}
 use native.Mathlib.Omega.{arith}
 use mathlib.Core.Path.{◌≡◌, sym, ap, ap₂, ◌∙◌}
 use mathlib.Core.Bool.{true}
@@ -5,7 +6,6 @@ use mathlib.Core.List.{List}
 use Prim.Native.Nat.{ℕ, ◌*◌}
 use lib.ListN.{length}
 use Rattle.foundation.specs.Lists.{allb, keep_if}
-use Rattle.model.specs.declared.Counted.TheVariants.{Count}
 use Rattle.model.specs.Soundness.{authorization_in}
 use Rattle.model.specs.Counting.{counting}
 use Rattle.model.specs.Report.{is_on, rows_on}
@@ -43,5 +43,5 @@ returns c =
     let k = c.count_on-need in
     let e = needed a.n a.lines.now a.object k.result c.requires.ranges k.ensures.0 in
     let text = rows_on a.object (authorizations_in a.n a.lines.now) in
-    ap₂ (λ (n : ℕ) (page : List ℕ). counting (Count n) page) e c.put_rows.ensures
+    ap₂ (λ (n : ℕ) (page : List ℕ). counting (Ok n) page) e c.put_rows.ensures
     ∙ sym (filled-written text a.page.now (omega (arith, c.if-page-need.false, e)))
