@@ -11,6 +11,7 @@ ghost use Rattle.encoding.specs.Format.{counts_of, authorizations_at};
 
 use crate::Totals;
 use direct::{holds_directly, stands_some};
+use lookup::SoundBase;
 use model::{AUTHORIZATION_BYTES, Access};
 
 // The bytes of a sound base, which have its owners and administrators, and the bytes from its authorizations
@@ -68,7 +69,8 @@ impl<'a> AskedBase<'a> {
             result ≡ anyb (λ r. stands_for base r x) base.rules }
     {
         let from = self.totals.authorizations * AUTHORIZATION_BYTES;
-        stands_some(self.bytes, &self.records[from..], self.totals.rules, x)
+        let base = SoundBase { bytes: self.bytes };
+        stands_some(&base, &self.records[from..], self.totals.rules, x)
     }
 
     // What MAY says at t where no rule stands for the access: the authorizations alone are asked.

@@ -22,6 +22,7 @@ use crate::{AccessQuery, Extent, Inquiry};
 use engine::{Found, Query, WindowWalk};
 use facts::lay_tables;
 use masks::needed_rules;
+use lookup::SoundBase;
 use model::{AUTHORIZATION_BYTES, Access};
 use outlines::{
     choosy_of, draw_controlled, draw_feed, draw_left, draw_masks, draw_right, number_sides,
@@ -305,7 +306,7 @@ pub fn draw(
     let choosy = choosy_of(body, n);
     draw_feed(body, n, choosy, coordinates, outline);
     draw_controlled(
-        bytes,
+        &SoundBase { bytes },
         body,
         n,
         &coordinates[OBJECTS..COORDINATES],
@@ -344,7 +345,7 @@ pub fn with_drawn(
     let n = base.totals;
     let from = n.authorizations * AUTHORIZATION_BYTES;
     own_masks(
-        base.bytes,
+        &SoundBase { bytes: base.bytes },
         &records[from..],
         n.rules,
         own,
