@@ -8,7 +8,7 @@ ghost use Rattle.relevance.specs.Chosen.{selected};
 ghost use Rattle.laws.specs.Plain.{Plain};
 ghost use Rattle.selection.specs.Selection.{position};
 
-use encoding::rule_at;
+use encoding::{Records, rule_at};
 use model::RULE_BYTES;
 use rules::negates;
 use words::ones;
@@ -22,8 +22,9 @@ fn select(body: &[u8], n: usize, needed: u64, few: &mut [u8; 64 * RULE_BYTES]) -
 {
     let mut k = 0;
     for r in ones(needed) {
-        let at = (r as usize) * RULE_BYTES;
-        fields::copy(few, k * RULE_BYTES, &body[at..], RULE_BYTES);
+        let rule = &body[(r as usize) * RULE_BYTES..];
+        let at = k * RULE_BYTES;
+        few[at..at + RULE_BYTES].copy_from_slice(&rule[..RULE_BYTES]);
         k += 1;
     }
     k
@@ -66,8 +67,7 @@ pub fn strata_of(body: &[u8], n: usize, needed: u64, strata: &mut [u64])
         return;
     }
     let mut few = [0u8; 64 * RULE_BYTES];
-    let mut ranks = [0u16; 65];
     let k = select(body, n, needed, &mut few);
-    rules::stratify(&few, k, &mut ranks);
+    let ranks = rules::stratify(&Records::new(&few, k)).unwrap();
     spread_strata(&ranks, needed, strata);
 }
