@@ -11,7 +11,6 @@ use Rattle.std.specs.Iterator.Adapters.{rev_steps, rev_source}
 use Rattle.std.specs.declared.iter.Rev.{Rev}
 use Rattle.foundation.specs.BitMasks.{bit, bit-inside, bit-zero}
 use Rattle.foundation.specs.Tests.{cases, eq_true, or_intro_left, or_true_right, le-true, true-le, true_eq, and-false, and-true, or_cases}
-use Rattle.foundation.specs.BitLaws.{no_bits}
 use Rattle.words.specs.declared.bits.SetBits.{SetBits}
 use Rattle.words.specs.SetBits.{bits_below, bits_left, among}
 use Rattle.words.proofs.SetBitFacts.{Around, around, among_bits}
@@ -66,13 +65,6 @@ first_bit {r} {ys} m h = set_bit r m (ap (among r) h ∙ or_intro_left (eqb r r)
 pub last_bit : {r : ℕ} (m : ℕ) (ys : List ℕ) → bits_below 64 m ≡ ys ++ r ∷ [] → (r < 64) × (bit r m ≡ true)
 last_bit {r} m ys h = set_bit r m (ap (among r) h ∙ among_more r r ys
     ∙ or_true_right (among r ys) (eqb r r) (eq_true r r refl))
-
--- a word that is not 0 has one
-pub some_bit : (m : ℕ) → 0 < m → m < 18446744073709551616 → bits_below 64 m ≡ [] → ⊥
-some_bit m h l e = let z = no_bits 64 m l (λ i g. none_set i g) in omega arith
-  where
-    none_set : (i : ℕ) → i < 64 → bit i m ≡ false
-    none_set i g = rw (le-true (suc i) 64 g) at (sym (ap (among i) (sym e) ∙ among_bits i 64 m))
 
 -- ---- loops from behind: `for r in ones(m).rev()`
 
