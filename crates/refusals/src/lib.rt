@@ -2,6 +2,8 @@
 // asked of what the request would leave.
 #![tactic(auto)]
 
+use model::Row;
+
 mod circles;
 mod grants;
 mod ranges;
@@ -14,9 +16,9 @@ pub use ranges::{bad_interval, out_of_range};
 pub use rows::{already_there, behind_clock, no_label, no_object, not_held, not_permitted};
 pub use table::refuse_early;
 
-// What a request is refused with by a row before 13: its number; or row 9, with the earliest uncovered instant.
-#[derive(Clone, Copy)]
+// What a request is refused with before row 13: a row; or row 9, with the earliest uncovered instant.
+#[derive(Clone, Copy, PartialEq, Eq)]
 pub enum Refusal {
-    Number(u32),
+    Row(Row),
     Uncovered(u32),
 }

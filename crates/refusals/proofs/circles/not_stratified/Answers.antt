@@ -1,19 +1,22 @@
 use borrow.Author.Rules.{rules}
-use mathlib.Core.Path.{◌≡◌, ap, ◌∙◌}
+use mathlib.Core.Path.{◌≡◌, sym, ap, ◌∙◌}
 use mathlib.Core.Bool.{not}
 use mathlib.Core.List.{List, [], ◌∷◌, ◌++◌}
-use Prim.Native.Nat.{◌+◌, ◌*◌, ◌≤◌}
+use Prim.Native.Nat.{ℕ, ◌+◌, ◌*◌, ◌≤◌}
 use native.Mathlib.Omega.{arith}
-use lib.ListN.{length, replicate}
+use lib.ListN.{length, take, drop, replicate, length-append, length-drop, length-replicate}
+use lib.Seq.{length-take-le}
 use Rattle.model.specs.declared.Rule.{Rule}
-use Rattle.model.specs.Encoding.{decode, rule_bytes}
+use Rattle.foundation.specs.ByteRecords.{length-records}
+use Rattle.model.specs.Encoding.{decode, rule_of, rule_bytes}
 use Rattle.model.specs.EncodingFacts.{sound-length}
 use Rattle.model.specs.Requests.{new_rule}
 use Rattle.model.specs.Stratification.{stratified}
 use Rattle.fields.specs.Field.{splice}
+use Rattle.fields.proofs.ByteLaws.{front-put}
 use Rattle.encoding.specs.Format.{rules_at, rules_in}
-use Rattle.encoding.proofs.SoundBodies.{lent, Fitting, fitting, there, rules_lent}
 use Rattle.refusals.proofs.AskedFacts.{rule-request_in, strata-rule, strata_none}
+use Rattle.encoding.proofs.SoundBodies.{lent, Fitting, fitting, there, rules_lent}
 use Rattle.refusals.proofs.Added.{added_rules}
 use Rattle.refusals.proofs.circles.not_stratified.Goals as goal
 use Rattle.refusals.proofs.circles.not_stratified.Goals.{After-rules_at-at}
@@ -36,18 +39,34 @@ returns-then-q-ne-ADDRULE c =
 pub counts_of-c-requires : goal.counts_of-c-requires
 counts_of-c-requires c = omega (arith, sound-length c.args.base.now.bytes.now c.args.base.now.sound)
 
-pub slice_bounds-copy-count : goal.slice_bounds-copy-count
-slice_bounds-copy-count c =
-    omega (arith, fits (goal.at.slice_bounds-copy-count c).After-rules_at-at, c.rules_at-at.ensures)
+pub slice_bounds-body-count : goal.slice_bounds-body-count
+slice_bounds-body-count c =
+    omega (arith, fits (goal.at.slice_bounds-body-count c).After-rules_at-at, c.rules_at-at.ensures)
 
-pub slice_bounds-copy-start : goal.slice_bounds-copy-start
-slice_bounds-copy-start c =
-    omega (arith, fits (goal.at.slice_bounds-copy-start c).After-rules_at-at, c.rules_at-at.ensures)
+pub slice_bounds-body-start : goal.slice_bounds-body-start
+slice_bounds-body-start c =
+    omega (arith, fits (goal.at.slice_bounds-body-start c).After-rules_at-at, c.rules_at-at.ensures)
 
-pub copy-requires : goal.copy-requires
-copy-requires c =
-    let l = (goal.at.copy-requires c).After-rules_at-at in
-    (omega (arith, (fits l).counts), long l)
+-- the rules of the base fit the buffer
+room : (c : After-rules_at-at) → length (take (c.counts_of-c.result.rules * 28) (replicate {A = ℕ} 1820 0))
+    ≡ c.counts_of-c.result.rules * 28
+room c = length-take-le (c.counts_of-c.result.rules * 28) (replicate 1820 0)
+    (omega (arith, length-replicate {A = ℕ} 1820 0, (fits c).counts))
+
+pub slice_bounds-all-end : goal.slice_bounds-all-end
+slice_bounds-all-end c = omega (arith, (fits (goal.at.slice_bounds-all-end c).After-rules_at-at).counts)
+
+pub slice_bounds-copy_from_slice-end : goal.slice_bounds-copy_from_slice-end
+slice_bounds-copy_from_slice-end c = sym (room (goal.at.slice_bounds-copy_from_slice-end c).After-rules_at-at)
+
+pub slice_bounds-copy_from_slice-end-2 : goal.slice_bounds-copy_from_slice-end-2
+slice_bounds-copy_from_slice-end-2 c = sym (length-take-le (c.counts_of-c.result.rules * 28) _
+    (long (goal.at.slice_bounds-copy_from_slice-end-2 c).After-rules_at-at))
+
+pub copy_from_slice-requires : goal.copy_from_slice-requires
+copy_from_slice-requires c =
+    let l = (goal.at.copy_from_slice-requires c).After-rules_at-at in
+    room l ∙ sym (length-take-le (c.counts_of-c.result.rules * 28) _ (long l))
 
 pub new_rule-requires : goal.new_rule-requires
 new_rule-requires c =
@@ -56,17 +75,33 @@ new_rule-requires c =
 
 pub put_rule-requires : goal.put_rule-requires
 put_rule-requires c =
-    let l : length c.copy.new.s ≡ 1820 = search rules in
-    omega (arith, (fits (goal.at.put_rule-requires c).After-rules_at-at).counts, l)
+    let l = (goal.at.put_rule-requires c).After-rules_at-at in
+    let n = c.counts_of-c.result.rules * 28 in
+    let z : List ℕ = replicate 1820 0 in
+    omega (
+      arith,
+      length-append c.copy_from_slice.new.self (drop n z),
+      length-drop n z,
+      c.copy_from_slice.ensures.len,
+      room l,
+      length-replicate {A = ℕ} 1820 0,
+      (fits l).counts,
+    )
 
 pub overflow_add-n : goal.overflow_add-n
 overflow_add-n c = omega (arith, (fits (goal.at.overflow_add-n c).After-rules_at-at).counts)
 
+pub new-requires : goal.new-requires
+new-requires c =
+    let f = (fits (goal.at.new-requires c).After-rules_at-at).counts in
+    let l : length c.put_rule.new.s ≡ 1820 = search rules in
+    omega (arith, f, l)
+
 pub is_stratified-requires : goal.is_stratified-requires
 is_stratified-requires c =
-    let f = (fits (goal.at.is_stratified-requires c).After-rules_at-at).counts in
-    let l : length c.put_rule.new.s ≡ 1820 = search rules in
-    (omega (arith, f, l), omega (arith, f))
+    let n = c.counts_of-c.result.rules + 1 in
+    let l : length c.new.result ≡ n = ap length c.new.ensures ∙ length-records 28 rule_of n c.put_rule.new.s in
+    omega (arith, (fits (goal.at.is_stratified-requires c).After-rules_at-at).counts, l)
 
 pub returns : goal.returns
 returns c =
@@ -76,12 +111,16 @@ returns c =
     let s = c.args.base.now.bytes.now in
     let q = c.args.q in
     let w = rule-request_in q c.requires c.if-q-ne-ADDRULE.false in
+    let z : List ℕ = replicate 1820 0 in
+    let t : List ℕ = c.copy_from_slice.new.self ++ drop (n.rules * 28) z in
+    let copied = front-put (n.rules * 28) z c.copy_from_slice.ensures.after
+    (length-take-le (n.rules * 28) (lent s at) (long d)) in
     let all : rules_in (n.rules + 1) c.put_rule.new.s ≡ rules_in n.rules (lent s at) ++ (new_rule 1 q ∷ []) =
-    added_rules n.rules (lent s at) (replicate 1820 0) c.copy.new.s
-    c.put_rule.new.s (new_rule 1 q) w.rule (long d) (omega (arith, (fits d).counts)) c.copy.ensures
+    added_rules n.rules (lent s at) z t
+    c.put_rule.new.s (new_rule 1 q) w.rule (long d) (omega (arith, (fits d).counts)) copied
     (c.put_rule.ensures
-    ∙ ap (λ (x : Rule). splice (n.rules * 28) (rule_bytes x) c.copy.new.s)
+    ∙ ap (λ (x : Rule). splice (n.rules * 28) (rule_bytes x) t)
     c.new_rule.ensures) in
-    ap not (c.is_stratified.ensures ∙ ap stratified (all ∙ ap (λ (rs : List Rule). rs ++ (new_rule 1 q ∷ []))
+    ap not (c.is_stratified.ensures ∙ ap stratified (c.new.ensures ∙ all ∙ ap (λ (rs : List Rule). rs ++ (new_rule 1 q ∷ []))
     (rules_lent s n c.counts_of-c.ensures at c.rules_at-at.ensures)))
     ∙ strata-rule (decode s) q c.if-q-ne-ADDRULE.false
