@@ -1,17 +1,16 @@
--- The bodies of a base in its bytes, and the record at a place of one, as it is read. Assumes nothing.
-use mathlib.Core.Path.{◌≡◌, sym, ap, ◌∙◌, subst}
-use Prim.Native.Nat.{ℕ, suc, ◌+◌, ◌*◌, ◌≤◌, ◌<◌}
-use native.Mathlib.Nat.{mul-suc, mul-le-mul_left}
+-- The bodies of a base in its bytes. Assumes nothing.
+use mathlib.Core.Path.{◌≡◌, sym, ap, ◌∙◌}
+use native.Mathlib.Nat.{mul_comm}
+use Rattle.encoding.proofs.SoundBodies.{lent, there, rest_of}
+use Prim.Native.Nat.{ℕ, ◌+◌, ◌-◌, ◌*◌, ◌≤◌}
 use native.Mathlib.Omega.{arith}
-use mathlib.Core.List.{List, ◌∷◌}
+use mathlib.Core.List.{List}
 use lib.ListN.{length, drop}
 use Rattle.foundation.specs.Bytes.{records}
 use Rattle.model.specs.Encoding.{decode, privilege_of, rule_of}
 use Rattle.encoding.specs.Format.{counts_of, rules_at}
 use Rattle.encoding.proofs.FormatFacts.{decoded-objects, decoded_administrators, decoded_referrers}
-use Rattle.encoding.proofs.FormatFacts.{decoded_rules}
-use Rattle.encoding.proofs.FormatFacts.{decoded_lengths}
-use Rattle.foundation.specs.ByteRecords.{record_from}
+use Rattle.encoding.proofs.FormatFacts.{decoded_rules, decoded_lengths}
 use Rattle.edits.specs.declared.PrivilegeBody.{PrivilegeBody}
 use Rattle.edits.specs.declared.PrivilegeBody.TheVariants.{Objects, Administrators, Referrers}
 use Rattle.edits.specs.Edits.{Written, privileges_of, privileges_at, privilege_count}
@@ -51,16 +50,16 @@ privileges-body Referrers s W = record {
   within = omega (arith, W.fits.counts, decoded_lengths s, written-length s W);
 }
 
+-- and as it is lent, from a on
 module _ {R : Type 0} {w : ℕ} {f : List ℕ → R} {xs : List R} {n at : ℕ} {s : List ℕ}
-    (b : BodyInBytes w f xs n at s)
-    (i : ℕ) (h : i < length xs) (a : ℕ) (e : a ≡ at) where
-  -- the record at i is there
-  pub nth_there : a + w * i + w ≤ length s
-  nth_there =
-      let m : w * suc i ≡ w * i + w = mul-suc w i in
-      let l : w * suc i ≤ w * n = mul-le-mul_left w (omega (arith, b.count)) in
-      omega (arith, b.within)
+    (b : BodyInBytes w f xs n at s) (a : ℕ) (e : a ≡ at) where
+  pub lent_starts : a ≤ length s
+  lent_starts = omega (arith, b.within)
 
-  pub nth_read : (r : R) → r ≡ f (drop (a + w * i) s) → drop i xs ≡ r ∷ drop (suc i) xs
-  nth_read r q = subst (λ (l : List R). drop i l ≡ r ∷ drop (suc i) l) (sym b.read)
-      (record_from w f n at i s r (omega (arith, b.count)) (q ∙ ap (λ (m : ℕ). f (drop (m + w * i) s)) e))
+  pub lent_room : (m : ℕ) → m ≡ n → m * w ≤ length (lent s a)
+  lent_room m q =
+      let l : m * w ≤ length s - at = omega (arith, b.within, q, mul_comm w n, ap (λ (k : ℕ). k * w) q) in
+      there s a at (m * w) e l
+
+  pub lent_is : (m : ℕ) → m ≡ n → records w f m (lent s a) ≡ xs
+  lent_is m q = (λ k. records w f (q k) (rest_of s a at e k)) ∙ sym b.read
