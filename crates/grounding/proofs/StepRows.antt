@@ -14,8 +14,7 @@ use Rattle.places.specs.Regions.{free}
 use Rattle.tables.specs.declared.Frame.{Frame}
 use Rattle.tables.specs.declared.Place.{Place}
 use Rattle.words.specs.SetBits.{bits_below, among}
-use Rattle.words.proofs.SetBitLoops.{Turn}
-use Rattle.words.proofs.SetBitChains.{each_turn, each_all}
+use Rattle.words.proofs.SetBitLoops.{Turn, each_turn, each_end}
 use Rattle.grounding.specs.declared.RuleTurn.{RuleTurn}
 use Rattle.grounding.specs.RuleSteps.{Steps, none, then, Visited, AtMode, with_mode, ModesRan}
 use Rattle.grounding.specs.RuleSteps.{object_at, subject_at, StandsAt, place_at, AtPair, PairsRan}
@@ -108,7 +107,7 @@ module _ {Does : Place → List ℕ → List ℕ → Type 0} {p : Place} {modes 
       ModesTo Does p modes xs a b → ModesRan Does p modes a b
   modes-end {a} {b} h e d = record {
     steps = d.steps;
-    all = λ m l y. each_all (λ m. Visited Does (AtMode p modes) (with_mode p m) a b) h e d.all m y;
+    all = λ m l y. each_end _ (λ m. Visited Does (AtMode p modes) (with_mode p m) a b) h e d.all m y;
   }
 
 -- ---- the pairs of a range, one after the other

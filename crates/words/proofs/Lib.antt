@@ -4,6 +4,8 @@
 pub mod FieldLaws
 pub mod OnesFacts
 pub mod LowestBit
+pub mod HighestBit
+pub mod PartBits
 pub mod CutBit
 pub mod SumFacts
 pub mod RangeBits

@@ -1,5 +1,5 @@
--- The numbers of a range that pass a test: they are those (`among-range`), the first of them comes first
--- (`filter-first`), and what stands before one of them lies below it (`split-range`).
+-- The numbers of a range that pass a test: they are those (`among_range`), the first of them comes first
+-- (`filter_first`), the last last (`filter_last`), and what stands before one of them lies below it (`split_range`).
 use Rattle.std.specs.Prelude.{◌≡◌, refl, Bool, true, false, cond, ◌&&◌, ◌||◌, List, [], ◌∷◌, ◌++◌, ℕ, zero, suc, ◌+◌, ◌-◌, ◌≤◌, ◌<◌, eqb, leb, ltb}
 use Rattle.std.proofs.Common.{sym, ap, ap₂, ◌∙◌, arith}
 use Rattle.std.specs.List.{filter, range_with_len}
@@ -15,9 +15,11 @@ filter_same p q a (suc n) h =
     let r = filter_same p q (a + 1) n (λ i l. h i (omega arith)) in
     ap₂ (λ (b : Bool) (l : List ℕ). cond b (a ∷ l) l) e r
 
-pub filter_none : (p : ℕ → Bool) (a n : ℕ) → ((i : ℕ) → p i ≡ false) → filter p (range_with_len a n) ≡ []
+pub filter_none : (p : ℕ → Bool) (a n : ℕ) → ((i : ℕ) → a ≤ i → p i ≡ false) → filter p (range_with_len a n) ≡ []
 filter_none p a zero h = refl
-filter_none p a (suc n) h = let e = h a in rw e (filter_none p (a + 1) n h)
+filter_none p a (suc n) h =
+    let e = h a (omega arith) in
+    rw e (filter_none p (a + 1) n (λ i l. h i (omega arith)))
 
 -- k is the first that passes p, and the others pass q
 pub filter_first : (p q : ℕ → Bool) (k a n : ℕ) → a ≤ k → k < a + n → ((i : ℕ) → i < k → p i ≡ false) →
@@ -34,6 +36,25 @@ filter_first p q k a (suc n) h l none own others = cases (eqb a k)
     let o = none a y in
     let z : q a ≡ false = let m = others a in grind (arith, nat_tests) in
     rw (o, z) (filter_first p q k (a + 1) n (omega arith) (omega arith) none own others))
+
+-- k is the last that passes p, and the others pass q
+pub filter_last : (p q : ℕ → Bool) (k a n : ℕ) → a ≤ k → k < a + n → ((i : ℕ) → k < i → p i ≡ false) →
+    p k ≡ true → ((i : ℕ) → q i ≡ ltb i k && p i) →
+    filter p (range_with_len a n) ≡ filter q (range_with_len a n) ++ k ∷ []
+filter_last p q k a zero h l none own others = absurd (omega arith)
+filter_last p q k a (suc n) h l none own others = cases (eqb a k)
+    (λ e. let y : a ≡ k = grind (arith, nat_tests) in
+    let o : p a ≡ true = rw y own in
+    let z : q a ≡ false = let m = others a in grind (arith, nat_tests) in
+    let r = filter_none p (a + 1) n (λ i m. none i (omega arith)) in
+    let s = filter_none q (a + 1) n (λ i m. let t = others i in grind (arith, nat_tests)) in
+    rw (o, z, r, s) (ap (λ (x : ℕ). x ∷ []) y))
+    (λ e. let y : a < k = grind (arith, nat_tests) in
+    let s : q a ≡ p a = let m = others a in grind (arith, nat_tests) in
+    let r = filter_last p q k (a + 1) n (omega arith) (omega arith) none own others in
+    cases (p a)
+    (λ o. let w : q a ≡ true = s ∙ o in rw (o, w) (ap (λ (l : List ℕ). a ∷ l) r))
+    (λ o. let w : q a ≡ false = s ∙ o in rw (o, w) r))
 
 -- what is among them
 one_taken : (a n i : ℕ) (t : Bool) → (i ≡ a → t ≡ true) →

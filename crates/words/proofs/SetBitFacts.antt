@@ -1,4 +1,4 @@
--- The set bits of a word by their numbers: the lowest comes first (`bits_next`), they are the set bits
+-- The set bits of a word by their numbers: the lowest comes first (`bits_next`), the highest last (`bits_last`), they are the set bits
 -- (`among_bits`), rise (`bits_rise`) and are no more than there are places (`length_bits`).
 use Rattle.std.specs.Prelude.{◌≡◌, refl, Bool, true, false, ◌&&◌, List, [], ◌∷◌, ◌++◌, ℕ, ◌+◌, ◌-◌, ◌≤◌, ◌<◌, leb, ltb, length}
 use Rattle.std.proofs.Common.{ap, ◌∙◌, arith}
@@ -13,12 +13,12 @@ use Rattle.std.proofs.lemmas.List.Sums.{length-filter, count_by-le-length}
 use Rattle.std.proofs.lemmas.Bool.Decides.{nat_tests}
 use Rattle.foundation.specs.BitMasks.{bit, bit-zero}
 use Rattle.words.specs.SetBits.{bits_below, among}
-use Rattle.words.proofs.RangeBits.{filter_none, filter_first, among_range, split_range}
+use Rattle.words.proofs.RangeBits.{filter_none, filter_first, filter_last, among_range, split_range}
 use Rattle.words.proofs.LowestBit.{bit-lower}
 
 pub no_bits_below : (n m : ℕ) → m ≡ 0 → bits_below n m ≡ []
 unfolding bits_below
-no_bits_below n m e = rw e (filter_none (λ i. bit i 0) 0 n bit-zero)
+no_bits_below n m e = rw e (filter_none (λ i. bit i 0) 0 n (λ i l. bit-zero i))
 
 -- k being the lowest
 pub bits_next : (n k m : ℕ) → k < n → ((i : ℕ) → i < k → bit i m ≡ false) → bit k m ≡ true →
@@ -27,6 +27,13 @@ unfolding bits_below
 bits_next n k m h none own =
     filter_first (λ i. bit i m) (λ i. bit i (bit_and m (m - 1))) k 0 n (omega arith) (omega arith)
     none own (bit-lower k m none own)
+
+-- k being the highest
+pub bits_last : (n k m r : ℕ) → k < n → ((i : ℕ) → k < i → bit i m ≡ false) → bit k m ≡ true →
+    ((i : ℕ) → bit i r ≡ ltb i k && bit i m) → bits_below n m ≡ bits_below n r ++ k ∷ []
+unfolding bits_below
+bits_last n k m r h none own others =
+    filter_last (λ i. bit i m) (λ i. bit i r) k 0 n (omega arith) (omega arith) none own others
 
 from_none : (i n k : ℕ) (t : Bool) → k ≡ n → leb 0 i && (ltb i k && t) ≡ ltb i n && t
 from_none i n k t e = grind (arith, nat_tests)

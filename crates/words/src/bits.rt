@@ -1,6 +1,6 @@
 // The set bits of a word, one after the other: `for r in ones(m) { .. }`.
 ghost use Rattle.std.specs.Prelude.{◌≡◌};
-ghost use Rattle.std.specs.Iterator.{YieldsFirst, item_count};
+ghost use Rattle.std.specs.Iterator.{YieldsFirst, YieldsLast, item_count};
 ghost use Rattle.words.specs.SetBits.{bits_left};
 
 // The bits that are left.
@@ -29,6 +29,19 @@ impl Iterator for SetBits {
         }
         let r = u64::trailing_zeros(self.left);
         self.left = self.left & (self.left - 1);
+        Some(r)
+    }
+}
+
+impl DoubleEndedIterator for SetBits {
+    ghost next_back_gives = { YieldsLast bits_left };
+
+    fn next_back(&mut self) -> Option<u32> {
+        if self.left == 0 {
+            return None;
+        }
+        let r = 63 - u64::leading_zeros(self.left);
+        self.left = self.left - (1 << r);
         Some(r)
     }
 }

@@ -70,6 +70,22 @@ pub fn ones_from(x: u64, a: u32) -> u64
     (y - (y & (y + 1))) << a
 }
 
+// The bits of m below the r-th.
+pub fn low_part(m: u64, r: u32) -> u64
+    requires { r ≤ 64 }
+    ensures { (i : ℕ) → bit i result ≡ ltb i r && bit i m }
+{
+    if r < 64 { m & ((1 << r) - 1) } else { m }
+}
+
+// The bits of m from the r-th on.
+pub fn high_part(m: u64, r: u32) -> u64
+    requires { r ≤ 64 }
+    ensures { (i : ℕ) → bit i result ≡ leb r i && bit i m }
+{
+    if r < 64 { (m >> r) << r } else { 0 }
+}
+
 // The first bit of m from the r-th on that is set, or 64.
 pub fn next_bit(m: u64, r: u32) -> u32
     requires { r ≤ 64 }

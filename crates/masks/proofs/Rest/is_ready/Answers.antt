@@ -2,10 +2,10 @@ use lib.Bits.{bit_and}
 use lib.ListN.{get_or}
 use Rattle.foundation.specs.Tests.{true_eq}
 use Rattle.masks.proofs.SingleBits.{bits-apart}
-use Rattle.masks.proofs.is_ready.Goals as goal
+use Rattle.masks.proofs.Rest.is_ready.Goals as goal
 
 pub returns : goal.returns
 returns c =
     let a = c.args in
-    let word = get_or a.feed.now a.k 0 in
-    λ e i h. bits-apart word a.rest i (true_eq (bit_and word a.rest) 0 e)
+    let word = get_or a.self.now.feed.now a.k 0 in
+    λ e i h. bits-apart word a.self.now.rules i (true_eq (bit_and word a.self.now.rules) 0 e)
