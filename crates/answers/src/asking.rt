@@ -7,6 +7,7 @@ ghost use Rattle.model.specs.Answers.{answering, may_reply, may_answer, when_ans
 ghost use Rattle.queries.specs.HandedOn.{HandedOn};
 ghost use Rattle.answers.specs.AskingRows.{access_rows};
 
+use lookup::SoundBase;
 use model::{Access, Question, Reply};
 use queries::{holds_at, holds_prepared, list_runs};
 
@@ -18,7 +19,7 @@ fn refusal_of(s: &[u8], x: Access) -> u32
     if !lookup::access_in(x) {
         return 3;
     }
-    if !lookup::exists(s, x.object) {
+    if !(SoundBase { bytes: s }).exists(x.object) {
         return 6;
     }
     0

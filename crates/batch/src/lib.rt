@@ -74,13 +74,12 @@ fn question_at(words: &[u32], i: usize) -> Question
     ensures { result ≡ question_in (drop (4 * i) words.now) }
 {
     let at = 4 * i;
-    let x = Access {
-        subject: words[at],
-        mode: words[at + 1],
-        object: words[at + 2],
-    };
     Question {
-        access: x,
+        access: Access {
+            subject: words[at],
+            mode: words[at + 1],
+            object: words[at + 2],
+        },
         instant: words[at + 3],
     }
 }
@@ -95,10 +94,8 @@ pub fn batch(base: &[u8], questions: &[Question], replies: &mut [u8]) -> u32
     let n = answered(r, m);
     let table = prepare(base, n);
     let prepared: &[u64] = &table;
-    let mut i = 0;
-    while i < n {
+    for i in 0..n {
         replies[i] = byte_for(base, prepared, questions[i]);
-        i += 1;
     }
     r
 }
@@ -113,10 +110,8 @@ pub fn batch_words(base: &[u8], words: &[u32], replies: &mut [u8]) -> u32
     let n = answered(r, m);
     let table = prepare(base, n);
     let prepared: &[u64] = &table;
-    let mut i = 0;
-    while i < n {
+    for i in 0..n {
         replies[i] = byte_for(base, prepared, question_at(words, i));
-        i += 1;
     }
     r
 }

@@ -1,2 +1,2 @@
--- `NeighbourLoops` has the laws of a loop over neighbours in a body.
-pub mod NeighbourLoops
+-- `Formatted` says where the bodies stand in bytes of the format.
+pub mod Formatted

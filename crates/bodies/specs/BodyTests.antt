@@ -11,7 +11,7 @@ use Rattle.model.specs.Stratification.{is_star}
 use Rattle.model.specs.Step.{option_fits}
 use Rattle.model.specs.Soundness.{chained, rises, privilege_in, authorization_in, rule_in, starts_first, same_head}
 use Rattle.model.specs.Soundness.{stars_meet}
-use Rattle.lookup.specs.NarrowedNumbers.{exists_in}
+use Rattle.lookup.specs.RecordTests.{exists_in}
 
 -- objects rise by number, in range
 abbrev pub objects_part : List Privilege → Bool

@@ -8,24 +8,23 @@ ghost use Rattle.foundation.specs.Lists.{anyb};
 ghost use Rattle.model.specs.Base.{Base, controls};
 ghost use Rattle.model.specs.Encoding.{decode};
 ghost use Rattle.model.specs.Rules.{stands_for};
-ghost use Rattle.model.specs.Soundness.{sound_bytes};
 ghost use Rattle.encoding.specs.Format.{authorizations_in, rules_in};
 ghost use Rattle.direct.specs.Direct.{held_directly, live_for};
 
 pub use intervals::walk_directly;
-use lookup::{has_instant, stands_for};
+use lookup::{SoundBase, has_instant};
 use model::{AUTHORIZATION_BYTES, Access, Authorization, RULE_BYTES};
 
 // Whether some rule stands for one that derives the access, in a base that has these rules, and the owners
-// and administrators of the base of s.
-pub fn stands_some(s: &[u8], body: &[u8], n: usize, x: Access) -> bool
-    requires { (sound_bytes s.now ≡ true) × (n * 28 ≤ length body.now) }
+// and administrators of a sound base.
+pub fn stands_some(base: &SoundBase<'_>, body: &[u8], n: usize, x: Access) -> bool
+    requires { n * 28 ≤ length body.now }
     ensures { (b : Base) → b.rules ≡ rules_in n body.now →
-        ((o u : ℕ) → controls b o u ≡ controls (decode s.now) o u) →
+        ((o u : ℕ) → controls b o u ≡ controls (decode base.now.bytes.now) o u) →
         result ≡ anyb (λ q. stands_for b q x) b.rules }
 {
     for i in 0..n {
-        if stands_for(s, encoding::rule_at(body, i * RULE_BYTES), x) {
+        if base.stands_for(encoding::rule_at(body, i * RULE_BYTES), x) {
             return true;
         }
     }

@@ -4,4 +4,5 @@ pub mod EditedBytes
 pub mod BodyEdits
 pub mod BodyEditRules
 pub mod Kept
+pub mod BodiesRead
 pub mod Written

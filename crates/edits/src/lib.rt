@@ -16,8 +16,11 @@ ghost use Rattle.edits.specs.Edits.{with_privileges, privileges_of, privileges_a
 ghost use Rattle.edits.specs.Edits.{with_privilege_count};
 ghost use Rattle.edits.specs.Edits.{remove_at};
 
+mod reading;
+
 use encoding::{Counts, Record};
 use model::{AUTHORIZATION_BYTES, Authorization, PRIVILEGE_BYTES, Privilege, RULE_BYTES, Rule};
+pub use reading::WrittenBase;
 
 // The bodies that hold privileges.
 #[derive(Clone, Copy)]

@@ -2,7 +2,8 @@
 -- nothing.
 use mathlib.Core.Path.{◌≡◌, sym, ap, ◌∙◌, subst}
 use mathlib.Core.Logic.{⊎_elim}
-use Prim.Native.Nat.{ℕ, zero, suc, ◌-◌, ◌≤◌, ◌<◌}
+use Prim.Native.Nat.{ℕ, zero, suc, ◌+◌, ◌-◌, ◌≤◌, ◌<◌}
+use native.Mathlib.Numerals.{add-one}
 use native.Mathlib.Omega.{arith}
 use native.Mathlib.Nat.{not-suc-le-zero}
 use mathlib.Core.Bool.{Bool, true, false}
@@ -102,10 +103,10 @@ module _ (k : Rule → Bool) (b : Base) where
         let e = ap (λ (c : Base). length c.rules) (dropped_holds f i s v).base in
         ((dropped_holds f i s v).written, omega (arith, l, e))
 
-    module _ (r : Rule) (e : drop (i - 1) (decode s).rules ≡ r ∷ drop (suc (i - 1)) (decode s).rules) where
+    module _ (r : Rule) (e : drop (i - 1) (decode s).rules ≡ r ∷ drop (i - 1 + 1) (decode s).rules) where
       read : drop (i - 1) (partly k (suc (i - 1)) b.rules) ≡ r
           ∷ drop (suc (i - 1)) (partly k (suc (i - 1)) b.rules)
-      read = subst (λ (rs : List Rule). drop (i - 1) rs ≡ r ∷ drop (suc (i - 1)) rs) turn_rules e
+      read = subst (λ (rs : List Rule). drop (i - 1) rs ≡ r ∷ drop (suc (i - 1)) rs) turn_rules (rw add-one at e)
 
       pub turn_keeps : k r ≡ true → Dropped k b (i - 1) s
       turn_keeps t = (

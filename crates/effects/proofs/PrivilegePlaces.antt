@@ -3,7 +3,6 @@
 use mathlib.Core.Path.{◌≡◌, refl, ap, ◌∙◌, subst}
 use mathlib.Core.Logic.{inl, inr}
 use Prim.Native.Nat.{ℕ, suc, ◌+◌, ◌-◌, ◌≤◌, ◌<◌}
-use native.Mathlib.Numerals.{add-one}
 use native.Mathlib.Omega.{arith}
 use mathlib.Core.Bool.{Bool, true, false, not, false≢true}
 use mathlib.Core.List.{List, [], ◌∷◌}
@@ -38,7 +37,7 @@ module _ {A : Type 0} (p : A → Bool) (xs : List A) where
       let e = ap (first_index p) (nothing_left i h v.0) in
       omega (arith, e, v.1)
 
-  module _ (i : ℕ) (r : A) (h : i < length xs) (e : drop i xs ≡ r ∷ drop (suc i) xs) where
+  module _ (i : ℕ) (r : A) (h : i < length xs) (e : drop i xs ≡ r ∷ drop (i + 1) xs) where
     pub first_found : p r ≡ true → FirstFrom i → i ≡ first_index p xs
     first_found t v =
         let z : first_index p (drop i xs) ≡ 0 = ap (first_index p) e ∙ rw t in
@@ -46,9 +45,9 @@ module _ {A : Type 0} (p : A → Bool) (xs : List A) where
 
     pub first-later : p r ≡ false → FirstFrom i → FirstFrom (i + 1)
     first-later t v =
-        let z : first_index p (drop i xs) ≡ suc (first_index p (drop (suc i) xs)) = ap (first_index p) e
+        let z : first_index p (drop i xs) ≡ suc (first_index p (drop (i + 1) xs)) = ap (first_index p) e
         ∙ rw t in
-        (omega arith, rw (add-one i) (omega (arith, z, v.1)))
+        (omega arith, omega (arith, z, v.1))
 
 pub first-most : {A : Type 0} (p : A → Bool) (xs : List A) → first_index p xs ≤ length xs
 first-most p [] = omega arith

@@ -20,8 +20,9 @@ mod privileges;
 mod records;
 mod rules;
 
-use edits::PrivilegeBody;
+use edits::{PrivilegeBody, WrittenBase};
 use encoding::new_rule;
+use lookup::SoundBase;
 use model::Request;
 use privileges::{insert_in_order, take_privilege};
 use records::{named_privilege, new_authorization, owner_of, privilege_body_of};
@@ -37,11 +38,11 @@ fn stamp(s: &mut [u8], clock: u32, last: u16)
 }
 
 // The label that a new authorization or rule gets.
-fn next_label(s: &[u8]) -> u16
-    requires { Written s.now × ((decode s.now).last < last_label) }
-    ensures { result ≡ (decode s.now).last + 1 }
+fn next_label(base: &WrittenBase<'_>) -> u16
+    requires { (decode base.now.bytes.now).last < last_label }
+    ensures { result ≡ (decode base.now.bytes.now).last + 1 }
 {
-    fields::le16(s, 8) + 1
+    base.last() + 1
 }
 
 // GRANT and DENY: a new authorization behind the others, under the next label.
@@ -50,7 +51,7 @@ pub fn grant(s: &mut [u8], q: Request)
     ensures { s.new ≡ encode (effect plainly (decode s.old) q) }
 {
     let c = encoding::counts_of(s);
-    let label = next_label(s);
+    let label = next_label(&WrittenBase { bytes: s });
     stamp(s, q.now, label);
     edits::insert_authorization(s, c.authorizations as usize, new_authorization(q, label));
 }
@@ -61,7 +62,7 @@ pub fn add_rule(s: &mut [u8], q: Request)
     ensures { s.new ≡ encode (effect plainly (decode s.old) q) }
 {
     let c = encoding::counts_of(s);
-    let label = next_label(s);
+    let label = next_label(&WrittenBase { bytes: s });
     stamp(s, q.now, label);
     edits::insert_rule(s, c.rules as usize, new_rule(q, label));
 }
@@ -100,7 +101,7 @@ pub fn revoke_referrer(s: &mut [u8], q: Request)
     ensures { s.new ≡ encode (effect plainly (decode s.old) q) }
 {
     let p = named_privilege(q);
-    let administers = lookup::administers(s, q.object, q.subject);
+    let administers = SoundBase { bytes: s }.administers(q.object, q.subject);
     edits::set_clock(s, q.now);
     take_privilege(s, PrivilegeBody::Referrers, p);
     drop_rules(s, q, false, administers);

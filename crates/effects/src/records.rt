@@ -14,10 +14,9 @@ pub fn new_authorization(q: Request, label: u16) -> Authorization
     requires { AuthorizationFits (authorization (new_head label q) q.interval) }
     ensures { result ≡ authorization (new_head label q) q.interval }
 {
-    let interval = q.interval;
     Authorization {
         head: Head {
-            label: label,
+            label,
             grantor: q.requester as u16,
             subject: q.subject as u16,
             object: q.object as u16,
@@ -26,7 +25,7 @@ pub fn new_authorization(q: Request, label: u16) -> Authorization
             option: (q.kind == GRANT) & q.option,
             granted: q.now,
         },
-        interval: interval,
+        interval: q.interval,
     }
 }
 
@@ -56,8 +55,8 @@ pub fn owner_of(q: Request) -> Privilege
 pub fn privilege_body_of(kind: u32) -> PrivilegeBody
     ensures { result ≡ privilege_body_of kind }
 {
-    if (kind == GRANTADM) | (kind == REVOKEADM) {
-        return PrivilegeBody::Administrators;
+    match kind {
+        GRANTADM | REVOKEADM => PrivilegeBody::Administrators,
+        _ => PrivilegeBody::Referrers,
     }
-    PrivilegeBody::Referrers
 }

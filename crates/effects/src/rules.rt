@@ -1,24 +1,13 @@
-// The rules of a base: one of them by its place, and those that a request removes.
-ghost use Rattle.std.specs.Prelude.{◌≡◌, not, ◌∷◌, suc, ◌<◌, length, drop};
+// The rules of a base: those that a request removes.
+ghost use Rattle.std.specs.Prelude.{◌≡◌, not};
 ghost use Rattle.foundation.specs.Lists.{keep_if};
 ghost use Rattle.model.specs.Encoding.{encode, decode};
 ghost use Rattle.edits.specs.Edits.{Written};
 ghost use Rattle.model.specs.Effects.{with_rules};
 ghost use Rattle.effects.specs.EffectRecords.{drops_by};
 
-use model::{DROPRULE, REVOKEADM, REVOKEREF, RULE_BYTES, Request, Rule};
-
-// The rule at i.
-fn nth_rule(s: &[u8], i: usize) -> Rule
-    requires { Written s.now × (i < length (decode s.now).rules) }
-    ensures { drop i (decode s.now).rules ≡ result
-        ∷ drop (suc i) (decode s.now).rules }
-{
-    encoding::rule_at(
-        s,
-        encoding::rules_at(encoding::counts_of(s)) + RULE_BYTES * i,
-    )
-}
+use edits::WrittenBase;
+use model::{DROPRULE, REVOKEADM, REVOKEREF, Request, Rule};
 
 // Whether a request removes a rule: DROPRULE that of its label; REVOKEADM and REVOKEREF those that their
 // subject may no longer have, who refers to the object, or administers it, as is told.
@@ -27,10 +16,9 @@ fn is_dropped(q: Request, refers: bool, administers: bool, r: Rule) -> bool
 {
     let left = r.left;
     let right = r.right;
-    let kind = q.kind;
     let by = r.author as u32 == q.subject;
     let on = right.object as u32 == q.object;
-    match kind {
+    match q.kind {
         DROPRULE => r.label as u32 == q.label,
         REVOKEADM => by & ((left.object as u32 == q.object) | (on & !refers)),
         REVOKEREF => by & on & !administers,
@@ -45,11 +33,10 @@ pub fn drop_rules(s: &mut [u8], q: Request, refers: bool, administers: bool)
         ≡ encode (with_rules (keep_if (λ r. not (drops_by refers administers q r))
         (decode s.old).rules) (decode s.old)) }
 {
-    let c = encoding::counts_of(s);
-    let mut i = c.rules as usize;
-    while 0 < i {
-        i -= 1;
-        if is_dropped(q, refers, administers, nth_rule(s, i)) {
+    let n = WrittenBase { bytes: s }.rules().len();
+    for i in (0..n).rev() {
+        let rules = WrittenBase { bytes: s }.rules();
+        if is_dropped(q, refers, administers, rules.get(i)) {
             edits::remove_rule(s, i);
         }
     }

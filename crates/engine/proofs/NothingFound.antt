@@ -65,6 +65,6 @@ module _ {lines which : List ℕ} {c : Chosen} {lasting : ℕ} {q : Query} {C : 
         count_is = refl;
         list_is = refl;
       };
-      held = λ e. absurd (true≢false (sym e));
+      held = λ from e. cc;
     };
   }

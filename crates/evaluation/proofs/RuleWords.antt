@@ -1,16 +1,19 @@
 -- The word of a rule, by whether it looks back and is broken.
-use mathlib.Core.Path.{◌≡◌, refl, sym, ap, ◌∙◌}
-use mathlib.Core.Bool.{Bool, true, false, ◌||◌, true≢false, false≢true}
+use mathlib.Core.Path.{◌≡◌, sym, ap, ◌∙◌}
+use mathlib.Core.Bool.{Bool, true, false, false≢true}
+use mathlib.Core.List.{[]}
 use Prim.Native.Nat.{ℕ, suc, ◌≤◌, ◌<◌}
 use native.Mathlib.Omega.{arith}
 use lib.Bits.{and_le_l}
-use lib.Dec.{eqb, ltb}
-use Rattle.foundation.specs.Tests.{cases, true-le, false-le, false_eq}
+use lib.Dec.{ltb}
+use Rattle.foundation.specs.Tests.{cases, le-true, true-le, false-le}
 use Rattle.foundation.specs.BitMasks.{bit, bit-zero}
 use Rattle.foundation.specs.BitLaws.{no_bits}
 use Rattle.model.specs.declared.Operator.{Operator}
 use Rattle.model.specs.Stratification.{negating, lasting}
 use Rattle.words.specs.Ones.{all_from}
+use Rattle.words.specs.SetBits.{bits_below}
+use Rattle.words.proofs.SetBitLoops.{Turn, among_all}
 use Rattle.words.proofs.OnesFacts.{ones-from}
 use Rattle.derivation.specs.Words.{wanted_word}
 use Rattle.derivation.specs.Derive.{FirstBit, Derived}
@@ -50,16 +53,13 @@ module _ (o : Operator) (held active : ℕ) (broken : Bool) where
         rw (l, k, q) (w i ∙ sym (ones-from b i (wanted_word o held active)));
   }
 
--- where a test fails, both its parts do
-pub neither : (broken : Bool) (active : ℕ) → broken || eqb active 0 ≡ false →
-    (broken ≡ false) × (active ≡ 0 → ⊥)
-neither true active e = absurd (true≢false e)
-neither false active e = (refl, false_eq active 0 e)
+-- the first bit of a word that gives one
+pub first_given : {active r : ℕ} → Turn active [] r → FirstBit r active
+first_given {active} {r} t = record {
+  set = t.own;
+  none = λ i l. rw (le-true (suc i) r l) at (sym (t.seen i));
+}
 
--- a word that is not 0 has a first bit
-pub first-active : (active k : ℕ) → (active ≡ 0 → ⊥) → active < 9223372036854775808 → k ≤ 64 →
-    ((i : ℕ) → i < k → bit i active ≡ false) → (k < 64 → bit k active ≡ true) → (k < 64) × FirstBit k active
-first-active active k n h l z s = cases (ltb k 64)
-    (λ e. let g = true-le (suc k) 64 e in (g, record { set = s g; none = z }))
-    (λ e. let g = false-le (suc k) 64 e in
-    absurd (n (no_bits 63 active h (λ i m. z i (omega arith)))))
+-- a word that gives none is 0
+pub none-given : (active : ℕ) → active < 9223372036854775808 → [] ≡ bits_below 64 active → active ≡ 0
+none-given active h e = no_bits 63 active h (λ i m. sym (among_all i active [] (omega arith) e))

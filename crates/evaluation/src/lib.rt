@@ -8,6 +8,7 @@ ghost use Rattle.derivation.specs.Derive.{Derived};
 
 use model::Operator;
 use rules::is_negating;
+use words::{ones, ones_from};
 
 // Whether an operator looks back to the rule's start.
 pub fn is_lasting(o: Operator) -> bool
@@ -42,8 +43,11 @@ pub fn derive(o: Operator, held: u64, active: u64, broken: bool) -> u64
     if !is_lasting(o) {
         return x;
     }
-    if broken | (active == 0) {
+    if broken {
         return 0;
     }
-    words::ones_from(x, words::next_bit(active, 0))
+    match ones(active).next() {
+        Some(first) => ones_from(x, first),
+        None => 0,
+    }
 }

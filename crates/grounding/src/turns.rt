@@ -211,12 +211,11 @@ pub fn derive_rules(
         × ((r : ℕ) → bit r result ≡ true → bit r needed ≡ true) }
 {
     let mut rest = needed;
-    let mut at = next_ready(&outline[FEED..FIRST], rest, 0, true);
-    while at.rule < 64 {
-        let r = at.rule;
-        derive_rule(body, r, f, outline, coordinates, need, numbers, work);
-        rest = without_rule(rest, r);
-        at = next_ready(&outline[FEED..FIRST], rest, r, at.up);
+    let mut last = Next { rule: 0, up: true };
+    while let Some(at) = next_ready(&outline[FEED..FIRST], rest, last) {
+        derive_rule(body, at.rule, f, outline, coordinates, need, numbers, work);
+        rest = without_rule(rest, at.rule);
+        last = at;
     }
     rest
 }
@@ -247,7 +246,7 @@ pub fn close(
     let mut dirty = rules;
     let mut at = Next { rule: 63, up: true };
     while dirty != 0 {
-        at = next_dirty(dirty, at.rule, at.up);
+        at = next_dirty(dirty, at);
         let r = at.rule;
         dirty = without_rule(dirty, r);
         if derive_rule(body, r, f, outline, coordinates, need, numbers, work) {

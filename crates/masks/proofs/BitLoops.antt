@@ -4,13 +4,10 @@
 use mathlib.Core.Path.{◌≡◌, refl, sym, ap, ◌∙◌}
 use mathlib.Core.Logic.{◌⊎◌, inl, inr, ⊎_elim}
 use mathlib.Core.Bool.{Bool, true, false, ◌&&◌, ◌||◌, false≢true, or_self}
-use mathlib.Core.List.{List}
 use Prim.Native.Nat.{ℕ, suc, ◌+◌, ◌%◌, ◌^◌, ◌≤◌, ◌<◌}
 use native.Mathlib.Nat.{zero-div}
 use native.Mathlib.Omega.{arith}
 use lib.Dec.{eqb, ltb}
-use lib.ListN.{length, get_or, set}
-use lib.Seq.{get_or-set_same, get_or-set_other}
 use Rattle.foundation.specs.Tests.{cases, agree, eq_true, true_eq, false_eq, le-true, true-le, false-le}
 use Rattle.foundation.specs.Tests.{or_false, or_true_right, or_cases, and-true, and_intro}
 use Rattle.foundation.specs.BitMasks.{bit, bit-inside}
@@ -98,11 +95,3 @@ module _ (t : ℕ → Bool) (rest : ℕ) where
       s i ∙ ap (λ (x : Bool). x || (eqb i r && b)) (d i)
       ∙ bring_one (ltb i r && bit i rest) (eqb i r) (t i) b (λ y. e ∙ ap t (sym (true_eq i r y)))
       ∙ ap (λ (x : Bool). x && t i) (sym (pass_turn (λ j. bit j rest) r r' i h o z))
-
--- ---- words that are cleared
-
-pub zero_turn : (ws : List ℕ) (i : ℕ) → i < length ws → ((j : ℕ) → j < i → get_or ws j 0 ≡ 0) →
-    (j : ℕ) → j < i + 1 → get_or (set ws i 0) j 0 ≡ 0
-zero_turn ws i h z j l = cases (eqb j i)
-    (λ y. ap (λ (j : ℕ). get_or (set ws i 0) j 0) (true_eq j i y) ∙ get_or-set_same ws i 0 0 h)
-    (λ y. let n = false_eq j i y in get_or-set_other ws i j 0 0 n ∙ z j (omega arith))

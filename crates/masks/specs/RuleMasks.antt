@@ -18,6 +18,11 @@ pub record RuleReady (feed : List ℕ) (rest r : ℕ) : Type 0 where
   pub own : r < 64 → bit r rest ≡ true
   pub alone : r < 64 → Alone feed rest r
 
+-- a rule of the mask that looks at none of it, which is there
+pub record ReadyRule (feed : List ℕ) (rest r : ℕ) : Type 0 where
+  pub there : r < 64
+  pub ready : RuleReady feed rest r
+
 -- m has the rules that stand at an object and a subject with a bit that is needed, and none that does not
 -- stand on the object
 pub record StandsOnNeed (left : List ℕ) (o s need m : ℕ) : Type 0 where

@@ -4,21 +4,21 @@
 
 mod subset;
 
-ghost use Rattle.std.specs.Prelude.{◌≡◌, true, not, ◌&&◌, ◌||◌, ℕ, ◌+◌, ◌*◌, ◌/◌, ◌%◌, ◌^◌, ◌≤◌, ◌<◌, eqb, ltb, length, get_or};
+ghost use Rattle.std.specs.Prelude.{◌≡◌, true, not, ◌&&◌, ◌||◌, ℕ, ◌+◌, ◌*◌, ◌/◌, ◌%◌, ◌^◌, ◌≤◌, ◌<◌, eqb, ltb, length, get_or, IfSome};
 ghost use Rattle.foundation.specs.BitMasks.{bit};
 ghost use Rattle.encoding.specs.Format.{rule_at};
 ghost use Rattle.windows.specs.Windows.{Rising, inside};
-ghost use Rattle.masks.specs.RuleMasks.{Alone, RuleReady, StandsOnNeed, PairCode, Needed};
+ghost use Rattle.masks.specs.RuleMasks.{Alone, ReadyRule, StandsOnNeed, PairCode, Needed};
 
 use encoding::rule_at;
 use model::RULE_BYTES;
 use places::{pair_index, pair_of_code};
 use sections::{LEFT_MODES, LEFT_SUBJECTS};
 pub use subset::those;
-use words::next_bit;
+use words::{high_part, low_part, ones};
 
 // A rule of a mask, and whether one goes upwards from it.
-#[derive(Clone, Copy)]
+#[derive(Clone, Copy, PartialEq, Eq)]
 pub struct Next {
     pub rule: u32,
     pub up: bool,
@@ -53,10 +53,7 @@ pub fn with_if(m: u64, r: u32, b: bool) -> u64
     requires { r < 64 }
     ensures { (i : ℕ) → bit i result ≡ bit i m || (eqb i r && b) }
 {
-    if b {
-        return with_bit(m, r);
-    }
-    m
+    if b { with_bit(m, r) } else { m }
 }
 
 // Puts bit r into the words of those of a mask, counted from a place on.
@@ -66,11 +63,8 @@ pub fn hand_on(words: &mut [u64], from: usize, m: u64, r: u32)
         × ((i q : ℕ) → bit q (get_or words.new (from + i) 0)
         ≡ bit q (get_or words.old (from + i) 0) || (eqb q r && bit i m)) }
 {
-    let mut i = next_bit(m, 0);
-    while i < 64 {
-        let at = from + i as usize;
-        words[at] = words[at] | (1 << r);
-        i = next_bit(m, i + 1);
+    for i in ones(m) {
+        words[from + i as usize] |= 1 << r;
     }
 }
 
@@ -80,89 +74,73 @@ pub fn transpose(feed: &[u64], rules: u64, fed: &mut [u64; 64])
     ensures { (r q : ℕ) → r < 64 → bit q (get_or fed.new r 0)
         ≡ bit q rules && (bit r (get_or feed.now q 0) && bit r rules) }
 {
-    let mut q = next_bit(rules, 0);
-    while q < 64 {
+    for q in ones(rules) {
         hand_on(fed, 0, feed[q as usize] & rules, q);
-        q = next_bit(rules, q + 1);
     }
 }
 
-// The last bit below the r-th that is set, or 64.
-fn last_bit(m: u64, r: u32) -> u32
-    requires { r ≤ 64 }
-    ensures { (result ≤ 64) × (result < 64 → bit result m ≡ true) × (result < 64 → result < r) }
-{
-    if r == 0 {
-        return 64;
-    }
-    let x = m << (64 - r);
-    if x == 0 {
-        return 64;
-    }
-    r - 1 - u64::leading_zeros(x)
+// The rules that have not had their turn. `feed` has for each rule those it looks at.
+#[derive(Drop)]
+struct Rest<'a> {
+    feed: &'a [u64],
+    rules: u64,
+    ghost whole: { 64 ≤ length feed.now },
 }
 
-// Whether rule k looks at none of the rest. `feed` has for each rule those it looks at.
-fn is_ready(feed: &[u64], rest: u64, k: u32) -> bool
-    requires { (k < 64) × (64 ≤ length feed.now) }
-    ensures { result ≡ true → Alone feed.now rest k }
-{
-    feed[k as usize] & rest == 0
-}
+impl<'a> Rest<'a> {
+    // Whether rule k looks at none of the rest.
+    fn is_ready(&self, k: u32) -> bool
+        requires { k < 64 }
+        ensures { result ≡ true → Alone self.now.feed.now self.now.rules k }
+    {
+        self.feed[k as usize] & self.rules == 0
+    }
 
-// The first rule of the rest, from r on, that looks at none of it, or 64.
-fn ready_from(feed: &[u64], rest: u64, r: u32) -> u32
-    requires { (r ≤ 64) × (64 ≤ length feed.now) }
-    ensures { RuleReady feed.now rest result }
-{
-    let mut k = next_bit(rest, r);
-    while k < 64 {
-        if is_ready(feed, rest, k) {
-            return k;
+    // The first rule of the rest, from r on, that looks at none of it.
+    fn first_from(&self, r: u32) -> Option<Next>
+        requires { r ≤ 64 }
+        ensures { IfSome result (λ n. ReadyRule self.now.feed.now self.now.rules n.rule) }
+    {
+        for k in ones(high_part(self.rules, r)) {
+            if self.is_ready(k) {
+                return Some(Next { rule: k, up: true });
+            }
         }
-        k = next_bit(rest, k + 1);
+        None
     }
-    64
+
+    // The last one below r.
+    fn last_below(&self, r: u32) -> Option<Next>
+        requires { r ≤ 64 }
+        ensures { IfSome result (λ n. ReadyRule self.now.feed.now self.now.rules n.rule) }
+    {
+        for k in ones(low_part(self.rules, r)).rev() {
+            if self.is_ready(k) {
+                return Some(Next { rule: k, up: false });
+            }
+        }
+        None
+    }
 }
 
-// The last one below r, or 64.
-fn ready_below(feed: &[u64], rest: u64, r: u32) -> u32
-    requires { (r ≤ 64) × (64 ≤ length feed.now) }
-    ensures { RuleReady feed.now rest result }
+// A rule of the rest that looks at none of it: going on from the last one as long as there is one, then back,
+// so that a chain of rules is gone through once, whichever way it is numbered.
+pub fn next_ready(feed: &[u64], rest: u64, last: Next) -> Option<Next>
+    requires { (last.rule ≤ 64) × (64 ≤ length feed.now) }
+    ensures { IfSome result (λ n. ReadyRule feed.now rest n.rule) }
 {
-    let mut k = last_bit(rest, r);
-    while k < 64 {
-        if is_ready(feed, rest, k) {
-            return k;
+    let rest = Rest { feed, rules: rest };
+    let r = last.rule;
+    if last.up {
+        match rest.first_from(r) {
+            Some(n) => Some(n),
+            None => rest.last_below(r),
         }
-        k = last_bit(rest, k);
-    }
-    64
-}
-
-// A rule of the rest that looks at none of it, or 64: going on from the last one as long as there is one,
-// then back, so that a chain of rules is gone through once, whichever way it is numbered.
-pub fn next_ready(feed: &[u64], rest: u64, r: u32, up: bool) -> Next
-    requires { (r ≤ 64) × (64 ≤ length feed.now) }
-    ensures { RuleReady feed.now rest result.rule }
-{
-    if up {
-        let k = ready_from(feed, rest, r);
-        if k < 64 {
-            return Next { rule: k, up: true };
+    } else {
+        match rest.last_below(r) {
+            Some(n) => Some(n),
+            None => rest.first_from(r),
         }
-        return Next {
-            rule: ready_below(feed, rest, r),
-            up: false,
-        };
-    }
-    let k = ready_below(feed, rest, r);
-    if k < 64 {
-        return Next { rule: k, up: false };
-    }
-    Next {
-        rule: ready_from(feed, rest, r),
-        up: true,
     }
 }
 
@@ -173,50 +151,30 @@ pub fn of_stratum(strata: &[u64], rest: u64, k: u64) -> u64
         ≡ ltb i 64 && bit i rest && eqb (get_or strata.now i 0) k }
 {
     let mut m = 0;
-    let mut r = next_bit(rest, 0);
-    while r < 64 {
+    for r in ones(rest) {
         m = with_if(m, r, strata[r as usize] == k);
-        r = next_bit(rest, r + 1);
     }
     m
 }
 
-// A rule of a mask that has one. Which it is costs turns alone: going upwards from r the next, at the end
-// downwards, and so on.
-pub fn next_dirty(dirty: u64, r: u32, up: bool) -> Next
-    requires { (0 < dirty) × (r < 64) }
+// A rule of a mask that has one. Which it is costs turns alone: going upwards from the last one the next, at
+// the end downwards, and so on.
+pub fn next_dirty(dirty: u64, last: Next) -> Next
+    requires { (0 < dirty) × (last.rule < 64) }
     ensures { (result.rule < 64) × (bit result.rule dirty ≡ true) }
 {
-    if up {
-        let k = next_bit(dirty, r + 1);
-        if k < 64 {
+    if last.up {
+        if let Some(k) = ones(high_part(dirty, last.rule + 1)).next() {
             return Next { rule: k, up: true };
         }
     }
-    let k = last_bit(dirty, r);
-    if k < 64 {
-        return Next { rule: k, up: false };
+    match ones(low_part(dirty, last.rule)).next_back() {
+        Some(k) => Next { rule: k, up: false },
+        None => Next {
+            rule: u64::trailing_zeros(dirty),
+            up: true,
+        },
     }
-    Next {
-        rule: next_bit(dirty, 0),
-        up: true,
-    }
-}
-
-// The rules that stand on one of the modes, with a sign, that are needed.
-fn on_modes(left: &[u64], need: u16) -> u64
-    requires { 152 ≤ length left.now }
-    ensures { (k r : ℕ) → bit k need ≡ true → bit r (get_or left.now (130 + k) 0) ≡ true →
-        bit r result ≡ true }
-{
-    let w = need as u64;
-    let mut m = 0;
-    let mut k = next_bit(w, 0);
-    while k < 64 {
-        m = m | left[LEFT_MODES + k as usize];
-        k = next_bit(w, k + 1);
-    }
-    m
 }
 
 // The rules that stand at a pair with a mode and a sign that are needed there.
@@ -224,7 +182,11 @@ fn at_pair(left: &[u64], o: usize, s: usize, need: u16) -> u64
     requires { (o < 65) × (s < 65) × (152 ≤ length left.now) }
     ensures { StandsOnNeed left.now o s need result }
 {
-    left[o] & left[LEFT_SUBJECTS + s] & on_modes(left, need)
+    let mut m = 0;
+    for k in ones(u64::from(need)) {
+        m |= left[LEFT_MODES + k as usize];
+    }
+    left[o] & left[LEFT_SUBJECTS + s] & m
 }
 
 // The rules that stand at a place that is needed, or more. `codes` has the pairs.
@@ -234,11 +196,9 @@ pub fn needed_rules(left: &[u64], need: &[u16], codes: &[u16], pairs: usize, sub
     ensures { Needed left.now need.now codes.now subjects pairs result }
 {
     let mut m = 0;
-    let mut n = 0;
-    while n < pairs {
+    for n in 0..pairs {
         let p = pair_of_code(codes[n]);
-        m = m | at_pair(left, p.object, p.subject, need[pair_index(p, subjects)]);
-        n += 1;
+        m |= at_pair(left, p.object, p.subject, need[pair_index(p, subjects)]);
     }
     m
 }
@@ -258,12 +218,10 @@ pub fn spans(
         ≡ inside count marks.now (rule_at body.now r).interval j }
     ensures active_len { length active.new ≡ 64 }
 {
-    let mut r = next_bit(needed, 0);
-    while r < 64 {
+    for r in ones(needed) {
         let i = r as usize;
         let q = rule_at(body, i * RULE_BYTES);
         active[i] = windows::span(marks, count, q.interval);
-        r = next_bit(needed, r + 1);
     }
 }
 
@@ -273,11 +231,7 @@ pub fn clear_words(words: &mut [u64], n: usize)
     ensures { ((j : ℕ) → j < n → get_or words.new j 0 ≡ 0)
         × (length words.new ≡ length words.old) }
 {
-    let mut i = 0;
-    while i < n {
-        words[i] = 0;
-        i += 1;
-    }
+    words[..n].fill(0);
 }
 
 // How many words hold fields of 2^k bits.
@@ -293,9 +247,8 @@ pub fn width_for(fields: u32, words: usize) -> u32
     requires { fields ≤ 64 * words }
     ensures { (result ≤ 6) × (fields * 2 ^ result ≤ 64 * words) }
 {
-    let mut k = 6;
-    while (0 < k) & (words < words_for(fields, k)) {
-        k -= 1;
-    }
-    k
+    (1..=6)
+        .rev()
+        .find(|k| words_for(fields, *k) <= words)
+        .unwrap_or(0)
 }

@@ -3,12 +3,11 @@ ghost use Rattle.std.specs.Prelude.{◌≡◌, true, ◌&&◌, ◌||◌, ℕ, �
 ghost use Rattle.foundation.specs.Tests.{pick};
 ghost use Rattle.foundation.specs.BitMasks.{bit};
 ghost use Rattle.model.specs.Encoding.{decode};
-ghost use Rattle.model.specs.Soundness.{sound_bytes};
 ghost use Rattle.outlines.specs.LeftMasks.{object_word, subject_word, mode_word, in_word};
 ghost use Rattle.outlines.specs.LeftMasks.{CodesPlaced, WrittenMasks, Owned};
 
 use encoding::rule_at;
-use lookup::stands_on;
+use lookup::SoundBase;
 use model::{Access, RULE_BYTES};
 use sections::{
     LEFT_DENIED_MODES, LEFT_MODES, LEFT_SIGNS, LEFT_SUBJECTS, STARRED_DENIED_MODES, STARRED_MODES,
@@ -132,17 +131,17 @@ pub fn put_word(table: &mut [u64], at: usize, v: u64)
 }
 
 // The masks of coordinate 0, that of the asked object and of the asked subject.
-pub fn own_masks(s: &[u8], body: &[u8], n: usize, x: Access, left: &mut [u64])
-    requires { (sound_bytes s.now ≡ true) × (n * 28 ≤ length body.now) × (n ≤ 64)
+pub fn own_masks(base: &SoundBase<'_>, body: &[u8], n: usize, x: Access, left: &mut [u64])
+    requires { (n * 28 ≤ length body.now) × (n ≤ 64)
         × (length left.old ≡ 152) }
-    ensures { Owned (decode s.now) n body.now x left.old
+    ensures { Owned (decode base.now.bytes.now) n body.now x left.old
         left.new }
 {
     let mut objects = 0;
     let mut subjects = 0;
     for i in (0..n).rev() {
         let r = rule_at(body, i * RULE_BYTES);
-        let object = stands_on(s, r, x.object);
+        let object = base.stands_on(r, x.object);
         let subject = (r.left.subject == 0) | (u32::from(r.left.subject) == x.subject);
         objects = 2 * objects + u64::from(object);
         subjects = 2 * subjects + u64::from(subject);

@@ -17,7 +17,7 @@ use Rattle.pieces.specs.declared.cut.Stretch.{Stretch}
 use Rattle.std.specs.Prelude.{Result, Ok, Err, IsErr}
 use Rattle.pieces.specs.declared.body.Full.{Full}
 use Rattle.pieces.specs.Stretches.{maximal_to}
-use Rattle.pieces.specs.Puts.{Puts}
+use Rattle.pieces.specs.Puts.{Puts, Makes}
 use Rattle.pieces.proofs.BodyFacts.{placed_none, placed-then, length-placed}
 use Rattle.pieces.specs.CutParts.{may_grant, pieces_to, parts_of}
 use Rattle.pieces.proofs.PartFacts.{covered-pieces, pieces_same, pieces_past, pieces_end, pieces_next}
@@ -99,6 +99,11 @@ module _ (p : ℕ) (ps ys zs : List Authorization) where
 
   pub puts-within : (q : ℕ) → p ≤ length ys → Puts p ps ys (Ok q) zs → q ≤ length zs
   puts-within q h e = omega (arith, e.1, ap (λ (z : List Authorization). length z) e.0, length-placed p ps ys)
+
+pub makes_err : {A : Type 0} (ys zs : List Authorization) (r : Result A Full) → IsErr r → 1024 < length ys →
+    Makes ys r zs
+makes_err ys zs (Ok q) h l = absurd (false≢true h)
+makes_err ys zs (Err e) h l = l
 
 -- ---- both parts of an authorization
 

@@ -2,7 +2,7 @@
 -- the tables as the steps leave them (`outline-tabled`), and from what is found to the answer
 -- (`finds-answers`).
 use mathlib.Core.Path.{◌≡◌, refl, sym, ap, ap₂, ◌∙◌, subst}
-use mathlib.Core.Bool.{Bool, true, false, not, ◌&&◌}
+use mathlib.Core.Bool.{true, false, not, ◌&&◌, true≢false}
 use mathlib.Core.List.{List}
 use Prim.Native.Nat.{ℕ, suc, ◌+◌, ◌*◌, ◌-◌, ◌≤◌, ◌<◌}
 use native.Mathlib.Omega.{arith}
@@ -10,7 +10,9 @@ use native.Mathlib.Nat.{min-le_left}
 use lib.Dec.{leb, ltb}
 use lib.ListN.{length, get_or, replicate, take, length-take, get_or-eq_default}
 use lib.Seq.{get_or-take}
-use Rattle.foundation.specs.Tests.{not-true, pick, and-true, cases, true-le, false-le}
+use Rattle.std.specs.Prelude.{Option, Some, None}
+use Rattle.std.specs.Option.{is_some}
+use Rattle.foundation.specs.Tests.{not-false, and-true, cases, true-le, false-le}
 use Rattle.foundation.specs.BitMasks.{bit}
 use Rattle.model.specs.declared.Access.{Access}
 use Rattle.model.specs.Base.{Base}
@@ -46,18 +48,21 @@ use Rattle.queries.proofs.StartingFacts.{zeros_at}
 
 -- ---- the answer
 
-pub finds_answers : (one : Bool) (t : ℕ) (q : Query) (base : Base) (x : Access) (r : Found) (old new : List
-    ℕ) →
-    q.to ≡ last_asked one t → (one ≡ false → q.from ≡ 0) → q.listing ≡ not one → Finds q base x r old new →
-    Answers one t base x r old new
-finds_answers one t q base x r old new to from listing f = record {
-  yes = λ e. let z : q.to ≡ t = to ∙ ap (λ (b : Bool). pick b t 4294967295) e in f.last ∙ ap (may base x) z;
+none_of : (o : Option ℕ) → is_some o ≡ false → o ≡ None
+none_of None e = refl
+none_of (Some t) e = absurd (true≢false e)
+
+pub finds_answers : (instant : Option ℕ) (q : Query) (base : Base) (x : Access) (r : Found) (old new : List ℕ) →
+    q.to ≡ last_asked instant → (instant ≡ None → q.from ≡ 0) → is_some instant ≡ not q.listing →
+    Finds q base x r old new → Answers instant base x r old new
+finds_answers instant q base x r old new to from listing f = record {
+  yes = λ t e. let z : q.to ≡ t = to ∙ ap last_asked e in f.last ∙ ap (may base x) z;
   listed = λ e.
-      let z : q.to ≡ 4294967295 = to ∙ ap (λ (b : Bool). pick b t 4294967295) e in
+      let z : q.to ≡ 4294967295 = to ∙ ap last_asked e in
       let y : suc q.to ≡ 4294967296 = omega arith in
       subst (λ (u : ℕ). ScannedTo (may base x) u old 4294967296 r.track new) z
       (subst (λ (v : ℕ). ScannedTo (may base x) q.to old v r.track new) y
-      (f.listed (listing ∙ ap not e)));
+      (f.listed (not-false q.listing (sym listing ∙ ap is_some e))));
 }
 
 -- ---- before places are reached
@@ -181,7 +186,7 @@ module _ {holder : Base} {n : ℕ} {subjects objects : List ℕ} {width height :
     number codes f.grid) {rules : ℕ} (needs : Needed left need codes width f.grid.pairs rules)
     (lasts bits : ℕ) where
   -- they are as the steps leave them
-  pub outline_tabled : (q : Query) (one : Bool) (t : ℕ) →
+  pub outline_tabled : (q : Query) (instant : Option ℕ) →
       ((b : ℕ) → bit b (both_signs (mode_of x)) ≡ true → has need (o * width + s) b ≡ true) →
       Arranged n body sides right first starts choosy rules lasts bits f →
       q.own ≡ own →
@@ -189,10 +194,10 @@ module _ {holder : Base} {n : ℕ} {subjects objects : List ℕ} {width height :
         pair = get_or number (o * width + s) 0;
         point = record { subject = s; mode = x.mode - 1; object = o };
       } →
-      q.to ≡ last_asked one t → q.listing ≡ not one → WalkStart one t body lasts q.from →
+      q.to ≡ last_asked instant → is_some instant ≡ not q.listing → WalkStart instant body lasts q.from →
       Tabled holder n (chart_of subjects objects f)
       (prepared body left feed sides right need codes number first starts f) rules lasts bits q x
-  outline_tabled q one t there a own_is place to listing history =
+  outline_tabled q instant there a own_is place to listing history =
       let same : ◌≡◌ {A = Chart}
       (record { subjects = subjects; objects = objects; width = width; height = height })
       (chart_of subjects objects f) = λ i. record {
@@ -215,7 +220,7 @@ module _ {holder : Base} {n : ℕ} {subjects objects : List ℕ} {width height :
           place = place ∙ ap₂ (λ (u v : ℕ). placed u v) k.subject k.object;
           forward = omega (arith, history.forward, to);
           first = history.first;
-          whole = λ l. history.all (not-true one (sym listing ∙ l));
+          whole = λ l. history.all (none_of instant (listing ∙ ap not l));
         };
       })
     where

@@ -1,7 +1,7 @@
 -- A question by its access and instant: what is known before places are reached (`AskedOutline`), and what
 -- the answer says (`Answers`).
-use Rattle.std.specs.Prelude.{◌≡◌, ◌⊎◌, Bool, true, false, List, ℕ, ◌*◌, ◌≤◌, length, get_or, drop}
-use Rattle.foundation.specs.Tests.{pick}
+use Rattle.std.specs.Prelude.{◌≡◌, ◌⊎◌, true, false, List, ℕ, ◌*◌, ◌≤◌, length, get_or, drop, Option, Some, None}
+use Rattle.std.specs.Option.{unwrap_or}
 use Rattle.foundation.specs.Intervals.{in_interval}
 use Rattle.foundation.specs.BitMasks.{bit}
 use Rattle.model.specs.declared.Access.{Access}
@@ -20,21 +20,21 @@ use Rattle.queries.specs.Starting.{Bodies}
 
 -- ---- the answer
 
--- MAY is asked at t, or else WHEN
-abbrev pub last_asked : Bool → ℕ → ℕ
-last_asked one t = pick one t 4294967295
+-- MAY is asked at an instant, or else WHEN
+abbrev pub last_asked : Option ℕ → ℕ
+last_asked instant = unwrap_or instant 4294967295
 
-pub record Answers (one : Bool) (t : ℕ) (base : Base) (x : Access) (r : Found) (old new : List ℕ) : Type 0
+pub record Answers (instant : Option ℕ) (base : Base) (x : Access) (r : Found) (old new : List ℕ) : Type 0
   where
-    pub yes : one ≡ true → r.yes ≡ may base x t
-    pub listed : one ≡ false → ScannedTo (may base x) 4294967295 old 4294967296 r.track new
+    pub yes : (t : ℕ) → instant ≡ Some t → r.yes ≡ may base x t
+    pub listed : instant ≡ None → ScannedTo (may base x) 4294967295 old 4294967296 r.track new
 
 -- where it is looked from: for WHEN from the first instant on
-pub record WalkStart (one : Bool) (t : ℕ) (body : List ℕ) (lasts from : ℕ) : Type 0 where
-  pub forward : from ≤ last_asked one t
+pub record WalkStart (instant : Option ℕ) (body : List ℕ) (lasts from : ℕ) : Type 0 where
+  pub forward : from ≤ last_asked instant
   pub first : (r : ℕ) → bit r lasts ≡ true →
       (from ≤ (rule_at body r).interval.start) ⊎ (in_interval (rule_at body r).interval from ≡ false)
-  pub all : one ≡ false → from ≡ 0
+  pub all : instant ≡ None → from ≡ 0
 
 -- ---- before places are reached
 

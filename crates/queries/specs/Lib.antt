@@ -2,3 +2,4 @@ pub mod Asking
 pub mod Drawing
 pub mod HandedOn
 pub mod Starting
+pub mod AskedBases

@@ -3,6 +3,7 @@
 #![tactic(auto)]
 
 mod ask;
+mod asked;
 mod outlining;
 mod prepared;
 mod sizes;
@@ -22,8 +23,7 @@ pub struct Totals {
 #[derive(Clone, Copy)]
 pub struct AccessQuery {
     pub access: Access,
-    pub one: bool,
-    pub instant: u32,
+    pub instant: Option<u32>,
 }
 
 // What is drawn of the rules besides tables: how many coordinates there are, and which rules are choosy.

@@ -13,14 +13,16 @@ ghost use Rattle.model.specs.Encoding.{decode};
 ghost use Rattle.model.specs.Soundness.{sound_bytes};
 ghost use Rattle.outlines.specs.Coordinates.{WellFormed};
 ghost use Rattle.queries.specs.Drawing.{Mapped, RulesDrawn, Blank, chart_for};
-ghost use Rattle.queries.specs.Asking.{last_asked, WalkStart, Answers, TaskIn, BodiesIn, DrawnIn};
-ghost use Rattle.queries.specs.Asking.{SlicesWhole};
+ghost use Rattle.queries.specs.Asking.{last_asked, WalkStart, Answers, TaskIn, DrawnIn, SlicesWhole};
+ghost use Rattle.queries.specs.AskedBases.{Asked, IsAsked};
 
+use crate::asked::AskedBase;
 use crate::sizes::with_lines;
-use crate::{AccessQuery, Extent, Inquiry, Totals};
+use crate::{AccessQuery, Extent, Inquiry};
 use engine::{Found, Query, WindowWalk};
 use facts::lay_tables;
 use masks::needed_rules;
+use lookup::SoundBase;
 use model::{AUTHORIZATION_BYTES, Access};
 use outlines::{
     choosy_of, draw_controlled, draw_feed, draw_left, draw_masks, draw_right, number_sides,
@@ -42,25 +44,22 @@ fn modes_in(need: &[u16]) -> u32
     places::modes_of(need) % 256
 }
 
-// The last instant that is asked about: t, or that of all time.
-fn last_asked(one: bool, t: u32) -> u32
-    ensures { result ≡ last_asked one t }
+// The last instant that is asked about: that of MAY, or that of all time.
+fn last_asked(instant: Option<u32>) -> u32
+    ensures { result ≡ last_asked instant }
 {
-    if one {
-        return t;
-    }
-    4294967295
+    instant.unwrap_or(4294967295)
 }
 
 // The instant from which on the engine looks.
-fn walk_start(one: bool, t: u32, body: &[u8], lasting: u64) -> u32
+fn walk_start(instant: Option<u32>, body: &[u8], lasting: u64) -> u32
     requires { RulesIn lasting body.now }
-    ensures { WalkStart one t body.now lasting result }
+    ensures { WalkStart instant body.now lasting result }
 {
-    if one {
-        return history_start(body, lasting, t);
+    match instant {
+        Some(t) => history_start(body, lasting, t),
+        None => 0,
     }
-    0
 }
 
 // Reaches the pairs that the asked one can rest on, and numbers them.
@@ -123,7 +122,7 @@ fn with_pairs(
         × ((base : Base) × TaskIn records.now outline.old coordinates.now k base) }
     ensures { (base : Base) →
         TaskIn records.now outline.old coordinates.now k base →
-        Answers k.asked.one k.asked.instant base k.asked.access result list.old
+        Answers k.asked.instant base k.asked.access result list.old
         list.new }
 {
     let e = k.extent;
@@ -191,9 +190,9 @@ fn with_pairs(
     let q = Query {
         own: own,
         place: place,
-        from: walk_start(a.one, a.instant, body, lasting),
-        to: last_asked(a.one, a.instant),
-        listing: !a.one,
+        from: walk_start(a.instant, body, lasting),
+        to: last_asked(a.instant),
+        listing: a.instant.is_none(),
     };
     let c = Chosen {
         authorizations: n.authorizations,
@@ -211,40 +210,39 @@ fn with_pairs(
     with_lines(records, w, outline, coordinates, need, numbers, list)
 }
 
-// The same with as much of the table of needs as there are pairs.
-fn with_part(
+// The same with tables of pairs and with room for the numbers of the authorizations, of these sizes.
+fn with_room<const NEED: usize, const NUMBERS: usize>(
     records: &[u8],
     k: Inquiry,
     outline: &mut [u64],
     coordinates: &[u8],
-    need: &mut [u16],
-    numbers: &mut [u16],
     list: &mut [u32],
 ) -> Found
     requires { SlicesWhole records.now k.totals outline.old coordinates.now
-        × ((i : ℕ) → (get_or need.old i 0 ≡ 0) × (get_or numbers.old i 0 ≡ 0))
-        × (k.extent.objects * k.extent.subjects ≤ length need.old)
-        × (2 * (k.extent.objects * k.extent.subjects) + k.totals.authorizations ≤ length numbers.old)
+        × (NEED ≤ 65536) × (NUMBERS ≤ 65536)
+        × (k.extent.objects * k.extent.subjects ≤ NEED)
+        × (2 * (k.extent.objects * k.extent.subjects) + k.totals.authorizations ≤ NUMBERS)
         × ((base : Base) × TaskIn records.now outline.old coordinates.now k base) }
     ensures { (base : Base) →
         TaskIn records.now outline.old coordinates.now k base →
-        Answers k.asked.one k.asked.instant base k.asked.access result list.old
+        Answers k.asked.instant base k.asked.access result list.old
         list.new }
 {
-    let e = k.extent;
-    let size = (e.objects * e.subjects) as usize;
+    let mut need = [0u16; NEED];
+    let mut numbers = [0u16; NUMBERS];
+    let size = (k.extent.objects * k.extent.subjects) as usize;
     with_pairs(
         records,
         k,
         outline,
         coordinates,
         &mut need[..size],
-        numbers,
+        &mut numbers,
         list,
     )
 }
 
-// The same with tables of pairs and with room for the numbers of the authorizations, made by size.
+// The same with as much room as it takes: clearing more takes longer than most answers.
 fn with_sizes(
     records: &[u8],
     k: Inquiry,
@@ -256,49 +254,17 @@ fn with_sizes(
         × ((base : Base) × TaskIn records.now outline.old coordinates.now k base) }
     ensures { (base : Base) →
         TaskIn records.now outline.old coordinates.now k base →
-        Answers k.asked.one k.asked.instant base k.asked.access result list.old
+        Answers k.asked.instant base k.asked.access result list.old
         list.new }
 {
-    let e = k.extent;
-    let n = k.totals;
-    let size = e.objects * e.subjects;
-    if (size <= 64) & (n.authorizations <= 64) {
-        let mut need = [0u16; 64];
-        let mut numbers = [0u16; 192];
-        return with_part(
-            records,
-            k,
-            outline,
-            coordinates,
-            &mut need,
-            &mut numbers,
-            list,
-        );
+    let size = k.extent.objects * k.extent.subjects;
+    if (size <= 64) & (k.totals.authorizations <= 64) {
+        return with_room::<64, 192>(records, k, outline, coordinates, list);
     }
     if size <= 512 {
-        let mut need = [0u16; 512];
-        let mut numbers = [0u16; 2048];
-        return with_part(
-            records,
-            k,
-            outline,
-            coordinates,
-            &mut need,
-            &mut numbers,
-            list,
-        );
+        return with_room::<512, 2048>(records, k, outline, coordinates, list);
     }
-    let mut need = [0u16; 4225];
-    let mut numbers = [0u16; 9474];
-    with_part(
-        records,
-        k,
-        outline,
-        coordinates,
-        &mut need,
-        &mut numbers,
-        list,
-    )
+    with_room::<4225, 9474>(records, k, outline, coordinates, list)
 }
 
 // The number that coordinate 0 stands for: the asked one where it is not listed, else 0, which nobody has.
@@ -340,7 +306,7 @@ pub fn draw(
     let choosy = choosy_of(body, n);
     draw_feed(body, n, choosy, coordinates, outline);
     draw_controlled(
-        bytes,
+        &SoundBase { bytes },
         body,
         n,
         &coordinates[OBJECTS..COORDINATES],
@@ -355,21 +321,17 @@ pub fn draw(
 
 // Answers by what is drawn: MAY at an instant, or else WHEN.
 pub fn with_drawn(
-    bytes: &[u8],
-    records: &[u8],
-    n: Totals,
+    base: &AskedBase<'_>,
     a: AccessQuery,
     e: Extent,
     outline: &mut [u64],
     coordinates: &[u8],
     list: &mut [u32],
 ) -> Found
-    requires { SlicesWhole records.now n outline.old coordinates.now
-        × DrawnIn records.now n outline.old coordinates.now (decode bytes.now) e
-        × (access_in a.access ≡ true) × (sound_bytes bytes.now ≡ true)
-        × ((base : Base) × BodiesIn records.now n (decode bytes.now) base) }
-    ensures { (base : Base) → BodiesIn records.now n (decode bytes.now) base →
-        Answers a.one a.instant base a.access result list.old list.new }
+    requires { SlicesWhole base.now.records.now base.now.totals outline.old coordinates.now
+        × DrawnIn base.now.records.now base.now.totals outline.old coordinates.now
+        (decode base.now.bytes.now) e × (access_in a.access ≡ true) × IsAsked base.now }
+    ensures { (b : Base) → Asked base.now b → Answers a.instant b a.access result list.old list.new }
 {
     let x = a.access;
     let s = coordinates[SUBJECTS + x.subject as usize];
@@ -379,9 +341,11 @@ pub fn with_drawn(
         mode: x.mode,
         object: own_of(o, x.object),
     };
+    let records = base.records;
+    let n = base.totals;
     let from = n.authorizations * AUTHORIZATION_BYTES;
     own_masks(
-        bytes,
+        &SoundBase { bytes: base.bytes },
         &records[from..],
         n.rules,
         own,
@@ -399,28 +363,20 @@ pub fn with_drawn(
 }
 
 // Draws the rules, and answers: MAY at an instant, or else WHEN.
-pub fn with_outline(
-    bytes: &[u8],
-    records: &[u8],
-    n: Totals,
-    a: AccessQuery,
-    list: &mut [u32],
-) -> Found
-    requires { (n.authorizations * 24 ≤ length records.now) × (access_in a.access ≡ true)
-        × (sound_bytes bytes.now ≡ true)
-        × ((base : Base) × BodiesIn records.now n (decode bytes.now) base) }
-    ensures { (base : Base) → BodiesIn records.now n (decode bytes.now) base →
-        Answers a.one a.instant base a.access result list.old list.new }
+pub fn with_outline(base: &AskedBase<'_>, a: AccessQuery, list: &mut [u32]) -> Found
+    requires { (access_in a.access ≡ true) × IsAsked base.now }
+    ensures { (b : Base) → Asked base.now b → Answers a.instant b a.access result list.old list.new }
 {
     let mut outline = [0u64; OUTLINE];
     let mut coordinates = [0u8; COORDINATES];
+    let n = base.totals;
     let from = n.authorizations * AUTHORIZATION_BYTES;
     let e = draw(
-        bytes,
-        &records[from..],
+        base.bytes,
+        &base.records[from..],
         n.rules,
         &mut outline,
         &mut coordinates,
     );
-    with_drawn(bytes, records, n, a, e, &mut outline, &coordinates, list)
+    with_drawn(base, a, e, &mut outline, &coordinates, list)
 }

@@ -8,30 +8,18 @@ ghost use Rattle.model.specs.Encoding.{decode};
 ghost use Rattle.model.specs.Rules.{may};
 ghost use Rattle.model.specs.Soundness.{sound_bytes};
 ghost use Rattle.outlines.specs.Coordinates.{WellFormed};
-ghost use Rattle.queries.specs.Asking.{BodiesIn};
+ghost use Rattle.queries.specs.AskedBases.{Asked, IsAsked};
 ghost use Rattle.queries.specs.Drawing.{Blank};
 ghost use Rattle.queries.specs.HandedOn.{bytes_in, HandedBy, HandedIn, HandedOn};
 
+use crate::asked::AskedBase;
 use crate::outlining::{draw, with_drawn};
-use crate::{AccessQuery, Extent, Totals};
-use direct::{holds_directly, stands_some};
+use crate::{AccessQuery, Extent};
 use fields::{le32, put32};
-use model::{AUTHORIZATION_BYTES, Access};
+use model::Access;
 use sections::{
     CHOOSY, COORDINATES, DRAWN, LEFT, OBJECT_COUNT, OUTLINE, PACKED, SIDES, SUBJECT_COUNT,
 };
-
-// Copies words.
-fn copy_words(from: &[u64], to: &mut [u64])
-    requires { length from.now ≡ length to.old }
-    ensures { to.new ≡ from.now }
-{
-    let mut i = 0;
-    while i < to.len() {
-        to[i] = from[i];
-        i += 1;
-    }
-}
 
 // The word of the eight bytes at a place, the first one lowest.
 fn word_at(bytes: &[u8], at: usize) -> u64
@@ -55,10 +43,8 @@ fn pack(bytes: &[u8], words: &mut [u64])
     requires { length bytes.now ≡ 8 * length words.old }
     ensures { bytes_in words.new ≡ bytes.now }
 {
-    let mut i = 0;
-    while i < words.len() {
+    for i in 0..words.len() {
         words[i] = word_at(bytes, 8 * i);
-        i += 1;
     }
 }
 
@@ -67,10 +53,8 @@ fn unpack(words: &[u64], bytes: &mut [u8])
     requires { length bytes.old ≡ 8 * length words.now }
     ensures { bytes.new ≡ bytes_in words.now }
 {
-    let mut i = 0;
-    while i < words.len() {
-        put_word_at(bytes, 8 * i, words[i]);
-        i += 1;
+    for (i, w) in words.iter().enumerate() {
+        put_word_at(bytes, 8 * i, *w);
     }
 }
 
@@ -104,18 +88,15 @@ pub fn prepare(s: &[u8], words: &mut [u64])
     draw_words(s, &s[at..], c.rules as usize, &mut bytes, words);
 }
 
-// Whether MAY says yes at t, by the bytes of a base, by those from its authorizations on, and by what was
-// prepared.
-fn holds_drawn(s: &[u8], records: &[u8], n: Totals, prepared: &[u64], x: Access, t: u32) -> bool
-    requires { (n.authorizations * 24 ≤ length records.now) × (length prepared.now ≡ 492)
-        × HandedIn records.now n prepared.now (decode s.now) × (access_in x ≡ true)
-        × (sound_bytes s.now ≡ true) × ((base : Base) × BodiesIn records.now n (decode s.now) base) }
-    ensures { (base : Base) → BodiesIn records.now n (decode s.now) base →
-        result ≡ may base x t }
+// Whether MAY says yes at t, by what was prepared of the base.
+fn holds_drawn(base: &AskedBase<'_>, prepared: &[u64], x: Access, t: u32) -> bool
+    requires { (length prepared.now ≡ 492) × HandedIn base.now.records.now base.now.totals prepared.now
+        (decode base.now.bytes.now) × (access_in x ≡ true) × IsAsked base.now }
+    ensures { (b : Base) → Asked base.now b → result ≡ may b x t }
 {
     let mut outline = [0u64; OUTLINE];
     let mut coordinates = [0u8; PACKED];
-    copy_words(&prepared[LEFT..DRAWN], &mut outline[LEFT..DRAWN]);
+    outline[LEFT..DRAWN].copy_from_slice(&prepared[LEFT..DRAWN]);
     unpack(&prepared[DRAWN..SUBJECT_COUNT], &mut coordinates);
     let e = Extent {
         subjects: prepared[SUBJECT_COUNT] as u32,
@@ -124,48 +105,28 @@ fn holds_drawn(s: &[u8], records: &[u8], n: Totals, prepared: &[u64], x: Access,
     };
     let a = AccessQuery {
         access: x,
-        one: true,
-        instant: t,
+        instant: Some(t),
     };
     let mut none = [0u32; 0];
-    let r = with_drawn(
-        s,
-        records,
-        n,
+    with_drawn(
+        base,
         a,
         e,
         &mut outline,
         &coordinates[SIDES..COORDINATES],
         &mut none,
-    );
-    r.yes
+    )
+    .yes
 }
 
 // The same; where no rule stands for the access, the authorizations alone are asked.
-fn holds_handed(s: &[u8], records: &[u8], n: Totals, prepared: &[u64], x: Access, t: u32) -> bool
-    requires { (n.authorizations * 24 ≤ length records.now) × (length prepared.now ≡ 492)
-        × HandedIn records.now n prepared.now (decode s.now) × (access_in x ≡ true)
-        × (sound_bytes s.now ≡ true) × ((base : Base) × BodiesIn records.now n (decode s.now) base) }
-    ensures { (base : Base) → BodiesIn records.now n (decode s.now) base →
-        result ≡ may base x t }
-{
-    let from = n.authorizations * AUTHORIZATION_BYTES;
-    if stands_some(s, &records[from..], n.rules, x) {
-        return holds_drawn(s, records, n, prepared, x, t);
-    }
-    holds_directly(records, n.authorizations, x, t)
-}
-
-// Whether MAY says yes at t, by what was prepared of the base.
 pub fn holds_prepared(s: &[u8], prepared: &[u64], x: Access, t: u32) -> bool
     requires { (sound_bytes s.now ≡ true) × (access_in x ≡ true) × HandedOn s.now prepared.now }
     ensures { result ≡ may (decode s.now) x t }
 {
-    let c = encoding::counts_of(s);
-    let at = encoding::authorizations_at(c);
-    let n = Totals {
-        authorizations: c.authorizations as usize,
-        rules: c.rules as usize,
-    };
-    holds_handed(s, &s[at..], n, prepared, x, t)
+    let base = AskedBase::new(s);
+    if let Some(yes) = base.held_alone(x, t) {
+        return yes;
+    }
+    holds_drawn(&base, prepared, x, t)
 }

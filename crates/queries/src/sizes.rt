@@ -37,14 +37,9 @@ fn sized(f: Frame, one: bool, words: usize) -> Frame
     requires { f.fields ≤ 64 * words }
     ensures { Sized f words result }
 {
-    let g = f.grid;
     Frame {
-        grid: g,
         width: width_of(one, f.fields, words),
-        fields: f.fields,
-        choosy: f.choosy,
-        tables: f.tables,
-        wide: f.wide,
+        ..f
     }
 }
 
@@ -55,76 +50,9 @@ fn broken_words(bits: u32) -> usize
     (bits / 64 + 1) as usize
 }
 
-// Walks where one instant is asked: a bit a field is enough.
-fn walk_narrow(
-    records: &[u8],
-    w: WindowWalk,
-    outline: &mut [u64],
-    coordinates: &[u8],
-    need: &[u16],
-    numbers: &mut [u16],
-    work: &mut [u64],
-    list: &mut [u32],
-) -> Found
-    requires { Sectioned records.now outline.old coordinates.now need.now numbers.old w
-        × RoomFor (length work.old) w × ((i : ℕ) → get_or work.old i 0 ≡ 0)
-        × ((base : Base) × (x : Access) × BegunIn records.now outline.old coordinates.now need.now
-        numbers.old w base x) }
-    ensures { (base : Base) (x : Access) → BegunIn records.now outline.old
-        coordinates.now need.now numbers.old w base x →
-        Finds w.query base x result list.old list.new }
-{
-    let q = w.query;
-    let f = w.frame;
-    let c = w.chosen;
-    let g = sized(f, true, work.len() - broken_words(w.bits));
-    let v = WindowWalk {
-        chosen: c,
-        offset: w.offset,
-        lasting: w.lasting,
-        bits: w.bits,
-        query: q,
-        frame: g,
-    };
-    walk_windows(records, v, outline, coordinates, need, numbers, work, list)
-}
-
-// Walks with fields that are as wide as the words have room for.
-fn walk_wide(
-    records: &[u8],
-    w: WindowWalk,
-    outline: &mut [u64],
-    coordinates: &[u8],
-    need: &[u16],
-    numbers: &mut [u16],
-    work: &mut [u64],
-    list: &mut [u32],
-) -> Found
-    requires { Sectioned records.now outline.old coordinates.now need.now numbers.old w
-        × RoomFor (length work.old) w × ((i : ℕ) → get_or work.old i 0 ≡ 0)
-        × ((base : Base) × (x : Access) × BegunIn records.now outline.old coordinates.now need.now
-        numbers.old w base x) }
-    ensures { (base : Base) (x : Access) → BegunIn records.now outline.old
-        coordinates.now need.now numbers.old w base x →
-        Finds w.query base x result list.old list.new }
-{
-    let q = w.query;
-    let f = w.frame;
-    let c = w.chosen;
-    let g = sized(f, false, work.len() - broken_words(w.bits));
-    let v = WindowWalk {
-        chosen: c,
-        offset: w.offset,
-        lasting: w.lasting,
-        bits: w.bits,
-        query: q,
-        frame: g,
-    };
-    walk_windows(records, v, outline, coordinates, need, numbers, work, list)
-}
-
-// Walks with few words, and few broken bits where they are to be kept.
-fn with_few_tables(
+// Walks with N words. A function of its own: else all sizes would stand in one frame.
+#[inline(never)]
+fn walk<const N: usize>(
     records: &[u8],
     w: WindowWalk,
     outline: &mut [u64],
@@ -134,117 +62,20 @@ fn with_few_tables(
     list: &mut [u32],
 ) -> Found
     requires { Sectioned records.now outline.old coordinates.now need.now numbers.old w
-        × RoomFor 128 w
+        × (N ≤ 65536) × RoomFor N w
         × ((base : Base) × (x : Access) × BegunIn records.now outline.old coordinates.now need.now
         numbers.old w base x) }
     ensures { (base : Base) (x : Access) → BegunIn records.now outline.old
         coordinates.now need.now numbers.old w base x →
         Finds w.query base x result list.old list.new }
 {
-    let mut work = [0u64; FEW_WORDS];
+    let mut work = [0u64; N];
     let q = w.query;
-    if q.from == q.to {
-        return walk_narrow(
-            records,
-            w,
-            outline,
-            coordinates,
-            need,
-            numbers,
-            &mut work,
-            list,
-        );
-    }
-    walk_wide(
+    let g = sized(w.frame, q.from == q.to, N - broken_words(w.bits));
+    let v = WindowWalk { frame: g, ..w };
+    walk_windows(
         records,
-        w,
-        outline,
-        coordinates,
-        need,
-        numbers,
-        &mut work,
-        list,
-    )
-}
-
-// The same with more of them.
-fn with_more_tables(
-    records: &[u8],
-    w: WindowWalk,
-    outline: &mut [u64],
-    coordinates: &[u8],
-    need: &[u16],
-    numbers: &mut [u16],
-    list: &mut [u32],
-) -> Found
-    requires { Sectioned records.now outline.old coordinates.now need.now numbers.old w
-        × RoomFor 1024 w
-        × ((base : Base) × (x : Access) × BegunIn records.now outline.old coordinates.now need.now
-        numbers.old w base x) }
-    ensures { (base : Base) (x : Access) → BegunIn records.now outline.old
-        coordinates.now need.now numbers.old w base x →
-        Finds w.query base x result list.old list.new }
-{
-    let mut work = [0u64; MORE_WORDS];
-    let q = w.query;
-    if q.from == q.to {
-        return walk_narrow(
-            records,
-            w,
-            outline,
-            coordinates,
-            need,
-            numbers,
-            &mut work,
-            list,
-        );
-    }
-    walk_wide(
-        records,
-        w,
-        outline,
-        coordinates,
-        need,
-        numbers,
-        &mut work,
-        list,
-    )
-}
-
-// The same with as many broken bits as any base needs, and twice as many words: with more, windows are wider.
-fn with_all_tables(
-    records: &[u8],
-    w: WindowWalk,
-    outline: &mut [u64],
-    coordinates: &[u8],
-    need: &[u16],
-    numbers: &mut [u16],
-    list: &mut [u32],
-) -> Found
-    requires { Sectioned records.now outline.old coordinates.now need.now numbers.old w
-        × ((base : Base) × (x : Access) × BegunIn records.now outline.old coordinates.now need.now
-        numbers.old w base x) }
-    ensures { (base : Base) (x : Access) → BegunIn records.now outline.old
-        coordinates.now need.now numbers.old w base x →
-        Finds w.query base x result list.old list.new }
-{
-    let mut work = [0u64; ALL_WORDS];
-    let q = w.query;
-    if q.from == q.to {
-        return walk_narrow(
-            records,
-            w,
-            outline,
-            coordinates,
-            need,
-            numbers,
-            &mut work,
-            list,
-        );
-    }
-    walk_wide(
-        records,
-        w,
+        v,
         outline,
         coordinates,
         need,
@@ -255,7 +86,7 @@ fn with_all_tables(
 }
 
 // Walks with tables by size: a bit a field is enough where one instant is asked, else a word a field goes
-// faster. Each size is called from two places, so that the compiler gives it a frame of its own.
+// faster.
 fn with_fields(
     records: &[u8],
     w: WindowWalk,
@@ -273,26 +104,20 @@ fn with_fields(
         Finds w.query base x result list.old list.new }
 {
     let q = w.query;
-    let f = w.frame;
-    let kept = broken_words(w.bits);
-    if q.from == q.to {
-        let n = f.fields as usize / 64 + 1 + kept;
-        if n <= FEW_WORDS {
-            return with_few_tables(records, w, outline, coordinates, need, numbers, list);
-        }
-        if n <= MORE_WORDS {
-            return with_more_tables(records, w, outline, coordinates, need, numbers, list);
-        }
-        return with_all_tables(records, w, outline, coordinates, need, numbers, list);
-    }
-    let n = f.fields as usize + kept;
+    let fields = w.frame.fields as usize;
+    let wanted = if q.from == q.to {
+        fields / 64 + 1
+    } else {
+        fields
+    };
+    let n = wanted + broken_words(w.bits);
     if n <= FEW_WORDS {
-        return with_few_tables(records, w, outline, coordinates, need, numbers, list);
+        return walk::<FEW_WORDS>(records, w, outline, coordinates, need, numbers, list);
     }
     if n <= MORE_WORDS {
-        return with_more_tables(records, w, outline, coordinates, need, numbers, list);
+        return walk::<MORE_WORDS>(records, w, outline, coordinates, need, numbers, list);
     }
-    with_all_tables(records, w, outline, coordinates, need, numbers, list)
+    walk::<ALL_WORDS>(records, w, outline, coordinates, need, numbers, list)
 }
 
 // What is found where nothing is held.
@@ -353,18 +178,12 @@ pub fn with_lines(
             return nothing_found();
         }
     }
-    let d = Chosen {
-        authorizations: k,
-        rules: c.rules,
-        needed: c.needed,
-    };
     let v = WindowWalk {
-        chosen: d,
-        offset: w.offset,
-        lasting: w.lasting,
-        bits: w.bits,
-        query: q,
-        frame: f,
+        chosen: Chosen {
+            authorizations: k,
+            ..c
+        },
+        ..w
     };
     with_fields(records, v, outline, coordinates, need, numbers, list)
 }

@@ -8,24 +8,19 @@ ghost use Rattle.encoding.specs.Format.{rule_at};
 
 use encoding::rule_at;
 use evaluation::is_lasting;
-use masks::with_if;
+use masks::those;
 use model::RULE_BYTES;
-use words::next_bit;
+use words::ones;
 
 // Of some rules those that look back.
 pub fn lasting_of(body: &[u8], rules: u64) -> u64
     requires { RulesIn rules body.now }
     ensures { (r : ℕ) → bit r result ≡ bit r rules && lasting (rule_at body.now r).operator }
 {
-    let mut m = 0;
-    let mut r = next_bit(rules, 0);
-    while r < 64 {
-        let q = rule_at(body, (r as usize) * RULE_BYTES);
-        let o = q.operator;
-        m = with_if(m, r, is_lasting(o));
-        r = next_bit(rules, r + 1);
-    }
-    m
+    those(
+        rules,
+        |r| is_lasting(rule_at(body, (r as usize) * RULE_BYTES).operator),
+    )
 }
 
 // The instant from which on the answer at t can be found: t, if none of some rules that look back is at work
@@ -38,18 +33,10 @@ pub fn history_start(body: &[u8], lasting: u64, t: u32) -> u32
 {
     let mut least = t;
     let mut back = false;
-    let mut r = next_bit(lasting, 0);
-    while r < 64 {
+    for r in ones(lasting) {
         let q = rule_at(body, (r as usize) * RULE_BYTES);
-        let start = q.interval.start;
-        if start < least {
-            least = start;
-        }
-        back = back | ((start < t) & (t <= q.interval.end));
-        r = next_bit(lasting, r + 1);
+        least = least.min(q.interval.start);
+        back = back | ((q.interval.start < t) & (t <= q.interval.end));
     }
-    if back {
-        return least;
-    }
-    t
+    if back { least } else { t }
 }

@@ -8,11 +8,10 @@ ghost use Rattle.relevance.specs.Chosen.{selected};
 ghost use Rattle.laws.specs.Plain.{Plain};
 ghost use Rattle.selection.specs.Selection.{position};
 
-use encoding::rule_at;
-use masks::clear_words;
+use encoding::{Records, rule_at};
 use model::RULE_BYTES;
 use rules::negates;
-use words::next_bit;
+use words::ones;
 
 // Copies the rules of a mask to the front; how many they are.
 fn select(body: &[u8], n: usize, needed: u64, few: &mut [u8; 64 * RULE_BYTES]) -> usize
@@ -22,22 +21,13 @@ fn select(body: &[u8], n: usize, needed: u64, few: &mut [u8; 64 * RULE_BYTES]) -
         × (rules_in result few.new ≡ selected needed (rules_in n body.now)) }
 {
     let mut k = 0;
-    let mut r = next_bit(needed, 0);
-    while r < 64 {
+    for r in ones(needed) {
         let rule = &body[(r as usize) * RULE_BYTES..];
         let at = k * RULE_BYTES;
         few[at..at + RULE_BYTES].copy_from_slice(&rule[..RULE_BYTES]);
         k += 1;
-        r = next_bit(needed, r + 1);
     }
     k
-}
-
-// A rank as a word.
-fn word_of(rank: u16) -> u64
-    ensures { result ≡ rank }
-{
-    rank as u64
 }
 
 // Puts the first ranks in the places of the rules of a mask.
@@ -47,12 +37,10 @@ fn spread_strata(ranks: &[u16; 65], needed: u64, strata: &mut [u64])
         ≡ get_or ranks.now (position needed r) 0 }
 {
     let mut k = 0;
-    let mut r = next_bit(needed, 0);
-    while r < 64 {
+    for r in ones(needed) {
         let i = r as usize;
-        strata[i] = word_of(ranks[k]);
+        strata[i] = u64::from(ranks[k]);
         k += 1;
-        r = next_bit(needed, r + 1);
     }
 }
 
@@ -61,15 +49,10 @@ pub fn counts_some(body: &[u8], rules: u64) -> bool
     requires { RulesIn rules body.now }
     ensures { result ≡ false → (r : ℕ) → bit r rules ≡ true → Plain (rule_at body.now r) }
 {
-    let mut r = next_bit(rules, 0);
-    while r < 64 {
+    ones(rules).any(|r| {
         let q = rule_at(body, (r as usize) * RULE_BYTES);
-        if negates(q) | q.left.negative {
-            return true;
-        }
-        r = next_bit(rules, r + 1);
-    }
-    false
+        negates(q) | q.left.negative
+    })
 }
 
 // Puts the stratum of each rule of a mask, among these, in its place.
@@ -80,12 +63,11 @@ pub fn strata_of(body: &[u8], n: usize, needed: u64, strata: &mut [u64])
         ≡ stratum (selected needed (rules_in n body.now)) (rule_at body.now r) }
 {
     if !counts_some(body, needed) {
-        clear_words(strata, 64);
+        strata.fill(0);
         return;
     }
     let mut few = [0u8; 64 * RULE_BYTES];
-    let mut ranks = [0u16; 65];
     let k = select(body, n, needed, &mut few);
-    rules::stratify(&few, k, &mut ranks);
+    let ranks = rules::stratify(&Records::new(&few, k)).unwrap();
     spread_strata(&ranks, needed, strata);
 }

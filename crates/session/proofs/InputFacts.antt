@@ -1,6 +1,6 @@
 -- Parts of the input answered one behind the other, up to its end or to where the program stopped, and what
 -- that says of the whole run (`served-run`).
-use Rattle.std.proofs.Common.{List, [], ap, append-nil, drop, inl, pos, refl, subst, sym, take, true, ℕ, ◌++◌, ◌∙◌, ◌≡◌}
+use Rattle.std.proofs.Common.{List, [], ap, append-nil, drop, inl, refl, subst, sym, take, true, ℕ, ◌++◌, ◌∙◌, ◌≡◌}
 use Rattle.model.specs.Soundness.{sound_bytes}
 use Rattle.model.specs.Base.{empty_base}
 use Rattle.model.specs.Encoding.{encode}
@@ -8,6 +8,7 @@ use Rattle.model.specs.Session.{session, bytes_after}
 use Rattle.theorems.specs.Demand3.{Demand3}
 use Rattle.theorems.specs.Orders.{orders, demand3_text}
 use Rattle.channel.specs.declared.Channel.{Channel}
+use Rattle.channel.specs.declared.Got.TheVariants.{End}
 use Rattle.channel.specs.Digests.{digest}
 use Rattle.channel.proofs.DigestFacts.{digest-twice, digest_none}
 use Rattle.channel.specs.Trace.{Handed, Read, Stopped}
@@ -91,7 +92,7 @@ module _ {s pending : List ℕ} where
   module _ {input s' line' : List ℕ} {g : InputState} (w : Read input g.channel)
       (a : FrontAnswered s pending input 0 g s' line') where
     -- the end of the input was answered
-    pub served_ended : {r : Channel} {s'' : List ℕ} → g.channel.ok ≡ true → g.channel.got ≡ pos 0 →
+    pub served_ended : {r : Channel} {s'' : List ℕ} → g.channel.ok ≡ true → g.channel.got ≡ End →
         s'' ≡ finish_bytes s' a.answers.left → Handed g.channel (finish s' a.answers.left) r →
         sound_bytes s'' ≡ true → ProgramDone s pending input r s''
     served_ended {r} ok over bytes handed sound =
@@ -116,7 +117,7 @@ module _ {s pending : List ℕ} where
         }
 
     -- the input did not end
-    pub served_cut : (g.channel.ok ≡ true → g.channel.got ≡ pos 0 → ⊥) → Stopped g.channel →
+    pub served_cut : (g.channel.ok ≡ true → g.channel.got ≡ End → ⊥) → Stopped g.channel →
         sound_bytes s' ≡ true → ProgramDone s pending input g.channel s'
     served_cut none stop sound =
         let f = a.answers in

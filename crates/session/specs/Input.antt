@@ -1,11 +1,12 @@
 -- What the program has done with its input: which bytes of the base and which line are there, and by the
 -- trace that the channel keeps, which bytes were read and which were handed to be written.
-use Rattle.std.specs.Prelude.{◌≡◌, ℕ, ◌≤◌, true, List, [], ◌++◌, pos, length}
+use Rattle.std.specs.Prelude.{◌≡◌, ℕ, ◌≤◌, true, List, [], ◌++◌, length}
 use Rattle.model.specs.Soundness.{sound_bytes}
 use Rattle.model.specs.Session.{session}
 use Rattle.theorems.specs.Demand3.{Demand3}
 use Rattle.theorems.specs.Orders.{orders}
 use Rattle.channel.specs.declared.Channel.{Channel}
+use Rattle.channel.specs.declared.Got.TheVariants.{End}
 use Rattle.channel.specs.Digests.{digest}
 use Rattle.channel.specs.Trace.{Read, Stopped}
 use Rattle.serving.specs.LineTurns.{LineKept}
@@ -38,11 +39,11 @@ pub record ProgramDone (s pending input : List ℕ) (r : Channel) (s' : List ℕ
   pub read : Read input r
   pub stopped : Stopped r
   -- the input ended: all of it is answered, and so is its end
-  pub ended : r.ok ≡ true → r.got ≡ pos 0 →
+  pub ended : r.ok ≡ true → r.got ≡ End →
       (let f = feed s pending input in
       (s' ≡ finish_bytes f.lent f.pending) × (r.sent ≡ digest 0 (ending f)))
   -- a read failed, or the turns were used up: the line that is not ended is not answered
-  pub cut : r.ok ≡ true → (r.got ≡ pos 0 → ⊥) →
+  pub cut : r.ok ≡ true → (r.got ≡ End → ⊥) →
       (let f = feed s pending input in (s' ≡ f.lent) × (r.sent ≡ digest 0 f.text))
   -- in any case, where a write failed too, what was handed over is a front of what is to be answered
   pub text : List ℕ
@@ -56,9 +57,9 @@ pub record Ran (input : List ℕ) (r : Channel) (s' : List ℕ) : Type 0 where
   pub read : Read input r
   pub stopped : Stopped r
   -- the input ended: the text of the session over it was handed to be written,
-  pub ended : r.ok ≡ true → r.got ≡ pos 0 → r.sent ≡ digest 0 (session input)
+  pub ended : r.ok ≡ true → r.got ≡ End → r.sent ≡ digest 0 (session input)
   -- and demand 3 holds of the requests among its lines and the bytes of the base
-  pub promise : r.ok ≡ true → r.got ≡ pos 0 → Demand3 (orders input) s'
+  pub promise : r.ok ≡ true → r.got ≡ End → Demand3 (orders input) s'
   -- in any case a front of it was
   pub text : List ℕ
   pub rest : List ℕ

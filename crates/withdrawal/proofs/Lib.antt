@@ -1,4 +1,3 @@
-pub mod Instants
 pub mod StayFacts
 pub mod TimeFacts
 pub mod TurnFacts

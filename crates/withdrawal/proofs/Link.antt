@@ -16,36 +16,32 @@ use Rattle.model.specs.SoundnessFacts.{Sound}
 use Rattle.model.proofs.SurvivalFacts.{takes_eq}
 use Rattle.model.specs.Kinds.{is_apart}
 use Rattle.laws.specs.Restriction.{withdrawn_all}
-use Rattle.pieces.specs.declared.Cut.{Cut}
-use Rattle.pieces.specs.declared.CutKind.TheVariants.{Label, Grantor, Name}
+use Rattle.pieces.specs.declared.cut.Cut.{Cut}
+use Rattle.pieces.specs.declared.cut.Cut.TheVariants.{Label, Grantor, Name}
+use Rattle.pieces.specs.declared.cut.Named.{Named}
 use Rattle.pieces.specs.Cuts.{spared, CutOf}
 
-module _ (q : Request) (c : Cut) where
+module _ (q : Request) where
   -- REVOKE
-  pub by_label_lem : is q (REVOKE ∷ []) ≡ true → c.kind ≡ Label → c.label ≡ q.label → CutOf q c
-  by_label_lem e k l h t = rw (takes_eq q h t, e, k, l)
+  pub by_label_lem : is q (REVOKE ∷ []) ≡ true → CutOf q (Label q.label)
+  by_label_lem e h t = rw (takes_eq q h t, e)
 
   -- REVOKEADM
-  pub by_grantor : is q (REVOKEADM ∷ []) ≡ true → c.kind ≡ Grantor → c.object ≡ q.object →
-      c.grantor ≡ q.subject →
-      CutOf q c
-  by_grantor e k o g h t = rw (
+  pub by_grantor : is q (REVOKEADM ∷ []) ≡ true → CutOf q (Grantor q.object q.subject)
+  by_grantor e h t = rw (
     takes_eq q h t,
     is_apart q (REVOKEADM ∷ []) (REVOKE ∷ []) refl e,
     is_apart q (REVOKEADM ∷ []) (REVOKEP ∷ REVOKEN ∷ []) refl e,
     e,
-    k,
-    o,
-    g,
   )
 
   -- REVOKEP and REVOKEN
-  pub by_name : is q (REVOKEP ∷ REVOKEN ∷ []) ≡ true → c.kind ≡ Name → c.grantor ≡ q.requester →
-      c.subject ≡ q.subject → c.object ≡ q.object → c.mode ≡ q.mode →
-      c.negative ≡ is q (REVOKEN ∷ []) →
-      c.interval ≡ q.interval → CutOf q c
-  by_name e k g s o m n i h t =
-      rw (takes_eq q h t, is_apart q (REVOKEP ∷ REVOKEN ∷ []) (REVOKE ∷ []) refl e, e, k, g, s, o, m, n, i)
+  pub by_name : (n : Named) → is q (REVOKEP ∷ REVOKEN ∷ []) ≡ true → n.grantor ≡ q.requester →
+      n.subject ≡ q.subject → n.object ≡ q.object → n.mode ≡ q.mode →
+      n.negative ≡ is q (REVOKEN ∷ []) →
+      n.interval ≡ q.interval → CutOf q (Name n)
+  by_name n e g s o m v i h t =
+      rw (takes_eq q h t, is_apart q (REVOKEP ∷ REVOKEN ∷ []) (REVOKE ∷ []) refl e, e, g, s, o, m, v, i)
 
 -- the authorizations after a withdrawal, as the code builds them
 pub withdrawn_is : (b : Base) (q : Request) (c : Cut) → Sound b → withdraws q ≡ true → CutOf q c →

@@ -2,7 +2,7 @@
 -- (`leading-left`), and what is answered.
 use mathlib.Core.Path.{◌≡◌, refl, ap, ◌∙◌, subst}
 use mathlib.Core.Logic.{inl, inr}
-use Prim.Native.Nat.{ℕ, suc, ◌+◌, ◌-◌, ◌≤◌, ◌<◌}
+use Prim.Native.Nat.{ℕ, suc, ◌+◌, ◌≤◌, ◌<◌}
 use native.Mathlib.Omega.{arith}
 use mathlib.Core.Bool.{Bool, true, false}
 use mathlib.Core.List.{List, [], ◌∷◌, ◌++◌}
@@ -14,15 +14,15 @@ use Rattle.model.specs.declared.Head.{Head}
 use Rattle.model.specs.declared.Authorization.{Authorization}
 use Rattle.model.specs.Withdrawal.{pieces, keep}
 use Rattle.laws.specs.KeepFacts.{intervals_of, piece_of_lem, pieces_of, Precedes}
-use Rattle.pieces.specs.declared.Cut.{Cut}
-use Rattle.pieces.specs.declared.Stretch.{Stretch}
-use Rattle.withdrawal.specs.declared.RoundStep.{RoundStep}
-use Rattle.withdrawal.specs.declared.RoundStep.TheVariants.{Full, At}
+use Rattle.pieces.specs.declared.cut.Cut.{Cut}
+use Rattle.pieces.specs.declared.cut.Stretch.{Stretch}
+use Rattle.std.specs.Prelude.{Result, Ok, Err}
+use Rattle.pieces.specs.declared.body.Full.{Full}
+use Rattle.pieces.specs.Puts.{Puts}
 use Rattle.pieces.proofs.StretchFacts.{stretch-true}
 use Rattle.withdrawal.proofs.StayFacts.{left}
 use Rattle.pieces.specs.Cuts.{taken_of}
-use Rattle.pieces.specs.Building.{BuiltBody}
-use Rattle.pieces.proofs.BodyFacts.{body-count, placed_none, length-placed}
+use Rattle.pieces.proofs.BodyFacts.{placed_none}
 use Rattle.pieces.specs.CutParts.{parts_of}
 use Rattle.withdrawal.specs.Times.{among}
 use Rattle.withdrawal.specs.RoundTurns.{piece_of, leading, in_of, by_of, TurnMakes}
@@ -66,25 +66,11 @@ leading_left r a ys s =
     (λ x m. let w = pieces_of r ys x m in not_piece a w.0 x (s w.0 w.1) w.2.0 w.2.2))
     ∙ omega arith
 
--- ---- a turn
-
--- by what it answers
-pub turns_at : (pos : ℕ) (ps : List Authorization) (by : ℕ) (os : List Authorization) (r : RoundStep)
-    (out sorted : List ℕ)
-    (k p : ℕ) → r ≡ At k p → TurnMakes pos ps by os r out sorted →
-    BuiltBody k (placed pos ps os) out sorted × (p ≡ pos + length ps + by)
-turns_at pos ps by os r out sorted k p e t = subst (λ (x : RoundStep). TurnMakes pos ps by os x out sorted) e
-    t
-
-pub turns-full : (pos : ℕ) (ps : List Authorization) (by : ℕ) (os : List Authorization) (r : RoundStep)
-    (out sorted : List ℕ) → r ≡ Full → TurnMakes pos ps by os r out sorted → 1024 < length (placed pos ps os)
-turns-full pos ps by os r out sorted e t = subst (λ (x : RoundStep). TurnMakes pos ps by os x out sorted) e t
-
 -- ---- what a turn answers
 
 module _ (c : Cut) (T U : ℕ) (root : Bool) (os : List Authorization) (a : Authorization) (pos : ℕ) where
-  abbrev Turned : RoundStep → List ℕ → List ℕ → Type 0
-  Turned r out sorted = TurnMakes pos (in_of c T U root os a) (by_of T a (drop pos os)) os r out sorted
+  abbrev Turned : Result ℕ Full → List Authorization → Type 0
+  Turned r zs = TurnMakes pos (in_of c T U root os a) (by_of T a (drop pos os)) os r zs
 
   -- granted in the round
   module _ (e : among T U a ≡ true) (taken : Stretch) (f : taken ≡ taken_of c a.head)
@@ -92,36 +78,33 @@ module _ (c : Cut) (T U : ℕ) (root : Bool) (os : List Authorization) (a : Auth
     goes_in : parts_of taken root' os a ≡ in_of c T U root os a
     goes_in = rw e (λ i. parts_of (f i) (g i) os a)
 
-    pub turn-full : 1024 < length (placed pos (parts_of taken root' os a) os) →
-        1024 < length (placed pos (in_of c T U root os a) os)
-    turn-full h = subst (λ (x : List Authorization). 1024 < length (placed pos x os)) goes_in h
+    none_by : by_of T a (drop pos os) ≡ 0
+    none_by = let i = stretch-true T U a.head.granted e in rw (le-false (suc a.head.granted) T (omega arith))
 
-    pub turn_in_lem : (m k : ℕ) (out sorted : List ℕ) → length os ≡ m →
-        BuiltBody k (placed pos (parts_of taken root' os a) os) out sorted →
-        Turned (At k (pos + (k - m))) out sorted
-    turn_in_lem m k out sorted n b =
-        let p = in_of c T U root os a in
-        let d = subst (λ (x : List Authorization). BuiltBody k (placed pos x os) out sorted) goes_in b in
-        let i = stretch-true T U a.head.granted e in
-        let z : by_of T a (drop pos os) ≡ 0 = rw (le-false (suc a.head.granted) T (omega arith)) in
-        (d, omega (arith, z, body-count d, length-placed pos p os))
+    pub turn_in_lem : (r : Result ℕ Full) (zs : List Authorization) →
+        Puts pos (parts_of taken root' os a) os r zs → Turned r zs
+    turn_in_lem (Ok p) zs h = (
+      h.0 ∙ ap (λ (x : List Authorization). placed pos x os) goes_in,
+      omega (arith, h.1, none_by, ap (λ (x : List Authorization). length x) goes_in),
+    )
+    turn_in_lem (Err w) zs h = subst (λ (x : List Authorization). 1024 < length (placed pos x os)) goes_in h
 
   -- not so
-  module _ (e : among T U a ≡ false) (m : ℕ) (out sorted : List ℕ) (b : BuiltBody m os out sorted) where
-    nothing_in : BuiltBody m (placed pos (in_of c T U root os a) os) out sorted
-    nothing_in = rw (e, placed_none pos os) b
+  module _ (e : among T U a ≡ false) where
+    nothing_in : os ≡ placed pos (in_of c T U root os a) os
+    nothing_in = rw (e, placed_none pos os)
 
     stays_long : length (in_of c T U root os a) ≡ 0
     stays_long = rw e
 
     pub turn_by : (p : ℕ) → a.head.granted < T → p ≡ pos + leading (piece_of a) (drop pos os) →
-        Turned (At m p) out sorted
+        Turned (Ok p) os
     turn_by p h q =
         let z : by_of T a (drop pos os) ≡ leading (piece_of a) (drop pos os) =
         rw (le-true (suc a.head.granted) T h) in
         (nothing_in, omega (arith, z, q, stays_long))
 
-    pub turn_out : T ≤ a.head.granted → Turned (At m pos) out sorted
+    pub turn_out : T ≤ a.head.granted → Turned (Ok pos) os
     turn_out h =
         let z : by_of T a (drop pos os) ≡ 0 = rw (le-false (suc a.head.granted) T (omega arith)) in
         (nothing_in, omega (arith, z, stays_long))

@@ -1,14 +1,12 @@
 -- A turn of a round: which pieces go in for an authorization of the base, how many are passed over
 -- (`leading-left`), and what is answered.
-use Rattle.std.specs.Prelude.{◌≡◌, ℕ, ◌+◌, ◌<◌, Bool, ◌&&◌, List, [], ◌∷◌, leb, ltb, eqb, length}
+use Rattle.std.specs.Prelude.{◌≡◌, ℕ, ◌+◌, ◌<◌, Bool, ◌&&◌, List, [], ◌∷◌, leb, ltb, eqb, length, Result, Ok, Err}
 use Rattle.foundation.specs.Tests.{pick}
 use Rattle.foundation.specs.Lists.{placed}
 use Rattle.model.specs.declared.Authorization.{Authorization}
-use Rattle.pieces.specs.declared.Cut.{Cut}
-use Rattle.withdrawal.specs.declared.RoundStep.{RoundStep}
-use Rattle.withdrawal.specs.declared.RoundStep.TheVariants.{Full, At}
+use Rattle.pieces.specs.declared.cut.Cut.{Cut}
+use Rattle.pieces.specs.declared.body.Full.{Full}
 use Rattle.pieces.specs.Cuts.{taken_of}
-use Rattle.pieces.specs.Building.{BuiltBody}
 use Rattle.pieces.specs.CutParts.{parts_of}
 use Rattle.withdrawal.specs.Times.{among}
 
@@ -33,7 +31,7 @@ abbrev pub by_of : ℕ → Authorization → List Authorization → ℕ
 by_of T a os = pick (ltb a.head.granted T) (leading (piece_of a) os) 0
 
 -- what a turn answers and leaves
-abbrev pub TurnMakes : ℕ → List Authorization → ℕ → List Authorization → RoundStep → List ℕ → List ℕ → Type 0
-TurnMakes pos ps by os Full out sorted = 1024 < length (placed pos ps os)
-TurnMakes pos ps by os (At k p) out sorted = BuiltBody k (placed pos ps os) out sorted
-    × (p ≡ pos + length ps + by)
+abbrev pub TurnMakes : ℕ → List Authorization → ℕ → List Authorization → Result ℕ Full → List Authorization →
+    Type 0
+TurnMakes pos ps by os (Ok p) zs = (zs ≡ placed pos ps os) × (p ≡ pos + length ps + by)
+TurnMakes pos ps by os (Err e) zs = 1024 < length (placed pos ps os)

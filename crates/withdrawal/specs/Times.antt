@@ -1,6 +1,6 @@
 -- The times that a round covers: from T on up to one behind the least that stands behind a later one, so that
 -- what was granted then stands in the order of its times.
-use Rattle.std.specs.Prelude.{◌≡◌, ℕ, ◌+◌, ◌≤◌, min, Bool, true, ◌&&◌, List, [], ◌∷◌, leb}
+use Rattle.std.specs.Prelude.{◌≡◌, ℕ, ◌+◌, ◌≤◌, min, Bool, true, ◌&&◌, List, [], ◌∷◌, leb, ltb}
 use Rattle.foundation.specs.Tests.{pick}
 use Rattle.foundation.specs.Lists.{Mem}
 use Rattle.model.specs.declared.Authorization.{Authorization}
@@ -9,6 +9,10 @@ use Rattle.pieces.specs.Stretches.{in_stretch}
 -- granted from T on, before U
 abbrev pub among : ℕ → ℕ → Authorization → Bool
 among T U a = in_stretch T U a.head.granted
+
+-- granted before the end of time
+abbrev pub has_instant : Authorization → Bool
+has_instant a = ltb a.head.granted 4294967296
 
 -- what was granted from T on, before U, stands in the order of its times
 abbrev pub InTime : ℕ → ℕ → List Authorization → Type 0

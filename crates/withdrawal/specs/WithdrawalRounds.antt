@@ -3,7 +3,7 @@ use Rattle.std.specs.Prelude.{ℕ, Bool, List}
 use Rattle.model.specs.declared.Head.{Head}
 use Rattle.model.specs.declared.Authorization.{Authorization}
 use Rattle.model.specs.Withdrawal.{keep}
-use Rattle.pieces.specs.declared.Cut.{Cut}
+use Rattle.pieces.specs.declared.cut.Cut.{Cut}
 use Rattle.withdrawal.specs.Stays.{stays, until_instant}
 use Rattle.pieces.specs.Cuts.{spared}
 

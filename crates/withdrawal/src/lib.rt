@@ -4,11 +4,3 @@
 mod rounds;
 
 pub use rounds::withdraw;
-
-// How many authorizations a body has after a turn of a round, or that they would be too many, with the place
-// that the round has come to.
-#[derive(Clone, Copy)]
-pub enum RoundStep {
-    Full,
-    At(usize, usize),
-}

@@ -2,20 +2,21 @@
 // in its order with a place in the body that runs along, puts in what was granted then, and passes over the
 // pieces of what was granted before. All that can support an authorization is in the body when its turn
 // comes, and what is built never changes again.
-ghost use Rattle.std.specs.Prelude.{◌≡◌, true, ◌+◌, ◌*◌, ◌≤◌, ◌<◌, length, drop};
+ghost use Rattle.std.specs.Prelude.{◌≡◌, true, ◌+◌, ◌≤◌, ◌<◌, length, drop};
+ghost use Rattle.foundation.specs.Lists.{allb};
+ghost use Rattle.model.specs.Support.{root_in};
 ghost use Rattle.model.specs.Withdrawal.{keep, restrict};
 ghost use Rattle.laws.specs.KeepFacts.{Sorted};
-ghost use Rattle.support.specs.Hops.{roots_in};
-ghost use Rattle.encoding.specs.Format.{authorizations_in};
-ghost use Rattle.pieces.specs.Cuts.{spared, CutOrdered};
-ghost use Rattle.pieces.specs.Building.{BuiltBody, AnyBody, Room, Makes, Built};
-ghost use Rattle.withdrawal.specs.Times.{InTime, pull_of, raise_of, end_of};
+ghost use Rattle.pieces.specs.Cuts.{spared};
+ghost use Rattle.pieces.specs.Puts.{Makes};
+ghost use Rattle.withdrawal.specs.Times.{InTime, pull_of, raise_of, end_of, has_instant};
 ghost use Rattle.withdrawal.specs.RoundTurns.{piece_of, leading, in_of, by_of, TurnMakes};
 ghost use Rattle.withdrawal.specs.WithdrawalRounds.{stayers};
 
-use crate::RoundStep;
-use model::{AUTHORIZATION_BYTES, Authorization};
-use pieces::{Cut, Put, put_pieces, taken_stretch};
+use encoding::Records;
+use model::Authorization;
+use pieces::{Body, Cut, Full, Stretch, taken_stretch};
+use support::Roots;
 
 // Whether x is a piece of a, as its label and its start tell.
 fn is_piece(a: Authorization, x: Authorization) -> bool
@@ -29,115 +30,69 @@ fn is_piece(a: Authorization, x: Authorization) -> bool
 }
 
 // The place behind the pieces of an authorization that stand from `pos` on.
-fn skip(out: &[u8], m: usize, pos: usize, a: Authorization) -> usize
-    requires { (pos ≤ m) × (m * 24 ≤ length out.now) }
-    ensures { result ≡ pos + leading (piece_of a) (drop pos (authorizations_in m out.now)) }
+fn skip(body: &Body, pos: usize, a: Authorization) -> usize
+    requires { pos ≤ length body.now }
+    ensures { result ≡ pos + leading (piece_of a) (drop pos body.now) }
 {
-    let mut p = pos;
-    while p < m {
-        if !is_piece(a, encoding::authorization_at(out, p * AUTHORIZATION_BYTES)) {
+    let built = body.authorizations();
+    let m = built.len();
+    for p in pos..m {
+        if !is_piece(a, built.get(p)) {
             return p;
         }
-        p += 1;
     }
-    p
+    m
 }
 
-// A turn of the round for the times from `from` on, before `to`.
+// A turn of the round for some times: the place that the round has come to behind it.
 fn take_turn(
-    owners: &[u8],
-    no: usize,
-    administrators: &[u8],
-    na: usize,
-    c: Cut,
-    from: u64,
-    to: u64,
+    roots: &Roots<'_>,
+    cut: Cut,
+    times: Stretch,
     a: Authorization,
-    out: &mut [u8],
-    sorted: &mut [u8],
-    m: usize,
+    body: &mut Body,
     pos: usize,
-) -> RoundStep
-    requires no_in_bounds { (no * 4 ≤ length owners.now) × (na * 4 ≤ length administrators.now)
-        × (pos ≤ m) × Room out.old sorted.old }
-    requires any_body { AnyBody m out.old sorted.old }
+) -> Result<usize, Full>
+    requires { pos ≤ length body.old }
     ensures { TurnMakes pos
-        (in_of c from to (roots_in no owners.now na administrators.now a.head)
-        (authorizations_in m out.old) a)
-        (by_of from a (drop pos (authorizations_in m out.old)))
-        (authorizations_in m out.old) result out.new sorted.new }
+        (in_of cut times.from times.to (root_in roots.now.owners roots.now.administrators a.head)
+        body.old a)
+        (by_of times.from a (drop pos body.old)) body.old result body.new }
 {
-    let h = a.head;
-    let g = h.granted as u64;
-    if (from <= g) & (g < to) {
-        let root = lookup::is_root(owners, no, administrators, na, h.object, h.grantor);
-        let cut = taken_stretch(c, h);
-        let Put::Lines(k) = put_pieces(out, sorted, m, pos, a, root, cut) else {
-            return RoundStep::Full;
-        };
-        return RoundStep::At(k, pos + (k - m));
+    let g = a.head.granted as u64;
+    if (times.from <= g) & (g < times.to) {
+        let root = roots.has(a.head);
+        let taken = taken_stretch(cut, a.head);
+        return body.put_pieces(pos, a, root, taken);
     }
-    if g < from {
-        let p = skip(out, m, pos, a);
-        return RoundStep::At(m, p);
+    if g < times.from {
+        return Ok(skip(body, pos, a));
     }
-    RoundStep::At(m, pos)
+    Ok(pos)
 }
 
-// What the withdrawal leaves of what was granted before `to`, from what it leaves of what was granted before
-// `from`.
+// What the withdrawal leaves of what was granted before the end of some times, from what it leaves of what
+// was granted before their start.
 fn do_round(
-    owners: &[u8],
-    no: usize,
-    administrators: &[u8],
-    na: usize,
-    s: &[u8],
-    n: usize,
-    c: Cut,
-    from: u64,
-    to: u64,
-    out: &mut [u8],
-    sorted: &mut [u8],
-    m: usize,
-) -> Put
-    requires no_in_bounds { (no * 4 ≤ length owners.now) × (na * 4 ≤ length administrators.now)
-        × (n * 24 ≤ length s.now) × (from ≤ to) × Room out.old sorted.old }
-    requires cut_ordered { CutOrdered c × Sorted (authorizations_in n s.now)
-        × InTime from to (authorizations_in n s.now) }
-    requires built_body { BuiltBody m
-        (stayers (roots_in no owners.now na administrators.now) c (authorizations_in n s.now) from)
-        out.old sorted.old }
+    roots: &Roots<'_>,
+    authorizations: &Records<'_, Authorization>,
+    cut: Cut,
+    times: Stretch,
+    body: &mut Body,
+) -> Result<(), Full>
+    requires ordered { times.from ≤ times.to }
+    requires sorted { Sorted authorizations.now × InTime times.from times.to authorizations.now }
+    requires built { body.old ≡ stayers (root_in roots.now.owners roots.now.administrators) cut
+        authorizations.now times.from }
     ensures { Makes
-        (stayers (roots_in no owners.now na administrators.now) c
-        (authorizations_in n s.now) to)
-        result out.new sorted.new }
+        (stayers (root_in roots.now.owners roots.now.administrators) cut authorizations.now times.to)
+        result body.new }
 {
-    let mut k = m;
     let mut pos = 0;
-    let mut i = 0;
-    while i < n {
-        let a = encoding::authorization_at(s, i * AUTHORIZATION_BYTES);
-        let RoundStep::At(j, p) = take_turn(
-            owners,
-            no,
-            administrators,
-            na,
-            c,
-            from,
-            to,
-            a,
-            out,
-            sorted,
-            k,
-            pos,
-        ) else {
-            return Put::Full;
-        };
-        k = j;
-        pos = p;
-        i += 1;
+    for i in 0..authorizations.len() {
+        pos = take_turn(roots, cut, times, authorizations.get(i), body, pos)?;
     }
-    Put::Lines(k)
+    Ok(())
 }
 
 // One behind g, if that is earlier than d and g stands behind a later time.
@@ -163,66 +118,41 @@ fn raise(t: u64, g: u64, top: u64) -> u64
 
 // Up to where what was granted from t on stands in the order of its times. Where the times rise with the
 // labels, that is behind the last instant, and one round does it all.
-fn round_end(s: &[u8], n: usize, t: u64) -> u64
-    requires { n * 24 ≤ length s.now }
-    ensures { result ≡ end_of t (authorizations_in n s.now) 0 4294967296 }
+fn round_end(authorizations: &Records<'_, Authorization>, t: u64) -> u64
+    ensures end { result ≡ end_of t authorizations.now 0 4294967296 }
+    ensures instants { allb has_instant authorizations.now ≡ true }
 {
     let mut top: u64 = 0;
     let mut d: u64 = 4294967296;
-    let mut i = 0;
-    while i < n {
-        let g = fields::le32(s, i * AUTHORIZATION_BYTES + 12) as u64;
+    for i in 0..authorizations.len() {
+        let g = authorizations.get(i).head.granted as u64;
         d = pull(t, g, top, d);
         top = raise(t, g, top);
-        i += 1;
     }
     d
 }
 
-// The authorizations that a withdrawal leaves of the n of s, built in `out`; `sorted` is a second body to
-// look up in.
-// What is built is of the result, so that a 1,025th means that the result is too long.
+// The authorizations that a withdrawal leaves, built in `body`. What is built is of the result, so that a
+// 1,025th means that the result is too long.
 pub fn withdraw(
-    owners: &[u8],
-    no: usize,
-    administrators: &[u8],
-    na: usize,
-    s: &[u8],
-    n: usize,
-    c: Cut,
-    out: &mut [u8],
-    sorted: &mut [u8],
-) -> Put
-    requires no_in_bounds { (no * 4 ≤ length owners.now) × (na * 4 ≤ length administrators.now)
-        × (n * 24 ≤ length s.now) × Room out.old sorted.old }
-    requires cut_ordered { CutOrdered c × Sorted (authorizations_in n s.now) }
-    ensures { Built
-        (restrict (roots_in no owners.now na administrators.now) (λ h. true)
-        (keep (spared c) (authorizations_in n s.now)))
-        result out.new }
+    roots: &Roots<'_>,
+    authorizations: &Records<'_, Authorization>,
+    cut: Cut,
+    body: &mut Body,
+) -> Result<(), Full>
+    requires { Sorted authorizations.now }
+    ensures { Makes
+        (restrict (root_in roots.now.owners roots.now.administrators) (λ h. true)
+        (keep (spared cut) authorizations.now))
+        result body.new }
 {
-    let mut m = 0;
+    body.clear();
     let mut t: u64 = 0;
     while t < 4294967296 {
-        let u = round_end(s, n, t);
-        let Put::Lines(k) = do_round(
-            owners,
-            no,
-            administrators,
-            na,
-            s,
-            n,
-            c,
-            t,
-            u,
-            out,
-            sorted,
-            m,
-        ) else {
-            return Put::Full;
-        };
-        m = k;
+        let u = round_end(authorizations, t);
+        let times = Stretch { from: t, to: u };
+        do_round(roots, authorizations, cut, times, body)?;
         t = u;
     }
-    Put::Lines(m)
+    Ok(())
 }

@@ -6,9 +6,11 @@ use Rattle.std.proofs.Common.{sym, ap, ◌∙◌, arith}
 use Rattle.std.proofs.lemmas.Bool.{false≢true}
 use Rattle.std.proofs.lemmas.List.{append-nil}
 use Rattle.std.proofs.lemmas.List.Folds.{list_any-append}
-use Rattle.std.specs.Iterator.{YieldsFirst, Yields}
+use Rattle.std.specs.Iterator.{YieldsFirst, YieldsLast, Yields}
+use Rattle.std.specs.Iterator.Adapters.{rev_steps, rev_source}
+use Rattle.std.specs.declared.iter.Rev.{Rev}
 use Rattle.foundation.specs.BitMasks.{bit, bit-inside, bit-zero}
-use Rattle.foundation.specs.Tests.{cases, le-true, true-le, true_eq, and-false, and-true, or_cases}
+use Rattle.foundation.specs.Tests.{cases, eq_true, or_intro_left, or_true_right, le-true, true-le, true_eq, and-false, and-true, or_cases}
 use Rattle.words.specs.declared.bits.SetBits.{SetBits}
 use Rattle.words.specs.SetBits.{bits_below, bits_left, among}
 use Rattle.words.proofs.SetBitFacts.{Around, around, among_bits}
@@ -44,14 +46,45 @@ pub finished : {m : ℕ} {s₀ : SetBits} {xs : List ℕ} (s : SetBits) → s₀
 finished {m} {s₀} {xs} s e y h =
     sym (append-nil xs) ∙ ap (λ (l : List ℕ). xs ++ l) (sym h.0) ∙ sym (given s₀ s xs y) ∙ ap (bits_below 64) e
 
--- ---- which have been given
-
 or_right : (a b : Bool) → a || (b || false) ≡ a || b
 or_right a true = refl
 or_right a false = refl
 
 pub among_more : (i r : ℕ) (xs : List ℕ) → among i (xs ++ r ∷ []) ≡ among i xs || eqb i r
 among_more i r xs = list_any-append (eqb i) xs (r ∷ []) ∙ or_right (among i xs) (eqb i r)
+
+-- ---- one bit of a word
+
+set_bit : (r m : ℕ) → among r (bits_below 64 m) ≡ true → (r < 64) × (bit r m ≡ true)
+set_bit r m e = let w = and-true (ltb r 64) (bit r m) (sym (among_bits r 64 m) ∙ e) in (true-le (suc r) 64 w.0, w.1)
+
+-- the lowest and the highest
+pub first_bit : {r : ℕ} {ys : List ℕ} (m : ℕ) → bits_below 64 m ≡ r ∷ ys → (r < 64) × (bit r m ≡ true)
+first_bit {r} {ys} m h = set_bit r m (ap (among r) h ∙ or_intro_left (eqb r r) (among r ys) (eq_true r r refl))
+
+pub last_bit : {r : ℕ} (m : ℕ) (ys : List ℕ) → bits_below 64 m ≡ ys ++ r ∷ [] → (r < 64) × (bit r m ≡ true)
+last_bit {r} m ys h = set_bit r m (ap (among r) h ∙ among_more r r ys
+    ∙ or_true_right (among r ys) (eqb r r) (eq_true r r refl))
+
+-- ---- loops from behind: `for r in ones(m).rev()`
+
+given_back : (s t : Rev SetBits) (xs : List ℕ) → Yields (rev_steps (YieldsLast bits_left)) s xs t →
+    (i : ℕ) → among i (bits_left (rev_source t)) ≡ true → among i (bits_left (rev_source s)) ≡ true
+given_back s t [] e i a = ap (λ (k : Rev SetBits). among i (bits_left (rev_source k))) e ∙ a
+given_back s t (x ∷ xs) y i a =
+    let j = bits_left (rev_source y.0) in
+    ap (among i) y.1 ∙ among_more i x j ∙ or_intro_left (among i j) (eqb i x) (given_back y.0 t xs y.2 i a)
+
+-- r has its turn
+pub turn_back : {m r : ℕ} {s₀ : Rev SetBits} (s : Rev SetBits) (xs ys : List ℕ) → (rev_source s₀).left ≡ m →
+    Yields (rev_steps (YieldsLast bits_left)) s₀ xs s → bits_left (rev_source s) ≡ ys ++ r ∷ [] →
+    (r < 64) × (bit r m ≡ true)
+turn_back {m} {r} {s₀} s xs ys e y h =
+    set_bit r m (ap (λ (k : ℕ). among r (bits_below 64 k)) (sym e)
+    ∙ given_back s₀ s xs y r (ap (among r) h ∙ among_more r r ys
+    ∙ or_true_right (among r ys) (eqb r r) (eq_true r r refl)))
+
+-- ---- which have been given
 
 pub among_all : (i m : ℕ) (xs : List ℕ) → m < 18446744073709551616 → xs ≡ bits_below 64 m →
     among i xs ≡ bit i m
@@ -80,6 +113,10 @@ each_end m {xs} P h e d i b = d i (among_all i m xs h e ∙ b)
 
 -- ---- which of them a test collects
 
+-- one with what it brings
+pub bring_one : (a e t u : Bool) → (e ≡ true → u ≡ t) → (a && t) || (e && u) ≡ (a || e) && t
+bring_one a e t u f = grind arith
+
 module _ (t : ℕ → Bool) where
   -- m has those that pass
   abbrev pub Collected : List ℕ → ℕ → Type 0
@@ -92,11 +129,8 @@ module _ (t : ℕ → Bool) where
       ((i : ℕ) → bit i m' ≡ bit i m || (eqb i r && b)) → Collected (xs ++ r ∷ []) m'
   collect_turn r xs m m' b d e s i =
       s i ∙ ap (λ (x : Bool). x || (eqb i r && b)) (d i)
-      ∙ bring (among i xs) (eqb i r) (t i) b (λ y. e ∙ ap t (sym (true_eq i r y)))
+      ∙ bring_one (among i xs) (eqb i r) (t i) b (λ y. e ∙ ap t (sym (true_eq i r y)))
       ∙ ap (λ (x : Bool). x && t i) (sym (among_more i r xs))
-    where
-      bring : (a e t u : Bool) → (e ≡ true → u ≡ t) → (a && t) || (e && u) ≡ (a || e) && t
-      bring a e t u f = grind arith
 
   pub collect_end : (m : ℕ) (xs : List ℕ) (m' : ℕ) → m < 18446744073709551616 → xs ≡ bits_below 64 m →
       Collected xs m' → (i : ℕ) → bit i m' ≡ bit i m && t i

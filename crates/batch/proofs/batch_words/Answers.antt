@@ -9,7 +9,7 @@ use Rattle.foundation.specs.Tests.{pick}
 use Rattle.model.specs.Batch.{byte_for, batch_refusal, question, questions_in}
 use Rattle.model.proofs.BatchFacts.{length_questions, nth_question}
 use Rattle.batch.proofs.AnswerBytes.{bytes_filled, filled_none, filled_next, Known, know}
-use Rattle.batch.proofs.batch_words.Invariants.{decreases-loop-i, invariant-loop-i}
+use Rattle.batch.proofs.batch_words.Invariants.{invariant-loop-i}
 use Rattle.batch.proofs.batch_words.Goals as goal
 
 pub loop-i-init : goal.loop-i-init

@@ -26,14 +26,14 @@ pub loop-i-init : goal.loop-i-init
 loop-i-init c =
     let a = c.args in (
       search rules,
-      any_starts 28 rule_of (λ q. stands_for (decode a.s.now) q a.x) a.n a.body.now,
+      any_starts 28 rule_of (λ q. stands_for (decode a.base.now.bytes.now) q a.x) a.n a.body.now,
     )
 
 pub returns-then-stands_for : goal.returns-then-stands_for
 returns-then-stands_for c =
     let a = c.args in
     let l = c.loop-i in
-    let d = decode a.s.now in
+    let d = decode a.base.now.bytes.now in
     λ b e z. any_passes 28 rule_of (λ q. stands_for d q a.x) a.n a.body.now l.i _ _ (search rules)
     c.stands_for.ensures c.rule_at.ensures c.if-stands_for.true l.invariant
     ∙ same_answer b d a.x (rules_in a.n a.body.now) e z
@@ -43,7 +43,7 @@ loop-i-preserved c =
     let a = c.args in
     let l = c.loop-i in (
       search rules,
-      any_fails 28 rule_of (λ q. stands_for (decode a.s.now) q a.x) a.n a.body.now l.i _ _
+      any_fails 28 rule_of (λ q. stands_for (decode a.base.now.bytes.now) q a.x) a.n a.body.now l.i _ _
           (search rules)
           c.stands_for.ensures c.rule_at.ensures c.if-stands_for.false l.invariant,
     )
@@ -52,6 +52,6 @@ pub returns : goal.returns
 returns c =
     let a = c.args in
     let l = c.loop-i in
-    let d = decode a.s.now in
+    let d = decode a.base.now.bytes.now in
     λ b e z. any_ends 28 rule_of (λ q. stands_for d q a.x) a.n a.body.now l.i (search rules)
     l.invariant ∙ same_answer b d a.x (rules_in a.n a.body.now) e z

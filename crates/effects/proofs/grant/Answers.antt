@@ -8,11 +8,11 @@ counts_of-c-requires c =
     let d = c in
     omega (arith, written-length d.args.s.now (grant_addition _ _ d.requires).written)
 
+pub invariant_of-next_label : goal.invariant_of-next_label
+invariant_of-next_label c = record { written = (grant_addition _ _ c.requires).written }
+
 pub next_label-label-requires : goal.next_label-label-requires
-next_label-label-requires c =
-    let d = c in
-    let a = grant_addition _ _ d.requires in
-    (a.written, a.unused)
+next_label-label-requires c = (grant_addition _ _ c.requires).unused
 
 pub stamp-requires : goal.stamp-requires
 stamp-requires c = (grant_addition _ _ c.requires).written

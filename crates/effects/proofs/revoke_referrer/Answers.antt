@@ -8,9 +8,6 @@ use Rattle.effects.proofs.revoke_referrer.Goals as goal
 pub named_privilege-p-requires : goal.named_privilege-p-requires
 named_privilege-p-requires c = named-fits (REVOKEREF ∷ []) _ _ c.requires refl refl
 
-pub administers-administers-requires : goal.administers-administers-requires
-administers-administers-requires c = c.requires.sound
-
 pub set_clock-requires : goal.set_clock-requires
 set_clock-requires c = allowed-written (REVOKEREF ∷ []) _ _
     c.requires

@@ -7,7 +7,7 @@ use Rattle.masks.proofs.needed_rules.Goals as goal
 pub loop-n-init : goal.loop-n-init
 loop-n-init c =
     let a = c.args in
-    (omega arith, needed-start a.left.now a.need.now a.codes.now a.subjects)
+    needed-start a.left.now a.need.now a.codes.now a.subjects
 
 pub pair_index-requires : goal.pair_index-requires
 pair_index-requires c =
@@ -48,15 +48,13 @@ loop-n-preserved c =
     let a = c.args in
     let l = c.loop-n in
     let e = c.pair_of_code-p.ensures in
-    let i = c.pair_index.ensures in (
-      omega arith,
-      needed-turn a.left.now a.need.now a.codes.now a.subjects l.n l.m
-          c.at_pair-m.result l.invariant.1 (rw (i, e.0, e.1) at c.at_pair-m.ensures),
-    )
+    let i = c.pair_index.ensures in
+    needed-turn a.left.now a.need.now a.codes.now a.subjects l.n l.m
+    c.at_pair-m.result l.invariant (rw (i, e.0, e.1) at c.at_pair-m.ensures)
 
 pub returns : goal.returns
 returns c =
     let a = c.args in
     let l = c.loop-n in
     let e : l.n ≡ a.pairs = omega arith in
-    rw e at l.invariant.1
+    rw e at l.invariant

@@ -12,6 +12,3 @@ remains refers administers q r = not (drops_by refers administers q r)
 
 abbrev pub invariant-loop-i : goal.invariant-loop-i
 invariant-loop-i l = Dropped (remains l.refers l.administers l.q) (decode l.initial.s) l.i l.s
-
-abbrev pub decreases-loop-i : goal.decreases-loop-i
-decreases-loop-i l = l.i

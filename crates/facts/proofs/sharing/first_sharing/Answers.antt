@@ -1,4 +1,4 @@
-use Rattle.std.proofs.Common.{rules, arith}
+use Rattle.std.proofs.Common.{ℕ, rules, arith}
 use Rattle.words.proofs.SetBitChains.{serves_bits, first_of_bits}
 use Rattle.facts.specs.Sharing.{SharesTable}
 use Rattle.facts.proofs.sharing.first_sharing.Goals as goal
@@ -10,5 +10,6 @@ find-requires-clause-callable c =
 pub returns : goal.returns
 returns c =
     let a = c.args in
-    first_of_bits (λ d. SharesTable a.body.now a.right.now a.c d → ⊥) (λ d q k. search rules) _ (cc) (omega arith) _
-    (SharesTable a.body.now a.right.now a.c) (λ d q k. search rules) c.find.ensures.ran
+    let shares : ℕ → Type 0 = SharesTable a.body.now a.right.now a.c in
+    first_of_bits shares (λ d. shares d → ⊥) (λ d q k. search rules) (λ d q k. search rules) _ (cc) (omega arith) _
+    c.find.ensures.ran

@@ -5,4 +5,4 @@ use Rattle.outlines.proofs.controlled.by_control.Goals as goal
 pub returns : goal.returns
 returns c =
     let a = c.args in
-    c.those.ensures (controlled_by a.s.now a.body.now a.o) (λ q b e p. search rules)
+    c.those.ensures (controlled_by a.base.now.bytes.now a.body.now a.o) (λ q b e p. search rules)

@@ -22,5 +22,5 @@ returns c =
     let p = c.put_word in
     let e = stored-word l p.new.table a.at x.result p.ensures in (
       (λ w r h. e w r ∙ ap (λ (y : Bool). bit r (get_or l w 0) || (eqb w a.at && y)) (x.ensures r)),
-      λ w h. p.ensures w ∙ rw (ne_false w a.at (λ z. omega (arith, b.requires.4))),
+      λ w h. p.ensures w ∙ rw (ne_false w a.at (λ z. omega (arith, b.requires.3))),
     )

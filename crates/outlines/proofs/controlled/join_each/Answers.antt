@@ -8,8 +8,8 @@ pub loop-v-init : goal.loop-v-init
 loop-v-init c =
     let a = c.args in (
       search rules,
-      upto_none a.s.now a.body.now a.objects.now a.left.now,
-      c.requires.5,
+      upto_none a.base.now.bytes.now a.body.now a.objects.now a.left.now,
+      c.requires.4,
     )
 
 pub join_controlled-requires : goal.join_controlled-requires
@@ -17,10 +17,9 @@ join_controlled-requires c =
     let b = c in
     let l = c.loop-v in (
       b.requires.0,
-      b.requires.1,
-      b.requires.3,
+      b.requires.2,
       omega arith,
-      omega (arith, c.from.ensures, b.requires.2.below l.v),
+      omega (arith, c.from.ensures, b.requires.1.below l.v),
       l.invariant.2,
     )
 
@@ -30,7 +29,7 @@ loop-v-preserved c =
     let l = c.loop-v in
     let j = c.join_controlled.ensures in (
       search rules,
-      upto_turn b.requires.2 l.invariant.1
+      upto_turn b.requires.1 l.invariant.1
           (rw c.from.ensures at j.0) j.1,
       c.join_controlled.auto.left ∙ l.invariant.2,
     )
@@ -38,4 +37,4 @@ loop-v-preserved c =
 pub returns : goal.returns
 returns c =
     let l = c.loop-v in
-    upto_all (omega (arith, c.requires.4)) l.invariant.1
+    upto_all (omega (arith, c.requires.3)) l.invariant.1

@@ -6,4 +6,4 @@ use Rattle.outlines.proofs.controlled.join_each.Given as goal
 
 abbrev pub invariant-loop-v : goal.invariant-loop-v
 invariant-loop-v l =
-    (l.v ≤ 130) × Upto l.s l.body l.objects l.initial.left l.v l.left × (length l.left ≡ 152)
+    (l.v ≤ 130) × Upto l.base.bytes.now l.body l.objects l.initial.left l.v l.left × (length l.left ≡ 152)

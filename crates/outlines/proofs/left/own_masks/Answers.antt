@@ -15,7 +15,7 @@ pub loop-i-init : goal.loop-i-init
 loop-i-init c =
     let a = c.args in (
       search rules,
-      build_start 28 rule_of (on_object a.s.now a.x.object) a.n a.body.now,
+      build_start 28 rule_of (on_object a.base.now.bytes.now a.x.object) a.n a.body.now,
       build_start 28 rule_of (on_subject a.x.subject) a.n a.body.now,
     )
 
@@ -25,19 +25,19 @@ overflow_mul-objects c =
     let l = c.loop-i in
     omega (
       arith,
-      build_room 28 rule_of (on_object b.args.s.now b.args.x.object) b.args.n
-          b.args.body.now l.objects l.i false (omega arith) b.requires.2 l.invariant.1,
+      build_room 28 rule_of (on_object b.args.base.now.bytes.now b.args.x.object) b.args.n
+          b.args.body.now l.objects l.i false (omega arith) b.requires.1 l.invariant.1,
     )
 
 pub overflow_add-objects : goal.overflow_add-objects
 overflow_add-objects c =
     let b = c in
     let l = c.loop-i in
-    let t = on_object b.args.s.now b.args.x.object in
+    let t = on_object b.args.base.now.bytes.now b.args.x.object in
     omega (
       arith,
       build_room 28 rule_of t b.args.n b.args.body.now l.objects l.i
-          c.stands_on-object.result (omega arith) b.requires.2
+          c.stands_on-object.result (omega arith) b.requires.1
           l.invariant.1,
     )
 
@@ -49,7 +49,7 @@ overflow_mul-subjects c =
       arith,
       build_room 28 rule_of (on_subject b.args.x.subject) b.args.n b.args.body.now
           l.subjects l.i false
-          (omega arith) b.requires.2 l.invariant.2,
+          (omega arith) b.requires.1 l.invariant.2,
     )
 
 pub overflow_add-subjects : goal.overflow_add-subjects
@@ -61,7 +61,7 @@ overflow_add-subjects c =
       arith,
       build_room 28 rule_of t b.args.n b.args.body.now l.subjects l.i
           (eqb c.rule_at-r.result.left.subject 0 || eqb c.from.result b.args.x.subject) (omega arith)
-          b.requires.2 l.invariant.2,
+          b.requires.1 l.invariant.2,
     )
 
 pub loop-i-preserved : goal.loop-i-preserved
@@ -70,7 +70,7 @@ loop-i-preserved c =
     let l = c.loop-i in
     let r = c.rule_at-r in
     let o = c.stands_on-object in
-    let t = on_object b.args.s.now b.args.x.object in
+    let t = on_object b.args.base.now.bytes.now b.args.x.object in
     let u = on_subject b.args.x.subject in (
       search rules,
       rw c.from-in-loop-i.ensures (build_turn 28 rule_of t b.args.n b.args.body.now l.objects l.i o.result
@@ -88,7 +88,7 @@ returns c =
     let f = c.put_word.ensures in
     record {
       object = e 0 ∙ f 0
-          ∙ build_end 28 rule_of (on_object b.args.s.now b.args.x.object) b.args.n
+          ∙ build_end 28 rule_of (on_object b.args.base.now.bytes.now b.args.x.object) b.args.n
           b.args.body.now l.objects l.i (omega arith) l.invariant.1;
       subject = e 65
           ∙ build_end 28 rule_of (on_subject b.args.x.subject) b.args.n b.args.body.now

@@ -13,5 +13,5 @@ on_object s o r = stands_on (decode s) r o
 
 abbrev pub invariant-loop-i : goal.invariant-loop-i
 invariant-loop-i l =
-    (l.i ≤ l.n) × MaskBuilt 28 rule_of (on_object l.s l.x.object) l.n l.body l.objects l.i
+    (l.i ≤ l.n) × MaskBuilt 28 rule_of (on_object l.base.bytes.now l.x.object) l.n l.body l.objects l.i
     × MaskBuilt 28 rule_of (on_subject l.x.subject) l.n l.body l.subjects l.i

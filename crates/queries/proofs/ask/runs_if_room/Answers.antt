@@ -2,9 +2,8 @@ use native.Mathlib.Omega.{arith}
 use Prim.Native.Nat.{◌/◌, ◌≤◌}
 use lib.ListN.{length}
 use Rattle.model.specs.Base.{Base}
-use Rattle.model.specs.Encoding.{decode}
 use Rattle.model.specs.Rules.{when}
-use Rattle.queries.specs.Asking.{BodiesIn}
+use Rattle.queries.specs.AskedBases.{Asked}
 use Rattle.queries.proofs.QuestionBodies.{most, listing, listing_short}
 use Rattle.queries.proofs.ask.runs_if_room.Goals as goal
 use Rattle.queries.proofs.ask.runs_if_room.Goals.{then-pairs-n+else-pairs-r, else-pairs-n}
@@ -18,7 +17,7 @@ returns-then-pairs-r c =
 
 pub returns : goal.returns
 returns c =
-    let room : (let a = c.args in (base : Base) → BodiesIn a.records.now a.n (decode a.s.now) base → length (when base a.x) ≤ length a.list.now / 2) = λ base b. let a = c.args in
+    let room : (let a = c.args in (base : Base) → Asked a.base.now base → length (when base a.x) ≤ length a.list.now / 2) = λ base b. let a = c.args in
     elim c.if-pairs-n.branch [
       | then-pairs-n+else-pairs-r w ↦ omega (arith, (w.runs_in-r.ensures base b).count)
       | else-pairs-n w ↦ omega (arith, most b a.x)

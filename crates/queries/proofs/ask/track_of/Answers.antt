@@ -1,4 +1,3 @@
-use borrow.Author.Rules.{rules}
 use mathlib.Core.Path.{◌≡◌, refl, sym, ap, ◌∙◌, fun_ext, subst}
 use mathlib.Core.Bool.{Bool}
 use mathlib.Core.List.{List}
@@ -31,22 +30,22 @@ pub walk_directly-requires : goal.walk_directly-requires
 walk_directly-requires c =
     let s = c in
     let a = s.args in
-    let few = (and-true (eqb a.n.rules 0) (leb a.n.authorizations 64) c.if-n.true).1 in (
-      true-le a.n.authorizations 64 few,
-      s.requires.0,
-      omega (arith, (access_ranges a.x s.requires.2).0),
-      omega (arith, (access_ranges a.x s.requires.2).3),
+    let few = (and-true (eqb a.base.now.totals.rules 0) (leb a.base.now.totals.authorizations 64) c.if-n.true).1 in (
+      true-le a.base.now.totals.authorizations 64 few,
+      a.base.now.there,
+      omega (arith, (access_ranges a.x s.requires.0).0),
+      omega (arith, (access_ranges a.x s.requires.0).3),
     )
 
 pub returns-then-n : goal.returns-then-n
 returns-then-n c =
     let w = c in
     let a = c.args in
-    let none = true_eq a.n.rules 0 (and-true (eqb a.n.rules 0) (leb a.n.authorizations 64)
+    let none = true_eq a.base.now.totals.rules 0 (and-true (eqb a.base.now.totals.rules 0) (leb a.base.now.totals.authorizations 64)
     c.if-n.true).0 in
     λ base b. subst (λ (f : ℕ → Bool). ScannedTo f 4294967295 a.list.now 4294967296
     w.walk_directly.result w.walk_directly.new.list) (ruleless b none a.x)
     w.walk_directly.ensures
 
 pub returns : goal.returns
-returns c = λ base b. (c.with_outline-r.ensures base b).listed refl
+returns c = λ base b. (c.with_outline.ensures base b).listed refl

@@ -1,4 +1,3 @@
-use borrow.Author.Rules.{rules}
 use native.Mathlib.Omega.{arith}
 use mathlib.Core.Path.{◌≡◌, sym, ap, ◌∙◌, subst}
 use mathlib.Core.List.{List}
@@ -43,7 +42,7 @@ bounds-coordinates-x-2 c =
 pub overflow_mul-from : goal.overflow_mul-from
 overflow_mul-from c =
     let s = c in
-    omega (arith, s.requires.4.1.few)
+    omega (arith, s.requires.3.1.few)
 
 pub slice_bounds-own_masks-start : goal.slice_bounds-own_masks-start
 slice_bounds-own_masks-start c =
@@ -59,9 +58,9 @@ pub own_masks-requires : goal.own_masks-requires
 own_masks-requires c =
     let s = c in
     let d = s.requires.1 in
-    let from : ℕ = s.args.n.authorizations * 24 in (
-      s.requires.3,
-      omega (arith, ap length (lent_rest from s.args.records.now), d.well_formed.there),
+    let from : ℕ = s.args.base.now.totals.authorizations * 24 in (
+      s.args.base.now.sound,
+      omega (arith, ap length (lent_rest from s.args.base.now.records.now), d.well_formed.there),
       d.well_formed.few,
       part_long 0 152 s.args.outline.now (omega (arith, s.requires.0.outlined)),
     )
@@ -122,12 +121,12 @@ with_sizes-requires c =
     let s = c in
     c.own_masks.auto.left
     ∙ part_long 0 152 s.args.outline.now (omega (arith, s.requires.0.outlined)) in
-    let owned : (let g = c in let s = g in Owned (decode s.args.bytes.now) s.args.n.rules (drop (s.args.n.authorizations * 24) s.args.records.now) (own) (left_of s.args.outline.now) (left)) =
+    let owned : (let g = c in let s = g in Owned (decode s.args.base.now.bytes.now) s.args.base.now.totals.rules (drop (s.args.base.now.totals.authorizations * 24) s.args.base.now.records.now) (own) (left_of s.args.outline.now) (left)) =
     let g = c in
     let s = g in
-    subst (λ (b : List ℕ). Owned (decode s.args.bytes.now) s.args.n.rules b
+    subst (λ (b : List ℕ). Owned (decode s.args.base.now.bytes.now) s.args.base.now.totals.rules b
     (own) (left_of s.args.outline.now) (left))
-    (lent_rest (s.args.n.authorizations * 24) s.args.records.now) c.own_masks.ensures in
+    (lent_rest (s.args.base.now.totals.authorizations * 24) s.args.base.now.records.now) c.own_masks.ensures in
     let outlined : List ℕ =
     let s = c in
     put_back s.args.outline.now 0 152 (left) in
@@ -139,14 +138,14 @@ with_sizes-requires c =
       own = own;
       subject = get_or s.args.coordinates.now (512 + s.args.a.access.subject) 0;
       object = get_or s.args.coordinates.now (1536 + s.args.a.access.object) 0;
-      totals = s.args.n;
+      totals = s.args.base.now.totals;
       extent = s.args.e;
     } in
-    let task : (let s = c in (base : Base) → BodiesIn s.args.records.now s.args.n (decode s.args.bytes.now) base → TaskIn s.args.records.now (outlined) s.args.coordinates.now (inquiry) base) = λ base b. let g = c in
+    let task : (let s = c in (base : Base) → BodiesIn s.args.base.now.records.now s.args.base.now.totals (decode s.args.base.now.bytes.now) base → TaskIn s.args.base.now.records.now (outlined) s.args.coordinates.now (inquiry) base) = λ base b. let g = c in
     let s = g in
     let o : List ℕ = s.args.outline.now in
     record {
-      holder = decode s.args.bytes.now;
+      holder = decode s.args.base.now.bytes.now;
       asked_outline = outline_at (sym (subject-at)) (sym (object-at))
           (outline_moved (left_back o (left) (room) (left_is))
           (left_feed o (left) (room) (left_is))
@@ -164,7 +163,7 @@ with_sizes-requires c =
         outlined = outlined-long;
         placed = s.requires.0.placed;
       },
-      (s.requires.4.0, task s.requires.4.0 s.requires.4.1),
+      (s.requires.3.0, task s.requires.3.0 s.requires.3.1),
     )
 
 pub shape_of-outline : goal.shape_of-outline
@@ -215,12 +214,12 @@ returns c =
     let s = c in
     c.own_masks.auto.left
     ∙ part_long 0 152 s.args.outline.now (omega (arith, s.requires.0.outlined)) in
-    let owned : (let g = c in let s = g in Owned (decode s.args.bytes.now) s.args.n.rules (drop (s.args.n.authorizations * 24) s.args.records.now) (own) (left_of s.args.outline.now) (left)) =
+    let owned : (let g = c in let s = g in Owned (decode s.args.base.now.bytes.now) s.args.base.now.totals.rules (drop (s.args.base.now.totals.authorizations * 24) s.args.base.now.records.now) (own) (left_of s.args.outline.now) (left)) =
     let g = c in
     let s = g in
-    subst (λ (b : List ℕ). Owned (decode s.args.bytes.now) s.args.n.rules b
+    subst (λ (b : List ℕ). Owned (decode s.args.base.now.bytes.now) s.args.base.now.totals.rules b
     (own) (left_of s.args.outline.now) (left))
-    (lent_rest (s.args.n.authorizations * 24) s.args.records.now) c.own_masks.ensures in
+    (lent_rest (s.args.base.now.totals.authorizations * 24) s.args.base.now.records.now) c.own_masks.ensures in
     let outlined : List ℕ =
     let s = c in
     put_back s.args.outline.now 0 152 (left) in
@@ -232,14 +231,14 @@ returns c =
       own = own;
       subject = get_or s.args.coordinates.now (512 + s.args.a.access.subject) 0;
       object = get_or s.args.coordinates.now (1536 + s.args.a.access.object) 0;
-      totals = s.args.n;
+      totals = s.args.base.now.totals;
       extent = s.args.e;
     } in
-    let task : (let s = c in (base : Base) → BodiesIn s.args.records.now s.args.n (decode s.args.bytes.now) base → TaskIn s.args.records.now (outlined) s.args.coordinates.now (inquiry) base) = λ base b. let g = c in
+    let task : (let s = c in (base : Base) → BodiesIn s.args.base.now.records.now s.args.base.now.totals (decode s.args.base.now.bytes.now) base → TaskIn s.args.base.now.records.now (outlined) s.args.coordinates.now (inquiry) base) = λ base b. let g = c in
     let s = g in
     let o : List ℕ = s.args.outline.now in
     record {
-      holder = decode s.args.bytes.now;
+      holder = decode s.args.base.now.bytes.now;
       asked_outline = outline_at (sym (subject-at)) (sym (object-at))
           (outline_moved (left_back o (left) (room) (left_is))
           (left_feed o (left) (room) (left_is))

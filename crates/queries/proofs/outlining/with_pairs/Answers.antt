@@ -1,7 +1,6 @@
-use borrow.Author.Rules.{rules}
 use native.Mathlib.Omega.{arith}
 use mathlib.Core.Path.{◌≡◌, refl, sym, ap, ◌∙◌, subst}
-use mathlib.Core.Bool.{not, ◌&&◌}
+use mathlib.Core.Bool.{◌&&◌}
 use mathlib.Core.List.{List}
 use Prim.Native.Nat.{ℕ, ◌*◌, ◌-◌, ◌≤◌, ◌<◌}
 use lib.Bits.{bit_and}
@@ -454,10 +453,10 @@ with_lines-requires c =
     let pair-there : asked < length (needed) =
     let s = c in
     pair_in_lem s.requires.4.1.asked_outline (needed) (mapped).size in
-    let history : (let f = c in let s = (f) in WalkStart s.args.k.asked.one s.args.k.asked.instant (drop (s.args.k.totals.authorizations * 24) s.args.records.now) f.lasting_of-lasting.result c.walk_start.result) =
+    let history : (let f = c in let s = (f) in WalkStart s.args.k.asked.instant (drop (s.args.k.totals.authorizations * 24) s.args.records.now) f.lasting_of-lasting.result c.walk_start.result) =
     let f = c in
     let s = (f) in
-    subst (λ (b : List ℕ). WalkStart s.args.k.asked.one s.args.k.asked.instant b
+    subst (λ (b : List ℕ). WalkStart s.args.k.asked.instant b
     f.lasting_of-lasting.result c.walk_start.result) (body_is) c.walk_start.ensures in
     let going : WindowWalk =
     let v = c in
@@ -486,7 +485,7 @@ with_lines-requires c =
         };
         from = v.walk_start.result;
         to = c.last_asked.result;
-        listing = not k.asked.one;
+        listing = c.is_none.result;
       };
       frame = record {
         grid = y.map_pairs-g.result;
@@ -512,7 +511,7 @@ with_lines-requires c =
     (record {
       holder = b.holder;
       tabled = outline_tabled b.asked_outline (mapped) (rules-needed) l.lasting_of-lasting.result
-          h.lay_out-bits.result (going).query k.asked.one k.asked.instant
+          h.lay_out-bits.result (going).query k.asked.instant
           (λ r h. ap (λ (j : ℕ). bit r (get_or (needed) j 0)) (sym (asked_is))
           ∙ y.map_pairs-g.ensures.1 r h) (record {
             chosen = refl;
@@ -524,7 +523,7 @@ with_lines-requires c =
           (λ i. record {
             pair = e i;
             point = record { subject = k.subject; mode = k.asked.access.mode - 1; object = k.object };
-          }) c.last_asked.ensures refl (history);
+          }) c.last_asked.ensures c.is_none.ensures (history);
       bodies = b.bodies;
     }) in
     let z = c in
@@ -656,10 +655,10 @@ returns c =
     let pair-there : asked < length (needed) =
     let s = c in
     pair_in_lem s.requires.4.1.asked_outline (needed) (mapped).size in
-    let history : (let f = c in let s = (f) in WalkStart s.args.k.asked.one s.args.k.asked.instant (drop (s.args.k.totals.authorizations * 24) s.args.records.now) f.lasting_of-lasting.result c.walk_start.result) =
+    let history : (let f = c in let s = (f) in WalkStart s.args.k.asked.instant (drop (s.args.k.totals.authorizations * 24) s.args.records.now) f.lasting_of-lasting.result c.walk_start.result) =
     let f = c in
     let s = (f) in
-    subst (λ (b : List ℕ). WalkStart s.args.k.asked.one s.args.k.asked.instant b
+    subst (λ (b : List ℕ). WalkStart s.args.k.asked.instant b
     f.lasting_of-lasting.result c.walk_start.result) (body_is) c.walk_start.ensures in
     let going : WindowWalk =
     let v = c in
@@ -688,7 +687,7 @@ returns c =
         };
         from = v.walk_start.result;
         to = c.last_asked.result;
-        listing = not k.asked.one;
+        listing = c.is_none.result;
       };
       frame = record {
         grid = y.map_pairs-g.result;
@@ -714,7 +713,7 @@ returns c =
     (record {
       holder = b.holder;
       tabled = outline_tabled b.asked_outline (mapped) (rules-needed) l.lasting_of-lasting.result
-          h.lay_out-bits.result (going).query k.asked.one k.asked.instant
+          h.lay_out-bits.result (going).query k.asked.instant
           (λ r h. ap (λ (j : ℕ). bit r (get_or (needed) j 0)) (sym (asked_is))
           ∙ y.map_pairs-g.ensures.1 r h) (record {
             chosen = refl;
@@ -726,7 +725,7 @@ returns c =
           (λ i. record {
             pair = e i;
             point = record { subject = k.subject; mode = k.asked.access.mode - 1; object = k.object };
-          }) c.last_asked.ensures refl (history);
+          }) c.last_asked.ensures c.is_none.ensures (history);
       bodies = b.bodies;
     }) in
     let t = c in
@@ -736,7 +735,7 @@ returns c =
     let s = h in
     let k = s.args.k in
     let w = t.with_lines in
-    λ base b. finds_answers k.asked.one k.asked.instant (going).query base
+    λ base b. finds_answers k.asked.instant (going).query base
     k.asked.access _ _ _ z.last_asked.ensures
-    (history).all refl
+    (history).all c.is_none.ensures
     (w.ensures base k.asked.access (ground base b))

@@ -15,33 +15,32 @@ blank = replicate 536 0
 
 pub slice_bounds-with_drawn-end : goal.slice_bounds-with_drawn-end
 slice_bounds-with_drawn-end c =
-    let words : List ℕ = c.copy_words.new.to in
+    let words : List ℕ = c.copy_from_slice.new.self in
     let outline : List ℕ = put_back blank 0 280 words in
-    let outline_long : length (outline) ≡ 536 = back-length blank 0 280 words (omega arith) c.copy_words.auto.to in
+    let outline_long : length (outline) ≡ 536 = back-length blank 0 280 words (omega arith) c.copy_from_slice.auto.self in
     let o = c in sym (outline_long)
 
-pub with_drawn-r-requires : goal.with_drawn-r-requires
-with_drawn-r-requires c =
-    let words : List ℕ = c.copy_words.new.to in
+pub with_drawn-requires : goal.with_drawn-requires
+with_drawn-requires c =
+    let words : List ℕ = c.copy_from_slice.new.self in
     let outline : List ℕ = put_back blank 0 280 words in
-    let outline-own : take 280 (outline) ≡ words = back_own blank 0 280 words (omega arith) c.copy_words.auto.to in
-    let outline_long : length (outline) ≡ 536 = back-length blank 0 280 words (omega arith) c.copy_words.auto.to in
+    let outline-own : take 280 (outline) ≡ words = back_own blank 0 280 words (omega arith) c.copy_from_slice.auto.self in
+    let outline_long : length (outline) ≡ 536 = back-length blank 0 280 words (omega arith) c.copy_from_slice.auto.self in
     let o = c in
     let s = o in
     let p = c.unpack in (
       record {
-        recorded = s.requires.0;
+        recorded = s.args.base.now.there;
         outlined = outline_long;
         placed = length-take-le 1666 p.new.bytes (omega (arith, p.auto.bytes));
       },
       drawn_moved (drawn_left (outline) words (outline-own))
           (drawn_feed (outline) words (outline-own))
-          (drawn_same refl refl (sym o.copy_words.ensures) (ap (take 1666) (sym p.ensures)) refl
-          s.requires.2),
+          (drawn_same refl refl (sym o.copy_from_slice.ensures.after) (ap (take 1666) (sym p.ensures)) refl
+          s.requires.1),
+      s.requires.2,
       s.requires.3,
-      s.requires.4,
-      s.requires.5,
     )
 
 pub returns : goal.returns
-returns c = λ base b. (c.with_drawn-r.ensures base b).yes refl
+returns c = λ base b. (c.with_drawn.ensures base b).yes _ refl

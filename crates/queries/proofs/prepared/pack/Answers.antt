@@ -9,7 +9,7 @@ use Rattle.queries.proofs.Handing.{one_packed}
 use Rattle.queries.proofs.prepared.pack.Goals as goal
 
 pub loop-i-init : goal.loop-i-init
-loop-i-init c = (search rules, search rules, refl)
+loop-i-init c = (search rules, refl)
 
 pub loop-i-preserved : goal.loop-i-preserved
 loop-i-preserved c =
@@ -18,15 +18,14 @@ loop-i-preserved c =
     let l = c.loop-i in
     let w = c.word_at in (
       simp length-set (search rules),
-      simp length-set (search rules),
       ap (λ (v : ℕ). bytes_in (take (l.i + 1) (set l.words l.i v))) w.ensures
           ∙ one_packed a.bytes.now l.words l.i (omega arith) (omega arith)
-          (λ j. omega (arith, k.shared_slice_known-1.given j)) l.invariant.2,
+          (λ j. omega (arith, k.shared_slice_known-1.given j)) l.invariant.1,
     )
 
 pub returns : goal.returns
 returns c =
     let b = c.args.bytes.now in
     let l = c.loop-i in
-    ap bytes_in (sym (take_all l.i l.words (omega arith))) ∙ l.invariant.2
+    ap bytes_in (sym (take_all l.i l.words (omega arith))) ∙ l.invariant.1
     ∙ take_all (8 * l.i) b (omega arith)

@@ -1,5 +1,5 @@
 use mathlib.Core.Path.{◌≡◌}
-use Prim.Native.Nat.{◌-◌, ◌≤◌}
+use Prim.Native.Nat.{◌≤◌}
 use lib.ListN.{length, take}
 use Rattle.fields.specs.Field.{splice}
 use Rattle.queries.specs.HandedOn.{bytes_in}
@@ -8,6 +8,3 @@ use Rattle.queries.proofs.prepared.unpack.Given as goal
 abbrev pub invariant-loop-i : goal.invariant-loop-i
 invariant-loop-i l =
     (l.i ≤ length l.words) × (length l.bytes ≡ length l.initial.bytes) × (l.bytes ≡ splice 0 (bytes_in (take l.i l.words)) l.initial.bytes)
-
-abbrev pub decreases-loop-i : goal.decreases-loop-i
-decreases-loop-i l = length l.words - l.i

@@ -1,68 +1,58 @@
 use native.Mathlib.Omega.{arith}
 use mathlib.Core.Path.{ap, subst}
 use mathlib.Core.Logic.{inl}
-use mathlib.Core.Bool.{false, ◌&&◌, ◌||◌}
+use mathlib.Core.Bool.{◌&&◌, ◌||◌, false≢true}
 use Prim.Native.Nat.{◌≤◌}
 use lib.Dec.{leb, ltb}
 use Rattle.foundation.specs.Tests.{or_none}
 use Rattle.foundation.specs.declared.Interval.{Interval}
 use Rattle.model.specs.declared.Rule.{Rule}
-use Rattle.masks.proofs.BitLoops.{passed_start, passed_turn}
+use Rattle.words.proofs.SetBitLoops.{Turn, turn, finished}
+use Rattle.words.proofs.SetBitChains.{each_turn, each_all}
 use Rattle.selection.proofs.Seen.{Seen, Idle, idle}
 use Rattle.selection.proofs.history.history_start.Goals as goal
-use Rattle.selection.proofs.history.history_start.Goals.{then-start-least, else-start-least}
+use Rattle.selection.proofs.history.history_start.Goals.{In-Some}
+
+at : (c : In-Some) → Turn c.args.lasting c.loop-r.yielded c.in-Some.r
+at c = turn c.loop-r.r-iterator (cc) c.loop-r.yielded_by c.in-Some.ensures.steps
 
 pub loop-r-init : goal.loop-r-init
-loop-r-init c =
-    let a = c.args in
-    let e = c.next_bit-r.ensures in (
-      e.1,
-      e.3,
-      omega arith,
-      passed_start a.lasting (Seen a.body.now a.t a.t false) c.next_bit-r.result e.2,
-    )
+loop-r-init c = (omega arith, λ i e. absurd (false≢true e))
 
 pub rule_at-q-requires : goal.rule_at-q-requires
-rule_at-q-requires c =
-    let l = c.loop-r in
-    (c.requires l.r (l.invariant.1 (omega arith))).1
+rule_at-q-requires c = (c.requires c.in-Some.r (at (goal.at.rule_at-q-requires c).In-Some).own).1
 
 pub loop-r-preserved : goal.loop-r-preserved
 loop-r-preserved c =
-    let j = c in
-    let q = j.rule_at-q in
-    let l = j.loop-r in
-    let a = j.args in
-    let e = c.next_bit-r-in-loop-r.ensures in
-    let low : (j.if-start-least.least ≤ l.least) × (j.if-start-least.least ≤ q.result.interval.start) =
-    elim j.if-start-least.branch [
-      | then-start-least w ↦ (omega arith, omega arith)
-      | else-start-least w ↦ (omega arith, omega arith)
-    ] in
+    let q = c.rule_at-q in
+    let l = c.loop-r in
+    let a = c.args in
+    let m = c.min-least in
+    let low : (m.result ≤ l.least) × (m.result ≤ q.result.interval.start) =
+    (omega (arith, m.ensures), omega (arith, m.ensures)) in
     let test = ltb q.result.interval.start a.t && leb a.t q.result.interval.end in
     let seen = Seen a.body.now a.t in
     let own = ap (λ (x : Rule). x.interval) q.ensures in (
-      e.1,
-      e.3,
-      omega (arith, low.0, l.invariant.2),
-      passed_turn a.lasting (seen l.least l.back) (seen j.if-start-least.least (l.back || test)) l.r
-          c.next_bit-r-in-loop-r.result l.invariant.3
+      omega (arith, low.0, l.invariant.0),
+      each_turn (seen l.least l.back) (seen m.result (l.back || test)) (at (goal.at.loop-r-preserved c).In-Some)
+          l.invariant.1
           (λ i h f. (omega (arith, f.0, low.0), λ z. f.1 (or_none l.back test z).0)) (
             omega (arith, low.1, ap (λ (x : Interval). x.start) own),
             λ z. subst (λ (x : Interval). Idle x a.t) own (idle q.result.interval a.t
                 (or_none l.back test z).1),
-          )
-          e.2,
+          ),
     )
 
 pub returns-then-back : goal.returns-then-back
 returns-then-back c =
     let l = c.loop-r in
-    let s = c in
-    (l.invariant.2, λ r e. inl (l.invariant.3 r (omega (arith, (s.requires r e).0, l.invariant.0)) e).0)
+    let seen = each_all (Seen c.args.body.now c.args.t l.least l.back) (omega arith)
+    (finished l.r-iterator (cc) l.yielded_by c.in-None.ensures.steps) l.invariant.1 in
+    (l.invariant.0, λ r e. inl (seen r e).0)
 
-pub returns : goal.returns
-returns c =
+pub returns-else-back : goal.returns-else-back
+returns-else-back c =
     let l = c.loop-r in
-    let s = c in
-    (omega arith, λ r e. (l.invariant.3 r (omega (arith, (s.requires r e).0, l.invariant.0)) e).1 c.if-back.false)
+    let seen = each_all (Seen c.args.body.now c.args.t l.least l.back) (omega arith)
+    (finished l.r-iterator (cc) l.yielded_by c.in-None.ensures.steps) l.invariant.1 in
+    (omega arith, λ r e. (seen r e).1 c.if-back.false)

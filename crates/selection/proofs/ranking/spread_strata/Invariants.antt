@@ -1,10 +1,10 @@
 use mathlib.Core.Path.{◌≡◌}
 use mathlib.Core.Bool.{true}
 use mathlib.Core.List.{List}
-use Prim.Native.Nat.{ℕ, ◌-◌, ◌≤◌, ◌<◌}
-use lib.ListN.{length, get_or}
-use Rattle.foundation.specs.BitMasks.{bit}
-use Rattle.masks.proofs.BitLoops.{ForBitsBelow}
+use Prim.Native.Nat.{ℕ}
+use lib.ListN.{get_or}
+use Rattle.words.specs.SetBits.{among}
+use Rattle.words.proofs.SetBitLoops.{AtPlace}
 use Rattle.selection.specs.Selection.{position}
 use Rattle.selection.proofs.ranking.spread_strata.Given as goal
 
@@ -14,8 +14,5 @@ Given ranks needed strata r = get_or strata r 0 ≡ get_or ranks (position neede
 
 abbrev pub invariant-loop-r : goal.invariant-loop-r
 invariant-loop-r l =
-    (l.r ≤ 64) × (l.r < 64 → bit l.r l.needed ≡ true) × (length l.strata ≡ 64) × (l.k ≡ position l.needed l.r)
-    × ForBitsBelow l.needed (Given l.ranks l.needed l.strata) l.r
-
-abbrev pub decreases-loop-r : goal.decreases-loop-r
-decreases-loop-r l = 64 - l.r
+    AtPlace l.needed l.yielded (λ n. l.k ≡ position l.needed n)
+    × ((i : ℕ) → among i l.yielded ≡ true → Given l.ranks l.needed l.strata i)

@@ -1,7 +1,0 @@
-use Rattle.withdrawal.proofs.rounds.raise.Goals as goal
-
-pub returns-then-t-g : goal.returns-then-t-g
-returns-then-t-g c = rw c.if-t-g.true
-
-pub returns : goal.returns
-returns c = rw c.if-t-g.false
