@@ -143,14 +143,7 @@ fn put_modes(s: &mut [u8], at: usize, r: Rule)
     let operator = r.operator;
     let option = r.option;
     let flags = rule_flags(left.negative, right.negative, option);
-    s[at..at + 6].copy_from_slice(&[
-        left.mode,
-        right.mode,
-        u8::from(operator),
-        flags,
-        0,
-        0,
-    ]);
+    s[at..at + 6].copy_from_slice(&[left.mode, right.mode, u8::from(operator), flags, 0, 0]);
 }
 
 // Writes a rule at a place.

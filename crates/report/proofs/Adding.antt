@@ -7,49 +7,35 @@ use Prim.Native.Nat.{ℕ, ◌+◌, ◌-◌, ◌*◌, ◌≤◌, ◌<◌}
 use native.Mathlib.Omega.{arith}
 use lib.ListN.{length, take, drop, length-append}
 use lib.Seq.{take_at, drop_at, length-take-le}
-use Rattle.encoding.specs.Format.{authorizations_from}
-use Rattle.foundation.specs.Tests.{pick}
-use Rattle.foundation.specs.Lists.{keep_if}
+use Rattle.foundation.specs.Tests.{pick, and-true}
+use Rattle.foundation.specs.Lists.{allb, keep_if}
 use Rattle.model.specs.declared.Authorization.{Authorization}
-use Rattle.model.specs.Encoding.{authorization_of}
+use Rattle.model.specs.Soundness.{authorization_in}
 use Rattle.model.specs.Report.{is_on, rows_on, report_row}
 use Rattle.fields.specs.Field.{splice}
-use Rattle.foundation.specs.ByteRecords.{rest_step}
 use Rattle.printing.specs.Print.{Printed}
 
 -- what an authorization adds to the sheet
 abbrev pub row_of : Bool → Authorization → List ℕ
 row_of on a = pick on (report_row a) []
 
-module _ (o n : ℕ) (lines : List ℕ) (i : ℕ) (h : i < n) (a : Authorization)
-    (e : a ≡ authorization_of (drop (i * 24) lines)) where
-  next : authorizations_from n lines i ≡ a ∷ authorizations_from n lines (i + 1)
-  next =
-      rest_step 24 authorization_of n lines i h
-      ∙ ap (λ (x : Authorization). x ∷ authorizations_from n lines (i + 1)) (sym e)
-
+module _ (o : ℕ) (xs : List Authorization) (i : ℕ) (a : Authorization) (e : drop i xs ≡ a ∷ drop (i + 1) xs) where
   -- one more is counted, or not
   pub count_next : (on : Bool) → is_on o a ≡ on →
-      length (keep_if (is_on o) (authorizations_from n lines i)) ≡ pick on 1 0 + length
-      (keep_if (is_on o) (authorizations_from n lines (i + 1)))
-  count_next on q =
-      ap (λ (xs : List Authorization). length (keep_if (is_on o) xs)) next ∙ by_test on q
-    where
-      by_test : (on : Bool) → is_on o a ≡ on →
-          length (keep_if (is_on o) (a ∷ authorizations_from n lines (i + 1)))
-          ≡ pick on 1 0 + length (keep_if (is_on o) (authorizations_from n lines (i + 1)))
-      by_test true q = rw q (omega arith)
-      by_test false q = rw q (omega arith)
+      length (keep_if (is_on o) (drop i xs)) ≡ pick on 1 0 + length (keep_if (is_on o) (drop (i + 1) xs))
+  count_next true q = rw (e, q) (omega arith)
+  count_next false q = rw (e, q) (omega arith)
 
-  pub rows_next : (on : Bool) → on ≡ is_on o a →
-      rows_on o (authorizations_from n lines i) ≡ row_of on a ++ rows_on o (authorizations_from n lines (i + 1))
-  rows_next on q = ap (rows_on o) next ∙ by_test on (sym q)
-    where
-      by_test : (on : Bool) → is_on o a ≡ on →
-          rows_on o (a ∷ authorizations_from n lines (i + 1))
-          ≡ row_of on a ++ rows_on o (authorizations_from n lines (i + 1))
-      by_test true q = rw q
-      by_test false q = rw q
+  -- its row comes next, or not
+  pub rows_next : (on : Bool) → is_on o a ≡ on →
+      rows_on o (drop i xs) ≡ row_of on a ++ rows_on o (drop (i + 1) xs)
+  rows_next true q = rw (e, q)
+  rows_next false q = rw (e, q)
+
+  -- its fields are in their ranges, and so are those behind it
+  pub ranges_next : allb authorization_in (drop i xs) ≡ true →
+      (authorization_in a ≡ true) × (allb authorization_in (drop (i + 1) xs) ≡ true)
+  ranges_next r = and-true (authorization_in a) (allb authorization_in (drop (i + 1) xs)) (rw e at r)
 
 -- a text that is put at a place: what stands before its end, and behind it
 module _ {at e : ℕ} {t s s' : List ℕ} (p : Printed at t s s' e) (h : at + length t ≤ length s) where

@@ -21,7 +21,7 @@ ghost use Rattle.simple.specs.Engine.{RuleOfBase, held_at, in_force_at, given_at
 mod sides;
 
 use lookup::{SoundBase, has_instant};
-use model::{Operator, Pattern, Question, Reply, Rule};
+use model::{Operator, Pattern, Question, Reply, Row, Rule};
 use sides::{asked, is_granted, may_give, right_of};
 
 // A base that the engine serves: it is sound, and feeding, links counting as feeding, leads from no rule back
@@ -39,17 +39,17 @@ pub fn simple_may(s: &[u8], q: Question) -> Reply
     let x = q.access;
     let t = q.instant;
     if !soundness::is_sound(s) {
-        return Reply::Refused(2);
+        return Reply::Refused(Row::NotSound as u32);
     }
     if !lookup::access_in(x) {
-        return Reply::Refused(3);
+        return Reply::Refused(Row::OutOfRange as u32);
     }
     let base = SoundBase { bytes: s };
     if !base.exists(x.object) {
-        return Reply::Refused(6);
+        return Reply::Refused(Row::NoObject as u32);
     }
     if rules::is_circular(&base.rules()) {
-        return Reply::Refused(15);
+        return Reply::Refused(Row::Circular as u32);
     }
     let base = ServedBase { sound: base };
     if !held(&base, asked(x, false), t) {

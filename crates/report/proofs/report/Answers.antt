@@ -1,13 +1,8 @@
-use mathlib.Core.Path.{sym, ◌∙◌}
+use Rattle.std.proofs.Common.{sym, ◌∙◌}
 use Rattle.report.proofs.SheetByRows.{report_unsound}
 use Rattle.report.proofs.report.Goals as goal
 
 pub returns-then-not-is_sound : goal.returns-then-not-is_sound
 returns-then-not-is_sound c =
     let a = c.args in
-    sym (report_unsound a.base.now a.object a.page.now
-    (sym c.is_sound.ensures ∙ c.if-not-is_sound.true))
-
-pub report_sound-requires : goal.report_sound-requires
-report_sound-requires c =
-    sym c.is_sound.ensures ∙ c.if-not-is_sound.false
+    sym (report_unsound a.base.now a.object a.page.now (sym c.is_sound.ensures ∙ c.if-not-is_sound.true))

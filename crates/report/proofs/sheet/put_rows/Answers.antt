@@ -1,118 +1,111 @@
-use borrow.Author.Rules.{rules}
-use native.Mathlib.Omega.{arith}
-use mathlib.Core.Path.{◌≡◌, refl, sym, ap, ap₂, ◌∙◌}
-use mathlib.Core.Bool.{true}
-use mathlib.Core.List.{List, ◌++◌, append_assoc, append-nil}
-use Prim.Native.Nat.{ℕ, ◌+◌, ◌≤◌}
-use lib.ListN.{length, take, drop, length-append, take-append-drop}
+use Rattle.std.proofs.Common.{◌≡◌, sym, ap, ap₂, ◌∙◌, true, false, List, ◌++◌, ℕ, ◌+◌, ◌-◌, ◌≤◌, length, take, drop, arith}
+use Rattle.std.proofs.Common.{append_assoc, length-append, length-drop, take-append-drop}
+use Rattle.std.proofs.lemmas.List.{drop_all, append-nil}
 use lib.Seq.{length-take-le}
-use Rattle.foundation.specs.Tests.{and-true}
-use Rattle.foundation.specs.Lists.{allb}
-use Rattle.model.specs.declared.Authorization.{Authorization}
-use Rattle.model.specs.Encoding.{authorization_of}
-use Rattle.model.specs.Soundness.{authorization_in}
-use Rattle.model.specs.Report.{rows_on}
-use Rattle.foundation.specs.ByteRecords.{rest_all, rest_end, all_step}
 use Rattle.foundation.specs.BytesFacts.{rest_behind}
-use Rattle.encoding.specs.Format.{authorizations_in, authorizations_from}
+use Rattle.fields.specs.Field.{splice}
+use Rattle.fields.proofs.ByteLaws.{part-back}
+use Rattle.model.specs.declared.Authorization.{Authorization}
+use Rattle.model.specs.Report.{report_row, rows_on}
+use Rattle.model.specs.ReportFacts.{row-width}
+use Rattle.printing.specs.Print.{Printed}
 use Rattle.printing.proofs.Placed.{printed-room}
-use Rattle.report.proofs.Adding.{row_of, rows_next, put-before, put_behind}
+use Rattle.report.proofs.Adding.{rows_next, ranges_next, put-before, put_behind}
 use Rattle.report.proofs.sheet.put_rows.Goals as goal
 use Rattle.report.proofs.sheet.put_rows.Goals.{After-is_on}
 
--- the authorization's fields are in their ranges, and so are those behind it
-ranges : (c : After-is_on) →
-    (let a = c.args in
-    (authorization_in c.authorization_at-a.result ≡ true)
-    × (allb authorization_in (authorizations_from a.n a.lines.now (c.loop-i.i + 1)) ≡ true))
-ranges c =
+-- the page has room for the row of the next authorization
+room : (c : After-is_on) → c.is_on.result ≡ true → c.loop-i.at + 44 ≤ length c.loop-i.page
+room c q =
     let l = c.loop-i in
     let a = c.args in
-    let x = c.authorization_at-a.result in
-    and-true (authorization_in x)
-    (allb authorization_in (authorizations_from a.n a.lines.now (l.i + 1)))
-    (sym (all_step 24 authorization_of authorization_in a.n a.lines.now l.i (authorization_in x)
-    (omega arith) (ap authorization_in (sym c.authorization_at-a.ensures))) ∙ l.invariant.3)
-
--- its row comes next
-next : (c : After-is_on) →
-    (let a = c.args in
-    rows_on a.object (authorizations_from a.n a.lines.now c.loop-i.i)
-    ≡ row_of c.is_on.result c.authorization_at-a.result
-    ++ rows_on a.object (authorizations_from a.n a.lines.now (c.loop-i.i + 1)))
-next c =
-    let a = c.args in
-    rows_next a.object a.n a.lines.now c.loop-i.i (omega arith) c.authorization_at-a.result
-    c.authorization_at-a.ensures c.is_on.result c.is_on.ensures
-
--- and the page has room for it
-room : (c : After-is_on) →
-    c.loop-i.at + length (row_of c.is_on.result c.authorization_at-a.result) ≤ length c.loop-i.page
-room c =
-    let l = c.loop-i in
-    let a = c.args in
-    let row = row_of c.is_on.result c.authorization_at-a.result in
-    let rest = rows_on a.object (authorizations_from a.n a.lines.now (l.i + 1)) in
+    let x = c.get-a.result in
+    let rest = rows_on a.object (drop (l.i + 1) a.authorizations.now) in
     let front = take l.at l.page in
+    let next = rows_next a.object a.authorizations.now l.i x c.get-a.ensures true (sym c.is_on.ensures ∙ q) in
     omega (
       arith,
-      ap length (sym l.invariant.4) ∙ ap (λ (x : List ℕ). length (front ++ x)) (next c),
-      length-append front (row ++ rest),
-      length-append row rest,
+      ap length (sym l.invariant.4) ∙ ap (λ (y : List ℕ). length (front ++ y)) next,
+      length-append front (report_row x ++ rest),
+      length-append (report_row x) rest,
+      row-width x (ranges_next a.object a.authorizations.now l.i x c.get-a.ensures l.invariant.3).0,
       length-take-le l.at l.page l.invariant.1,
       c.requires.1,
       l.invariant.2,
     )
 
-pub loop-i-init : goal.loop-i-init
-loop-i-init c =
-    let a = c.args in (
-      search rules,
-      search rules,
-      refl,
-      ap (allb authorization_in) (rest_all 24 authorization_of a.n a.lines.now)
-          ∙ c.requires.0.ranges,
-      ap (rows_on a.object) (rest_all 24 authorization_of a.n a.lines.now),
-      refl,
+pub slice_bounds-put_row-end : goal.slice_bounds-put_row-end
+slice_bounds-put_row-end c = room (goal.at.slice_bounds-put_row-end c).After-is_on c.if-not-is_on.false
+
+pub put_row-requires : goal.put_row-requires
+put_row-requires c =
+    let l = c.loop-i in
+    let h = room (goal.at.put_row-requires c).After-is_on c.if-not-is_on.false in
+    let e : l.at + 44 - l.at ≡ 44 = omega arith in
+    let long : 44 ≤ length (drop l.at l.page) = simp length-drop (omega arith) in (
+      rw e (length-take-le 44 (drop l.at l.page) long),
+      (ranges_next c.args.object c.args.authorizations.now l.i c.get-a.result c.get-a.ensures l.invariant.3).0,
     )
 
-pub put_if-at-requires : goal.put_if-at-requires
-put_if-at-requires c =
-    let on = (goal.at.put_if-at-requires c).After-is_on in
-    ((ranges on).0, room on)
+-- nothing is put for one that is not on the object
+pub loop-i-preserved-then-not-is_on : goal.loop-i-preserved-then-not-is_on
+loop-i-preserved-then-not-is_on c =
+    let l = c.loop-i in
+    let a = c.args in
+    let xs = a.authorizations.now in
+    let x = c.get-a.result in (
+      omega arith,
+      l.invariant.1,
+      l.invariant.2,
+      (ranges_next a.object xs l.i x c.get-a.ensures l.invariant.3).1,
+      ap (λ (y : List ℕ). take l.at l.page ++ y)
+          (sym (rows_next a.object xs l.i x c.get-a.ensures false (sym c.is_on.ensures ∙ c.if-not-is_on.true)))
+          ∙ l.invariant.4,
+      l.invariant.5,
+    )
 
 pub loop-i-preserved : goal.loop-i-preserved
 loop-i-preserved c =
-    let on = (goal.at.loop-i-preserved c).After-is_on in
     let l = c.loop-i in
     let a = c.args in
-    let p = c.put_if-at.ensures in
-    let h = room on in
-    let same = printed-room p h in
-    let rest = rows_on a.object (authorizations_from a.n a.lines.now (l.i + 1)) in (
-      search rules,
-      omega (arith, p.ends, same, h),
+    let xs = a.authorizations.now in
+    let x = c.get-a.result in
+    let ranges = ranges_next a.object xs l.i x c.get-a.ensures l.invariant.3 in
+    let rest = rows_on a.object (drop (l.i + 1) xs) in
+    let h = room (goal.at.loop-i-preserved c).After-is_on c.if-not-is_on.false in
+    let long = row-width x ranges.0 in
+    let p : Printed l.at (report_row x) l.page _ (l.at + 44) = record {
+      ends = omega (arith, long);
+      bytes = part-back l.page l.at (l.at + 44) c.put_row.new.row (omega arith) h
+          (ap length c.put_row.ensures ∙ omega (arith, long))
+          ∙ ap (λ (y : List ℕ). splice l.at y l.page) c.put_row.ensures;
+    } in
+    let fits : l.at + length (report_row x) ≤ length l.page = omega (arith, h, long) in
+    let same = printed-room p fits in (
+      omega arith,
+      omega (arith, same, h),
       same ∙ l.invariant.2,
-      (ranges on).1,
-      ap (λ (x : List ℕ). x ++ rest) (put-before p h)
-          ∙ append_assoc (take l.at l.page) (row_of c.is_on.result c.authorization_at-a.result) rest
-          ∙ ap (λ (x : List ℕ). take l.at l.page ++ x) (sym (next on))
+      ranges.1,
+      ap (λ (y : List ℕ). y ++ rest) (put-before p fits)
+          ∙ append_assoc (take l.at l.page) (report_row x) rest
+          ∙ ap (λ (y : List ℕ). take l.at l.page ++ y)
+          (sym (rows_next a.object xs l.i x c.get-a.ensures true (sym c.is_on.ensures ∙ c.if-not-is_on.false)))
           ∙ l.invariant.4,
-      put_behind p h
-          ∙ rest_behind a.page.now l.page l.at c.put_if-at.result (omega (arith, p.ends)) l.invariant.5,
+      put_behind p fits ∙ rest_behind a.page.now l.page l.at (l.at + 44) (omega arith) l.invariant.5,
     )
 
 pub returns : goal.returns
 returns c =
     let l = c.loop-i in
     let a = c.args in
+    let xs = a.authorizations.now in
     let front = take l.at l.page in
-    let whole : front ≡ rows_on a.object (authorizations_in a.n a.lines.now) =
+    let whole : front ≡ rows_on a.object xs =
     sym (append-nil front)
-    ∙ ap (λ (xs : List Authorization). front ++ rows_on a.object xs)
-    (sym (rest_end 24 authorization_of a.n a.lines.now l.i (omega arith)))
+    ∙ ap (λ (ys : List Authorization). front ++ rows_on a.object ys)
+    (sym (drop_all l.i xs (omega (arith, c.len-i-end.ensures))))
     ∙ l.invariant.4 in
-    let long : l.at ≡ length (rows_on a.object (authorizations_in a.n a.lines.now)) =
+    let long : l.at ≡ length (rows_on a.object xs) =
     sym (length-take-le l.at l.page l.invariant.1) ∙ ap length whole in
     sym (take-append-drop l.at l.page)
     ∙ ap₂ (λ (x y : List ℕ). x ++ y) whole
