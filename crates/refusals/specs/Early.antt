@@ -3,6 +3,8 @@ use Rattle.std.specs.Prelude.{◌≡◌, ◌≢◌, ℕ, Result, Ok, Err}
 use Rattle.model.specs.declared.Row as model
 use Rattle.model.specs.declared.Row.TheVariants as row
 use Rattle.model.specs.declared.Request.{Request}
+use Rattle.model.specs.declared.Reply.{Reply}
+use Rattle.model.specs.declared.Reply.TheVariants.{Refused, Unsupported}
 use Rattle.model.specs.Base.{Base}
 use Rattle.model.specs.Means.{plainly}
 use Rattle.model.specs.Step.{first_number, earliest_gap}
@@ -27,6 +29,11 @@ row_number row.NotStratified = 12
 row_number row.Full = 13
 row_number row.Barred = 14
 row_number row.Circular = 15
+
+-- the reply that says it
+abbrev pub reply_of : Refusal → Reply
+reply_of (Row r) = Refused (row_number r)
+reply_of (Uncovered t) = Unsupported t
 
 module _ (b : Base) (q : Request) where
   -- what an answer says where n is the number of the first row that applies

@@ -2,7 +2,7 @@
 // asked of what the request would leave.
 #![tactic(auto)]
 
-use model::Row;
+use model::{Reply, Row};
 
 mod circles;
 mod grants;
@@ -21,4 +21,19 @@ pub use table::refuse_early;
 pub enum Refusal {
     Row(Row),
     Uncovered(u32),
+}
+
+// The reply that says so.
+impl From<Refusal> for Reply {
+    ghost use Rattle.std.specs.Prelude.{◌≡◌};
+    ghost use Rattle.refusals.specs.Early.{reply_of};
+
+    ghost from_gives = { λ e r. r ≡ reply_of e };
+
+    fn from(e: Refusal) -> Reply {
+        match e {
+            Refusal::Row(row) => Reply::Refused(row as u32),
+            Refusal::Uncovered(t) => Reply::Unsupported(t),
+        }
+    }
 }

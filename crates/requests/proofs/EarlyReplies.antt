@@ -1,5 +1,6 @@
--- The refusals by a row before 13 are the library's answers (`number-answered`, `uncovered-answered`).
-use mathlib.Core.Path.{◌≡◌, sym, ap, ◌∙◌}
+-- The refusals by a row before 13 are the library's answers.
+use mathlib.Core.Path.{◌≡◌, refl, sym, ap, ◌∙◌}
+use Rattle.std.specs.Prelude.{Err}
 use mathlib.Core.Logic.{◌≢◌}
 use mathlib.Core.Bool.{Bool, true}
 use mathlib.Core.List.{List}
@@ -17,8 +18,9 @@ use Rattle.model.specs.Step.{first_number, full, refusal_reply}
 use Rattle.model.proofs.StepFacts.{reply_number_lem}
 use Rattle.model.specs.Answers.{answering, request}
 use Rattle.laws.specs.EarlyRows.{early_rows, refusal_early}
-use Rattle.refusals.specs.declared.Early.TheVariants.{Number, Uncovered}
-use Rattle.refusals.specs.Early.{early_is}
+use Rattle.refusals.specs.declared.Refusal.{Refusal}
+use Rattle.refusals.specs.declared.Refusal.TheVariants.{Row, Uncovered}
+use Rattle.refusals.specs.Early.{early_is, reply_of}
 use Rattle.revocation.proofs.CarriedFacts.{refuses}
 
 module _ (s : List ℕ) (q : Request) (e : sound_bytes s ≡ true) where
@@ -31,12 +33,9 @@ module _ (s : List ℕ) (q : Request) (e : sound_bytes s ≡ true) where
       ∙ ap (λ (x : Bool). pick x (pick (full plainly (decode s) q) 13 0) n) (ne_false n 0 z))
       z
 
-  pub number_answered : (n : ℕ) → early_is (decode s) q (Number n) → answering (Refused n) s ≡ request s q
-  number_answered n i =
-      ap (λ (r : Reply). answering r s) (sym (reply_number_lem (decode s) q n i.2))
-      ∙ early_refuses n i.0 i.1
-
-  pub uncovered_answered : (t : ℕ) → early_is (decode s) q (Uncovered t) →
-      answering (Unsupported t) s ≡ request s q
-  uncovered_answered t i =
+  pub refusal_answered : (e : Refusal) → early_is (decode s) q (Err e) → answering (reply_of e) s ≡ request s q
+  refusal_answered (Row r) i =
+      ap (λ (r : Reply). answering r s) (ap Refused (sym i.0) ∙ sym (reply_number_lem (decode s) q _ i.2))
+      ∙ early_refuses _ refl i.1
+  refusal_answered (Uncovered t) i =
       ap (λ (u : ℕ). answering (Unsupported u) s) i.1 ∙ early_refuses 9 i.0 (λ z. omega arith)

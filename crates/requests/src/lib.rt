@@ -16,11 +16,11 @@ ghost use Rattle.requests.specs.KeepingKinds.{keeping_kinds};
 
 mod room;
 
+use lookup::SoundBase;
 use model::{
     ADDRULE, DENY, DROPRULE, GRANT, GRANTADM, GRANTREF, NEW, REVOKE, REVOKEADM, REVOKEN, REVOKEP,
-    Reply, Request,
+    Reply, Request, Row,
 };
-use refusals::Early;
 use room::no_room;
 
 // The effect of a request that withdraws no instants.
@@ -66,7 +66,7 @@ fn add_or_drop(s: &mut [u8], q: Request) -> Reply
     ensures { CarriedOut s.old q result s.new }
 {
     if no_room(s, q) {
-        return Reply::Refused(13);
+        return Reply::Refused(Row::Full as u32);
     }
     apply(s, q);
     done(s, q)
@@ -90,11 +90,9 @@ pub fn step(s: &mut [u8], q: Request) -> Reply
     requires { sound_bytes s.old ≡ true }
     ensures { answering result s.new ≡ request s.old q }
 {
-    let early = refusals::early_refusal(s, q);
-    match early {
-        Early::Number(n) => Reply::Refused(n),
-        Early::Uncovered(t) => Reply::Unsupported(t),
-        Early::Passed => carry_out(s, q),
+    match refusals::refuse_early(&SoundBase { bytes: s }, q) {
+        Err(refusal) => Reply::from(refusal),
+        Ok(()) => carry_out(s, q),
     }
 }
 
@@ -103,7 +101,7 @@ pub fn request(s: &mut [u8], q: Request) -> Reply
     ensures { answering result s.new ≡ request s.old q }
 {
     if !soundness::is_sound(s) {
-        return Reply::Refused(2);
+        return Reply::Refused(Row::NotSound as u32);
     }
     step(s, q)
 }
