@@ -3,7 +3,7 @@ ghost use Rattle.std.specs.Prelude.{◌≡◌, false};
 ghost use Rattle.model.specs.Encoding.{decode};
 ghost use Rattle.model.specs.Step.{out_of_range, not_stratified};
 
-use encoding::new_rule;
+use encoding::{Records, new_rule};
 use lookup::SoundBase;
 use model::{ADDRULE, RULE_BYTES, Request};
 
@@ -24,5 +24,5 @@ pub fn not_stratified(base: &SoundBase<'_>, q: Request) -> bool
     let mut all = [0u8; 65 * RULE_BYTES];
     fields::copy(&mut all, 0, &s[at..], n * RULE_BYTES);
     encoding::put_rule(&mut all, n * RULE_BYTES, new_rule(q, 1));
-    !rules::is_stratified(&all, n + 1)
+    !rules::is_stratified(&Records::new(&all[..], n + 1))
 }

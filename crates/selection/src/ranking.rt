@@ -8,7 +8,7 @@ ghost use Rattle.relevance.specs.Chosen.{selected};
 ghost use Rattle.laws.specs.Plain.{Plain};
 ghost use Rattle.selection.specs.Selection.{position};
 
-use encoding::rule_at;
+use encoding::{Records, rule_at};
 use masks::clear_words;
 use model::RULE_BYTES;
 use rules::negates;
@@ -83,8 +83,8 @@ pub fn strata_of(body: &[u8], n: usize, needed: u64, strata: &mut [u64])
         return;
     }
     let mut few = [0u8; 64 * RULE_BYTES];
-    let mut ranks = [0u16; 65];
     let k = select(body, n, needed, &mut few);
-    rules::stratify(&few, k, &mut ranks);
-    spread_strata(&ranks, needed, strata);
+    if let Some(ranks) = rules::stratify(&Records::new(&few[..], k)) {
+        spread_strata(&ranks, needed, strata);
+    }
 }

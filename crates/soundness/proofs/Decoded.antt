@@ -1,26 +1,16 @@
 -- Soundness of the base that bytes of the format hold, asked of the bodies as they are lent. Assumes nothing.
-use mathlib.Core.Path.{◌≡◌, refl, sym, ap, ◌∙◌}
-use mathlib.Core.Logic.{inl, inr}
-use mathlib.Core.Bool.{Bool, true, ◌&&◌}
-use mathlib.Core.List.{List, [], ◌∷◌}
-use Prim.Native.Nat.{ℕ, ◌-◌, ◌≤◌}
-use lib.Dec.{eqb}
-use lib.ListN.{length, take, drop}
-use Rattle.foundation.specs.Tests.{le-true, true_eq}
-use Rattle.foundation.specs.Lists.{Mem, conjunct}
-use Rattle.foundation.specs.Bytes.{le}
+use mathlib.Core.Path.{◌≡◌, sym, ap, ◌∙◌}
+use mathlib.Core.Bool.{true, ◌&&◌}
+use mathlib.Core.List.{List}
+use Prim.Native.Nat.{ℕ, ◌≤◌}
+use Rattle.foundation.specs.Tests.{le-true}
 use Rattle.model.specs.Base.{Base}
-use Rattle.model.specs.Encoding.{size, decode}
+use Rattle.model.specs.Encoding.{decode}
 use Rattle.model.specs.Stratification.{stratified}
 use Rattle.model.specs.Step.{counts_hold}
 use Rattle.model.specs.Soundness.{sound, all_supported}
-use Rattle.encoding.specs.declared.Counts.{Counts}
-use Rattle.encoding.specs.Format.{counts_of, counts_fit, heading_fits, administrators_at, referrers_at}
-use Rattle.encoding.specs.Format.{authorizations_at}
-use Rattle.encoding.specs.Format.{rules_at, end_at, authorization_clean, rule_clean, each_record, zeros}
 use Rattle.encoding.specs.Format.{format_fits}
-use Rattle.encoding.proofs.FormatFacts.{decoded-objects, decoded_administrators, decoded_referrers}
-use Rattle.encoding.proofs.FormatFacts.{decoded-authorizations, decoded_rules, decoded-counts}
+use Rattle.encoding.proofs.FormatFacts.{decoded-counts}
 use Rattle.bodies.specs.BodyTests.{objects_part, privileges_part, authorizations_part, rules_part}
 use Rattle.soundness.specs.BodiesAsked.{parts_hold}
 use Rattle.soundness.proofs.SoundParts.{sound-parts}

@@ -1,4 +1,4 @@
-use Rattle.std.proofs.Common.{arith, sym, ap, ◌∙◌}
+use Rattle.std.proofs.Common.{arith, sym, ◌∙◌}
 use mathlib.Core.Bool.{◌&&◌}
 use Rattle.model.specs.Encoding.{decode}
 use Rattle.model.specs.Soundness.{sound}
