@@ -1,5 +1,4 @@
--- The withdrawing requests: the numbers of one that is in its ranges fit its cut (`label-cut`, `grantor-cut`,
--- `name-cut`), and row 13 refuses one exactly if too many authorizations remain (`withdrawal-full`).
+-- The withdrawing requests: the numbers of one that is in its ranges fit its cut, and row 13 refuses one exactly if too many authorizations remain (`withdrawal-full`).
 use mathlib.Core.Path.{◌≡◌, refl, sym, ◌∙◌}
 use mathlib.Core.Logic.{inl, inr}
 use Prim.Native.Nat.{ℕ, suc, ◌≤◌}
@@ -11,7 +10,6 @@ use lib.ListN.{length}
 use Rattle.foundation.specs.Tests.{pick, cases, le-true, le-false, true-le, false-le, must_fail, not-false}
 use Rattle.foundation.specs.Tests.{or_false}
 use Rattle.foundation.specs.Lists.{keep_if, kept_length}
-use Rattle.foundation.specs.declared.Interval.{Interval}
 use Rattle.model.specs.declared.Request.{Request}
 use Rattle.model.specs.Ranges.{is_subject, is_object, is_mode, is_label, last_label, most_objects}
 use Rattle.model.specs.Ranges.{most_administrators, most_referrers, most_authorizations, most_rules}
@@ -26,11 +24,10 @@ use Rattle.model.specs.SoundnessFacts.{Sound}
 use Rattle.model.specs.FitsFacts.{counts_fit_lem, at_most}
 use Rattle.model.specs.Kinds.{is_kinds, is_apart, interval_kinds, label_kinds, withdrawal_kinds}
 use Rattle.foundation.specs.Tests.{asked_passes}
-use Rattle.pieces.specs.declared.Cut.{Cut}
-use Rattle.pieces.specs.declared.CutKind.{CutKind}
-use Rattle.pieces.specs.declared.CutKind.TheVariants.{Label, Grantor, Name}
-use Rattle.pieces.specs.Cuts.{CutOrdered, CutOf}
-use Rattle.withdrawal.proofs.Link.{by_label_lem, by_name, by_grantor}
+use Rattle.pieces.specs.declared.cut.Cut.TheVariants.{Name}
+use Rattle.pieces.specs.declared.cut.Named.{Named}
+use Rattle.pieces.specs.Cuts.{CutOf}
+use Rattle.withdrawal.proofs.Link.{by_name}
 
 -- the kinds that name a label, as in Step
 abbrev pub label_namers : List ℕ
@@ -76,55 +73,16 @@ by_name_else q w e f = sym (rw (e, f)) ∙ w
 
 -- ---- the cut of each kind
 
-abbrev cut : CutKind → ℕ → ℕ → ℕ → ℕ → ℕ → Bool → Interval → Cut
-cut kind label grantor subject object mode negative interval = record {
-  kind = kind;
-  label = label;
-  grantor = grantor;
-  subject = subject;
-  object = object;
-  mode = mode;
-  negative = negative;
-  interval = interval;
-}
-
--- a cut of another kind asks nothing of the interval
-label-apart : {X : Type 0} → Label ≡ Name → X
-label-apart e = let z : ◌≡◌ {A = ℕ} 0 1 = cc in absurd (omega arith)
-
-grantor_apart : {X : Type 0} → Grantor ≡ Name → X
-grantor_apart e = let z : ◌≡◌ {A = ℕ} 0 1 = cc in absurd (omega arith)
-
--- REVOKE
-pub label-cut : (q : Request) → is q (REVOKE ∷ []) ≡ true →
-    CutOf q (cut Label q.label 0 0 0 0 false q.interval)
-    × CutOrdered (cut Label q.label 0 0 0 0 false q.interval)
-label-cut q e = (
-  by_label_lem q (cut Label q.label 0 0 0 0 false q.interval) e refl refl,
-  λ k. label-apart k,
-)
-
--- REVOKEADM
-pub grantor_cut : (q : Request) → is q (REVOKEADM ∷ []) ≡ true →
-    CutOf q (cut Grantor 0 q.subject 0 q.object 0 false q.interval)
-    × CutOrdered (cut Grantor 0 q.subject 0 q.object 0 false q.interval)
-grantor_cut q e = (
-  by_grantor q (cut Grantor 0 q.subject 0 q.object 0 false q.interval) e refl refl refl,
-  λ k. grantor_apart k,
-)
-
 -- REVOKEP and REVOKEN
-pub name_cut : (q : Request) → bad_interval q ≡ false → is q (REVOKEP ∷ REVOKEN ∷ []) ≡ true →
-    CutOf q (cut Name 0 q.requester q.subject q.object q.mode (eqb q.kind REVOKEN)
-    q.interval)
-    × CutOrdered (cut Name 0 q.requester q.subject q.object q.mode (eqb q.kind REVOKEN)
-    q.interval)
-name_cut q b e = (
-  by_name q (cut Name 0 q.requester q.subject q.object q.mode (eqb q.kind REVOKEN)
-      q.interval) e
-      refl refl refl refl refl (sym (or_false (eqb q.kind REVOKEN))) refl,
-  λ k. interval_ordered q b (is_kinds q (REVOKEP ∷ REVOKEN ∷ []) interval_kinds refl e),
-)
+pub name_cut : (q : Request) (n : Named) → is q (REVOKEP ∷ REVOKEN ∷ []) ≡ true → n.grantor ≡ q.requester →
+    n.subject ≡ q.subject → n.object ≡ q.object → n.mode ≡ q.mode → n.negative ≡ eqb q.kind REVOKEN →
+    n.interval ≡ q.interval → CutOf q (Name n)
+name_cut q n e g s o m v i = by_name q n e g s o m (v ∙ sym (or_false (eqb q.kind REVOKEN))) i
+
+-- where the interval matters, it is not empty
+pub name_ordered : (q : Request) → bad_interval q ≡ false → is q (REVOKEP ∷ REVOKEN ∷ []) ≡ true →
+    q.interval.start ≤ q.interval.end
+name_ordered q b e = interval_ordered q b (is_kinds q (REVOKEP ∷ REVOKEN ∷ []) interval_kinds refl e)
 
 -- ---- row 13
 

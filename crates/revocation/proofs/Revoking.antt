@@ -31,28 +31,18 @@ use Rattle.model.specs.Step.{effect, full, accepting}
 use Rattle.model.specs.SoundnessFacts.{Sound, decoded-sound}
 use Rattle.model.specs.Kinds.{kind_is, is_apart, is_kinds, object_kinds, subject_kinds, label_kinds}
 use Rattle.model.specs.Kinds.{withdrawal_kinds}
-use Rattle.laws.specs.KeepFacts.{Sorted}
-use Rattle.laws.specs.SoundFacts.{sorted}
-use Rattle.encoding.specs.declared.Counts.{Counts}
-use Rattle.encoding.specs.Format.{counts_of, administrators_at, authorizations_at, authorizations_in}
-use Rattle.encoding.proofs.FormatFacts.{decoded_lengths}
+use Rattle.encoding.specs.Format.{authorizations_in}
 use Rattle.edits.specs.declared.PrivilegeBody.TheVariants.{Administrators}
 use Rattle.edits.specs.Edits.{Written, with_stamp}
 use Rattle.edits.proofs.Written.{written-sound}
 use Rattle.model.specs.Effects.{with_administrators, with_authorizations, with_rules}
 use Rattle.edits.proofs.Kept.{fits-privileges, fits-authorizations, fits_rules}
-use Rattle.edits.proofs.EditedBytes.{written-length}
-use Rattle.support.specs.Hops.{roots_in}
-use Rattle.pieces.specs.declared.Cut.{Cut}
-use Rattle.pieces.specs.declared.Put.{Put}
-use Rattle.pieces.specs.declared.Put.TheVariants.{Full, Lines}
+use Rattle.pieces.specs.declared.cut.Cut.{Cut}
 use Rattle.pieces.specs.Cuts.{spared, CutOf}
-use Rattle.pieces.specs.Building.{Result, Built}
 use Rattle.withdrawal.proofs.Link.{withdrawn_is}
 use Rattle.effects.specs.EffectRecords.{Allowed, drops_by}
 use Rattle.effects.proofs.AllowedEffects.{HoldsBase, holds-base, after-fits}
 use Rattle.effects.proofs.Changes.{administrator_there}
-use Rattle.encoding.proofs.SoundBodies.{Fitting, lent, objects-lent, administrators_lent, authorizations-lent}
 use Rattle.revocation.specs.CarriedOut.{PassesEarly, CarriedOut}
 use Rattle.revocation.proofs.CarriedFacts.{passed_row, passed_accepted}
 use Rattle.revocation.proofs.Revoked.{object-most, subject-most, withdrawal_full}
@@ -60,52 +50,31 @@ use Rattle.revocation.proofs.Revoked.{object-most, subject-most, withdrawal_full
 pub passed_sound : (s : List ℕ) (q : Request) → PassesEarly s q → Sound (decode s)
 passed_sound s q p = decoded-sound s p.sound
 
--- ---- the bodies as they are lent
-
-pub written_fitting : (s : List ℕ) → Written s → (c : Counts) → c ≡ counts_of s → Fitting s c
-written_fitting s W c q = record {
-  long = written-length s W;
-  counts = rw q (omega (arith, decoded_lengths s, W.fits.counts));
-}
-
-module _ (s : List ℕ) (q : Request) (b : Sound (decode s)) (n : Counts) (en : n ≡ counts_of s)
-    (x : ℕ) (ex : x ≡ authorizations_at n) where
-  pub lent_sorted : Sorted (authorizations_in n.authorizations (lent s x))
-  lent_sorted =
-      subst (λ (l : List Authorization). Sorted l) (sym (authorizations-lent s n en x ex))
-      (sorted (decode s) b)
-
-  -- what is built of them is what the request leaves
-  pub remains : withdraws q ≡ true → (c : Cut) → CutOf q c → (roots : List ℕ) (k : Counts) →
-      k ≡ counts_of roots →
-      (a : ℕ) → a ≡ administrators_at k → (decode roots).objects ≡ objects_after q (decode s).objects →
-      (decode roots).administrators ≡ administrators_after q (decode s).administrators →
-      restrict (roots_in k.objects (lent roots 32) k.administrators (lent roots a)) (λ h. true)
-      (keep (spared c) (authorizations_in n.authorizations (lent s x)))
-      ≡ (effect plainly (decode s) q).authorizations
-  remains w c f roots k ek a ea o d =
-      (λ i. restrict (root_in ((objects-lent roots k ek ∙ o) i) ((administrators_lent roots k ek a ea ∙ d) i))
-      (λ h. true) (keep (spared c) (authorizations-lent s n en x ex i)))
-      ∙ sym (withdrawn_is (decode s) q c b w f)
+-- what is built is what the request leaves
+pub remains : (b : Base) (q : Request) → Sound b → withdraws q ≡ true → (c : Cut) → CutOf q c →
+    (objects administrators : List Privilege) → objects ≡ objects_after q b.objects →
+    administrators ≡ administrators_after q b.administrators →
+    restrict (root_in objects administrators) (λ h. true) (keep (spared c) b.authorizations)
+    ≡ (effect plainly b q).authorizations
+remains b q h w c f os as' o d =
+    (λ i. restrict (root_in (o i) (d i)) (λ h. true) (keep (spared c) b.authorizations))
+    ∙ sym (withdrawn_is b q c h w f)
 
 -- ---- by what was built
 
--- m authorizations remain, built in `out`, and row 13 lets the request pass
-pub record AuthorizationsLeft (s : List ℕ) (q : Request) (m : ℕ) (out : List ℕ) : Type 0 where
-  pub result : Result m (effect plainly (decode s) q).authorizations out
+-- the authorizations ys remain, and row 13 lets the request pass
+pub record AuthorizationsLeft (s : List ℕ) (q : Request) (ys : List Authorization) : Type 0 where
+  pub are : ys ≡ (effect plainly (decode s) q).authorizations
   pub room : full plainly (decode s) q ≡ false
   pub fits : (a : Authorization) → Mem a (effect plainly (decode s) q).authorizations → AuthorizationFits a
 
-module _ (s : List ℕ) (q : Request) (p : PassesEarly s q) (w : withdraws q ≡ true) (r : Put) (out : List ℕ)
-    (b : Built (effect plainly (decode s) q).authorizations r out) where
+module _ (s : List ℕ) (q : Request) (p : PassesEarly s q) (w : withdraws q ≡ true) where
   abbrev after : Base
   after = effect plainly (decode s) q
 
   -- too many: row 13
-  pub carried_full : r ≡ Full → CarriedOut s q (Refused 13) s
-  carried_full e =
-      let h : 1024 < length (effect plainly (decode s) q).authorizations =
-      subst (λ (x : Put). Built after.authorizations x out) e b in
+  pub carried_full : 1024 < length (effect plainly (decode s) q).authorizations → CarriedOut s q (Refused 13) s
+  carried_full h =
       let f : full plainly (decode s) q ≡ true =
       withdrawal_full (decode s) q (passed_sound s q p) w ∙ le-true 1025 (length after.authorizations) h in
       record {
@@ -113,54 +82,61 @@ module _ (s : List ℕ) (q : Request) (p : PassesEarly s q) (w : withdraws q ≡
         bytes = ap (λ (x : Bool). pick x s (encode after)) (sym f);
       }
 
-  pub lines_left_lem : (m : ℕ) → r ≡ Lines m → AuthorizationsLeft s q m out
-  lines_left_lem m e =
-      let l : Result m (effect plainly (decode s) q).authorizations out =
-      subst (λ (x : Put). Built after.authorizations x out) e b in
+  pub lines_left_lem : (ys : List Authorization) → ys ≡ (effect plainly (decode s) q).authorizations →
+      length ys ≤ 1024 → AuthorizationsLeft s q ys
+  lines_left_lem ys e l =
       let f : full plainly (decode s) q ≡ false =
       withdrawal_full (decode s) q (passed_sound s q p) w
-      ∙ le-false 1025 (length after.authorizations) (omega (arith, l.count, l.fits)) in
+      ∙ le-false 1025 (length after.authorizations)
+      (omega (arith, ap (λ (x : List Authorization). length x) e)) in
       let a : Allowed withdrawal_kinds s q =
       record { sound = p.sound; accepted = passed_accepted s q p f; kind = w } in
-      record { result = l; room = f; fits = (after-fits withdrawal_kinds s q a).authorizations }
+      record { are = e; room = f; fits = (after-fits withdrawal_kinds s q a).authorizations }
 
 -- the bytes of the effect
-pub carried_done : (s : List ℕ) (q : Request) → withdraws q ≡ true → (m : ℕ) (out : List ℕ) →
-    AuthorizationsLeft s q m out →
+pub carried_done : (s : List ℕ) (q : Request) → withdraws q ≡ true → (ys : List Authorization) →
+    AuthorizationsLeft s q ys → (m : ℕ) → m ≡ length ys →
     (s' : List ℕ) → s' ≡ encode (effect plainly (decode s) q) → CarriedOut s q (Done 0 m) s'
-carried_done s q w m out l s' e =
+carried_done s q w ys l m g s' e =
     let after = effect plainly (decode s) q in
     let n = sym (is_apart q withdrawal_kinds label_kinds refl w) in
+    let k : m ≡ length after.authorizations = g ∙ ap (λ (x : List Authorization). length x) l.are in
     record {
-      reply = (λ i. Done (pick (n i) (suc (decode s).last) 0) (l.result.count i))
+      reply = (λ i. Done (pick (n i) (suc (decode s).last) 0) (k i))
           ∙ ap (λ (x : Bool). pick x (Refused 13) (accepting (decode s) q after)) (sym l.room);
       bytes = e ∙ ap (λ (x : Bool). pick x s (encode after)) (sym l.room);
     }
 
 -- ---- the authorizations put into the bytes t, and the clock set
 
-module _ (t : List ℕ) (W : Written t) (s : List ℕ) (q : Request) (m : ℕ) (out : List ℕ)
-    (l : AuthorizationsLeft s q m out) where
-  abbrev ys : List Authorization
-  ys = (effect plainly (decode s) q).authorizations
+module _ (t : List ℕ) (W : Written t) (s : List ℕ) (q : Request) (ys : List Authorization)
+    (l : AuthorizationsLeft s q ys) (h : length ys ≤ 1024) (m : ℕ) (n : m ≡ length ys) (out : List ℕ)
+    (r : authorizations_in (length ys) out ≡ ys) where
+  own : authorizations_in m out ≡ ys
+  own = ap (λ (k : ℕ). authorizations_in k out) n ∙ r
 
-  pub replace_ready : 24576 ≤ length out → Written t × (m ≤ most_authorizations) × (m * 24 ≤ length out)
+  pub replace_ready : length out ≡ 24576 → take (24 * length ys) out ≡ each ys authorization_bytes →
+      Written t × (m ≤ most_authorizations) × (m * 24 ≤ length out)
       × (take (24 * m) out ≡ each (authorizations_in m out) authorization_bytes)
-  replace_ready h = (
+  replace_ready g c = (
     W,
-    l.result.fits,
-    omega (arith, l.result.fits),
-    l.result.clean ∙ ap (λ (x : List Authorization). each x authorization_bytes) (sym l.result.records),
+    omega (arith, h, n),
+    omega (arith, h, n, g),
+    ap (λ (k : ℕ). take (24 * k) out) n ∙ c
+        ∙ ap (λ (x : List Authorization). each x authorization_bytes) (sym own),
   )
 
   module _ (t₁ : List ℕ) (e₁ : t₁ ≡ encode (with_authorizations (authorizations_in m out) (decode t))) where
     pub replaced_holds : HoldsBase (with_authorizations (effect plainly (decode s) q).authorizations
         (decode t))
         t₁
-    replaced_holds = holds-base (with_authorizations ys (decode t)) t₁
-        (fits-authorizations ys (decode t) W.fits (omega (arith, l.result.count, l.result.fits))
+    replaced_holds =
+        let zs = (effect plainly (decode s) q).authorizations in
+        holds-base (with_authorizations zs (decode t)) t₁
+        (fits-authorizations zs (decode t) W.fits
+        (omega (arith, h, ap (λ (x : List Authorization). length x) l.are))
         l.fits)
-        (e₁ ∙ ap (λ (x : List Authorization). encode (with_authorizations x (decode t))) l.result.records)
+        (e₁ ∙ ap (λ (x : List Authorization). encode (with_authorizations x (decode t))) (own ∙ l.are))
 
     pub clocked : (clock : ℕ) (t₂ : List ℕ) → t₂ ≡ encode (with_stamp clock (decode t₁).last (decode t₁)) →
         t₂ ≡ encode (with_stamp clock (decode t).last

@@ -7,108 +7,83 @@ ghost use Rattle.model.specs.Requests.{REVOKE, REVOKEP, REVOKEN, REVOKEADM, is, 
 ghost use Rattle.model.specs.Requests.{objects_after, administrators_after};
 ghost use Rattle.model.specs.Means.{plainly};
 ghost use Rattle.model.specs.Step.{out_of_range, bad_interval, effect};
-ghost use Rattle.edits.specs.Edits.{Written};
-ghost use Rattle.pieces.specs.Cuts.{CutOf, CutOrdered};
-ghost use Rattle.pieces.specs.Building.{Room, Built};
+ghost use Rattle.pieces.specs.Cuts.{CutOf};
+ghost use Rattle.pieces.specs.Puts.{Makes};
 ghost use Rattle.revocation.specs.CarriedOut.{PassesEarly, CarriedOut};
 
-use model::{BASE_BYTES, BODY_BYTES, REVOKE, REVOKEADM, REVOKEN, Reply, Request};
-use pieces::{Cut, CutKind, Put};
+use edits::{PrivilegeBody, WrittenBase};
+use lookup::SoundBase;
+use model::{BASE_BYTES, REVOKE, REVOKEADM, REVOKEN, Reply, Request};
+use pieces::{Body, Cut, Full, Named};
+use support::Roots;
 
 // What REVOKEP and REVOKEN take out: the interval, of the requester's authorizations or denials for the
 // subject, object and mode.
 fn cut_by_name(q: Request) -> Cut
     requires { (out_of_range q ≡ false) × (bad_interval q ≡ false) × (is q (REVOKEP ∷ REVOKEN ∷ []) ≡ true) }
-    ensures { CutOf q result × CutOrdered result }
+    ensures { CutOf q result }
 {
-    let interval = q.interval;
-    Cut {
-        kind: CutKind::Name,
-        label: 0,
+    Cut::Name(Named {
         grantor: q.requester as u16,
         subject: q.subject as u16,
         object: q.object as u16,
         mode: q.mode as u8,
         negative: q.kind == REVOKEN,
-        interval: interval,
-    }
+        interval: q.interval,
+    })
 }
 
 // What REVOKE takes out: the authorizations of its label.
 fn cut_by_label(q: Request) -> Cut
     requires { (out_of_range q ≡ false) × (is q (REVOKE ∷ []) ≡ true) }
-    ensures { CutOf q result × CutOrdered result }
+    ensures { CutOf q result }
 {
-    let interval = q.interval;
-    Cut {
-        kind: CutKind::Label,
-        label: q.label as u16,
-        grantor: 0,
-        subject: 0,
-        object: 0,
-        mode: 0,
-        negative: false,
-        interval: interval,
-    }
+    Cut::Label(q.label as u16)
 }
 
 // What REVOKEADM takes out: the authorizations on its object that its subject granted.
 fn cut_by_grantor(q: Request) -> Cut
     requires { (out_of_range q ≡ false) × (is q (REVOKEADM ∷ []) ≡ true) }
-    ensures { CutOf q result × CutOrdered result }
+    ensures { CutOf q result }
 {
-    let interval = q.interval;
-    Cut {
-        kind: CutKind::Grantor,
-        label: 0,
-        grantor: q.subject as u16,
-        subject: 0,
+    Cut::Grantor {
         object: q.object as u16,
-        mode: 0,
-        negative: false,
-        interval: interval,
+        grantor: q.subject as u16,
     }
 }
 
 // What a withdrawing request takes out. Its numbers fit, as they are in their ranges.
 fn cut_of(q: Request) -> Cut
     requires { (out_of_range q ≡ false) × (bad_interval q ≡ false) × (withdraws q ≡ true) }
-    ensures { CutOf q result × CutOrdered result }
+    ensures { CutOf q result }
 {
-    if q.kind == REVOKE {
-        return cut_by_label(q);
+    match q.kind {
+        REVOKE => cut_by_label(q),
+        REVOKEADM => cut_by_grantor(q),
+        _ => cut_by_name(q),
     }
-    if q.kind == REVOKEADM {
-        return cut_by_grantor(q);
-    }
-    cut_by_name(q)
 }
 
-// The authorizations that the request leaves, built in `out`. `roots` is a base with the owners and
+// The authorizations that the request leaves, built in `body`. `after` is a base with the owners and
 // administrators that there are after it.
-fn build_remaining(roots: &[u8], s: &[u8], q: Request, out: &mut [u8], sorted: &mut [u8]) -> Put
-    requires passes_early { PassesEarly s.now q × (withdraws q ≡ true) × Written roots.now
-        × Room out.old sorted.old }
-    requires roots_value { ((decode roots.now).objects ≡ objects_after q (decode s.now).objects)
-        × ((decode roots.now).administrators ≡ administrators_after q (decode s.now).administrators) }
-    ensures { Built (effect plainly (decode s.now) q).authorizations result out.new }
+fn build_remaining(
+    after: &WrittenBase<'_>,
+    base: &SoundBase<'_>,
+    q: Request,
+    body: &mut Body,
+) -> Result<(), Full>
+    requires passes_early { PassesEarly base.now.bytes.now q × (withdraws q ≡ true) }
+    requires roots_value { ((decode after.now.bytes.now).objects
+        ≡ objects_after q (decode base.now.bytes.now).objects)
+        × ((decode after.now.bytes.now).administrators
+        ≡ administrators_after q (decode base.now.bytes.now).administrators) }
+    ensures { Makes (effect plainly (decode base.now.bytes.now) q).authorizations result body.new }
 {
-    let c = cut_of(q);
-    let k = encoding::counts_of(roots);
-    let administrators = encoding::administrators_at(k);
-    let n = encoding::counts_of(s);
-    let at = encoding::authorizations_at(n);
-    withdrawal::withdraw(
-        &roots[32..],
-        k.objects as usize,
-        &roots[administrators..],
-        k.administrators as usize,
-        &s[at..],
-        n.authorizations as usize,
-        c,
-        out,
-        sorted,
-    )
+    let roots = Roots {
+        owners: after.privileges(PrivilegeBody::Objects),
+        administrators: after.privileges(PrivilegeBody::Administrators),
+    };
+    withdrawal::withdraw(&roots, &base.authorizations(), cut_of(q), body)
 }
 
 // REVOKE, REVOKEP and REVOKEN.
@@ -116,12 +91,18 @@ pub fn revoke(s: &mut [u8], q: Request) -> Reply
     requires { PassesEarly s.old q × (is q (REVOKE ∷ REVOKEP ∷ REVOKEN ∷ []) ≡ true) }
     ensures { CarriedOut s.old q result s.new }
 {
-    let mut out = [0u8; BODY_BYTES];
-    let mut sorted = [0u8; BODY_BYTES];
-    let Put::Lines(m) = build_remaining(s, s, q, &mut out, &mut sorted) else {
+    let mut body = Body::new();
+    let remaining = build_remaining(
+        &WrittenBase { bytes: s },
+        &SoundBase { bytes: s },
+        q,
+        &mut body,
+    );
+    let Ok(()) = remaining else {
         return Reply::Refused(13);
     };
-    edits::replace_authorizations(s, &out, m);
+    let m = body.len();
+    edits::replace_authorizations(s, body.bytes(), m);
     edits::set_clock(s, q.now);
     Reply::Done {
         label: 0,
@@ -138,15 +119,21 @@ pub fn revoke_administrator(s: &mut [u8], q: Request) -> Reply
     let mut after = [0u8; BASE_BYTES];
     after.copy_from_slice(s);
     effects::remove_administrator(&mut after, q);
-    let mut out = [0u8; BODY_BYTES];
-    let mut sorted = [0u8; BODY_BYTES];
-    let Put::Lines(n) = build_remaining(&after, s, q, &mut out, &mut sorted) else {
+    let mut body = Body::new();
+    let built = build_remaining(
+        &WrittenBase { bytes: &after },
+        &SoundBase { bytes: s },
+        q,
+        &mut body,
+    );
+    let Ok(()) = built else {
         return Reply::Refused(13);
     };
-    let refers = lookup::refers(s, q.object, q.subject);
+    let refers = SoundBase { bytes: s }.refers(q.object, q.subject);
+    let n = body.len();
     effects::remove_administrator(s, q);
     effects::drop_rules(s, q, refers, false);
-    edits::replace_authorizations(s, &out, n);
+    edits::replace_authorizations(s, body.bytes(), n);
     edits::set_clock(s, q.now);
     Reply::Done {
         label: 0,
