@@ -6,9 +6,10 @@ use mathlib.Core.Logic.{◌≢◌}
 use mathlib.Core.Bool.{Bool, true, false, not, ◌&&◌}
 use mathlib.Core.List.{List, [], ◌∷◌, ◌++◌}
 use native.Mathlib.Omega.{arith}
-use lib.Dec.{ltb}
+use lib.Dec.{ltb, eqb}
+use Rattle.std.specs.Prelude.{Option, Some, None}
 use lib.ListN.{length, drop}
-use Rattle.foundation.specs.Tests.{and-true, and_intro, agree, le-true, le-false}
+use Rattle.foundation.specs.Tests.{cases, true_eq, false_eq, and-true, and_intro, agree, le-true, le-false}
 use Rattle.model.specs.declared.Access.{Access}
 use Rattle.model.specs.declared.Question.{Question}
 use Rattle.model.specs.declared.Reply.{Reply}
@@ -23,6 +24,22 @@ use Rattle.model.specs.Soundness.{sound_bytes}
 use Rattle.model.specs.Answers.{Answer, answering, refusing, access_in, may_table, when_table, words, may_reply}
 use Rattle.model.specs.Answers.{may_answer, when_answer}
 use Rattle.answers.specs.AskingRows.{access_rows}
+
+-- the row that applies, and none
+pub first_row : (rows : List Row) (n : ℕ) → refused_or rows Some None ≡ Some n →
+    (n ≡ first_number rows) × (first_number rows ≢ 0)
+first_row rows n e = cases (eqb (first_number rows) 0)
+    (λ y. let z : ◌≡◌ {A = Option ℕ} None (Some n) =
+    sym (answered rows Some None (true_eq (first_number rows) 0 y)) ∙ e in cc)
+    (λ y. let d = false_eq (first_number rows) 0 y in
+    let z : ◌≡◌ {A = Option ℕ} (Some (first_number rows)) (Some n) = sym (turned_away rows Some None d) ∙ e in
+    (cc, d))
+
+pub no_row : (rows : List Row) → refused_or rows Some None ≡ None → first_number rows ≡ 0
+no_row rows e = cases (eqb (first_number rows) 0)
+    (λ y. true_eq (first_number rows) 0 y)
+    (λ y. let d = false_eq (first_number rows) 0 y in
+    let z : ◌≡◌ {A = Option ℕ} (Some (first_number rows)) None = sym (turned_away rows Some None d) ∙ e in cc)
 
 -- where neither row 3 nor row 6 applies, what is asked about is in range
 pub asked_in : (b : Base) (x : Access) → first_number (access_rows b x) ≡ 0 → access_in x ≡ true
@@ -76,18 +93,22 @@ module _ (s : List ℕ) (q : Question) where
       first_number (access_rows (decode s) q.access) ≡ 0 → may_answer s q ≡ said
   may_answered e i z = may-rows e i ∙ answered (access_rows (decode s) q.access) Refused said z
 
--- MAY's reply, by the number n that rows 3 and 6 give
-module _ (s : List ℕ) (q : Question) (e : sound_bytes s ≡ true) (i : is_instant q.instant ≡ true) (n : ℕ)
-    (rows : n ≡ first_number (access_rows (decode s) q.access)) where
-  pub reply_refused : n ≢ 0 → Refused n ≡ may_answer s q
-  reply_refused some = ap Refused rows ∙ sym (may-refused s q e i (λ z. some (rows ∙ z)))
+-- MAY's reply, by what rows 3 and 6 give
+module _ (s : List ℕ) (q : Question) (e : sound_bytes s ≡ true) (i : is_instant q.instant ≡ true)
+    (rows : refused_or (access_rows (decode s) q.access) Some None ≡ None) where
+  pub reply_asked : access_in q.access ≡ true
+  reply_asked = asked_in (decode s) q.access (no_row (access_rows (decode s) q.access) rows)
 
-  pub reply_asked : n ≡ 0 → access_in q.access ≡ true
-  reply_asked none = asked_in (decode s) q.access (sym rows ∙ none)
-
-  pub reply_said : n ≡ 0 → {yes : Bool} {r : Reply} → yes ≡ may (decode s) q.access q.instant →
+  pub reply_said : {yes : Bool} {r : Reply} → yes ≡ may (decode s) q.access q.instant →
       r ≡ may_reply yes → r ≡ may_answer s q
-  reply_said none said made = made ∙ ap may_reply said ∙ sym (may_answered s q e i (sym rows ∙ none))
+  reply_said said made = made ∙ ap may_reply said
+      ∙ sym (may_answered s q e i (no_row (access_rows (decode s) q.access) rows))
+
+pub reply_refused : (s : List ℕ) (q : Question) → sound_bytes s ≡ true → is_instant q.instant ≡ true → (n : ℕ) →
+    refused_or (access_rows (decode s) q.access) Some None ≡ Some n → Refused n ≡ may_answer s q
+reply_refused s q e i n rows =
+    let r = first_row (access_rows (decode s) q.access) n rows in
+    ap Refused r.0 ∙ sym (may-refused s q e i r.1)
 
 -- ---- WHEN
 

@@ -1,8 +1,8 @@
 // MAY and WHEN over the bytes of a sound base: their refusals, and their replies.
-ghost use Rattle.std.specs.Prelude.{◌≡◌, true};
+ghost use Rattle.std.specs.Prelude.{◌≡◌, true, Some, None};
 ghost use Rattle.model.specs.Encoding.{decode};
 ghost use Rattle.model.specs.Soundness.{sound_bytes};
-ghost use Rattle.model.specs.Step.{first_number};
+ghost use Rattle.model.specs.Step.{refused_or};
 ghost use Rattle.model.specs.Answers.{answering, may_reply, may_answer, when_answer};
 ghost use Rattle.queries.specs.HandedOn.{HandedOn};
 ghost use Rattle.answers.specs.AskingRows.{access_rows};
@@ -11,18 +11,18 @@ use lookup::SoundBase;
 use model::{Access, Question, Reply};
 use queries::{holds_at, holds_prepared, list_runs};
 
-// The first of rows 3 and 6 that applies, or 0.
-fn refusal_of(s: &[u8], x: Access) -> u32
+// The number of the first of rows 3 and 6 that applies, if one does.
+fn refusal_of(s: &[u8], x: Access) -> Option<u32>
     requires { sound_bytes s.now ≡ true }
-    ensures { result ≡ first_number (access_rows (decode s.now) x) }
+    ensures { result ≡ refused_or (access_rows (decode s.now) x) Some None }
 {
     if !lookup::access_in(x) {
-        return 3;
+        return Some(3);
     }
     if !(SoundBase { bytes: s }).exists(x.object) {
-        return 6;
+        return Some(6);
     }
-    0
+    None
 }
 
 // The reply to MAY, where the rules say `yes`.
@@ -40,12 +40,10 @@ pub fn may_sound(s: &[u8], q: Question) -> Reply
     requires { sound_bytes s.now ≡ true }
     ensures { result ≡ may_answer s.now q }
 {
-    let x = q.access;
-    let n = refusal_of(s, x);
-    if n != 0 {
-        return Reply::Refused(n);
+    match refusal_of(s, q.access) {
+        Some(n) => Reply::Refused(n),
+        None => may_reply(holds_at(s, q.access, q.instant)),
     }
-    may_reply(holds_at(s, x, q.instant))
 }
 
 // The same, by what was prepared of the base.
@@ -53,12 +51,10 @@ pub fn may_prepared(s: &[u8], prepared: &[u64], q: Question) -> Reply
     requires { (sound_bytes s.now ≡ true) × HandedOn s.now prepared.now }
     ensures { result ≡ may_answer s.now q }
 {
-    let x = q.access;
-    let n = refusal_of(s, x);
-    if n != 0 {
-        return Reply::Refused(n);
+    match refusal_of(s, q.access) {
+        Some(n) => Reply::Refused(n),
+        None => may_reply(holds_prepared(s, prepared, q.access, q.instant)),
     }
-    may_reply(holds_prepared(s, prepared, x, q.instant))
 }
 
 // WHEN over a base that is known to be sound.
@@ -66,8 +62,7 @@ pub fn when_sound(s: &[u8], x: Access, list: &mut [u32]) -> Reply
     requires { sound_bytes s.now ≡ true }
     ensures { answering result list.new ≡ when_answer s.now x list.old }
 {
-    let n = refusal_of(s, x);
-    if n != 0 {
+    if let Some(n) = refusal_of(s, x) {
         return Reply::Refused(n);
     }
     let pairs = list.len() / 2;

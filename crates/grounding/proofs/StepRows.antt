@@ -1,8 +1,8 @@
 -- Rows of steps of any kind: one behind another, over more places, and the places visited on the way. The
 -- loops over the modes of a pair (`ModesTo`) and over the pairs of a range (`PairsTo`) make such rows.
 use mathlib.Core.Path.{◌≡◌, refl, ◌∙◌}
-use mathlib.Core.Bool.{true, ◌||◌}
-use mathlib.Core.List.{List}
+use mathlib.Core.Bool.{true, ◌||◌, false≢true}
+use mathlib.Core.List.{List, [], ◌∷◌, ◌++◌}
 use Prim.Native.Nat.{ℕ, suc, ◌+◌, ◌*◌, ◌≤◌, ◌<◌}
 use native.Mathlib.Omega.{arith}
 use lib.Dec.{eqb, ltb}
@@ -13,8 +13,8 @@ use Rattle.places.specs.Needs.{both_at}
 use Rattle.places.specs.Regions.{free}
 use Rattle.tables.specs.declared.Frame.{Frame}
 use Rattle.tables.specs.declared.Place.{Place}
-use Rattle.masks.proofs.SingleBits.{NoneIn}
-use Rattle.masks.proofs.BitLoops.{ForBitsBelow, passed_start, passed_turn}
+use Rattle.words.specs.SetBits.{bits_below, among}
+use Rattle.words.proofs.SetBitLoops.{Turn, each_turn, each_end}
 use Rattle.grounding.specs.declared.RuleTurn.{RuleTurn}
 use Rattle.grounding.specs.RuleSteps.{Steps, none, then, Visited, AtMode, with_mode, ModesRan}
 use Rattle.grounding.specs.RuleSteps.{object_at, subject_at, StandsAt, place_at, AtPair, PairsRan}
@@ -82,32 +82,33 @@ module _ {Does : Place → List ℕ → List ℕ → Type 0} where
 
 -- ---- the modes of a mask, one after the other
 
--- those below r are done
-pub record ModesTo (Does : Place → List ℕ → List ℕ → Type 0) (p : Place) (modes r : ℕ) (old new : List ℕ) :
+-- those given so far are done
+pub record ModesTo (Does : Place → List ℕ → List ℕ → Type 0) (p : Place) (modes : ℕ) (given old new : List ℕ) :
     Type 0 where
   pub steps : Steps Does (AtMode p modes) old new
-  pub all : ForBitsBelow modes (λ m. Visited Does (AtMode p modes) (with_mode p m) old new) r
+  pub all : (m : ℕ) → among m given ≡ true → Visited Does (AtMode p modes) (with_mode p m) old new
 
 module _ {Does : Place → List ℕ → List ℕ → Type 0} {p : Place} {modes : ℕ} where
-  pub modes-start : {w : List ℕ} (r : ℕ) → NoneIn modes 0 r → ModesTo Does p modes r w w
-  modes-start {w} r z = record {
-    steps = none;
-    all = passed_start modes (λ m. Visited Does (AtMode p modes) (with_mode p m) w w) r z;
-  }
+  pub modes_start : {w : List ℕ} → ModesTo Does p modes [] w w
+  modes_start = record { steps = none; all = λ m e. absurd (false≢true e) }
 
-  pub modes-turn : {a b c : List ℕ} (r k : ℕ) → ModesTo Does p modes r a b → r < 64 → bit r modes ≡ true →
-      Does (with_mode p r) b c → NoneIn modes (r + 1) k → ModesTo Does p modes k a c
-  modes-turn {a} {b} {c} r k d h e s z =
-      let more : Steps Does (AtMode p modes) b c = then (with_mode p r) (r, h, e, refl) s none in
+  pub modes-turn : {a b c xs : List ℕ} {r : ℕ} → Turn modes xs r → ModesTo Does p modes xs a b →
+      Does (with_mode p r) b c → ModesTo Does p modes (xs ++ r ∷ []) a c
+  modes-turn {a} {b} {c} {xs} {r} t d s =
+      let more : Steps Does (AtMode p modes) b c = then (with_mode p r) (r, t.low, t.own, refl) s none in
       record {
         steps = row_on d.steps more;
-        all = passed_turn modes (λ m. Visited Does (AtMode p modes) (with_mode p m) a b)
-            (λ m. Visited Does (AtMode p modes) (with_mode p m) a c) r k d.all (λ i l v. visited_on v more)
-            (visited_last (with_mode p r) d.steps s) z;
+        all = each_turn (λ m. Visited Does (AtMode p modes) (with_mode p m) a b)
+            (λ m. Visited Does (AtMode p modes) (with_mode p m) a c) t d.all (λ i l v. visited_on v more)
+            (visited_last (with_mode p r) d.steps s);
       }
 
-  pub modes-end : {a b : List ℕ} (r : ℕ) → 64 ≤ r → ModesTo Does p modes r a b → ModesRan Does p modes a b
-  modes-end r h d = record { steps = d.steps; all = λ m l e. d.all m (omega arith) e }
+  pub modes-end : {a b xs : List ℕ} → modes < 18446744073709551616 → xs ≡ bits_below 64 modes →
+      ModesTo Does p modes xs a b → ModesRan Does p modes a b
+  modes-end {a} {b} h e d = record {
+    steps = d.steps;
+    all = λ m l y. each_end _ (λ m. Visited Does (AtMode p modes) (with_mode p m) a b) h e d.all m y;
+  }
 
 -- ---- the pairs of a range, one after the other
 

@@ -11,7 +11,7 @@ ghost use Rattle.sections.specs.Sections.{left_of, first_of, rights_of, numbered
 ghost use Rattle.sections.specs.Sections.{fields_of, broken_of};
 ghost use Rattle.tables.specs.TableGiving.{TablesReady, Reaches};
 ghost use Rattle.derivation.specs.Derive.{Derived};
-ghost use Rattle.grounding.specs.RuleSteps.{turned_point, pair_in, right_place, force_at, force_in};
+ghost use Rattle.grounding.specs.RuleSteps.{turned_point, pair_in, right_place, force_at, force_in, with_mode};
 ghost use Rattle.grounding.specs.RuleSteps.{broken_in, modes_at, Step, Mark, ModesReady, ModesRan};
 ghost use Rattle.grounding.specs.RuleTurns.{Sliced};
 ghost use Rattle.grounding.specs.RuleSteps.{PairsReady, PairsRan, Ordinary, StepReads};
@@ -21,16 +21,13 @@ use evaluation::is_lasting;
 use places::{Grid, Pair, Point, Region, modes_with_both, pair_index, pair_of_code};
 use sections::{FEED, FIRST, LEFT, LEFT_SUBJECTS, RIGHT, STARTS, SUBJECTS};
 use tables::{Frame, Place, all_places, denials_start, field_in, give};
-use words::{field_at, join_at, next_bit};
+use words::{field_at, join_at, ones};
 
 // A coordinate of a right side: its own, or that of the left side.
 fn turn(code: u8, own: u32) -> u32
     ensures { result ≡ turned code own }
 {
-    if code == 255 {
-        return own;
-    }
-    code as u32
+    if code == 255 { own } else { u32::from(code) }
 }
 
 // The place on the right of a rule, seen from that on its left.
@@ -57,7 +54,7 @@ fn right_place(t: RuleTurn, g: Grid, number: &[u16], x: Point) -> Place
     };
     let j = pair_index(p, g.subjects as usize);
     Place {
-        pair: number[j] as u32,
+        pair: u32::from(number[j]),
         point: y,
     }
 }
@@ -153,6 +150,19 @@ fn modes_at(t: RuleTurn, need: u16) -> u64
     0
 }
 
+// The place of a pair with a mode.
+fn with_mode(pair: Place, m: u32) -> Place
+    ensures { result ≡ with_mode pair m }
+{
+    Place {
+        point: Point {
+            mode: m,
+            ..pair.point
+        },
+        ..pair
+    }
+}
+
 // The same for each mode of a mask at a pair.
 fn derive_modes(
     t: RuleTurn,
@@ -173,20 +183,9 @@ fn derive_modes(
         × SumGrown result (fields_of t.words work.old) (fields_of t.words work.new)
         × (broken_of t.words work.new ≡ broken_of t.words work.old) }
 {
-    let x = pair.point;
     let mut fresh = false;
-    let mut m = next_bit(modes, 0);
-    while m < 64 {
-        let p = Place {
-            pair: pair.pair,
-            point: Point {
-                subject: x.subject,
-                mode: m,
-                object: x.object,
-            },
-        };
-        fresh = fresh | derive_at(t, f, number, right, first, work, p);
-        m = next_bit(modes, m + 1);
+    for m in ones(modes) {
+        fresh = fresh | derive_at(t, f, number, right, first, work, with_mode(pair, m));
     }
     fresh
 }
@@ -255,8 +254,7 @@ pub fn derive_pairs(
     let rest = &numbers[size..];
     let listed = &rest[..size];
     let mut fresh = false;
-    let mut n = range.from;
-    while n < range.to {
+    for n in range.from..range.to {
         let p = pair_of_code(listed[n as usize]);
         let pair = Place {
             pair: n,
@@ -278,7 +276,6 @@ pub fn derive_pairs(
                 pair,
                 modes,
             );
-        n += 1;
     }
     fresh
 }
@@ -320,19 +317,8 @@ fn mark_modes(
         pair modes (broken_of t.words work.old) (broken_of t.words work.new)
         × (fields_of t.words work.new ≡ fields_of t.words work.old) }
 {
-    let x = pair.point;
-    let mut m = next_bit(modes, 0);
-    while m < 64 {
-        let p = Place {
-            pair: pair.pair,
-            point: Point {
-                subject: x.subject,
-                mode: m,
-                object: x.object,
-            },
-        };
-        mark_broken_at(t, f, number, work, last, p);
-        m = next_bit(modes, m + 1);
+    for m in ones(modes) {
+        mark_broken_at(t, f, number, work, last, with_mode(pair, m));
     }
 }
 
@@ -364,8 +350,7 @@ pub fn mark_pairs(
     let number = &numbers[..size];
     let rest = &numbers[size..];
     let listed = &rest[..size];
-    let mut n = range.from;
-    while n < range.to {
+    for n in range.from..range.to {
         let p = pair_of_code(listed[n as usize]);
         let pair = Place {
             pair: n,
@@ -377,6 +362,5 @@ pub fn mark_pairs(
         };
         let modes = standing_modes(t, g, left, need, p);
         mark_modes(t, f, number, work, last, pair, modes);
-        n += 1;
     }
 }

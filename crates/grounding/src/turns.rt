@@ -24,14 +24,14 @@ use model::{Head, RULE_BYTES, Rule};
 use places::{Grid, Pair, Region, pair_index, row_index};
 use sections::{ACTIVE, FEED, FIRST, LEFT, RIGHT, SIDES, STARTS, SUBJECTS};
 use tables::{Frame, all_places, denials_start, region_at, shape_at};
-use words::next_bit;
+use words::ones;
 
 // The number of the pair with a code; behind the last one how many there are.
 fn pair_number_at(number: &[u16], j: usize, pairs: u32) -> u32
     ensures { result ≡ pair_number_at number.now j pairs }
 {
     if j < number.len() {
-        return number[j] as u32;
+        return u32::from(number[j]);
     }
     pairs
 }
@@ -133,21 +133,20 @@ fn turn_of(body: &[u8], r: u32, f: Frame, outline: &[u64], coordinates: &[u8]) -
 {
     let i = r as usize;
     let q = rule_at(body, i * RULE_BYTES);
-    let operator = q.operator;
     let right = &coordinates[RIGHT..SUBJECTS];
     let signs = coordinates[4 * i + 3];
     let denied = signs / 2 == 1;
     let own = has_bit(f.choosy, r);
     RuleTurn {
         rule: r,
-        operator: operator,
+        operator: q.operator,
         active: outline[ACTIVE + i],
         right: region_at(right, i),
-        denied: denied,
+        denied,
         first: table_start(f, &outline[FIRST..STARTS], i, own, denied),
         table: table_region(f, right, i, own),
         left: region_at(&coordinates[SIDES..RIGHT], i),
-        sign: (signs % 2) as u32,
+        sign: u32::from(signs % 2),
         bits: outline[STARTS + i],
         takers: given_to(body, q, f, outline[FEED + 64 + i]),
         words: words_for(f.fields, f.width),
@@ -313,9 +312,7 @@ pub fn mark_broken(
         (bits_in e.frame work.old) (bits_in e.frame work.new)
         × (fields_in e.frame work.new ≡ fields_in e.frame work.old) }
 {
-    let mut r = next_bit(rules, 0);
-    while r < 64 {
+    for r in ones(rules) {
         mark_rule(body, r, e, outline, coordinates, need, numbers, work);
-        r = next_bit(rules, r + 1);
     }
 }

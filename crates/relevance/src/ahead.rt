@@ -14,7 +14,9 @@ ghost use Rattle.relevance.specs.Ahead.{IsNext, NearAt, Standing};
 use crate::Chosen;
 use crate::distance::{nearest_line, nearest_rule};
 
-// The next start, and the next instant behind an end; 2^32 where there is none.
+// The next start, and the next instant behind an end; 2^32 where there is none. That is a number, and no
+// Option: it is the instant behind the last one, which an end at the last one has as its mark, and the next of
+// all marks is the least number.
 #[derive(Clone, Copy)]
 pub struct Edges {
     pub starts: u64,

@@ -17,7 +17,7 @@ use places::{Pair, is_needed_both, pair_index};
 use sections::{OBJECTS, SUBJECTS};
 
 // The coordinate of a subject or object from its entry in the table, `own` being the one that is asked about;
-// 255 for one that has none.
+// 255 for one that has none, as `coordinate` of specs/CoordinateTables says it.
 fn coordinate_of(entry: u8, own: bool) -> u32
     ensures { (result ≡ pick (entry == 0) (pick own 0 255) entry) × (result ≤ 255) }
 {

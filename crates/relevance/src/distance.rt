@@ -54,7 +54,8 @@ pub fn nearest_line(lines: &[u8], which: &[u16], n: usize, ends: bool, t: u32) -
     mark_at(t, best)
 }
 
-// The same of the rules of k that are needed.
+// The same of the rules of k that are needed. The two loops differ in what they walk, a list of numbers and
+// the bits of a mask, and share their turn, `nearer_mark`.
 pub fn nearest_rule(body: &[u8], k: usize, needed: u64, ends: bool, t: u32) -> u64
     requires { (k * 28 ≤ length body.now) × (k ≤ 64) }
     ensures { result

@@ -82,7 +82,7 @@ pub fn shape_at(f: Frame, right: &[u8], i: usize) -> Region
 fn names_coordinate(code: u8, v: u32) -> bool
     ensures { result ≡ free code || eqb code v }
 {
-    (code == 255) | (code as u32 == v)
+    (code == 255) | (u32::from(code) == v)
 }
 
 // Whether a place lies in a region.
@@ -106,7 +106,7 @@ pub fn lay_out(codes: &[u8], rules: u64, g: Grid, from: u32, first: &mut [u64]) 
     for r in ones(rules) {
         let i = r as usize;
         first[i] = n as u64;
-        n = n + places::size_of(g, region_at(codes, i));
+        n += places::size_of(g, region_at(codes, i));
     }
     n
 }
@@ -201,7 +201,7 @@ pub fn give(
     let b = all_places();
     let mut fresh = join_in(words, f, sign * denials_start(g), b, p, v);
     for c in ones(takers) {
-        fresh = fresh | give_rule(words, right, first, f, p, c, v);
+        fresh |= give_rule(words, right, first, f, p, c, v);
     }
     fresh
 }

@@ -1,4 +1,4 @@
--- What holds of each of the set bits that a loop has been given (`each_turn`, `each_all`). And chains over them: what a closure may be asked (`serves_bits`), what `find` finds
+-- Chains over the set bits of a mask: what a closure may be asked (`serves_bits`), what `find` finds
 -- (`first_of_bits`) and what `any` says (`none_of_bits`). The calls leave the closure as it was.
 use Rattle.std.specs.Prelude.{◌≡◌, Bool, true, false, List, [], ◌∷◌, ◌++◌, ℕ, suc, ◌<◌, eqb, ltb, MatchOption}
 use Rattle.std.proofs.Common.{sym, ◌∙◌, subst, Option, None, Some, Bor}
@@ -8,24 +8,10 @@ use Rattle.std.specs.List.{FoldsTo}
 use Rattle.std.specs.Fn.{Called, CalledAt}
 use Rattle.std.specs.Iterator.{YieldsFirst, CallableAtEachTurn, FindsItem, ChecksAny}
 use Rattle.foundation.specs.BitMasks.{bit}
-use Rattle.foundation.specs.Tests.{or_cases, true_eq, true-le, and-true}
+use Rattle.foundation.specs.Tests.{or_cases, true_eq}
 use Rattle.words.specs.declared.bits.SetBits.{SetBits}
-use Rattle.words.specs.SetBits.{bits_below, bits_left, among}
-use Rattle.words.proofs.SetBitLoops.{Turn, turn, finished, among_more, among_all}
-
-pub each_turn : {m r : ℕ} {xs : List ℕ} (P Q : ℕ → Type 0) → Turn m xs r →
-    ((i : ℕ) → among i xs ≡ true → P i) → ((i : ℕ) → i < r → P i → Q i) → Q r →
-    (i : ℕ) → among i (xs ++ r ∷ []) ≡ true → Q i
-each_turn {m} {r} {xs} P Q t d f q i e =
-    or_cases (among i xs) (eqb i r) (sym (among_more i r xs) ∙ e)
-    (λ y. f i (true-le (suc i) r (and-true (ltb i r) (bit i m) (sym (t.seen i) ∙ y)).0) (d i y))
-    (λ y. subst Q (sym (true_eq i r y)) q)
-
-pub each_all : {m : ℕ} {xs : List ℕ} (P : ℕ → Type 0) → m < 18446744073709551616 → xs ≡ bits_below 64 m →
-    ((i : ℕ) → among i xs ≡ true → P i) → (i : ℕ) → bit i m ≡ true → P i
-each_all {m} {xs} P h e d i b = d i (among_all i m xs h e ∙ b)
-
--- ---- chains
+use Rattle.words.specs.SetBits.{bits_left, among}
+use Rattle.words.proofs.SetBitLoops.{turn, finished, among_all}
 
 same : {P : Type 0} (R : P → ℕ → P → Type 0) {p : P} → ((x : ℕ) (q : P) → R p x q → q ≡ p) →
     (xs : List ℕ) (q : P) → FoldsTo R p xs q → q ≡ p

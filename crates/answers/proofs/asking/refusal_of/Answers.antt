@@ -1,15 +1,16 @@
+use Rattle.std.specs.Prelude.{Option, Some, None}
 use Prim.Native.Nat.{ℕ}
 use mathlib.Core.Path.{sym, ◌∙◌}
 use mathlib.Core.Bool.{Bool, not}
 use mathlib.Core.List.{[], ◌∷◌}
 use Rattle.model.specs.Base.{exists}
 use Rattle.model.specs.Encoding.{decode}
-use Rattle.model.specs.Step.{row, first_number}
+use Rattle.model.specs.Step.{row, refused_or}
 use Rattle.answers.proofs.asking.refusal_of.Goals as goal
 
 -- by what rows 3 and 6 ask
-abbrev of_rows : Bool → Bool → ℕ
-of_rows g h = first_number (row 3 (not g) ∷ row 6 (not h) ∷ [])
+abbrev of_rows : Bool → Bool → Option ℕ
+of_rows g h = refused_or (row 3 (not g) ∷ row 6 (not h) ∷ []) Some None
 
 pub returns-then-not-access_in : goal.returns-then-not-access_in
 returns-then-not-access_in c =

@@ -1,5 +1,5 @@
 use native.Mathlib.Omega.{arith}
-use mathlib.Core.Path.{◌≡◌, sym, ap, ◌∙◌}
+use mathlib.Core.Path.{sym, ap, ◌∙◌}
 use Prim.Native.Nat.{◌/◌, ◌≤◌, ◌<◌}
 use lib.ListN.{length}
 use Rattle.model.specs.Encoding.{decode}
@@ -7,25 +7,25 @@ use Rattle.model.specs.declared.Reply.TheVariants.{Refused, Runs}
 use Rattle.model.specs.Rules.{when}
 use Rattle.model.specs.Answers.{answering, refusing}
 use Rattle.scan.proofs.FilledFacts.{listed_if_room-short, listed_if_room_all}
-use Rattle.answers.proofs.AnswersByRows.{asked_in, when-refused, when-short, when-listed}
+use Rattle.answers.specs.AskingRows.{access_rows}
+use Rattle.answers.proofs.AnswersByRows.{asked_in, no_row, first_row, when-refused, when-short, when-listed}
 use Rattle.answers.proofs.asking.when_sound.Goals as goal
 
-pub returns-then-n-ne0 : goal.returns-then-n-ne0
-returns-then-n-ne0 c =
+pub returns-in-Some : goal.returns-in-Some
+returns-in-Some c =
     let a = c.args in
-    let e = c.refusal_of-n.ensures in
-    ap (refusing a.list.now) e
-    ∙ sym (when-refused a.s.now a.x a.list.now c.requires (λ z. omega (arith, c.if-n-ne0.true, e, z)))
+    let r = first_row (access_rows (decode a.s.now) a.x) _ (sym c.in-Some.ensures) in
+    ap (refusing a.list.now) r.0 ∙ sym (when-refused a.s.now a.x a.list.now c.requires r.1)
 
 pub list_runs-count-requires : goal.list_runs-count-requires
 list_runs-count-requires c =
-    let passes = sym c.refusal_of-n.ensures ∙ c.if-n-ne0.false in
+    let passes = no_row (access_rows (decode c.args.s.now) c.args.x) (sym c.in_default.ensures) in
     (c.requires, asked_in (decode c.args.s.now) c.args.x passes)
 
 pub returns-then-pairs-count : goal.returns-then-pairs-count
 returns-then-pairs-count c =
     let a = c.args in
-    let passes = sym c.refusal_of-n.ensures ∙ c.if-n-ne0.false in
+    let passes = no_row (access_rows (decode a.s.now) a.x) (sym c.in_default.ensures) in
     let e = c.list_runs-count.ensures in
     let runs = when (decode a.s.now) a.x in
     let h : length a.list.now / 2 < length runs = omega (arith, e.count, c.if-pairs-count.true) in
@@ -39,7 +39,7 @@ overflow_cast-result c = omega (arith, c.list_runs-count.ensures.few)
 pub returns : goal.returns
 returns c =
     let a = c.args in
-    let passes = sym c.refusal_of-n.ensures ∙ c.if-n-ne0.false in
+    let passes = no_row (access_rows (decode a.s.now) a.x) (sym c.in_default.ensures) in
     let e = c.list_runs-count.ensures in
     let runs = when (decode a.s.now) a.x in
     let h : length runs ≤ length a.list.now / 2 = omega (arith, e.count, c.if-pairs-count.false) in

@@ -1,52 +1,42 @@
 use native.Mathlib.Omega.{arith}
 use mathlib.Core.Path.{◌≡◌, refl, ap, ◌∙◌}
-use mathlib.Core.Bool.{true}
-use Prim.Native.Nat.{◌<◌}
 use lib.ListN.{length}
+use Rattle.words.proofs.SetBitLoops.{Turn, turn, finished}
 use Rattle.words.proofs.SumFacts.{grown_none, grown_both}
 use Rattle.sections.specs.Sections.{fields_of, broken_of}
 use Rattle.grounding.proofs.Parts.{both-length}
-use Rattle.grounding.proofs.StepRows.{row-length, modes-start, modes-turn, modes-end}
+use Rattle.grounding.proofs.StepRows.{row-length, modes_start, modes-turn, modes-end}
 use Rattle.grounding.proofs.pairs.derive_modes.Goals as goal
+use Rattle.grounding.proofs.pairs.derive_modes.Goals.{In-Some}
+
+at : (c : In-Some) → Turn c.args.modes c.loop-m.yielded c.in-Some.m
+at c = turn c.loop-m.m-iterator (cc) c.loop-m.yielded_by c.in-Some.ensures.steps
 
 pub loop-m-init : goal.loop-m-init
-loop-m-init c =
-    let a = c.args in
-    let e = c.next_bit-m.ensures in (
-      e.1,
-      e.3,
-      modes-start c.next_bit-m.result e.2,
-      grown_none (fields_of a.t.words a.work.now),
-      refl,
-    )
+loop-m-init c = (modes_start, grown_none (fields_of c.args.t.words c.args.work.now), refl)
 
 pub derive_at-fresh-requires : goal.derive_at-fresh-requires
 derive_at-fresh-requires c =
-    let s = c in
+    let t = at (goal.at.derive_at-fresh-requires c).In-Some in
     let l = c.loop-m in
-    let k = s.args.t.words in
-    let w = s.args.work.now in
+    let k = c.args.t.words in
+    let w = c.args.work.now in
     let e : length (fields_of k l.work) ≡ length (fields_of k w) =
-    row-length (λ p u v d. d.given.lengths) l.invariant.2.steps in
-    let b : broken_of k l.work ≡ broken_of k w = l.invariant.4 in
-    let h : l.m < 64 = c.loop-m-test.true in (
-      rw (e, b) (s.requires.0 l.m h (l.invariant.1 h)),
-      omega (arith, both-length k l.work w e (ap length b), s.requires.1),
-      rw e s.requires.2,
+    row-length (λ p u v d. d.given.lengths) l.invariant.0.steps in
+    let b : broken_of k l.work ≡ broken_of k w = l.invariant.2 in (
+      rw (e, b, c.with_mode.ensures) (c.requires.0 c.in-Some.m t.low t.own),
+      omega (arith, both-length k l.work w e (ap length b), c.requires.1),
+      rw e c.requires.2,
     )
 
 pub loop-m-preserved : goal.loop-m-preserved
 loop-m-preserved c =
     let l = c.loop-m in
-    let g = c.derive_at-fresh in
-    let e = c.next_bit-m-in-loop-m.ensures in
-    let h : l.m < 64 = c.loop-m-test.true in (
-      e.1,
-      e.3,
-      modes-turn l.m c.next_bit-m-in-loop-m.result l.invariant.2 h (l.invariant.1 h) (rw l.invariant.4 at g.ensures.0)
-          e.2,
-      grown_both l.fresh g.result l.invariant.3 g.ensures.1,
-      g.ensures.2 ∙ l.invariant.4,
+    let g = c.derive_at-fresh in (
+      modes-turn (at (goal.at.loop-m-preserved c).In-Some) l.invariant.0
+          (rw (l.invariant.2, c.with_mode.ensures) at g.ensures.0),
+      grown_both l.fresh g.result l.invariant.1 g.ensures.1,
+      g.ensures.2 ∙ l.invariant.2,
     )
 
 pub shape_of-work : goal.shape_of-work
@@ -54,9 +44,10 @@ shape_of-work c =
     let a = c.args in
     let l = c.loop-m in
     both-length a.t.words l.work a.work.now
-    (row-length (λ p u v d. d.given.lengths) l.invariant.2.steps) (ap length l.invariant.4)
+    (row-length (λ p u v d. d.given.lengths) l.invariant.0.steps) (ap length l.invariant.2)
 
 pub returns : goal.returns
 returns c =
     let l = c.loop-m in
-    (modes-end l.m (omega arith) l.invariant.2, l.invariant.3, l.invariant.4)
+    let e = finished l.m-iterator (cc) l.yielded_by c.in-None.ensures.steps in
+    (modes-end (omega arith) e l.invariant.0, l.invariant.1, l.invariant.2)

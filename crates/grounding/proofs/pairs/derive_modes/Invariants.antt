@@ -1,7 +1,4 @@
 use mathlib.Core.Path.{◌≡◌}
-use mathlib.Core.Bool.{true}
-use Prim.Native.Nat.{◌-◌, ◌≤◌, ◌<◌}
-use Rattle.foundation.specs.BitMasks.{bit}
 use Rattle.words.specs.Sums.{SumGrown}
 use Rattle.sections.specs.Sections.{fields_of, broken_of}
 use Rattle.grounding.specs.RuleSteps.{Step}
@@ -10,11 +7,7 @@ use Rattle.grounding.proofs.pairs.derive_modes.Given as goal
 
 abbrev pub invariant-loop-m : goal.invariant-loop-m
 invariant-loop-m l =
-    (l.m ≤ 64) × (l.m < 64 → bit l.m l.modes ≡ true)
-    × ModesTo (Step l.t l.f l.number (broken_of l.t.words l.initial.work) l.right l.first) l.pair l.modes l.m
+    ModesTo (Step l.t l.f l.number (broken_of l.t.words l.initial.work) l.right l.first) l.pair l.modes l.yielded
     (fields_of l.t.words l.initial.work) (fields_of l.t.words l.work)
     × SumGrown l.fresh (fields_of l.t.words l.initial.work) (fields_of l.t.words l.work)
     × (broken_of l.t.words l.work ≡ broken_of l.t.words l.initial.work)
-
-abbrev pub decreases-loop-m : goal.decreases-loop-m
-decreases-loop-m l = 64 - l.m

@@ -1,7 +1,4 @@
 use mathlib.Core.Path.{◌≡◌}
-use mathlib.Core.Bool.{true}
-use Prim.Native.Nat.{◌-◌, ◌≤◌, ◌<◌}
-use Rattle.foundation.specs.BitMasks.{bit}
 use Rattle.sections.specs.Sections.{fields_of, broken_of}
 use Rattle.grounding.specs.RuleSteps.{Mark}
 use Rattle.grounding.proofs.StepRows.{ModesTo}
@@ -9,10 +6,6 @@ use Rattle.grounding.proofs.pairs.mark_modes.Given as goal
 
 abbrev pub invariant-loop-m : goal.invariant-loop-m
 invariant-loop-m l =
-    (l.m ≤ 64) × (l.m < 64 → bit l.m l.modes ≡ true)
-    × ModesTo (Mark l.t l.f l.number (fields_of l.t.words l.initial.work) l.last) l.pair l.modes l.m
+    ModesTo (Mark l.t l.f l.number (fields_of l.t.words l.initial.work) l.last) l.pair l.modes l.yielded
     (broken_of l.t.words l.initial.work) (broken_of l.t.words l.work)
     × (fields_of l.t.words l.work ≡ fields_of l.t.words l.initial.work)
-
-abbrev pub decreases-loop-m : goal.decreases-loop-m
-decreases-loop-m l = 64 - l.m

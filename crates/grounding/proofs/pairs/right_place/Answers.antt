@@ -20,14 +20,11 @@ bounds-number-j c =
     omega (arith, ap (pair_in s.args.g) c.right_point-y.ensures, s.requires) in
     omega (arith, c.pair_index-j.ensures, placed)
 
-pub overflow_cast-result : goal.overflow_cast-result
-overflow_cast-result c = omega (arith, c.shared_slice_known-2-1.given c.pair_index-j.result)
-
 pub returns : goal.returns
 returns c =
     let e = c in
     let a = e.args in
-    rw c.pair_index-j.ensures
+    rw (c.from.ensures, c.pair_index-j.ensures)
     (ap (λ (y : Point). record { pair = get_or a.number.now (pair_in a.g y) 0; point = y })
     e.right_point-y.ensures)
 

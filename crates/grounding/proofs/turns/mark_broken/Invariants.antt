@@ -5,6 +5,7 @@ use mathlib.Core.List.{List}
 use Prim.Native.Nat.{ℕ, ◌-◌, ◌≤◌, ◌<◌}
 use lib.ListN.{length}
 use Rattle.foundation.specs.BitMasks.{bit}
+use Rattle.words.proofs.SetBitLoops.{AtPlace}
 use Rattle.sections.specs.Sections.{active_of}
 use Rattle.grounding.specs.RuleTurns.{prepared_in, fields_in, bits_in}
 use Rattle.grounding.specs.RuleTurns.{Marked}
@@ -14,13 +15,8 @@ abbrev pub invariant-loop-r : goal.invariant-loop-r
 invariant-loop-r l =
     let f = l.e.frame in
     let p = prepared_in l.body l.outline l.coordinates l.need l.numbers f in
-    ((w : List ℕ) →
-    Marked p (active_of l.outline) (fields_in f l.initial.work) l.e.last l.e.mark l.rules l.r (bits_in f l.work) w →
+    AtPlace l.rules l.yielded (λ n. (w : List ℕ) →
+    Marked p (active_of l.outline) (fields_in f l.initial.work) l.e.last l.e.mark l.rules n (bits_in f l.work) w →
     Marked p (active_of l.outline) (fields_in f l.initial.work) l.e.last l.e.mark l.rules 0 (bits_in f l.initial.work) w)
     × (length (bits_in f l.work) ≡ length (bits_in f l.initial.work))
-    × (l.r ≤ 64)
-    × (l.r < 64 → bit l.r l.rules ≡ true)
     × (fields_in f l.work ≡ fields_in f l.initial.work)
-
-abbrev pub decreases-loop-r : goal.decreases-loop-r
-decreases-loop-r l = 64 - l.r

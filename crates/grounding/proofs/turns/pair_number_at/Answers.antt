@@ -4,13 +4,10 @@ use lib.ListN.{length}
 use Rattle.foundation.specs.Tests.{le-true, le-false}
 use Rattle.grounding.proofs.turns.pair_number_at.Goals as goal
 
-pub overflow_cast-result : goal.overflow_cast-result
-overflow_cast-result c = omega (arith, c.shared_slice_known-1.given c.args.j)
-
 pub returns-then-j-number : goal.returns-then-j-number
 returns-then-j-number c =
     let a = c.args in
-    rw (le-true (suc a.j) (length a.number.now) (omega arith))
+    rw (le-true (suc a.j) (length a.number.now) (omega arith)) c.from.ensures
 
 pub returns : goal.returns
 returns c =

@@ -78,7 +78,7 @@ returns c =
           ∙ ap (λ (x : Bool). pick x (region_at (shapes_of a.f (rights_of coordinates)) a.r) whole_region)
           b.has_bit-own.ensures) k;
       left = d.region_at-2.ensures k;
-      sign = z k % 2;
+      sign = (c.from.ensures ∙ ap (λ (n : ℕ). n % 2) z) k;
       bits = sym (in_part 344 64 outline a.r s.requires.0) k;
       takers = (c.given_to.ensures
           ∙ ap₂ (λ (q : Rule) (n : ℕ). takers_for a.f a.body.now q n)

@@ -7,8 +7,7 @@ use lib.Dec.{leb, ltb}
 use Rattle.foundation.specs.Tests.{or_none}
 use Rattle.foundation.specs.declared.Interval.{Interval}
 use Rattle.model.specs.declared.Rule.{Rule}
-use Rattle.words.proofs.SetBitLoops.{Turn, turn, finished}
-use Rattle.words.proofs.SetBitChains.{each_turn, each_all}
+use Rattle.words.proofs.SetBitLoops.{Turn, turn, finished, each_turn, each_end}
 use Rattle.selection.proofs.Seen.{Seen, Idle, idle}
 use Rattle.selection.proofs.history.history_start.Goals as goal
 use Rattle.selection.proofs.history.history_start.Goals.{In-Some}
@@ -46,13 +45,13 @@ loop-r-preserved c =
 pub returns-then-back : goal.returns-then-back
 returns-then-back c =
     let l = c.loop-r in
-    let seen = each_all (Seen c.args.body.now c.args.t l.least l.back) (omega arith)
+    let seen = each_end _ (Seen c.args.body.now c.args.t l.least l.back) (omega arith)
     (finished l.r-iterator (cc) l.yielded_by c.in-None.ensures.steps) l.invariant.1 in
     (l.invariant.0, λ r e. inl (seen r e).0)
 
 pub returns-else-back : goal.returns-else-back
 returns-else-back c =
     let l = c.loop-r in
-    let seen = each_all (Seen c.args.body.now c.args.t l.least l.back) (omega arith)
+    let seen = each_end _ (Seen c.args.body.now c.args.t l.least l.back) (omega arith)
     (finished l.r-iterator (cc) l.yielded_by c.in-None.ensures.steps) l.invariant.1 in
     (omega arith, λ r e. (seen r e).1 c.if-back.false)

@@ -4,8 +4,7 @@ use mathlib.Core.Bool.{false≢true}
 use Prim.Native.Nat.{ℕ, ◌+◌, ◌<◌}
 use lib.ListN.{get_or, set}
 use lib.Seq.{get_or-set_same, get_or-set_other}
-use Rattle.words.proofs.SetBitLoops.{Turn, turn, finished, place_start, place_turn}
-use Rattle.words.proofs.SetBitChains.{each_turn, each_all}
+use Rattle.words.proofs.SetBitLoops.{Turn, turn, finished, place_start, place_turn, each_turn, each_end}
 use Rattle.selection.specs.Selection.{position}
 use Rattle.selection.proofs.SelectedLoop.{position-le, position-start, position-turn}
 use Rattle.selection.proofs.ranking.spread_strata.Invariants.{Given}
@@ -48,7 +47,7 @@ loop-r-preserved c =
 pub returns : goal.returns
 returns c =
     let l = c.loop-r in
-    λ r h e. each_all (Given c.args.ranks.now c.args.needed l.strata) (omega arith)
+    λ r h e. each_end _ (Given c.args.ranks.now c.args.needed l.strata) (omega arith)
     (finished l.r-iterator (cc) l.yielded_by c.in-None.ensures.steps) l.invariant.1 r e
 
 pub bounds-strata-i : goal.bounds-strata-i
