@@ -18,7 +18,7 @@ use Rattle.model.specs.Step.{counts_hold, option_fits}
 use Rattle.model.specs.Soundness.{chained, rises, privilege_in, authorization_in, rule_in, starts_first}
 use Rattle.model.specs.Soundness.{all_supported, stars_meet, sound}
 use Rattle.model.specs.SoundnessFacts.{Sound, sound_tests_lem, tests-sound}
-use Rattle.lookup.specs.NarrowedNumbers.{exists_in}
+use Rattle.lookup.specs.RecordTests.{exists_in}
 use Rattle.model.specs.SoundTests.{order_test, ranges_test, intervals_test, exist_test, owners_test}
 use Rattle.model.specs.SoundTests.{labels_test}
 use Rattle.laws.specs.Chained.{chained-both, chained-each}

@@ -13,8 +13,5 @@ use parts::parts_hold;
 pub fn is_sound(s: &[u8]) -> bool
     ensures { result ≡ sound_bytes s.now }
 {
-    if !format_fits(s) {
-        return false;
-    }
-    parts_hold(s)
+    format_fits(s) && parts_hold(s)
 }
