@@ -5,10 +5,11 @@ ghost use Rattle.std.specs.Prelude.{◌≡◌};
 ghost use Rattle.model.specs.Answers.{answering};
 ghost use Rattle.records.specs.Records.{body_of, records_answer};
 
-mod numbers;
 mod page;
+mod rows;
 
-use model::Reply;
+use lookup::SoundBase;
+use model::{Reply, Row};
 
 // The heading of a base, and its five bodies.
 #[derive(Clone, Copy)]
@@ -19,16 +20,6 @@ pub enum Body {
     Referrers,
     Authorizations,
     Rules,
-}
-
-// Where the records of a body stand: how many, from which byte on, how many bytes each; and how many numbers
-// a record is.
-#[derive(Clone, Copy)]
-pub struct Layout {
-    pub count: usize,
-    pub at: usize,
-    pub bytes: usize,
-    pub width: usize,
 }
 
 // The body with a number.
@@ -52,10 +43,15 @@ pub fn records(s: &[u8], source: u32, first: u32, list: &mut [u32]) -> Reply
         ≡ records_answer s.now source first list.old }
 {
     if !soundness::is_sound(s) {
-        return Reply::Refused(2);
+        return Reply::Refused(Row::NotSound as u32);
     }
     if 5 < source {
-        return Reply::Refused(3);
+        return Reply::Refused(Row::OutOfRange as u32);
     }
-    page::page(s, body_of(source), first as usize, list)
+    page::page(
+        &SoundBase { bytes: s },
+        body_of(source),
+        first as usize,
+        list,
+    )
 }

@@ -1,118 +1,79 @@
-// A page of records over the bytes of a sound base.
-ghost use Rattle.std.specs.Prelude.{◌≡◌, true, ◌++◌, ◌+◌, ◌*◌, ◌≤◌, min, length, drop};
-ghost use Rattle.std.proofs.Math.Seq.{paste};
-ghost use Rattle.model.specs.Soundness.{sound_bytes};
+// A page of records over a sound base.
+ghost use Rattle.std.specs.Prelude.{◌≡◌, [], ◌∷◌, ◌++◌, ◌+◌, ◌*◌, ◌<◌, ◌≤◌, length, take, drop, map};
+ghost use Rattle.foundation.specs.Lists.{each};
 ghost use Rattle.model.specs.Answers.{answering};
-ghost use Rattle.records.specs.Records.{width_of, page_answer};
-ghost use Rattle.records.specs.Pages.{record_bytes, layout_of, joined_numbers, numbers_of};
+ghost use Rattle.model.specs.Encoding.{decode};
+ghost use Rattle.records.specs.Records.{heading_numbers, page_answer};
+ghost use Rattle.records.specs.Pages.{page_given};
 
-use crate::numbers::numbers_at;
-use crate::{Body, Layout};
-use encoding::Counts;
-use model::{AUTHORIZATION_BYTES, PRIVILEGE_BYTES, RULE_BYTES, Reply};
+use crate::Body;
+use crate::rows::{Numbered, heading_numbers};
+use encoding::Records;
+use lookup::SoundBase;
+use model::{Reply, Row};
 
-// Where the records of a body stand.
-fn layout_of(c: Counts, source: Body) -> Layout
-    ensures { result ≡ layout_of c source }
+// Writes k records from the first on to the front of the list.
+fn fill<R: Numbered>(records: &Records<'_, R>, first: usize, k: usize, list: &mut [u32])
+    requires { (first + k ≤ length records.now) × (length records.now ≤ 1024)
+        × (k * R.WIDTH ≤ length list.old) }
+    ensures { list.new ≡ each (take k (drop first records.now)) R.numbers
+        ++ drop (k * R.WIDTH) list.old }
 {
-    match source {
-        Body::Heading => Layout {
-            count: 1,
-            at: 0,
-            bytes: 32,
-            width: 7,
-        },
-        Body::Objects => Layout {
-            count: c.objects as usize,
-            at: 32,
-            bytes: PRIVILEGE_BYTES,
-            width: 2,
-        },
-        Body::Administrators => Layout {
-            count: c.administrators as usize,
-            at: encoding::administrators_at(c),
-            bytes: PRIVILEGE_BYTES,
-            width: 2,
-        },
-        Body::Referrers => Layout {
-            count: c.referrers as usize,
-            at: encoding::referrers_at(c),
-            bytes: PRIVILEGE_BYTES,
-            width: 2,
-        },
-        Body::Authorizations => Layout {
-            count: c.authorizations as usize,
-            at: encoding::authorizations_at(c),
-            bytes: AUTHORIZATION_BYTES,
-            width: 10,
-        },
-        Body::Rules => Layout {
-            count: c.rules as usize,
-            at: encoding::rules_at(c),
-            bytes: RULE_BYTES,
-            width: 15,
-        },
+    for i in 0..k {
+        let at = i * R::WIDTH;
+        records
+            .get(first + i)
+            .put_numbers(&mut list[at..at + R::WIDTH]);
     }
 }
 
-// Copies the first k numbers of a record to a place of the list.
-fn put(from: &[u32; 15], k: usize, list: &mut [u32], to: usize)
-    requires { (to + k ≤ length list.old) × (k ≤ 15) × (length from.now ≡ 15) }
-    ensures { list.new ≡ paste list.old to from.now k }
+// The records from the first on, as many as the list has room for.
+fn give<R: Numbered>(records: &Records<'_, R>, first: usize, list: &mut [u32]) -> Reply
+    requires { (0 < R.WIDTH) × (length records.now ≤ 1024) }
+    ensures { answering result list.new
+        ≡ page_given (map R.numbers records.now) R.WIDTH first list.old }
 {
-    let mut i = 0;
-    while i < k {
-        list[to + i] = from[i];
-        i += 1;
+    let count = records.len();
+    if count < first {
+        return Reply::Refused(Row::OutOfRange as u32);
     }
+    if list.len() < R::WIDTH {
+        return Reply::Refused(Row::Full as u32);
+    }
+    let k = (list.len() / R::WIDTH).min(count - first);
+    fill(records, first, k, list);
+    Reply::Runs(k as u32)
 }
 
-// Copies k records that stand from a place on to the front of the list.
-fn fill(s: &[u8], source: Body, bytes: usize, width: usize, from: usize, k: usize, list: &mut [u32])
-    requires { (bytes ≡ record_bytes source) × (width ≡ width_of source)
-        × (from + record_bytes source * k ≤ length s.now) × (width_of source * k ≤ length list.old) }
-    ensures { list.new ≡ joined_numbers (record_bytes source) (numbers_of source) k
-        (drop from s.now)
-        ++ drop (width_of source * k) list.old }
+// The heading, unless the page starts behind it.
+fn give_heading(base: &SoundBase<'_>, first: usize, list: &mut [u32]) -> Reply
+    ensures { answering result list.new
+        ≡ page_given (heading_numbers (decode base.now.bytes.now) ∷ []) 7 first list.old }
 {
-    let mut at = from;
-    let mut to = 0;
-    let mut i = 0;
-    while i < k {
-        let numbers = numbers_at(s, at, source);
-        put(&numbers, width, list, to);
-        at += bytes;
-        to += width;
-        i += 1;
+    if 1 < first {
+        return Reply::Refused(Row::OutOfRange as u32);
     }
-}
-
-// The lesser number.
-fn least_of(a: usize, b: usize) -> usize
-    ensures { result ≡ min a b }
-{
-    if a <= b {
-        return a;
+    if list.len() < 7 {
+        return Reply::Refused(Row::Full as u32);
     }
-    b
+    if first == 1 {
+        return Reply::Runs(0);
+    }
+    list[..7].copy_from_slice(&heading_numbers(base));
+    Reply::Runs(1)
 }
 
 // The records of a body from the first on, as many as the list has room for.
-pub fn page(s: &[u8], source: Body, first: usize, list: &mut [u32]) -> Reply
-    requires { sound_bytes s.now ≡ true }
+pub fn page(base: &SoundBase<'_>, source: Body, first: usize, list: &mut [u32]) -> Reply
     ensures { answering result list.new
-        ≡ page_answer s.now source first list.old }
+        ≡ page_answer base.now.bytes.now source first list.old }
 {
-    let p = layout_of(encoding::counts_of(s), source);
-    let bytes = p.bytes;
-    let width = p.width;
-    if p.count < first {
-        return Reply::Refused(3);
+    match source {
+        Body::Heading => give_heading(base, first, list),
+        Body::Objects => give(&base.objects(), first, list),
+        Body::Administrators => give(&base.administrators(), first, list),
+        Body::Referrers => give(&base.referrers(), first, list),
+        Body::Authorizations => give(&base.authorizations(), first, list),
+        Body::Rules => give(&base.rules(), first, list),
     }
-    if list.len() < width {
-        return Reply::Refused(13);
-    }
-    let k = least_of(list.len() / width, p.count - first);
-    fill(s, source, bytes, width, p.at + bytes * first, k, list);
-    Reply::Runs(k as u32)
 }

@@ -17,9 +17,6 @@ returns-then-source-gt5 c =
     let sound = sym c.is_sound.ensures ∙ c.if-not-is_sound.false in
     sym (no_body a.s.now a.source a.first a.list.now sound c.if-source-gt5.true)
 
-pub page-requires : goal.page-requires
-page-requires c = sym c.is_sound.ensures ∙ c.if-not-is_sound.false
-
 pub returns : goal.returns
 returns c =
     let a = c.args in

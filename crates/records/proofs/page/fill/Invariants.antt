@@ -1,16 +1,13 @@
-use mathlib.Core.Path.{◌≡◌}
-use mathlib.Core.List.{◌++◌}
-use Prim.Native.Nat.{◌+◌, ◌*◌, ◌-◌, ◌≤◌}
-use lib.ListN.{length, drop}
-use Rattle.records.specs.Records.{width_of}
-use Rattle.records.specs.Pages.{record_bytes, numbers_of, joined_numbers}
+use Rattle.std.proofs.Common.{◌≡◌, ◌++◌, ◌+◌, ◌-◌, ◌*◌, ◌≤◌, length, take, drop}
+use Rattle.foundation.specs.Lists.{each}
 use Rattle.records.proofs.page.fill.Given as goal
 
 abbrev pub invariant-loop-i : goal.invariant-loop-i
-invariant-loop-i l =
-    (l.i ≤ l.k) × (length l.list ≡ length l.initial.list) × (l.at ≡ l.from + record_bytes l.source * l.i) × (l.to ≡ width_of l.source * l.i)
-    × (l.list ≡ joined_numbers (record_bytes l.source) (numbers_of l.source) l.i (drop l.from l.s)
-    ++ drop (width_of l.source * l.i) l.initial.list)
-
-abbrev pub decreases-loop-i : goal.decreases-loop-i
-decreases-loop-i l = l.k - l.i
+invariant-loop-i g l =
+    let w = g.R.Numbered.WIDTH in
+    let numbers = g.R.Numbered.numbers in
+    (l.i ≤ l.k)
+    × (length l.list ≡ length l.initial.list)
+    × (take (l.i * w) l.list ++ each (take (l.k - l.i) (drop (l.first + l.i) l.records)) numbers
+    ≡ each (take l.k (drop l.first l.records)) numbers)
+    × (drop (l.i * w) l.list ≡ drop (l.i * w) l.initial.list)
