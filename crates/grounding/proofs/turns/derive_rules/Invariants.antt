@@ -1,11 +1,10 @@
 use mathlib.Core.Path.{◌≡◌}
 use mathlib.Core.Bool.{true}
 use mathlib.Core.List.{List}
-use Prim.Native.Nat.{ℕ}
+use Prim.Native.Nat.{ℕ, ◌≤◌}
 use lib.ListN.{length}
 use Rattle.foundation.specs.BitMasks.{bit}
-use Rattle.sections.specs.Sections.{feed_of, active_of}
-use Rattle.masks.specs.RuleMasks.{RuleReady}
+use Rattle.sections.specs.Sections.{active_of}
 use Rattle.grounding.specs.RuleTurns.{prepared_in, fields_in, bits_in}
 use Rattle.grounding.specs.RuleTurns.{Turns}
 use Rattle.grounding.proofs.turns.derive_rules.Given as goal
@@ -17,7 +16,7 @@ invariant-loop-at l =
     Turns p (active_of l.outline) (bits_in l.f l.initial.work) l.needed (fields_in l.f l.initial.work) end w)
     × ((q : ℕ) → bit q l.rest ≡ true → bit q l.needed ≡ true)
     × (length (fields_in l.f l.work) ≡ length (fields_in l.f l.initial.work))
-    × RuleReady (feed_of l.outline) l.rest l.at.rule
+    × (l.last.rule ≤ 64)
     × (bits_in l.f l.work ≡ bits_in l.f l.initial.work)
 
 abbrev pub decreases-loop-at : goal.decreases-loop-at
