@@ -1,7 +1,7 @@
 -- Where none of the authorizations that matter has an asked instant and no rule that matters negates, nothing
 -- is found (`nothing-found`).
 use mathlib.Core.Path.{◌≡◌, refl, sym, ap, ◌∙◌, subst}
-use mathlib.Core.Bool.{true, false, true≢false}
+use mathlib.Core.Bool.{true, false}
 use mathlib.Core.List.{List, []}
 use Prim.Native.Nat.{ℕ, suc, ◌≤◌}
 use native.Mathlib.Omega.{arith}
@@ -65,6 +65,6 @@ module _ {lines which : List ℕ} {c : Chosen} {lasting : ℕ} {q : Query} {C : 
         count_is = refl;
         list_is = refl;
       };
-      held = λ e. absurd (true≢false (sym e));
+      held = λ from e. cc;
     };
   }

@@ -125,7 +125,7 @@ walk-starts {q = q} {base = base} {x = x} w h list = record {
       count_is = refl;
       list_is = refl;
     };
-    held = λ z. absurd (false≢true z);
+    held = λ from z. cc;
   };
   last = λ l. absurd (omega (arith, w.forward));
   ranked = λ e. absurd (false≢true e);
