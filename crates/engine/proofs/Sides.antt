@@ -1,7 +1,7 @@
 -- The turn of a rule is that of the rule (`turn-of`): it looks at its right side, in a table that has it, and
 -- gives to the tables whose rules look for what it derives.
 use mathlib.Core.Path.{◌≡◌, refl, sym, ap, ap₂, ◌∙◌, subst}
-use mathlib.Core.Bool.{Bool, true, false, ◌&&◌, beq, true≢false}
+use mathlib.Core.Bool.{Bool, true, false, not, ◌&&◌, beq, true≢false}
 use mathlib.Core.List.{List}
 use Prim.Native.Nat.{ℕ, zero, suc, ◌+◌, ◌*◌, ◌/◌, ◌%◌, ◌<◌}
 use native.Mathlib.Omega.{arith}

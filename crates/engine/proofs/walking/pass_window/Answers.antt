@@ -13,7 +13,7 @@ use Rattle.grounding.specs.RuleTurns.{words_for}
 use Rattle.foundation.specs.Lists.{lent_rest}
 use Rattle.grounding.proofs.Parts.{bits_back, bits_rest}
 use Rattle.engine.specs.declared.WindowWalk.{WindowWalk}
-use Rattle.engine.specs.Going.{Roomy}
+use Rattle.engine.specs.Going.{Roomy, Start}
 use Rattle.engine.proofs.Sectioned.{part_alike, rest_alike}
 use Rattle.engine.proofs.Onward.{here, turns_able, rules_low, layered}
 use Rattle.engine.proofs.Onward.{among-lasting, further}
