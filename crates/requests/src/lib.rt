@@ -28,8 +28,7 @@ fn apply(s: &mut [u8], q: Request)
     requires { Allowed keeping_kinds s.old q }
     ensures { s.new ≡ encode (effect plainly (decode s.old) q) }
 {
-    let k = q.kind;
-    match k {
+    match q.kind {
         NEW => effects::new_object(s, q),
         GRANT | DENY => effects::grant(s, q),
         ADDRULE => effects::add_rule(s, q),
@@ -51,12 +50,12 @@ fn done(s: &[u8], q: Request) -> Reply
     if lookup::is_labelling(q) {
         return Reply::Done {
             label: fields::le16(s, 8) as u32,
-            count: count,
+            count,
         };
     }
     Reply::Done {
         label: 0,
-        count: count,
+        count,
     }
 }
 
@@ -77,8 +76,7 @@ fn carry_out(s: &mut [u8], q: Request) -> Reply
     requires { PassesEarly s.old q }
     ensures { CarriedOut s.old q result s.new }
 {
-    let k = q.kind;
-    match k {
+    match q.kind {
         REVOKE | REVOKEP | REVOKEN => revocation::revoke(s, q),
         REVOKEADM => revocation::revoke_administrator(s, q),
         _ => add_or_drop(s, q),
