@@ -1,5 +1,5 @@
-use borrow.Author.Rules.{rules}
-use Rattle.std.proofs.Common.{◌≡◌, refl, sym, length-replicate, ap, ◌∙◌, arith, length, ◌≤◌, List, ℕ}
+use Rattle.std.proofs.lemmas.List.{length-replicate}
+use Rattle.std.proofs.Common.{◌≡◌, refl, sym, ap, ◌∙◌, arith, length, ◌≤◌, List, ℕ}
 use Rattle.model.specs.Encoding.{encode, decode}
 use Rattle.model.specs.Requests.{without}
 use Rattle.edits.proofs.Written.{written-sound}

@@ -297,7 +297,6 @@ draw_controlled-requires c =
     let m = f in
     let l = m in
     let s = l in (
-      s.requires.5,
       s.requires.0.there,
       numbered_apart (charted).objects s.requires.0.few,
       (λ q e. starred_below m.draw_masks.ensures q

@@ -59,7 +59,6 @@ own_masks-requires c =
     let s = c in
     let d = s.requires.1 in
     let from : ℕ = s.args.base.now.totals.authorizations * 24 in (
-      s.args.base.now.sound,
       omega (arith, ap length (lent_rest from s.args.base.now.records.now), d.well_formed.there),
       d.well_formed.few,
       part_long 0 152 s.args.outline.now (omega (arith, s.requires.0.outlined)),
