@@ -13,7 +13,7 @@ use Rattle.effects.specs.EffectRecords.{Allowed}
 use Rattle.requests.specs.KeepingKinds.{keeping_kinds}
 use Rattle.requests.proofs.KindNumbers.{kind_among, kind_apart, is_one}
 use Rattle.requests.proofs.apply.Goals as goal
-use Rattle.requests.proofs.apply.Goals.{in_default-via-then-k-lt1, in_default-via-else-k-lt1+else-k-lt4}
+use Rattle.requests.proofs.apply.Goals.{in_default-via-then-q-lt1, in_default-via-else-q-lt1+else-q-lt4}
 
 module _ {s : List ℕ} {q : Request} (a : Allowed keeping_kinds s q) where
   allowed : (ks : List ℕ) → is q ks ≡ true → Allowed ks s q
@@ -61,7 +61,7 @@ revoke_referrer-requires c =
     allowed c.requires (REVOKEREF ∷ [])
     (last_kind c.requires
     (elim c.in_default.branch [
-      | in_default-via-then-k-lt1 w ↦ inl (omega arith)
-      | in_default-via-else-k-lt1+else-k-lt4 w ↦ inr (omega arith)
+      | in_default-via-then-q-lt1 w ↦ inl (omega arith)
+      | in_default-via-else-q-lt1+else-q-lt4 w ↦ inr (omega arith)
     ])
     (λ e. omega arith) (λ e. omega arith) (λ e. omega arith) (λ e. grind arith) (λ e. grind arith))

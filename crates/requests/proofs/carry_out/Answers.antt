@@ -8,7 +8,7 @@ use Rattle.model.specs.declared.Request.{Request}
 use Rattle.model.specs.Requests.{REVOKE, REVOKEP, REVOKEN, ADDRULE, REVOKEADM, withdraws}
 use Rattle.requests.proofs.KindNumbers.{kind_among, kind_apart, is_one}
 use Rattle.requests.proofs.carry_out.Goals as goal
-use Rattle.requests.proofs.carry_out.Goals.{in_default-via-then-k-lt4, in_default-via-else-k-lt4+else-k-lt7}
+use Rattle.requests.proofs.carry_out.Goals.{in_default-via-then-q-lt4, in_default-via-else-q-lt4+else-q-lt7}
 
 -- none of the kinds that withdraw
 keeps : (q : Request) → (q.kind < REVOKE) ⊎ (ADDRULE ≤ q.kind) → q.kind ≢ REVOKEADM → withdraws q ≡ false
@@ -30,8 +30,8 @@ add_or_drop-requires c = (
   c.requires,
   keeps c.args.q
       (elim c.in_default.branch [
-        | in_default-via-then-k-lt4 w ↦ inl (omega arith)
-        | in_default-via-else-k-lt4+else-k-lt7 w ↦ inr (omega arith)
+        | in_default-via-then-q-lt4 w ↦ inl (omega arith)
+        | in_default-via-else-q-lt4+else-q-lt7 w ↦ inr (omega arith)
       ])
       (λ e. omega arith),
 )
