@@ -1,5 +1,5 @@
 -- Rows of numbers written one behind the other, and a page of them.
-use Rattle.std.proofs.Common.{◌≡◌, refl, sym, ap, ◌∙◌, Bool, true, false, List, [], ◌∷◌, ◌++◌, ℕ, suc, ◌+◌, ◌-◌, ◌*◌, ◌/◌, ◌≤◌, ◌<◌, length, take, drop, min, map, arith}
+use Rattle.std.proofs.Common.{◌≡◌, refl, sym, ap, ◌∙◌, true, false, List, [], ◌∷◌, ◌++◌, ℕ, suc, ◌+◌, ◌-◌, ◌*◌, ◌/◌, ◌≤◌, ◌<◌, length, take, drop, min, map, arith}
 use Rattle.std.proofs.Common.{add-mul, one-mul, mul_comm, length-append, length-drop, take_all}
 use Rattle.std.proofs.Math.Nat.{mul-le-mul_right}
 use Rattle.std.specs.Prelude.{ltb, leb}
@@ -9,9 +9,8 @@ use Rattle.foundation.specs.Lists.{each}
 use Rattle.fields.specs.Field.{splice}
 use Rattle.fields.proofs.ByteLaws.{length-splice, part-back}
 use Rattle.model.specs.declared.Reply.TheVariants.{Runs}
-use Rattle.model.specs.Step.{row, refused_or}
-use Rattle.model.specs.Answers.{Answer, answering, refusing}
-use Rattle.records.specs.Records.{page_of, paged}
+use Rattle.model.specs.Answers.{answering, refusing}
+use Rattle.records.specs.Records.{page_of}
 use Rattle.records.specs.Pages.{page_given}
 
 -- where a row fits
