@@ -64,7 +64,13 @@ fn join_each(base: &SoundBase<'_>, body: &[u8], n: usize, objects: &[u8], left: 
 }
 
 // Joins the starred rules to the objects that their authors control. Bases without stars pay nothing.
-pub fn draw_controlled(base: &SoundBase<'_>, body: &[u8], n: usize, objects: &[u8], left: &mut [u64])
+pub fn draw_controlled(
+    base: &SoundBase<'_>,
+    body: &[u8],
+    n: usize,
+    objects: &[u8],
+    left: &mut [u64],
+)
     requires { (n * 28 ≤ length body.now) × Apart objects.now
         × ((q : ℕ) → bit q (get_or left.old 151 0) ≡ true → q < n) × (length objects.now ≡ 130)
         × (length left.old ≡ 152) }

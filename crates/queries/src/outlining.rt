@@ -21,8 +21,8 @@ use crate::sizes::with_lines;
 use crate::{AccessQuery, Extent, Inquiry};
 use engine::{Found, Query, WindowWalk};
 use facts::lay_tables;
-use masks::needed_rules;
 use lookup::SoundBase;
+use masks::needed_rules;
 use model::{AUTHORIZATION_BYTES, Access};
 use outlines::{
     choosy_of, draw_controlled, draw_feed, draw_left, draw_masks, draw_right, number_sides,

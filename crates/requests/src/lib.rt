@@ -53,10 +53,7 @@ fn done(s: &[u8], q: Request) -> Reply
             count,
         };
     }
-    Reply::Done {
-        label: 0,
-        count,
-    }
+    Reply::Done { label: 0, count }
 }
 
 // A request that withdraws no instants, once the rows before 13 let it pass.
