@@ -113,13 +113,11 @@ fn main(rt: HostRuntime) {
     let mut output = rt.stdout();
     let end = arg_count(&rt);
     let mut good = 0;
-    let mut i = 1;
-    while i < end {
+    for i in 1..end {
         good += usize::from(check_file(&rt, &mut output, i));
-        i += 1;
     }
     put_number(&mut output, good);
     put_text(&mut output, b" of ");
-    put_number(&mut output, i - 1);
+    put_number(&mut output, end.saturating_sub(1));
     put_text(&mut output, b" files stand\n");
 }

@@ -1,4 +1,4 @@
-use Rattle.std.proofs.Common.{Bool, List, ap, arith, drop, eqb, get_or, length, length-take-le, rules, sym, take, ℕ, ◌&&◌, ◌-◌, ◌∙◌, ◌≡◌}
+use Rattle.std.proofs.Common.{Bool, List, ap, arith, drop, eqb, get_or, length, rules, take, ℕ, ◌&&◌, ◌-◌, ◌∙◌, ◌≡◌}
 use borrow.Author.Rules.{part_to_end}
 use Rattle.foundation.specs.Bytes.{eq_list}
 use Rattle.vectors.proofs.LineWalks.{none_owed, with_last_lem}
@@ -9,17 +9,11 @@ returns-then-owed-eq0 c =
     let d = c in
     none_owed (drop 2 d.args.line.now) d.args.owed.now 10 (search rules)
 
-pub slice_bounds-same-end-2 : goal.slice_bounds-same-end-2
-slice_bounds-same-end-2 c =
-    let b = c.args.owed.now in
-    sym (length-take-le (length b - 1) b (omega arith))
-
 pub returns : goal.returns
 returns c =
-    let d = c in
-    let a = d.args.line.now in
-    let b = d.args.owed.now in
-    let e : c.same.result ≡ eq_list (drop 2 a) (take (length b - 1) b) =
-    c.same.ensures ∙ ap (λ (x : List ℕ). eq_list x (take (length b - 1) b)) (part_to_end a 2) in
+    let a = c.args.line.now in
+    let b = c.args.owed.now in
+    let e : c.eq.result ≡ eq_list (drop 2 a) (take (length b - 1) b) =
+    c.eq.ensures ∙ ap (λ (x : List ℕ). eq_list x (take (length b - 1) b)) (part_to_end a 2) in
     ap (λ (x : Bool). x && eqb (get_or b (length b - 1) 0) 10) e
     ∙ with_last_lem (drop 2 a) b 10 (length b - 1) (omega arith)
