@@ -1,54 +1,36 @@
 use borrow.Author.Rules.{rules}
 use native.Mathlib.Omega.{arith}
-use mathlib.Core.Path.{◌≡◌, ◌∙◌}
-use Prim.Native.Nat.{ℕ, ◌≤◌, ◌<◌}
-use lib.Dec.{leb, ltb}
-use lib.ListN.{length, get_or}
-use lib.Seq.{length-take-le}
-use Rattle.std.proofs.lemmas.List.Sorted.{IsPartitionedBy-leb, IsPartitionedBy-ltb, IsPartitionPoint-from_clause}
-use Rattle.windows.proofs.Spans.{front, front_rises, passes, between, no_instant}
+use mathlib.Core.Path.{sym, ap, ◌∙◌}
+use Prim.Native.Nat.{ℕ, ◌+◌}
+use lib.Dec.{ltb}
+use lib.ListN.{get_or}
+use Rattle.windows.proofs.Spans.{between, no_instant}
 use Rattle.windows.proofs.span.Goals as goal
-use Rattle.windows.proofs.span.Goals.{After-partition_point-e}
-
-few : (c : After-partition_point-e) → c.args.n ≤ length c.args.marks.now
-few c = omega (arith, c.requires.0)
-
-low : (c : After-partition_point-e) (j : ℕ) → j < c.args.n →
-    ltb (get_or c.args.marks.now j 0) c.args.i.start ≡ ltb j c.partition_point-a.result
-low c =
-    let a = c.args in
-    let xs = front a.n a.marks.now (few c) in
-    passes a.n a.marks.now (few c) (λ x. ltb x a.i.start) c.partition_point-a.result
-    (IsPartitionPoint-from_clause (λ x. ltb x a.i.start) xs c.partition_point-a.result
-    c.partition_point-a.ensures.partitioned
-    (IsPartitionedBy-ltb (λ x. x) xs a.i.start (front_rises a.n a.marks.now (few c) c.requires.1))
-    (λ x r f k. search rules))
-
-high : (c : After-partition_point-e) (j : ℕ) → j < c.args.n →
-    leb (get_or c.args.marks.now j 0) c.args.i.end ≡ ltb j c.partition_point-e.result
-high c =
-    let a = c.args in
-    let xs = front a.n a.marks.now (few c) in
-    passes a.n a.marks.now (few c) (λ x. leb x a.i.end) c.partition_point-e.result
-    (IsPartitionPoint-from_clause (λ x. leb x a.i.end) xs c.partition_point-e.result
-    c.partition_point-e.ensures.partitioned
-    (IsPartitionedBy-leb (λ x. x) xs a.i.end (front_rises a.n a.marks.now (few c) c.requires.1))
-    (λ x r f k. search rules))
-
--- there are no more than n
-bound : (c : After-partition_point-e) → c.partition_point-e.result ≤ c.args.n
-bound c = omega (arith, c.partition_point-e.ensures.bound, length-take-le c.args.n c.args.marks.now (few c))
 
 pub returns-then-a-e : goal.returns-then-a-e
-returns-then-a-e c =
-    let w = (goal.at.returns-then-a-e c).After-partition_point-e in
+returns-then-a-e c = λ j.
     let a = c.args in
-    λ j. c.span_of.ensures j
-    ∙ between a.n a.marks.now a.i c.partition_point-a.result c.partition_point-e.result (bound w) (low w) (high w) j
+    let f = c.marks_below-a in
+    let s = c.u64_of in
+    let g = c.marks_below-e in
+    let e = c.u64_of-2 in
+    c.span_of.ensures j
+    ∙ between a.n a.marks.now a.i f.result g.result g.ensures.0
+    (λ j l. ap (ltb (get_or a.marks.now j 0)) (sym s.ensures) ∙ f.ensures.1 j l)
+    (λ j l. ap (λ (t : ℕ). ltb (get_or a.marks.now j 0) (t + 1)) (sym e.ensures) ∙ g.ensures.1 j l) j
 
 pub returns : goal.returns
 returns c =
-    let w = (goal.at.returns c).After-partition_point-e in
     let a = c.args in
-    no_instant a.n a.marks.now a.i c.partition_point-a.result c.partition_point-e.result (bound w) (low w) (high w)
-    c.if-a-e.false
+    let f = c.marks_below-a in
+    let s = c.u64_of in
+    let g = c.marks_below-e in
+    let e = c.u64_of-2 in
+    no_instant a.n a.marks.now a.i f.result g.result g.ensures.0
+    (λ j l. ap (ltb (get_or a.marks.now j 0)) (sym s.ensures) ∙ f.ensures.1 j l)
+    (λ j l. ap (λ (t : ℕ). ltb (get_or a.marks.now j 0) (t + 1)) (sym e.ensures) ∙ g.ensures.1 j l)
+    (omega arith)
+
+pub overflow_add-u64_of : goal.overflow_add-u64_of
+overflow_add-u64_of = λ c. search
+    rules
