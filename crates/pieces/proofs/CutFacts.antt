@@ -12,7 +12,7 @@ use Rattle.pieces.specs.declared.cut.Cut.TheVariants.{Label, Grantor, Name}
 use Rattle.pieces.specs.declared.cut.Named.{Named}
 use Rattle.pieces.specs.Stretches.{in_stretch}
 use Rattle.pieces.proofs.StretchFacts.{in_stretch_lem}
-use Rattle.pieces.specs.Cuts.{cut_names, cut_takes, behind_all, all_if, taken_of}
+use Rattle.pieces.specs.Cuts.{cut_names, cut_takes, CutOrdered, behind_all, all_if, taken_of}
 
 -- ---- as a stretch
 
@@ -40,9 +40,9 @@ taken_is (Name n) h t l =
     cases (cut_names n h) (λ g. rw g (window n t)) (λ g. rw g (all_if_lem false t l))
 
 -- where an authorization goes on behind the stretch, the stretch is not empty
-pub taken-gap : (c : Cut) (h : Head) (e : ℕ) → e ≤ behind_all → (taken_of c h).to < e →
+pub taken-gap : (c : Cut) (h : Head) (e : ℕ) → CutOrdered c → e ≤ behind_all → (taken_of c h).to < e →
     (taken_of c h).from < (taken_of c h).to
-taken-gap (Label label) h e l = all_gap (eqb h.label label) e l
-taken-gap (Grantor object grantor) h e l = all_gap (eqb h.object object && eqb h.grantor grantor) e l
-taken-gap (Name n) h e l =
-    cases (cut_names n h) (λ r. rw r (λ k. omega (arith, n.ordered))) (λ r. rw r (all_gap false e l))
+taken-gap (Label label) h e o l = all_gap (eqb h.label label) e l
+taken-gap (Grantor object grantor) h e o l = all_gap (eqb h.object object && eqb h.grantor grantor) e l
+taken-gap (Name n) h e o l =
+    cases (cut_names n h) (λ r. rw r (λ k. omega arith)) (λ r. rw r (all_gap false e l))

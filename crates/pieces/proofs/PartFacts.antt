@@ -21,19 +21,19 @@ use Rattle.pieces.specs.Stretches.{in_stretch, maximal_to}
 use Rattle.pieces.proofs.StretchFacts.{to_same, to_next, to_none, to_past, on_off, to-parts}
 use Rattle.pieces.proofs.StretchFacts.{interval-to}
 use Rattle.model.proofs.SupportChains.{supports-rises}
-use Rattle.pieces.specs.Cuts.{cut_takes, behind_all, taken_of}
+use Rattle.pieces.specs.Cuts.{cut_takes, CutOrdered, behind_all, taken_of}
 use Rattle.pieces.proofs.CutFacts.{taken_is, taken-gap}
 use Rattle.pieces.proofs.BodyFacts.{covered-placed}
 use Rattle.pieces.specs.CutParts.{may_grant, pieces_to, parts_of}
 
 -- that is what the cut leaves
-pub parts_left : (c : Cut) (root : Bool) (ys : List Authorization) (x : Authorization) →
+pub parts_left : (c : Cut) (root : Bool) (ys : List Authorization) (x : Authorization) → CutOrdered c →
     x.interval.end < behind_all →
     parts_of (taken_of c x.head) root ys x
     ≡ pieces x.head (maximal x.interval.start x.interval.end
     (λ t. not (cut_takes c x.head t) && may_grant root (want_of x.head) ys t))
 unfolding parts_of pieces_to
-parts_left c root ys x l =
+parts_left c root ys x o l =
     let s = x.interval.start in
     let e = x.interval.end + 1 in
     let f = may_grant root (want_of x.head) ys in
@@ -41,7 +41,7 @@ parts_left c root ys x l =
     sym (map-append (authorization x.head) (maximal_to s (min e t.from) f)
     (maximal_to (max s t.to) e f))
     ∙ ap (pieces x.head)
-    (to-parts s e t.from t.to f (taken-gap c x.head e (omega arith))
+    (to-parts s e t.from t.to f (taken-gap c x.head e o (omega arith))
     ∙ to_same s e (λ u. not (in_stretch t.from t.to u) && f u) (λ u. not (cut_takes c x.head u) && f u)
     (λ u p q. ap (λ (b : Bool). not b && f u) (taken_is c x.head u (omega arith)))
     ∙ sym (interval-to s x.interval.end (λ u. not (cut_takes c x.head u) && f u)))

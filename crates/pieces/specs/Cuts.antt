@@ -1,5 +1,5 @@
 -- What a withdrawal takes out (01, "Requests"), and that as one stretch of instants, as the code asks it.
-use Rattle.std.specs.Prelude.{◌≡◌, ℕ, ◌+◌, Bool, false, not, ◌&&◌, eqb}
+use Rattle.std.specs.Prelude.{◌≡◌, ℕ, ◌+◌, ◌≤◌, Bool, false, not, ◌&&◌, eqb}
 use Rattle.foundation.specs.Tests.{pick}
 use Rattle.foundation.specs.Intervals.{in_interval}
 use Rattle.model.specs.declared.Head.{Head}
@@ -34,6 +34,12 @@ spared c h t = not (cut_takes c h t)
 -- the cut takes what the request takes
 abbrev pub CutOf : Request → Cut → Type 0
 CutOf q c = (h : Head) (t : ℕ) → cut_takes c h t ≡ takes q h t
+
+-- where the interval matters, it is not empty
+abbrev pub CutOrdered : Cut → Type 0
+CutOrdered (Label label) = Unit {0}
+CutOrdered (Grantor object grantor) = Unit {0}
+CutOrdered (Name n) = n.interval.start ≤ n.interval.end
 
 -- ---- as a stretch
 

@@ -1,6 +1,4 @@
 // What a withdrawal takes out.
-ghost use Rattle.std.specs.Prelude.{◌≤◌};
-
 use foundation::Interval;
 
 // A grantor, subject, object, mode and sign, and an interval.
@@ -12,7 +10,6 @@ pub struct Named {
     pub mode: u8,
     pub negative: bool,
     pub interval: Interval,
-    pub ghost ordered: { interval.start ≤ interval.end },
 }
 
 // What a withdrawal takes out.

@@ -7,7 +7,7 @@ ghost use Rattle.model.specs.Requests.{REVOKE, REVOKEP, REVOKEN, REVOKEADM, is, 
 ghost use Rattle.model.specs.Requests.{objects_after, administrators_after};
 ghost use Rattle.model.specs.Means.{plainly};
 ghost use Rattle.model.specs.Step.{out_of_range, bad_interval, effect};
-ghost use Rattle.pieces.specs.Cuts.{CutOf};
+ghost use Rattle.pieces.specs.Cuts.{CutOf, CutOrdered};
 ghost use Rattle.pieces.specs.Puts.{Makes};
 ghost use Rattle.revocation.specs.CarriedOut.{PassesEarly, CarriedOut};
 
@@ -21,7 +21,7 @@ use support::Roots;
 // subject, object and mode.
 fn cut_by_name(q: Request) -> Cut
     requires { (out_of_range q ≡ false) × (bad_interval q ≡ false) × (is q (REVOKEP ∷ REVOKEN ∷ []) ≡ true) }
-    ensures { CutOf q result }
+    ensures { CutOf q result × CutOrdered result }
 {
     Cut::Name(Named {
         grantor: q.requester as u16,
@@ -36,7 +36,7 @@ fn cut_by_name(q: Request) -> Cut
 // What REVOKE takes out: the authorizations of its label.
 fn cut_by_label(q: Request) -> Cut
     requires { (out_of_range q ≡ false) × (is q (REVOKE ∷ []) ≡ true) }
-    ensures { CutOf q result }
+    ensures { CutOf q result × CutOrdered result }
 {
     Cut::Label(q.label as u16)
 }
@@ -44,7 +44,7 @@ fn cut_by_label(q: Request) -> Cut
 // What REVOKEADM takes out: the authorizations on its object that its subject granted.
 fn cut_by_grantor(q: Request) -> Cut
     requires { (out_of_range q ≡ false) × (is q (REVOKEADM ∷ []) ≡ true) }
-    ensures { CutOf q result }
+    ensures { CutOf q result × CutOrdered result }
 {
     Cut::Grantor {
         object: q.object as u16,
@@ -55,7 +55,7 @@ fn cut_by_grantor(q: Request) -> Cut
 // What a withdrawing request takes out. Its numbers fit, as they are in their ranges.
 fn cut_of(q: Request) -> Cut
     requires { (out_of_range q ≡ false) × (bad_interval q ≡ false) × (withdraws q ≡ true) }
-    ensures { CutOf q result }
+    ensures { CutOf q result × CutOrdered result }
 {
     match q.kind {
         REVOKE => cut_by_label(q),

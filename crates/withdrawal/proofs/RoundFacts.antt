@@ -26,7 +26,7 @@ use Rattle.withdrawal.proofs.StayFacts.{left, keep_nil, keep_cons, covered-keep,
 use Rattle.withdrawal.proofs.StayFacts.{left_before, left_after, covered-up_to, up_to_fewer}
 use Rattle.pieces.proofs.PartFacts.{wanted-before, parts_left}
 use Rattle.withdrawal.specs.Stays.{stays, until_instant}
-use Rattle.pieces.specs.Cuts.{spared, behind_all, taken_of}
+use Rattle.pieces.specs.Cuts.{spared, CutOrdered, behind_all, taken_of}
 use Rattle.pieces.proofs.BodyFacts.{placed_none}
 use Rattle.pieces.specs.CutParts.{parts_of}
 use Rattle.withdrawal.specs.RoundTurns.{piece_of, leading, in_of, by_of}
@@ -105,7 +105,7 @@ module _ (after before : Head → ℕ → Bool) (xs : List Authorization) where
 
 -- ---- a turn
 
-module _ (root : Head → Bool) (c : Cut) (xs : List Authorization) (T U : ℕ) (o : T ≤ U)
+module _ (root : Head → Bool) (c : Cut) (xs : List Authorization) (T U : ℕ) (o : T ≤ U) (h : CutOrdered c)
     (a : Authorization) (fits : a.interval.end < behind_all) (ys os : List Authorization) (pos : ℕ)
     (s : Sorted (a ∷ ys)) (v : InTime T U (a ∷ ys))
     (r : Round (stayed root c xs U) (stayed root c xs T) xs (a ∷ ys) os pos) where
@@ -162,7 +162,7 @@ module _ (root : Head → Bool) (c : Cut) (xs : List Authorization) (T U : ℕ) 
     unfolding left
     parts_stay =
         let i = stretch-true T U a.head.granted e in
-        parts_left c (root a.head) os a fits
+        parts_left c (root a.head) os a h fits
         ∙ ap (λ (f : ℕ → Bool). pieces a.head (maximal a.interval.start a.interval.end f))
         (fun_ext (λ t. ap (λ (b : Bool). spared c a.head t && (root a.head || b)) (covered-body t)
         ∙ sym (stays_step root (spared c) xs a.head t)))

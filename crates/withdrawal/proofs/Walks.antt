@@ -14,7 +14,7 @@ use Rattle.laws.specs.KeepFacts.{Sorted}
 use Rattle.pieces.specs.declared.cut.Cut.{Cut}
 use Rattle.withdrawal.specs.Stays.{stays}
 use Rattle.withdrawal.proofs.StayFacts.{restricted, up_to_none, up_to_all, up_to_fewer}
-use Rattle.pieces.specs.Cuts.{spared, behind_all}
+use Rattle.pieces.specs.Cuts.{spared, CutOrdered, behind_all}
 use Rattle.withdrawal.specs.Times.{InTime}
 use Rattle.withdrawal.specs.RoundTurns.{in_of, by_of}
 use Rattle.withdrawal.proofs.RoundFacts.{Round, round-start, round-end, round-pos, round-turn}
@@ -49,7 +49,7 @@ module _ (root : Head → Bool) (c : Cut) (xs : List Authorization) (T U : ℕ) 
         round-end (stayed root c xs U) (stayed root c xs T) xs os pos r
 
     -- a turn
-    module _ (o : T ≤ U) (a : Authorization) (fits : a.interval.end < behind_all)
+    module _ (o : T ≤ U) (h : CutOrdered c) (a : Authorization) (fits : a.interval.end < behind_all)
         (rest : List Authorization) (e : ys ≡ a ∷ rest) where
       abbrev ps : List Authorization
       ps = in_of c T U (root a.head) os a
@@ -70,11 +70,11 @@ module _ (root : Head → Bool) (c : Cut) (xs : List Authorization) (T U : ℕ) 
         times = times'.1;
         round = subst (λ (x : List Authorization × ℕ). Midway rest x.0 x.1)
             (λ i. (sym t.0 i, sym t.1 i))
-            (round-turn root c xs T U o a fits rest os pos order' times' round');
+            (round-turn root c xs T U o h a fits rest os pos order' times' round');
       }
 
       pub walk-full : 1024 < length (placed pos ps os) → 1024 < length (stayers root c xs U)
-      walk-full f = round-full root c xs T U o a fits rest os pos order' times' round' f
+      walk-full f = round-full root c xs T U o h a fits rest os pos order' times' round' f
 
 -- ---- all rounds
 

@@ -7,7 +7,7 @@ ghost use Rattle.foundation.specs.Lists.{allb};
 ghost use Rattle.model.specs.Support.{root_in};
 ghost use Rattle.model.specs.Withdrawal.{keep, restrict};
 ghost use Rattle.laws.specs.KeepFacts.{Sorted};
-ghost use Rattle.pieces.specs.Cuts.{spared};
+ghost use Rattle.pieces.specs.Cuts.{spared, CutOrdered};
 ghost use Rattle.pieces.specs.Puts.{Makes};
 ghost use Rattle.withdrawal.specs.Times.{InTime, pull_of, raise_of, end_of, has_instant};
 ghost use Rattle.withdrawal.specs.RoundTurns.{piece_of, leading, in_of, by_of, TurnMakes};
@@ -81,6 +81,7 @@ fn do_round(
     body: &mut Body,
 ) -> Result<(), Full>
     requires ordered { times.from ≤ times.to }
+    requires cut_ordered { CutOrdered cut }
     requires sorted { Sorted authorizations.now × InTime times.from times.to authorizations.now }
     requires built { body.old ≡ stayers (root_in roots.now.owners roots.now.administrators) cut
         authorizations.now times.from }
@@ -140,7 +141,8 @@ pub fn withdraw(
     cut: Cut,
     body: &mut Body,
 ) -> Result<(), Full>
-    requires { Sorted authorizations.now }
+    requires cut_ordered { CutOrdered cut }
+    requires sorted { Sorted authorizations.now }
     ensures { Makes
         (restrict (root_in roots.now.owners roots.now.administrators) (λ h. true)
         (keep (spared cut) authorizations.now))

@@ -15,8 +15,11 @@ cut_of-requires c =
     let row = passed_row c.args.base.now.bytes.now c.args.q c.requires.passes_early.0 in
     (row _ (inl refl), row _ (inr (inr (inl refl))), c.requires.passes_early.1)
 
-pub withdraw-requires : goal.withdraw-requires
-withdraw-requires c =
+pub withdraw-requires-clause-cut_ordered : goal.withdraw-requires-clause-cut_ordered
+withdraw-requires-clause-cut_ordered c = c.cut_of.ensures.1
+
+pub withdraw-requires-clause-sorted : goal.withdraw-requires-clause-sorted
+withdraw-requires-clause-sorted c =
     let s = c.args.base.now.bytes.now in
     rw c.authorizations.ensures (sorted (decode s) (passed_sound s c.args.q c.requires.passes_early.0))
 
@@ -30,6 +33,6 @@ returns c =
     subst (λ (ys : List Authorization). Makes ys c.withdraw.result c.withdraw.new.body)
     (ap (λ (xs : List Authorization).
     restrict (root_in os.result as'.result) (λ h. true) (keep (spared cut.result) xs)) c.authorizations.ensures
-    ∙ remains (decode s) c.args.q (passed_sound s c.args.q r.passes_early.0) r.passes_early.1 cut.result cut.ensures
+    ∙ remains (decode s) c.args.q (passed_sound s c.args.q r.passes_early.0) r.passes_early.1 cut.result cut.ensures.0
     os.result as'.result (os.ensures ∙ r.roots_value.0) (as'.ensures ∙ r.roots_value.1))
     c.withdraw.ensures

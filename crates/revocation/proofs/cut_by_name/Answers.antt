@@ -6,13 +6,14 @@ use Rattle.revocation.proofs.cut_by_name.Goals as goal
 
 pub returns : goal.returns
 returns c =
-    let q = c.args.q in
-    name_cut q (record {
-      grantor = q.requester;
-      subject = q.subject;
-      object = q.object;
-      mode = q.mode;
-      negative = eqb q.kind REVOKEN;
-      interval = q.interval;
-      ordered = name_ordered q c.requires.1 c.requires.2;
-    }) c.requires.2 refl refl refl refl refl refl
+    let q = c.args.q in (
+      name_cut q (record {
+        grantor = q.requester;
+        subject = q.subject;
+        object = q.object;
+        mode = q.mode;
+        negative = eqb q.kind REVOKEN;
+        interval = q.interval;
+      }) c.requires.2 refl refl refl refl refl refl,
+      name_ordered q c.requires.1 c.requires.2,
+    )

@@ -16,14 +16,14 @@ take_turn-requires c = walk-pos _ _ _ _ _ _ _ _ c.loop-i.invariant.1
 pub returns-in_err-pos : goal.returns-in_err-pos
 returns-in_err-pos c =
     makes_err _ _ _ c.from_residual.ensures.0
-    (walk-full _ _ _ _ _ _ _ _ c.loop-i.invariant.1 c.requires.ordered _ (omega arith) _ c.get.ensures
-    c.in_err-pos.ensures)
+    (walk-full _ _ _ _ _ _ _ _ c.loop-i.invariant.1 c.requires.ordered c.requires.cut_ordered _ (omega arith) _
+    c.get.ensures c.in_err-pos.ensures)
 
 pub loop-i-preserved : goal.loop-i-preserved
 loop-i-preserved c = (
   search rules,
-  walk_next _ _ _ _ _ _ _ _ c.loop-i.invariant.1 c.requires.ordered _ (omega arith) _ c.get.ensures _ _
-      c.in_ok-pos.ensures,
+  walk_next _ _ _ _ _ _ _ _ c.loop-i.invariant.1 c.requires.ordered c.requires.cut_ordered _ (omega arith) _
+      c.get.ensures _ _ c.in_ok-pos.ensures,
 )
 
 pub returns : goal.returns

@@ -31,7 +31,7 @@ do_round-requires-clause-ordered c =
 
 pub do_round-requires-clause-sorted : goal.do_round-requires-clause-sorted
 do_round-requires-clause-sorted c =
-    (c.requires, end_ordered c.loop-t.t _ 0 4294967296 _ (sym c.round_end-u.ensures.end))
+    (c.requires.sorted, end_ordered c.loop-t.t _ 0 4294967296 _ (sym c.round_end-u.ensures.end))
 
 pub returns-in_err-do_round : goal.returns-in_err-do_round
 returns-in_err-do_round c =
