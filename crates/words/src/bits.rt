@@ -3,6 +3,8 @@ ghost use Rattle.std.specs.Prelude.{◌≡◌};
 ghost use Rattle.std.specs.Iterator.{YieldsFirst, YieldsLast, item_count};
 ghost use Rattle.words.specs.SetBits.{bits_left};
 
+use crate::{next_bit, without_lowest};
+
 // The bits that are left.
 #[derive(Clone, Copy)]
 pub struct SetBits {
@@ -24,11 +26,11 @@ impl Iterator for SetBits {
     ghost remaining = { item_count bits_left };
 
     fn next(&mut self) -> Option<u32> {
-        if self.left == 0 {
+        let r = next_bit(self.left, 0);
+        if r == 64 {
             return None;
         }
-        let r = u64::trailing_zeros(self.left);
-        self.left = self.left & (self.left - 1);
+        self.left = without_lowest(self.left);
         Some(r)
     }
 }
