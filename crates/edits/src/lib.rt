@@ -32,6 +32,7 @@ pub enum PrivilegeBody {
 
 // Makes the `old` bytes at a place `new` ones: what stands behind them is moved, and the end is cut or filled
 // with zeros.
+#[inline(always)]
 fn resize(s: &mut [u8], at: usize, old: usize, new: usize)
     requires { (at + old ≤ length s.old) × (at + new ≤ length s.old) }
     ensures { s.new ≡ resized at old new s.old }
@@ -45,6 +46,7 @@ fn resize(s: &mut [u8], at: usize, old: usize, new: usize)
 }
 
 // The same with the contents rewritten for the counts that the base then has.
+#[inline(always)]
 fn reshape(s: &mut [u8], at: usize, old: usize, new: usize, c: Counts)
     requires { (at + old ≤ length s.old) × (at + new ≤ length s.old)
         × (32 ≤ length s.old) × (counts_fit c ≡ true) }
@@ -202,7 +204,10 @@ pub fn replace_authorizations(s: &mut [u8], built: &[u8], m: usize)
             ..c
         },
     );
-    s[at..at + AUTHORIZATION_BYTES * m].copy_from_slice(&built[..AUTHORIZATION_BYTES * m]);
+    fields::copy(
+        &mut s[at..at + AUTHORIZATION_BYTES * m],
+        &built[..AUTHORIZATION_BYTES * m],
+    );
 }
 
 // Sets the clock.

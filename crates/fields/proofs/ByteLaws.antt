@@ -2,16 +2,16 @@
 use mathlib.Core.Path.{◌≡◌, refl, sym, ap, ◌∙◌}
 use mathlib.Core.List.{List, [], ◌∷◌, ◌++◌, append_assoc}
 use Prim.Native.Nat.{ℕ, zero, suc, ◌+◌, ◌*◌, ◌/◌, ◌%◌, ◌^◌, ◌-◌, ◌≤◌, ◌<◌}
-use native.Mathlib.Nat.{sub-zero, zero-sub, suc-sub-suc, add_assoc}
+use native.Mathlib.Nat.{sub-zero, zero-sub, suc-sub-suc, le_trans, le-add_right, add-sub_of_le, add_assoc}
 use native.Mathlib.Nat.{zero-add, suc-add, pow-succ', pow-suc, div-one, div-div-eq-div-mul}
 use native.Mathlib.Omega.{arith}
 use lib.Dec.{lit<}
 use lib.Arith.{mod-mul, digits_div, digits_mod}
-use lib.ListN.{length, take, drop, length-append, length-take, length-drop}
-use lib.Seq.{take_at, drop_at, length-take-le, drop-drop, sets, sets-eq}
-use lib.Seq.{take-nil}
+use lib.ListN.{length, take, drop, get_or, set, length-append, length-take, length-drop, get_or-append}
+use lib.Seq.{take_at, drop_at, length-take-le, drop-drop, sets, sets-eq, take-take}
+use lib.Seq.{take-nil, take-add, get_or-take, drop-cons, take-suc, set_at}
 use Rattle.foundation.specs.Bytes.{bytes_of, length-bytes_of}
-use Rattle.fields.specs.Field.{splice}
+use Rattle.fields.specs.Field.{splice, gapped}
 
 -- ---- numbers
 
@@ -84,6 +84,33 @@ put-join v w at n s h =
     (ap (λ (i : ℕ). splice (at + i) (bytes_of w (n / 256 ^ v)) (splice at (bytes_of v n) s))
     (sym (length-bytes_of v n)) ∙ j)
 
+-- ---- bytes moved
+
+suc-sub : {w j : ℕ} → w ≤ j → suc (j - w) ≡ suc j - w
+suc-sub h = omega arith
+
+-- a turn of `move_up`: the byte w places below is stored at j
+pub up_step : (s : List ℕ) (w j : ℕ) → w ≤ j → j < length s
+    → set (take (suc j) s ++ drop (suc j - w) (take (length s - w) s)) j
+    (get_or (take (suc j) s ++ drop (suc j - w) (take (length s - w) s)) (j - w) 0)
+    ≡ take j s ++ drop (j - w) (take (length s - w) s)
+up_step s w j h k =
+    let m : List ℕ = take (length s - w) s in
+    let r : List ℕ = drop (suc j - w) m in
+    let lm : length m ≡ length s - w = length-take-le (length s - w) s (omega arith) in
+    let lt : length (take (suc j) s) ≡ suc j = length-take-le (suc j) s k in
+    let g : get_or (take (suc j) s ++ r) (j - w) 0 ≡ get_or s (j - w) 0 =
+    get_or-append (take (suc j) s) r 0 (j - w) (rw lt (omega arith))
+    ∙ get_or-take (suc j) s (j - w) 0 (omega arith) in
+    let g' : get_or m (j - w) 0 ≡ get_or s (j - w) 0 = get_or-take (length s - w) s (j - w) 0 (omega arith) in
+    let d : drop (j - w) m ≡ get_or s (j - w) 0 ∷ drop (suc j - w) m =
+    drop-cons m (j - w) 0 (rw lm (omega arith)) ∙ (λ i. g' i ∷ drop (suc-sub h i) m) in
+    ap (set (take (suc j) s ++ r) j) g
+    ∙ ap (λ (x : List ℕ). set (x ++ r) j (get_or s (j - w) 0)) (take-suc s j 0 k)
+    ∙ ap (λ (x : List ℕ). set x j (get_or s (j - w) 0)) (append_assoc (take j s) (get_or s j 0 ∷ []) r)
+    ∙ set_at (take j s) (get_or s j 0) r (get_or s (j - w) 0) j (length-take-le j s (omega arith))
+    ∙ ap (λ (x : List ℕ). take j s ++ x) (sym d)
+
 -- dropping from a front
 pub drop-take : (w n : ℕ) (s : List ℕ) → drop w (take n s) ≡ take (n - w) (drop w s)
 drop-take zero n s = rw (sub-zero n)
@@ -93,6 +120,32 @@ drop-take (suc w) (suc n) (x ∷ s) = drop-take w n s
     ∙ ap (λ (m : ℕ). take m (drop w s)) (sym (suc-sub-suc n w))
 
 -- ---- a part that was lent and came back
+
+module _ (s : List ℕ) (from to w : ℕ) (h : from + w ≤ to) (k : to ≤ length s) where
+  pub part_length : length (take (to - from) (drop from s)) ≡ to - from
+  part_length = length-take-le (to - from) (drop from s) (rw (length-drop from s) (omega arith))
+
+  behind : drop (to - from) (drop from s) ≡ drop to s
+  behind = drop-drop (to - from) from s ∙ ap (λ (n : ℕ). drop n s)
+      (add-sub_of_le (le_trans (le-add_right from w) h))
+
+  -- the part moved up
+  pub gapped-part : take from s ++ (take w (take (to - from) (drop from s))
+      ++ take (length (take (to - from) (drop from s)) - w) (take (to - from) (drop from s))
+      ++ drop (to - from) (drop from s))
+      ≡ gapped from to w s
+  unfolding gapped
+  gapped-part =
+      let a : w ≤ to - from = omega arith in
+      let b : to - from - w ≤ to - from = omega arith in
+      rw (
+        part_length,
+        behind,
+        take-take w (to - from) (drop from s) a,
+        take-take (to - from - w) (to - from) (drop from s) b,
+        take-add from w s,
+      )
+      (simp append_assoc)
 
 -- what the borrow checker says of a part that came back is a splice
 pub part-back : (s : List ℕ) (a e : ℕ) (ys : List ℕ) → a ≤ e → e ≤ length s → length ys ≡ e - a →

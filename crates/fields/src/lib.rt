@@ -38,17 +38,43 @@ pub fn put32(s: &mut [u8], at: usize, n: u32)
     s[at..at + 4].copy_from_slice(&n.to_le_bytes());
 }
 
+// Copies one slice over another of the same length. It is a loop, since `copy_from_slice` calls memmove where the
+// length is known at run time only, a function that the archive for C would then need from outside.
+pub fn copy(to: &mut [u8], from: &[u8])
+    requires { length to.old ≡ length from.now }
+    ensures len { length to.new ≡ length to.old }
+    ensures after { to.new ≡ from.now }
+{
+    for i in 0..from.len() {
+        to[i] = from[i];
+    }
+}
+
+// Moves the bytes of a slice up by w places: the first w are as they were, and the last w are lost.
+#[inline(always)]
+pub fn move_up(s: &mut [u8], w: usize)
+    requires { w ≤ length s.old }
+    ensures { s.new ≡ take w s.old
+        ++ take (length s.old - w) s.old }
+{
+    for i in (w..s.len()).rev() {
+        s[i] = s[i - w];
+    }
+}
+
 // Opens a gap of w bytes at `from`, in the part of s that ends at `to`: what stands there goes up by w, and
 // the last w bytes of the part are lost.
+#[inline(always)]
 pub fn open_gap(s: &mut [u8], from: usize, to: usize, w: usize)
     requires { (from + w ≤ to) × (to ≤ length s.old) }
     ensures { s.new ≡ gapped from to w s.old }
 {
-    s.copy_within(from..to - w, from + w);
+    move_up(&mut s[from..to], w);
 }
 
 // Takes w bytes out at `from`, of the part of s that ends at `to`: what stands behind them comes down, and
 // the last w bytes of the part are zero.
+#[inline(always)]
 pub fn close_gap(s: &mut [u8], from: usize, to: usize, w: usize)
     requires { (from + w ≤ to) × (to ≤ length s.old) }
     ensures { s.new ≡ gap_closed from to w s.old }

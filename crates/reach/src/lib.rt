@@ -88,7 +88,8 @@ fn first_todo(todo: &[u16], from: usize) -> Option<usize>
     requires { from ≤ length todo.now }
     ensures { MatchOption result
         ((i : ℕ) → from ≤ i → i < length todo.now → get_or todo.now i 0 ≡ 0)
-        (λ j. (j < length todo.now) × (0 < get_or todo.now j 0)) }
+        (λ j. (from ≤ j) × (j < length todo.now)
+        × ((i : ℕ) → from ≤ i → i < j → get_or todo.now i 0 ≡ 0) × (0 < get_or todo.now j 0)) }
 {
     (from..todo.len()).find(|i| todo[*i] != 0)
 }

@@ -22,6 +22,7 @@ impl<'a> Fields<'a> {
 }
 
 // Where the first space stands.
+#[inline(always)]
 fn first_space(line: &[u8]) -> Option<usize>
     ensures { result ≡ position (λ c. eqb c space) line.now }
 {
@@ -35,6 +36,7 @@ impl<'a> Iterator for Fields<'a> {
 
     ghost remaining = { item_count fields_left };
 
+    #[inline(always)]
     #[tactic(auto, using(crate::proofs::FirstField::split_some, crate::proofs::FirstField::split_none))]
     fn next(&mut self) -> Option<&'a [u8]> {
         let line = self.rest?;

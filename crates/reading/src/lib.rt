@@ -23,6 +23,7 @@ pub enum Asked {
 }
 
 // What the fields of a line ask: questions start with their word.
+#[inline(always)]
 fn asked_line(fields: &mut Fields) -> Option<Asked>
     ensures { told_with (option_map asked_of result) (fields_left fields.new)
         ≡ asked_line (fields_left fields.old) }

@@ -46,6 +46,7 @@ const NO_RULE: RuleTerms = RuleTerms {
 
 impl Opening {
     // The request whose other fields are not named.
+    #[inline(always)]
     fn request(self) -> Request
         ensures { order result
             ≡ ordering self.kind self.now self.requester 0 0 0 0 (interval 0 0) false no_rule }
@@ -65,6 +66,7 @@ impl Opening {
     }
 
     // NEW: an object.
+    #[inline(always)]
     fn object_line(self, fields: &mut Fields) -> Option<Request>
         ensures { told_with (option_map order result) (fields_left fields.new)
             ≡ object_line self.kind self.now self.requester (fields_left fields.old) }
@@ -77,6 +79,7 @@ impl Opening {
     }
 
     // GRANTADM, REVOKEADM, GRANTREF, REVOKEREF: an object and a subject.
+    #[inline(always)]
     fn privilege_line(self, fields: &mut Fields) -> Option<Request>
         ensures { told_with (option_map order result) (fields_left fields.new)
             ≡ privilege_line self.kind self.now self.requester (fields_left fields.old) }
@@ -91,6 +94,7 @@ impl Opening {
     }
 
     // REVOKE, DROPRULE: a label.
+    #[inline(always)]
     fn label_line(self, fields: &mut Fields) -> Option<Request>
         ensures { told_with (option_map order result) (fields_left fields.new)
             ≡ label_line self.kind self.now self.requester (fields_left fields.old) }
@@ -103,6 +107,7 @@ impl Opening {
     }
 
     // DENY, REVOKEP, REVOKEN: mode, object, subject, start and end.
+    #[inline(always)]
     fn interval_line(self, fields: &mut Fields) -> Option<Request>
         ensures { told_with (option_map order result) (fields_left fields.new)
             ≡ interval_line self.kind self.now self.requester (fields_left fields.old) }
@@ -122,6 +127,7 @@ impl Opening {
     }
 
     // GRANT: mode, object, subject, start, end and option.
+    #[inline(always)]
     fn grant_line(self, fields: &mut Fields) -> Option<Request>
         requires { self.kind ≡ GRANT }
         ensures { told_with (option_map order result) (fields_left fields.new)
@@ -133,6 +139,7 @@ impl Opening {
     }
 
     // ADDRULE: the left side, the operator, the right side with its grantor and option, start and end.
+    #[inline(always)]
     fn rule_line(self, fields: &mut Fields) -> Option<Request>
         requires { self.kind ≡ ADDRULE }
         ensures { told_with (option_map order result) (fields_left fields.new)
@@ -159,6 +166,7 @@ impl Opening {
     }
 
     // The fields behind the word of a kind.
+    #[inline(always)]
     fn order_line(self, fields: &mut Fields) -> Option<Request>
         ensures { told_with (option_map order result) (fields_left fields.new)
             ≡ reader_for self.kind self.now self.requester (fields_left fields.old) }
@@ -175,6 +183,7 @@ impl Opening {
 }
 
 // One side of a rule: subject, mode, object and sign.
+#[inline(always)]
 fn side(fields: &mut Fields) -> Option<SideTerms>
     ensures { told_with result (fields_left fields.new) ≡ side (fields_left fields.old) }
 {
@@ -191,6 +200,7 @@ fn side(fields: &mut Fields) -> Option<SideTerms>
 }
 
 // A request: now, requester, word, fields. The first of them is read already.
+#[inline(always)]
 pub fn request_line(first: &[u8], fields: &mut Fields) -> Option<Request>
     ensures { told_with (option_map order result) (fields_left fields.new)
         ≡ request_line (first.now ∷ fields_left fields.old) }
@@ -207,6 +217,7 @@ pub fn request_line(first: &[u8], fields: &mut Fields) -> Option<Request>
 }
 
 // MAY: subject, mode, object and instant.
+#[inline(always)]
 pub fn may_line(fields: &mut Fields) -> Option<Question>
     ensures { told_with (option_map asks_may result) (fields_left fields.new)
         ≡ may_line (fields_left fields.old) }
@@ -217,6 +228,7 @@ pub fn may_line(fields: &mut Fields) -> Option<Question>
 }
 
 // WHEN: subject, mode and object.
+#[inline(always)]
 pub fn when_line(fields: &mut Fields) -> Option<Access>
     ensures { told_with (option_map asks_when result) (fields_left fields.new)
         ≡ when_line (fields_left fields.old) }

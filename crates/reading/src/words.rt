@@ -11,10 +11,14 @@ use model::{
 };
 
 // A digit's value.
+#[inline(always)]
 fn digit(c: u8) -> Option<u32>
     ensures { result ≡ (if is_digit c then Some (c - 48) else None) }
 {
-    char::from(c).to_digit(10)
+    match c {
+        b'0'..=b'9' => Some(u32::from(c - b'0')),
+        _ => None,
+    }
 }
 
 // Whether a 0 stands in front of other bytes.
@@ -25,6 +29,7 @@ fn leading_zero(s: &[u8]) -> bool
 }
 
 // A number: 1 to 10 digits with no leading zero, up to the last instant.
+#[inline(always)]
 #[tactic(auto, using(crate::proofs::DigitValues::digits))]
 pub fn read_number(s: &[u8]) -> Option<u32>
     ensures { told result ≡ number s.now }
@@ -32,14 +37,18 @@ pub fn read_number(s: &[u8]) -> Option<u32>
     if s.is_empty() || 10 < s.len() || leading_zero(s) {
         return None;
     }
-    let mut n: u32 = 0;
+    let mut n: u64 = 0;
     for c in s {
-        n = n.checked_mul(10)?.checked_add(digit(*c)?)?;
+        n = 10 * n + u64::from(digit(*c)?);
+        if u64::from(u32::MAX) < n {
+            return None;
+        }
     }
-    Some(n)
+    Some(n as u32)
 }
 
 // A number, or `inf` for the last instant.
+#[inline(always)]
 pub fn read_instant(s: &[u8]) -> Option<u32>
     ensures { told result ≡ instant s.now }
 {
@@ -60,6 +69,7 @@ pub fn read_term(s: &[u8]) -> Option<Term>
 }
 
 // What goes with the first of these words that the field is.
+#[inline(always)]
 #[tactic(auto, using(crate::proofs::WordSearch::word_is, crate::proofs::WordSearch::word_is_not))]
 fn one_of<T: Copy>(words: &[(&[u8], T)], s: &[u8]) -> Option<T>
     ensures { told result ≡ one_of (words_of words.now) s.now }
@@ -73,6 +83,7 @@ fn one_of<T: Copy>(words: &[(&[u8], T)], s: &[u8]) -> Option<T>
 }
 
 // The grant option: `y` or `n`.
+#[inline(always)]
 pub fn read_option(s: &[u8]) -> Option<bool>
     ensures { told result ≡ option s.now }
 {

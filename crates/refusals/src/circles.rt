@@ -23,7 +23,7 @@ pub fn not_stratified(base: &SoundBase<'_>, q: Request) -> bool
     let n = c.rules as usize;
     let body = &s[at..];
     let mut all = [0u8; 65 * RULE_BYTES];
-    all[..n * RULE_BYTES].copy_from_slice(&body[..n * RULE_BYTES]);
+    fields::copy(&mut all[..n * RULE_BYTES], &body[..n * RULE_BYTES]);
     encoding::put_rule(&mut all, n * RULE_BYTES, new_rule(q, 1));
     !rules::is_stratified(&Records::new(&all, n + 1))
 }

@@ -24,10 +24,10 @@ use Rattle.model.specs.SoundnessFacts.{Sound}
 use Rattle.model.specs.FitsFacts.{counts_fit_lem, at_most}
 use Rattle.model.specs.Kinds.{is_kinds, is_apart, interval_kinds, label_kinds, withdrawal_kinds}
 use Rattle.foundation.specs.Tests.{asked_passes}
-use Rattle.pieces.specs.declared.cut.Cut.TheVariants.{Name}
+use Rattle.pieces.specs.declared.cut.Cut.TheVariants.{Label, Grantor, Name}
 use Rattle.pieces.specs.declared.cut.Named.{Named}
-use Rattle.pieces.specs.Cuts.{CutOf}
-use Rattle.withdrawal.proofs.Link.{by_name}
+use Rattle.pieces.specs.Cuts.{CutOrdered, CutOf}
+use Rattle.withdrawal.proofs.Link.{by_label_lem, by_grantor, by_name}
 
 -- the kinds that name a label, as in Step
 abbrev pub label_namers : List ℕ
@@ -72,6 +72,15 @@ pub by_name_else : (q : Request) → withdraws q ≡ true → eqb q.kind REVOKE 
 by_name_else q w e f = sym (rw (e, f)) ∙ w
 
 -- ---- the cut of each kind
+
+-- REVOKE
+pub label-cut : (q : Request) → is q (REVOKE ∷ []) ≡ true → CutOf q (Label q.label) × CutOrdered (Label q.label)
+label-cut q e = (by_label_lem q e, tt)
+
+-- REVOKEADM
+pub grantor_cut : (q : Request) → is q (REVOKEADM ∷ []) ≡ true →
+    CutOf q (Grantor q.object q.subject) × CutOrdered (Grantor q.object q.subject)
+grantor_cut q e = (by_grantor q e, tt)
 
 -- REVOKEP and REVOKEN
 pub name_cut : (q : Request) (n : Named) → is q (REVOKEP ∷ REVOKEN ∷ []) ≡ true → n.grantor ≡ q.requester →

@@ -117,7 +117,7 @@ pub fn revoke_administrator(s: &mut [u8], q: Request) -> Reply
     ensures { CarriedOut s.old q result s.new }
 {
     let mut after = [0u8; BASE_BYTES];
-    after.copy_from_slice(s);
+    fields::copy(&mut after, s);
     effects::remove_administrator(&mut after, q);
     let mut body = Body::new();
     let built = build_remaining(

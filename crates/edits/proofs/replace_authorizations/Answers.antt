@@ -36,8 +36,8 @@ reshape-requires c =
     let f = for_all _ q.0 _ c.counts_of-c.ensures _ c.args.m c.authorizations_at-at.ensures q.1 c.args.built.now in
     (f.old-room, f.new-room, number-within _ 32 q.0 tt, f.counts)
 
-pub slice_bounds-copy_from_slice-end : goal.slice_bounds-copy_from_slice-end
-slice_bounds-copy_from_slice-end c =
+pub slice_bounds-copy-end : goal.slice_bounds-copy-end
+slice_bounds-copy-end c =
     let q = c.requires in
     let f = for_all _ q.0 _ c.counts_of-c.ensures _ c.args.m c.authorizations_at-at.ensures q.1 c.args.built.now in
     omega (arith, f.new-room)
@@ -49,6 +49,6 @@ returns c =
     let m = c.args.m in
     edited (for_all _ q.0 _ c.counts_of-c.ensures _ m c.authorizations_at-at.ensures q.1 c.args.built.now)
     c.reshape.ensures
-    (part-put at (at + 24 * m) c.reshape.new.s c.copy_from_slice.ensures.after
+    (part-put at (at + 24 * m) c.reshape.new.s c.copy.ensures.after
     (ap (λ (n : ℕ). at + n) (length-take-le (24 * m) c.args.built.now (omega arith)))
     ∙ ap (λ (x : List ℕ). splice at x c.reshape.new.s) q.3)

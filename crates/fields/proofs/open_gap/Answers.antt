@@ -1,13 +1,14 @@
--- What is copied ends where the part ends.
-use Rattle.std.proofs.Common.{◌≡◌, refl, ◌∙◌, ◌+◌, ◌-◌, arith}
-use Rattle.fields.specs.Field.{gapped}
+use mathlib.Core.Path.{◌∙◌, ap}
+use mathlib.Core.List.{List, ◌++◌}
+use Prim.Native.Nat.{ℕ, ◌-◌}
+use lib.ListN.{take, drop}
+use Rattle.fields.proofs.ByteLaws.{gapped-part}
 use Rattle.fields.proofs.open_gap.Goals as goal
 
 pub returns : goal.returns
-unfolding gapped
 returns c =
     let a = c.args in
-    let s = a.s.now in
-    let end : a.from + a.w + (a.to - a.w - a.from) ≡ a.to = omega (arith, c.requires.0) in
-    let few : a.to - a.w - a.from ≡ a.to - a.from - a.w = omega arith in
-    c.copy_within.ensures.after ∙ rw (end, few) refl
+    let p = c.requires in
+    ap (λ (l : List ℕ). take a.from a.s.now
+    ++ (l ++ drop (a.to - a.from) (drop a.from a.s.now))) c.move_up.ensures
+    ∙ gapped-part a.s.now a.from a.to a.w p.0 p.1

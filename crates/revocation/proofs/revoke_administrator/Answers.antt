@@ -11,13 +11,13 @@ use Rattle.revocation.proofs.Revoking.{remove_ready, removed_holds, roots_object
 use Rattle.revocation.proofs.Revoking.{roots_administrators, dropped, administrator_done}
 use Rattle.revocation.proofs.revoke_administrator.Goals as goal
 
-pub copy_from_slice-requires : goal.copy_from_slice-requires
-copy_from_slice-requires c =
+pub copy-requires : goal.copy-requires
+copy-requires c =
     length-replicate {A = ℕ} 27936 0 ∙ sym (written-length _ (written-sound _ c.requires.0.sound))
 
 pub remove_administrator-requires : goal.remove_administrator-requires
 remove_administrator-requires c =
-    remove_ready c.args.s.now c.args.q c.requires.0 c.requires.1 _ c.copy_from_slice.ensures.after
+    remove_ready c.args.s.now c.args.q c.requires.0 c.requires.1 _ c.copy.ensures.after
 
 pub invariant_of-build_remaining : goal.invariant_of-build_remaining
 invariant_of-build_remaining c =
@@ -25,7 +25,7 @@ invariant_of-build_remaining c =
     let q = c.args.q in
     c.remove_administrator.ensures
     ∙ ap (λ (l : List ℕ). encode (with_administrators
-    (without q.object q.subject (decode l).administrators) (decode l))) c.copy_from_slice.ensures.after in
+    (without q.object q.subject (decode l).administrators) (decode l))) c.copy.ensures.after in
     record { written = (removed_holds c.args.s.now c.args.q c.requires.0 c.requires.1 _ copy-left).written }
 
 pub build_remaining-built-requires-clause-roots_value : goal.build_remaining-built-requires-clause-roots_value
@@ -34,7 +34,7 @@ build_remaining-built-requires-clause-roots_value c =
     let q = c.args.q in
     c.remove_administrator.ensures
     ∙ ap (λ (l : List ℕ). encode (with_administrators
-    (without q.object q.subject (decode l).administrators) (decode l))) c.copy_from_slice.ensures.after in
+    (without q.object q.subject (decode l).administrators) (decode l))) c.copy.ensures.after in
     let s = c.args.s.now in
     let q = c.args.q in
     (roots_objects s q c.requires.0 c.requires.1 _ copy-left, roots_administrators s q c.requires.0 c.requires.1 _ copy-left)

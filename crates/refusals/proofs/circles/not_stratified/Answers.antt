@@ -56,16 +56,16 @@ room c = length-take-le (c.counts_of-c.result.rules * 28) (replicate 1820 0)
 pub slice_bounds-all-end : goal.slice_bounds-all-end
 slice_bounds-all-end c = omega (arith, (fits (goal.at.slice_bounds-all-end c).After-rules_at-at).counts)
 
-pub slice_bounds-copy_from_slice-end : goal.slice_bounds-copy_from_slice-end
-slice_bounds-copy_from_slice-end c = sym (room (goal.at.slice_bounds-copy_from_slice-end c).After-rules_at-at)
+pub slice_bounds-copy-end : goal.slice_bounds-copy-end
+slice_bounds-copy-end c = sym (room (goal.at.slice_bounds-copy-end c).After-rules_at-at)
 
-pub slice_bounds-copy_from_slice-end-2 : goal.slice_bounds-copy_from_slice-end-2
-slice_bounds-copy_from_slice-end-2 c = sym (length-take-le (c.counts_of-c.result.rules * 28) _
-    (long (goal.at.slice_bounds-copy_from_slice-end-2 c).After-rules_at-at))
+pub slice_bounds-copy-end-2 : goal.slice_bounds-copy-end-2
+slice_bounds-copy-end-2 c = sym (length-take-le (c.counts_of-c.result.rules * 28) _
+    (long (goal.at.slice_bounds-copy-end-2 c).After-rules_at-at))
 
-pub copy_from_slice-requires : goal.copy_from_slice-requires
-copy_from_slice-requires c =
-    let l = (goal.at.copy_from_slice-requires c).After-rules_at-at in
+pub copy-requires : goal.copy-requires
+copy-requires c =
+    let l = (goal.at.copy-requires c).After-rules_at-at in
     room l ∙ sym (length-take-le (c.counts_of-c.result.rules * 28) _ (long l))
 
 pub new_rule-requires : goal.new_rule-requires
@@ -80,9 +80,9 @@ put_rule-requires c =
     let z : List ℕ = replicate 1820 0 in
     omega (
       arith,
-      length-append c.copy_from_slice.new.self (drop n z),
+      length-append c.copy.new.to (drop n z),
       length-drop n z,
-      c.copy_from_slice.ensures.len,
+      c.copy.ensures.len,
       room l,
       length-replicate {A = ℕ} 1820 0,
       (fits l).counts,
@@ -112,8 +112,8 @@ returns c =
     let q = c.args.q in
     let w = rule-request_in q c.requires c.if-q-ne-ADDRULE.false in
     let z : List ℕ = replicate 1820 0 in
-    let t : List ℕ = c.copy_from_slice.new.self ++ drop (n.rules * 28) z in
-    let copied = front-put (n.rules * 28) z c.copy_from_slice.ensures.after
+    let t : List ℕ = c.copy.new.to ++ drop (n.rules * 28) z in
+    let copied = front-put (n.rules * 28) z c.copy.ensures.after
     (length-take-le (n.rules * 28) (lent s at) (long d)) in
     let all : rules_in (n.rules + 1) c.put_rule.new.s ≡ rules_in n.rules (lent s at) ++ (new_rule 1 q ∷ []) =
     added_rules n.rules (lent s at) z t
