@@ -39,6 +39,7 @@ fn asked_line(fields: &mut Fields) -> Option<Asked>
 }
 
 // What a line says. One of more than 96 bytes cannot be read, and none with a field left over.
+#[inline(never)]
 #[tactic(auto, using(crate::proofs::WholeLines::line_short, crate::proofs::WholeLines::line_long))]
 pub fn read_line(s: &[u8]) -> Option<Asked>
     ensures { line_of result ≡ read_line s.now }
